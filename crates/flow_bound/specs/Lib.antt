@@ -1,0 +1,3 @@
+pub mod Neh
+pub mod Taillard
+pub mod Capped

@@ -1,0 +1,10 @@
+pub mod Extremes
+pub mod Recurrence
+pub mod Fronts
+pub mod JobsLeft
+pub mod Admissible
+pub mod InstanceLemmas
+pub mod SequenceLemmas
+pub mod JobSetLemmas
+pub mod GeneratorLemmas
+pub mod BytesLemmas

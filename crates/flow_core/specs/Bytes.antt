@@ -1,0 +1,20 @@
+-- What calls on sinks and sources do to lists of bytes. A list that is not known is `None`, and a clause then says nothing of it.
+use Rattle.std.specs.Prelude.{◌≡◌, ◌<◌, ℕ, Bool, false, List, Option, ◌++◌, length, Result, Ok, Err, ◌==◌}
+use Rattle.std.specs.Io.KnownBytes.{Appends}
+
+-- an answer of no bytes is the end of the input
+abbrev pub is_end : {E : Type 0} → Result ℕ E → Bool
+is_end (Ok count) = count == 0
+is_end (Err e) = false
+
+-- a proper prefix of the bytes was added
+abbrev pub AddsProperPrefix : Option (List ℕ) → Option (List ℕ) → List ℕ → Type 0
+AddsProperPrefix old new bytes = (front : List ℕ) × (back : List ℕ) × (bytes ≡ front ++ back) × (0 < length back) × Appends old new front
+
+-- some bytes were added, and no byte was taken back
+abbrev pub Grows : Option (List ℕ) → Option (List ℕ) → Type 0
+Grows old new = (bytes : List ℕ) × Appends old new bytes
+
+-- more than this many bytes were added
+abbrev pub GrowsBeyond : Option (List ℕ) → Option (List ℕ) → ℕ → Type 0
+GrowsBeyond old new limit = (bytes : List ℕ) × (limit < length bytes) × Appends old new bytes

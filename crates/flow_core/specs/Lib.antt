@@ -1,0 +1,13 @@
+pub mod Shop
+pub mod Least
+pub mod Paths
+pub mod Sequences
+pub mod Bound
+pub mod Front
+pub mod JobSet
+pub mod Refusals
+pub mod InstanceFaults
+pub mod SequenceFaults
+pub mod Generator
+pub mod Bytes
+pub mod Devices

@@ -1,0 +1,30 @@
+use Rattle.std.specs.Prelude.{ℕ, ◌≡◌, ◌+◌, ◌-◌, ◌*◌, ◌≤◌, List, length, slice_index, sum_by, All}
+use Rattle.std.specs.List.{range_with_len}
+use Rattle.flow_core.specs.declared.limits.TheConstants.{MAX_JOBS, MAX_MACHINES, MAX_TIME}
+
+-- an instance: how many jobs and machines there are, and the times, machine by machine, of each machine job by job
+pub record Shop : Type 0 where
+  pub jobs : ℕ
+  pub machines : ℕ
+  pub times : List ℕ
+
+-- the numbers from first to last; none where first is above last
+abbrev pub numbers : ℕ → ℕ → List ℕ
+numbers first last = range_with_len first (last + 1 - first)
+
+-- the time of a job on a machine, both counted from 1
+abbrev pub time : Shop → ℕ → ℕ → ℕ
+time shop job machine = slice_index shop.times ((machine - 1) * shop.jobs + (job - 1))
+
+-- the time of a job on the machines from first to last
+abbrev pub time_between : Shop → ℕ → ℕ → ℕ → ℕ
+time_between shop job first last = sum_by (time shop job) (numbers first last)
+
+-- an instance is within the limits
+pub record IsWithinLimits (shop : Shop) : Type 0 where
+  pub some_job : 1 ≤ shop.jobs
+  pub jobs : shop.jobs ≤ MAX_JOBS
+  pub some_machine : 1 ≤ shop.machines
+  pub machines : shop.machines ≤ MAX_MACHINES
+  pub count : length shop.times ≡ shop.jobs * shop.machines
+  pub times : All (λ time. time ≤ MAX_TIME) shop.times

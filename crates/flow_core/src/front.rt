@@ -1,0 +1,90 @@
+//! Fronts: when each machine is free again, after some jobs.
+
+ghost use Rattle.std.specs.Prelude.{◌≡◌, ℕ, ◌-◌, ◌≤◌, List, [], ◌∷◌, ◌++◌, length, slice_index};
+ghost use Rattle.flow_core.specs.Shop.{Shop};
+ghost use Rattle.flow_core.specs.Paths.{span};
+ghost use Rattle.flow_core.specs.Front.{IsFrontOf, IsWithinFront, SameElsewhere};
+
+use crate::instance::Instance;
+use crate::limits::MAX_MACHINES;
+use crate::sequence::Sequence;
+use std::alloc::AllocError;
+use std::marker::Model;
+
+/// A completion time for each machine.
+#[derive(Debug)]
+pub struct Front {
+    times: [u64; MAX_MACHINES],
+}
+
+impl Model for Front {
+    ghost use Rattle.std.specs.Prelude.{List, ℕ};
+
+    ghost Value = { List ℕ };
+
+    ghost view = { λ f. f.times };
+
+    ghost inverse = { λ times. record { times = times } };
+}
+
+impl Clone for Front {
+    fn clone(&self) -> Result<Self, AllocError>
+        ensures { result ≡ Ok self.now }
+    {
+        Ok(*self)
+    }
+}
+
+impl Copy for Front {}
+
+impl Front {
+    /// The front of the empty list, in every instance.
+    pub fn empty() -> Self
+        ensures front { (shop : Shop) → IsFrontOf shop [] result }
+        ensures within { (shop : Shop) → IsWithinFront shop result }
+    {
+        Front {
+            times: [0; MAX_MACHINES],
+        }
+    }
+
+    /// The completion time on a machine, counted from 1.
+    pub fn at(&self, machine: u16) -> u64
+        requires from { 1 ≤ machine }
+        requires to { machine ≤ MAX_MACHINES }
+        ensures { result ≡ slice_index self.now (machine - 1) }
+    {
+        self.times[machine as usize - 1]
+    }
+}
+
+/// Turns the front of a list into that of the list with a job at its end.
+pub fn front_push(instance: &Instance, front: &mut Front, job: u16)
+    requires job_from { 1 ≤ job }
+    requires job_to { job ≤ instance.now.jobs }
+    requires within { IsWithinFront instance.now front.old }
+    // Whatever the list was.
+    ensures front { (jobs : List ℕ) → IsFrontOf instance.now jobs front.old → IsFrontOf instance.now (jobs ++ job ∷ []) front.new }
+    ensures elsewhere { SameElsewhere instance.now front.old front.new }
+{
+    let end = instance.machines() + 1;
+    let mut free = 0;
+    for machine in 1..end {
+        let place = machine as usize - 1;
+        free = front.times[place].max(free) + u64::from(instance.time(job, machine));
+        front.times[place] = free;
+    }
+}
+
+/// The makespan of a sequence: the weight of the heaviest staircase path.
+pub fn makespan(instance: &Instance, sequence: &Sequence) -> u64
+    requires { length sequence.now ≡ instance.now.jobs }
+    ensures { result ≡ span instance.now sequence.now }
+{
+    let machines = instance.machines();
+    let mut front = Front::empty();
+    for job in sequence.jobs() {
+        front_push(instance, &mut front, *job);
+    }
+    front.at(machines)
+}

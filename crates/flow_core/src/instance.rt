@@ -1,0 +1,139 @@
+//! An instance: the times of jobs on machines.
+
+ghost use Rattle.std.specs.Prelude.{◌≡◌, ℕ, ◌<◌, ◌≤◌, nat_lt, length, position, All, None, IfSome, IfNone, IfOk, OnOk, IfErr};
+ghost use Rattle.flow_core.specs.Shop.{IsWithinLimits, time};
+ghost use Rattle.flow_core.specs.InstanceFaults.{instance_fault, but_memory};
+ghost use Rattle.flow_core.specs.declared.instance.InstanceFault.TheVariants.{Memory};
+
+use crate::limits::{MAX_JOBS, MAX_MACHINES, MAX_TIME};
+use std::alloc::{AllocError, Global};
+use std::marker::Model;
+use thiserror::Error;
+
+/// Why numbers are no instance, in the order in which it is tested, but for `Memory`, which comes last.
+#[derive(Clone, Copy, Debug, PartialEq, Eq, Error)]
+pub enum InstanceFault {
+    /// The number of jobs is not in `1..=500`.
+    #[error("Jobs")]
+    Jobs,
+    /// The number of machines is not in `1..=20`.
+    #[error("Machines")]
+    Machines,
+    /// There is not one time for each job and machine.
+    #[error("Count")]
+    Count,
+    /// The time at this place, from 1, is the first above 99,999.
+    #[error("Time {0}")]
+    Time(usize),
+    /// The seed of a generator is not in `1..=2147483646`.
+    #[error("Seed")]
+    Seed,
+    /// A growth was refused.
+    #[error("Memory")]
+    Memory,
+}
+
+impl From<AllocError> for InstanceFault {
+    ghost from_gives = { λ _ fault. fault ≡ Memory };
+
+    fn from(_error: AllocError) -> InstanceFault {
+        InstanceFault::Memory
+    }
+}
+
+/// The times of jobs on machines, within the limits.
+#[derive(Debug, Drop)]
+pub struct Instance {
+    jobs: u16,
+    machines: u16,
+    times: Vec<u32>,
+}
+
+impl Model for Instance {
+    ghost use Rattle.flow_core.specs.Shop.{Shop, IsWithinLimits};
+
+    ghost Value = { Shop };
+
+    ghost view = { λ i. record { jobs = i.jobs; machines = i.machines; times = i.times.items } };
+
+    ghost invariant = { λ i. IsWithinLimits (record { jobs = i.jobs; machines = i.machines; times = i.times.items }) };
+}
+
+/// The index of the first time above the limit.
+fn first_too_great(times: &[u32]) -> Option<usize>
+    ensures value { result ≡ position (λ time. nat_lt MAX_TIME time) times.now }
+    ensures within { IfSome result (λ index. index < length times.now) }
+    ensures none { IfNone result (All (λ time. time ≤ MAX_TIME) times.now) }
+{
+    times.iter().position(|time| *time > MAX_TIME)
+}
+
+impl Instance {
+    /// The instance with these times, machine by machine and for each machine job by job, or the first fault.
+    pub fn new(
+        alloc: Global,
+        jobs: u32,
+        machines: u32,
+        times: &[u32],
+    ) -> Result<Instance, InstanceFault>
+        ensures value { IfOk result (λ instance. instance ≡ record { jobs = jobs; machines = machines; times = times.now }) }
+        ensures accepted { OnOk result (instance_fault jobs machines times.now ≡ None) }
+        ensures refused { IfErr result (λ fault. instance_fault jobs machines times.now ≡ but_memory fault) }
+    {
+        if jobs < 1 || jobs as usize > MAX_JOBS {
+            return Err(InstanceFault::Jobs);
+        }
+        if machines < 1 || machines as usize > MAX_MACHINES {
+            return Err(InstanceFault::Machines);
+        }
+        if times.len() != jobs as usize * machines as usize {
+            return Err(InstanceFault::Count);
+        }
+        if let Some(index) = first_too_great(times) {
+            return Err(InstanceFault::Time(index + 1));
+        }
+        let times = Vec::from_slice(alloc, times)?;
+        Ok(Instance::from_times(jobs as u16, machines as u16, times))
+    }
+
+    /// The instance with these times, which are known to be one.
+    pub(crate) fn from_times(jobs: u16, machines: u16, times: Vec<u32>) -> Instance
+        requires { IsWithinLimits (record { jobs = jobs; machines = machines; times = times.items }) }
+        ensures { result ≡ record { jobs = jobs; machines = machines; times = times.items } }
+    {
+        Instance {
+            jobs,
+            machines,
+            times,
+        }
+    }
+
+    /// How many jobs there are.
+    pub fn jobs(&self) -> u16
+        ensures value { result ≡ self.now.jobs }
+        ensures limits { IsWithinLimits self.now }
+    {
+        self.jobs
+    }
+
+    /// How many machines there are.
+    pub fn machines(&self) -> u16
+        ensures value { result ≡ self.now.machines }
+        ensures limits { IsWithinLimits self.now }
+    {
+        self.machines
+    }
+
+    /// The time of a job on a machine, both counted from 1.
+    pub fn time(&self, job: u16, machine: u16) -> u32
+        requires job_from { 1 ≤ job }
+        requires job_to { job ≤ self.now.jobs }
+        requires machine_from { 1 ≤ machine }
+        requires machine_to { machine ≤ self.now.machines }
+        ensures value { result ≡ time self.now job machine }
+        ensures limit { result ≤ MAX_TIME }
+    {
+        let place = (machine as usize - 1) * self.jobs as usize + (job as usize - 1);
+        self.times[place]
+    }
+}

@@ -1,0 +1,109 @@
+//! A set of jobs.
+
+ghost use Rattle.std.specs.Prelude.{◌≡◌, ℕ, ◌-◌, ◌<◌, ◌≤◌, List, [], length, count_by, slice_set, true, false};
+ghost use Rattle.flow_core.specs.Shop.{numbers};
+ghost use Rattle.flow_core.specs.JobSet.{contains, members};
+
+use crate::instance::Instance;
+use crate::limits::MAX_JOBS;
+use std::alloc::AllocError;
+use std::marker::Model;
+
+/// A set of job numbers from 1 to the most jobs of an instance.
+#[derive(Debug)]
+pub struct JobSet {
+    flags: [bool; MAX_JOBS],
+}
+
+impl Model for JobSet {
+    ghost use Rattle.std.specs.Prelude.{List, Bool};
+
+    ghost Value = { List Bool };
+
+    ghost view = { λ s. s.flags };
+
+    ghost inverse = { λ flags. record { flags = flags } };
+}
+
+impl Clone for JobSet {
+    fn clone(&self) -> Result<Self, AllocError>
+        ensures { result ≡ Ok self.now }
+    {
+        Ok(*self)
+    }
+}
+
+impl Copy for JobSet {}
+
+impl JobSet {
+    /// The empty set.
+    pub fn none() -> Self
+        ensures members { members result ≡ [] }
+        ensures empty { (job : ℕ) → contains result job ≡ false }
+        ensures size { length result ≡ MAX_JOBS }
+    {
+        JobSet {
+            flags: [false; MAX_JOBS],
+        }
+    }
+
+    /// The set of an instance's jobs.
+    pub fn all(instance: &Instance) -> Self
+        ensures members { members result ≡ numbers 1 instance.now.jobs }
+        ensures each { (job : ℕ) → 1 ≤ job → job ≤ instance.now.jobs → contains result job ≡ true }
+        ensures others { (job : ℕ) → instance.now.jobs < job → contains result job ≡ false }
+        ensures size { length result ≡ MAX_JOBS }
+    {
+        let mut set = JobSet::none();
+        let end = instance.jobs() + 1;
+        for job in 1..end {
+            set.insert(job);
+        }
+        set
+    }
+
+    /// Puts a job in.
+    pub fn insert(&mut self, job: u16)
+        requires from { 1 ≤ job }
+        requires to { job ≤ MAX_JOBS }
+        ensures value { self.new ≡ slice_set self.old (job - 1) true }
+        ensures size { length self.new ≡ MAX_JOBS }
+    {
+        self.flags[job as usize - 1] = true;
+    }
+
+    /// Takes a job out.
+    pub fn remove(&mut self, job: u16)
+        requires from { 1 ≤ job }
+        requires to { job ≤ MAX_JOBS }
+        ensures value { self.new ≡ slice_set self.old (job - 1) false }
+        ensures size { length self.new ≡ MAX_JOBS }
+    {
+        self.flags[job as usize - 1] = false;
+    }
+
+    /// Whether a job is in.
+    pub fn contains(&self, job: u16) -> bool
+        requires from { 1 ≤ job }
+        requires to { job ≤ MAX_JOBS }
+        ensures value { result ≡ contains self.now job }
+        ensures size { length self.now ≡ MAX_JOBS }
+    {
+        self.flags[job as usize - 1]
+    }
+
+    /// How many jobs are in.
+    pub fn count(&self) -> u16
+        ensures { result ≡ length (members self.now) }
+    {
+        count_of(&self.flags) as u16
+    }
+}
+
+/// How many flags are set.
+fn count_of(flags: &[bool]) -> usize
+    ensures value { result ≡ count_by (λ flag. flag) flags.now }
+    ensures within { result ≤ length flags.now }
+{
+    flags.iter().filter(|flag| **flag).count()
+}

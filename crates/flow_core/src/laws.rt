@@ -1,0 +1,43 @@
+//! Laws of the definitions: each contract is a theorem, and no body does anything.
+
+ghost use Rattle.std.specs.Prelude.{◌≡◌, ℕ, ◌+◌, ◌<◌, ◌≤◌, max, List, [], ◌∷◌, ◌++◌, length, None};
+ghost use Rattle.flow_core.specs.Shop.{Shop, IsWithinLimits, time};
+ghost use Rattle.flow_core.specs.Paths.{IsPath, weight, completion};
+ghost use Rattle.flow_core.specs.Sequences.{IsSequence};
+ghost use Rattle.flow_core.specs.InstanceFaults.{instance_fault};
+ghost use Rattle.flow_core.specs.SequenceFaults.{sequence_fault};
+ghost use Rattle.flow_core.specs.Bound.{BoundIsAdmissible};
+
+/// A completion time is the weight of a heaviest staircase path.
+pub fn completion_is_greatest()
+    ensures attained { (shop : Shop) (jobs : List ℕ) (machine : ℕ) → 0 < length jobs → 1 ≤ machine →
+        (machines : List ℕ) × (length machines ≡ length jobs) × IsPath 1 machines machine
+        × (weight shop jobs 1 machines ≡ completion shop jobs machine) }
+    ensures greatest { (shop : Shop) (jobs machines : List ℕ) (machine : ℕ) →
+        length machines ≡ length jobs → IsPath 1 machines machine →
+        weight shop jobs 1 machines ≤ completion shop jobs machine }
+{}
+
+/// A job starts on a machine once the job before it has left that machine, and it the machine before.
+pub fn completion_by_recurrence()
+    ensures { (shop : Shop) (jobs : List ℕ) (job machine : ℕ) →
+        completion shop (jobs ++ job ∷ []) (machine + 1)
+        ≡ max (completion shop jobs (machine + 1)) (completion shop (jobs ++ job ∷ []) machine) + time shop job (machine + 1) }
+{}
+
+/// No sequence that extends a list has a smaller makespan than the list's bound on any machine.
+pub fn bound_is_admissible()
+    ensures { BoundIsAdmissible }
+{}
+
+/// Numbers have no fault exactly where they are an instance within the limits.
+pub fn instances_have_no_fault()
+    ensures is { (shop : Shop) → instance_fault shop.jobs shop.machines shop.times ≡ None → IsWithinLimits shop }
+    ensures has { (shop : Shop) → IsWithinLimits shop → instance_fault shop.jobs shop.machines shop.times ≡ None }
+{}
+
+/// A list has no fault exactly where it is a sequence.
+pub fn sequences_have_no_fault()
+    ensures is { (n : ℕ) (jobs : List ℕ) → sequence_fault n jobs ≡ None → IsSequence n jobs }
+    ensures has { (n : ℕ) (jobs : List ℕ) → IsSequence n jobs → sequence_fault n jobs ≡ None }
+{}

@@ -1,0 +1,26 @@
+//! The permutation flow shop: instances, sequences and completion times.
+#![tactic(auto)]
+
+mod bytes;
+mod front;
+mod generator;
+mod instance;
+mod job_set;
+mod laws;
+mod limits;
+mod sequence;
+
+pub use bytes::{
+    MemorySink, MemorySource, ReadFault, Refused, Sink, Source, StdSink, StdSource, WriteFault,
+    put_all, read_all,
+};
+pub use front::{Front, front_push, makespan};
+pub use generator::{Taillard, generate};
+pub use instance::{Instance, InstanceFault};
+pub use job_set::JobSet;
+pub use laws::{
+    bound_is_admissible, completion_by_recurrence, completion_is_greatest, instances_have_no_fault,
+    sequences_have_no_fault,
+};
+pub use limits::{MAX_COMPLETION, MAX_JOBS, MAX_MACHINES, MAX_TIME};
+pub use sequence::{Sequence, SequenceFault};

@@ -1,0 +1,13 @@
+//! The limits of an instance, each named once.
+
+/// The most jobs of an instance.
+pub const MAX_JOBS: usize = 500;
+
+/// The most machines of an instance.
+pub const MAX_MACHINES: usize = 20;
+
+/// The greatest time of a job on a machine.
+pub const MAX_TIME: u32 = 99_999;
+
+/// The greatest completion time at which a front takes another job. No list of an instance's jobs reaches it.
+pub const MAX_COMPLETION: u64 = 1_000_000_000;

@@ -1,0 +1,102 @@
+//! A sequence: the jobs of an instance in some order.
+
+ghost use Rattle.std.specs.Prelude.{◌≡◌, ℕ, ◌≤◌, [], None, length, IfOk, OnOk, IfErr};
+ghost use Rattle.flow_core.specs.Sequences.{IsSequence};
+ghost use Rattle.flow_core.specs.SequenceFaults.{place_fault, sequence_fault, but_memory};
+ghost use Rattle.flow_core.specs.declared.sequence.SequenceFault.TheVariants.{Memory};
+
+use crate::instance::Instance;
+use crate::job_set::JobSet;
+use crate::limits::MAX_JOBS;
+use std::alloc::{AllocError, Global};
+use std::marker::Model;
+use thiserror::Error;
+
+/// Why a list is no sequence, in the order in which it is tested; places are counted from 1.
+#[derive(Clone, Copy, Debug, PartialEq, Eq, Error)]
+pub enum SequenceFault {
+    /// There are not as many jobs as the instance has.
+    #[error("Length")]
+    Length,
+    /// The job at this place, the first at fault, is none of the instance's.
+    #[error("Job {0}")]
+    Job(usize),
+    /// The job at this place, the first at fault, stands at an earlier place.
+    #[error("Twice {0}")]
+    Twice(usize),
+    /// A growth was refused.
+    #[error("Memory")]
+    Memory,
+}
+
+impl From<AllocError> for SequenceFault {
+    ghost from_gives = { λ _ fault. fault ≡ Memory };
+
+    fn from(_error: AllocError) -> SequenceFault {
+        SequenceFault::Memory
+    }
+}
+
+/// The jobs from 1 to their number, each once.
+#[derive(Debug, Drop)]
+pub struct Sequence {
+    jobs: Vec<u16>,
+}
+
+impl Model for Sequence {
+    ghost use Rattle.std.specs.Prelude.{List, ℕ, length};
+    ghost use Rattle.flow_core.specs.Sequences.{IsSequence};
+
+    ghost Value = { List ℕ };
+
+    ghost view = { λ s. s.jobs.items };
+
+    ghost invariant = { λ s. IsSequence (length s.jobs.items) s.jobs.items };
+}
+
+/// The fault of the first job that is none of those from 1 to `n`, or stands at an earlier place.
+fn first_job_at_fault(n: u16, jobs: &[u16]) -> Option<SequenceFault>
+    requires { n ≤ MAX_JOBS }
+    ensures { result ≡ place_fault n [] jobs.now }
+{
+    let mut earlier = JobSet::none();
+    for (index, &job) in jobs.iter().enumerate() {
+        if job < 1 || job > n {
+            return Some(SequenceFault::Job(index + 1));
+        }
+        if earlier.contains(job) {
+            return Some(SequenceFault::Twice(index + 1));
+        }
+        earlier.insert(job);
+    }
+    None
+}
+
+impl Sequence {
+    /// The sequence of these jobs, or the first fault.
+    pub fn new(alloc: Global, instance: &Instance, jobs: &[u16]) -> Result<Sequence, SequenceFault>
+        ensures value { IfOk result (λ sequence. sequence ≡ jobs.now) }
+        ensures accepted { OnOk result (sequence_fault instance.now.jobs jobs.now ≡ None) }
+        ensures refused { IfErr result (λ fault. sequence_fault instance.now.jobs jobs.now ≡ but_memory fault) }
+        ensures each { OnOk result (IsSequence instance.now.jobs jobs.now) }
+    {
+        let n = instance.jobs();
+        if jobs.len() != n as usize {
+            return Err(SequenceFault::Length);
+        }
+        match first_job_at_fault(n, jobs) {
+            Some(fault) => Err(fault),
+            None => Ok(Sequence {
+                jobs: Vec::from_slice(alloc, jobs)?,
+            }),
+        }
+    }
+
+    /// The jobs in order.
+    pub fn jobs(&self) -> &[u16]
+        ensures value { result.now ≡ self.now }
+        ensures each { IsSequence (length self.now) self.now }
+    {
+        self.jobs.as_slice()
+    }
+}

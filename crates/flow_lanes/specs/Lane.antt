@@ -1,0 +1,32 @@
+-- What a contract sees of the two ends of a lane, and of a lane that is settled.
+use Rattle.std.specs.Prelude.{ℕ, List}
+use denote.RawPtr.{Ptr}
+use Rattle.rtrb.specs.Shared.{Names}
+
+-- what tells one ring from another: where its words and its slots stand, and its names in proofs
+pub record Ring : Type 0 where
+  pub words : Ptr
+  pub slots : Ptr
+  pub names : Names
+
+-- a lane: the ring that carries it, and how many slots it has
+pub record Lane : Type 0 where
+  pub ring : Ring
+  pub capacity : ℕ
+
+-- the end that sends: its lane, all items sent so far in order, and how many slots it knows to be free
+pub record SendingEnd (T : Type 0) : Type 0 where
+  pub lane : Lane
+  pub sent : List T
+  pub known_free : ℕ
+
+-- the end that receives: its lane, all items received so far in order, and the next ones as far as it knows them
+pub record ReceivingEnd (T : Type 0) : Type 0 where
+  pub lane : Lane
+  pub received : List T
+  pub known_items : List T
+
+-- a settled lane, and all items that went through it in order
+pub record SettledLane (T : Type 0) : Type 0 where
+  pub lane : Lane
+  pub items : List T

@@ -1,0 +1,9 @@
+//! The worked rows and vectors, as tests over the public calls of the libraries.
+#![tactic(auto)]
+
+#[cfg(test)]
+mod bytes;
+#[cfg(test)]
+mod instances;
+#[cfg(test)]
+mod values;
