@@ -3,7 +3,7 @@ use Rattle.std.specs.Prelude.{ℕ, zero, suc, ◌≡◌, ◌-◌, ◌+◌, ◌^�
 use Rattle.std.specs.Fmt.{decimal}
 use Rattle.std.specs.List.{AllZip, concat, flat_map, join_with_byte}
 use Rattle.flow_core.specs.declared.limits.TheConstants.{MAX_DEPTH}
-use Rattle.flow_core.specs.Shop.{Shop, IsWithinLimits}
+use Rattle.flow_core.specs.Shop.{Shop}
 use Rattle.flow_core.specs.Paths.{span}
 use Rattle.flow_core.specs.Sequences.{IsSequence, IsLeastMakespan, jobs_left, cut}
 use Rattle.flow_core.specs.Bound.{bound_at}
@@ -64,3 +64,7 @@ IsCertificate shop bytes value =
 -- the value of a lawful certificate, whoever made it, is the least makespan
 abbrev pub CertificateIsSound : Type 0
 CertificateIsSound = (shop : Shop) (bytes : List ℕ) (value : ℕ) → IsCertificate shop bytes value → IsLeastMakespan shop value
+
+-- a text is a certificate of one value at most
+abbrev pub ValueIsOne : Type 0
+ValueIsOne = (shop : Shop) (bytes : List ℕ) (v w : ℕ) → IsCertificate shop bytes v → IsCertificate shop bytes w → v ≡ w
