@@ -1,47 +1,59 @@
--- What a worker does with the tasks that it gets.
-use Rattle.std.specs.Prelude.{◌≡◌, ℕ, ◌<◌, ◌≤◌, List, [], ◌∷◌, ◌++◌, map, All}
-use Rattle.flow_plan.specs.declared.Plan.{Plan}
-use Rattle.flow_plan.specs.declared.Outcome.TheVariants.{NoPrefix}
-use Rattle.flow_plan.specs.Plan.{prefix_count, IsLawful}
+-- What a worker is asked, and which answers fit.
+use Rattle.std.specs.Prelude.{◌≡◌, ℕ, ◌+◌, ◌%◌, ◌<◌, ◌≤◌, cond, nat_eq, List, [], ◌∷◌, ◌++◌, length, map, filter, All}
+use Rattle.std.specs.List.{range_with_len}
+use Rattle.flow_search.specs.declared.outcome.Outcome.TheVariants.{NoPrefix}
+use Rattle.flow_search.specs.Plans.{Planned, prefixes_of}
+use Rattle.flow_search.specs.Outcomes.{IsLawful}
 use Rattle.flow_pool.specs.declared.ends.Task.{Task}
 use Rattle.flow_pool.specs.declared.ends.Task.TheVariants.{Prefix, End}
 use Rattle.flow_pool.specs.declared.ends.Answer.{Answer}
 use Rattle.flow_pool.specs.declared.ends.WorkerEnds.{WorkerEnds}
 use Rattle.flow_lanes.specs.Lane.{Lane}
 
--- an answer has the outcome of its number, or says that there is no such prefix
-pub record IsLawfulAnswer (p : Plan) (a : Answer) : Type 0 where
-  pub within : a.number < prefix_count p → IsLawful p a.number a.outcome
-  pub beyond : prefix_count p ≤ a.number → a.outcome ≡ NoPrefix
+-- which of n prefixes are one worker's of k: worker, worker + k, and so on
+abbrev pub share : ℕ → ℕ → ℕ → List ℕ
+share k n worker = filter (λ number. nat_eq (number % k) worker) (range_with_len 0 n)
 
-abbrev pub numbers_of : List Answer → List ℕ
-numbers_of answers = map (λ a. a.number) answers
-
--- tasks that ask for the prefixes of these numbers
+-- a task for each prefix
 abbrev pub asking : List ℕ → List Task
 asking numbers = map Prefix numbers
 
--- the answers fit the tasks: one for each prefix asked for, in order, and then one end
-abbrev pub IsWork : Plan → List Task → List Answer → Type 0
-IsWork p tasks answers = (tasks ≡ asking (numbers_of answers) ++ End ∷ []) × All (IsLawfulAnswer p) answers
+-- the tasks of one worker of k, where there are n prefixes: its share, and then one end
+abbrev pub tasks_of : ℕ → ℕ → ℕ → List Task
+tasks_of k n worker = asking (share k n worker) ++ End ∷ []
 
--- nothing went through these ends yet
+-- how often a prefix is asked for
+abbrev pub times_asked : ℕ → List Task → ℕ
+times_asked number [] = 0
+times_asked number (Prefix other ∷ tasks) = cond (nat_eq other number) 1 0 + times_asked number tasks
+times_asked number (End ∷ tasks) = times_asked number tasks
+
+-- how many prefixes a plan has
+abbrev pub prefix_count : Planned → ℕ
+prefix_count plan = length (prefixes_of plan)
+
+-- an answer has a lawful outcome of its prefix, or says that there is no such prefix
+pub record IsLawfulAnswer (plan : Planned) (answer : Answer) : Type 0 where
+  pub within : answer.number < prefix_count plan → IsLawful plan answer.number answer.outcome
+  pub beyond : prefix_count plan ≤ answer.number → answer.outcome ≡ NoPrefix
+
+-- which prefixes were answered
+abbrev pub answered : List Answer → List ℕ
+answered answers = map (λ answer. answer.number) answers
+
+-- the answers fit the tasks: these are one for each answer in order, and then one end; and each answer is lawful
+pub record Fit (plan : Planned) (tasks : List Task) (answers : List Answer) : Type 0 where
+  pub asked : tasks ≡ asking (answered answers) ++ End ∷ []
+  pub lawful : All (IsLawfulAnswer plan) answers
+
+-- nothing went through a worker's ends yet
 abbrev pub IsFresh : WorkerEnds → Type 0
-IsFresh e = (e.tasks.received ≡ []) × (e.answers.sent ≡ [])
+IsFresh ends = (ends.tasks.received ≡ []) × (ends.answers.sent ≡ [])
 
--- one answer for each prefix that was asked for, by its number, and then one end
-abbrev pub IsAnswered : WorkerEnds → Type 0
-IsAnswered e = e.tasks.received ≡ asking (numbers_of e.answers.sent) ++ End ∷ []
+-- a worker has served its lanes to the end
+abbrev pub IsServed : Planned → WorkerEnds → Type 0
+IsServed plan ends = Fit plan ends.tasks.received ends.answers.sent
 
--- the worker has served its lanes to the end
-abbrev pub IsServed : Plan → WorkerEnds → Type 0
-IsServed p e = IsWork p e.tasks.received e.answers.sent
-
--- which lanes a worker's ends are of, and how many slots these have
+-- which lanes a worker's ends are of
 abbrev pub worker_lanes : WorkerEnds → Lane × Lane
-worker_lanes e = (e.tasks.lane, e.answers.lane)
-
--- each worker has served its lanes to the end
-pub record AreServed (p : Plan) (before after : List WorkerEnds) : Type 0 where
-  pub lanes : map worker_lanes after ≡ map worker_lanes before
-  pub work : All (IsServed p) after
+worker_lanes ends = (ends.tasks.lane, ends.answers.lane)

@@ -1,8 +1,9 @@
-// How the lanes are put away, once the workers have ended.
-ghost use Rattle.std.specs.Prelude.{◌≡◌, ◌+◌, ◌++◌, [], ◌∷◌, true, All, length, map, vec_len, vec_capacity, ◌≤◌};
-ghost use Rattle.flow_pool.specs.Hub.{ends_once, hub_lanes, sent_lists, received_lists};
-ghost use Rattle.flow_pool.specs.Work.{IsAnswered, worker_lanes};
-ghost use Rattle.flow_pool.specs.Report.{IsCollected, pair_tasks, pair_answers, pair_capacities, worker_answers, worker_tasks, hub_capacities};
+//! How the lanes are put away, once the workers have ended.
+
+ghost use Rattle.std.specs.Prelude.{◌≡◌, ◌≤◌, [], All, map, vec_len, vec_capacity};
+ghost use Rattle.flow_pool.specs.Work.{worker_lanes};
+ghost use Rattle.flow_pool.specs.Hub.{hub_lanes, sent_lists, received_lists};
+ghost use Rattle.flow_pool.specs.Settling.{IsCollected, IsAnswered, pair_lanes, pair_tasks, pair_answers, worker_answers, worker_tasks};
 
 use crate::{Answer, HubEnds, Task, WorkerEnds};
 use flow_lanes::{Settled, settle};
@@ -10,14 +11,14 @@ use flow_lanes::{Settled, settle};
 /// Both lanes of a worker, put away.
 pub type LanePair = (Settled<Task>, Settled<Answer>);
 
-// Settles both lanes of a worker that has answered all that it was asked.
+/// Settles both lanes of a worker that has answered all that it was asked.
 fn settle_pair(hub: HubEnds, worker: WorkerEnds) -> LanePair
     requires lanes { hub_lanes hub ≡ worker_lanes worker }
     requires hub { IsCollected hub }
     requires worker { IsAnswered worker }
     ensures tasks { (result.0.items ≡ hub.tasks.sent) × (result.0.items ≡ worker.tasks.received) }
     ensures answers { (result.1.items ≡ hub.answers.received) × (result.1.items ≡ worker.answers.sent) }
-    ensures lanes { (result.0.lane, result.1.lane) ≡ hub_lanes hub }
+    ensures lanes { pair_lanes result ≡ hub_lanes hub }
 {
     let HubEnds {
         tasks: sender,
@@ -33,7 +34,7 @@ fn settle_pair(hub: HubEnds, worker: WorkerEnds) -> LanePair
     (tasks, answers)
 }
 
-// Settles the lanes of all workers, in their order.
+/// Settles the lanes of all workers, in their order.
 pub(crate) fn settle_all(hubs: Vec<HubEnds>, workers: Vec<WorkerEnds>, lanes: &mut Vec<LanePair>)
     requires same { map hub_lanes hubs.items ≡ map worker_lanes workers.items }
     requires collected { All IsCollected hubs.items }
@@ -41,9 +42,11 @@ pub(crate) fn settle_all(hubs: Vec<HubEnds>, workers: Vec<WorkerEnds>, lanes: &m
     requires room { (lanes.old.items ≡ []) × (vec_len hubs ≤ vec_capacity lanes.old) }
     ensures len { vec_len lanes.new ≡ vec_len hubs }
     ensures capacity { vec_capacity lanes.new ≡ vec_capacity lanes.old }
-    ensures tasks { (map pair_tasks lanes.new.items ≡ sent_lists hubs.items) × (map pair_tasks lanes.new.items ≡ map worker_tasks workers.items) }
-    ensures answers { (map pair_answers lanes.new.items ≡ received_lists hubs.items) × (map pair_answers lanes.new.items ≡ map worker_answers workers.items) }
-    ensures capacities { map pair_capacities lanes.new.items ≡ map hub_capacities hubs.items }
+    ensures tasks { (map pair_tasks lanes.new.items ≡ sent_lists hubs.items)
+        × (map pair_tasks lanes.new.items ≡ map worker_tasks workers.items) }
+    ensures answers { (map pair_answers lanes.new.items ≡ received_lists hubs.items)
+        × (map pair_answers lanes.new.items ≡ map worker_answers workers.items) }
+    ensures lanes { map pair_lanes lanes.new.items ≡ map hub_lanes hubs.items }
 {
     let mut hubs = hubs;
     let mut workers = workers;

@@ -1,16 +1,17 @@
-// What a worker's thread does.
+//! What a worker does in its thread.
+
 ghost use Rattle.std.specs.Prelude.{◌≡◌, ◌++◌, [], ◌∷◌};
-ghost use Rattle.flow_pool.specs.Work.{IsLawfulAnswer, IsWork};
+ghost use Rattle.flow_pool.specs.Work.{IsFresh, IsLawfulAnswer, Fit, worker_lanes};
 
 use crate::{Answer, Gate, Task, WorkerEnds};
 use crossbeam_utils::Backoff;
 use flow_lanes::{Receiver, Sender};
-use flow_plan::{Outcome, Plan, answer};
+use flow_search::{Outcome, Plan, answer};
 use std::alloc::Global;
 use std::sync::Wait;
 
 /// Waits for the next item of the lane.
-pub fn receive<T>(rt: &impl Wait, lane: &mut Receiver<T>) -> T
+fn receive<T>(rt: &impl Wait, lane: &mut Receiver<T>) -> T
     ensures lane { lane.new.lane ≡ lane.old.lane }
     ensures received { lane.new.received ≡ lane.old.received ++ result ∷ [] }
 {
@@ -25,7 +26,7 @@ pub fn receive<T>(rt: &impl Wait, lane: &mut Receiver<T>) -> T
 }
 
 /// Waits until the item is in the lane.
-pub fn send<T>(rt: &impl Wait, lane: &mut Sender<T>, item: T)
+fn send<T>(rt: &impl Wait, lane: &mut Sender<T>, item: T)
     ensures lane { lane.new.lane ≡ lane.old.lane }
     ensures sent { lane.new.sent ≡ lane.old.sent ++ item ∷ [] }
 {
@@ -41,7 +42,8 @@ pub fn send<T>(rt: &impl Wait, lane: &mut Sender<T>, item: T)
     unreachable!()
 }
 
-fn answer_of(alloc: Global, plan: &Plan, number: u32) -> Answer
+/// The answer to a prefix, by its number, which may be beyond the plan's.
+fn answer_to(alloc: Global, plan: &Plan, number: u32) -> Answer
     ensures number { result.number ≡ number }
     ensures lawful { IsLawfulAnswer plan.now result }
 {
@@ -53,7 +55,7 @@ fn answer_of(alloc: Global, plan: &Plan, number: u32) -> Answer
     Answer { number, outcome }
 }
 
-/// Takes tasks up to and with the first `End`, and answers each prefix. Hands the same ends back.
+/// Takes tasks up to and with the first `End` and no more, and answers each prefix in turn. The same ends come back.
 pub fn serve<R: Wait, G: Gate>(
     rt: &R,
     alloc: Global,
@@ -62,9 +64,9 @@ pub fn serve<R: Wait, G: Gate>(
     ends: WorkerEnds,
     gate: &G,
 ) -> WorkerEnds
-    requires { (ends.tasks.received ≡ []) × (ends.answers.sent ≡ []) }
-    ensures lanes { (result.tasks.lane ≡ ends.tasks.lane) × (result.answers.lane ≡ ends.answers.lane) }
-    ensures work { IsWork plan.now result.tasks.received result.answers.sent }
+    requires fresh { IsFresh ends }
+    ensures same_lanes { worker_lanes result ≡ worker_lanes ends }
+    ensures fit { Fit plan.now result.tasks.received result.answers.sent }
 {
     let mut ends = ends;
     for _ in rt.forever() {
@@ -72,7 +74,7 @@ pub fn serve<R: Wait, G: Gate>(
             break;
         };
         gate.reached(lane, number);
-        send(rt, &mut ends.answers, answer_of(alloc, plan, number));
+        send(rt, &mut ends.answers, answer_to(alloc, plan, number));
     }
     ends
 }
