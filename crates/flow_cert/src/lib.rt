@@ -1,10 +1,12 @@
 //! Certificates of a least makespan, and the checker that reads them.
 #![tactic(auto)]
 
-mod cut_bound;
+mod claim;
 mod fault;
 mod laws;
 mod lines;
+mod node;
+mod rows;
 mod tree;
 mod trees;
 
