@@ -128,3 +128,20 @@ child-bound shop list node left job machine free t tail behind lows limits is fr
       | inl same ↦ omega (arith, a.0 same.1, b.0 (sym yz ∙ same.1 ∙ pq), rs)
       | inr other ↦ omega (arith, a.1 other.1, b.1 (λ e. other.1 (yz ∙ e ∙ sym pq)), pq)
     ]
+
+-- one more machine of a row
+pub filled-more : (P : ℕ → ℕ → Type 0) (xs : List ℕ) (machine v : ℕ) → 1 ≤ machine → machine - 1 < length xs → P machine v → ((k : ℕ) → 1 ≤ k → k < machine → P k (slice_index xs (k - 1))) →
+    (k : ℕ) → 1 ≤ k → k < machine + 1 → P k (slice_index (set xs (machine - 1) v) (k - 1))
+filled-more P xs machine v from within here done k low high = elim (cases_lt k machine) [
+  | inl earlier ↦
+      let other : k - 1 ≢ machine - 1 = omega (arith, earlier, low) in
+      subst (P k) (sym (get_or-set_other xs (machine - 1) (k - 1) v 0 other)) (done k low earlier)
+  | inr last ↦
+      let e : machine ≡ k = omega (arith, last, high) in
+      subst (λ i. P i (slice_index (set xs (machine - 1) v) (i - 1))) e (subst (P machine) (sym (get_or-set_same xs (machine - 1) v 0 within)) here)
+]
+
+pub owed-fits : (shop : Shop) (list : List ℕ) (node : Node) (left machine : ℕ) → IsWithinLimits shop → IsNode shop list node left → 1 ≤ machine → machine ≤ shop.machines → slice_index node.owed (machine - 1) ≤ MAX_JOBS * MAX_TIME
+owed-fits shop list node left machine limits is from to =
+    let most : shop.jobs ≤ MAX_JOBS = limits.jobs in
+    omega (arith, is.owed machine from to, owed-small shop list machine limits, most)

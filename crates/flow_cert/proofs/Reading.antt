@@ -90,7 +90,7 @@ reading-dive shop value place root whole node child links less below lower last 
       behind = start-place shop.jobs (path root frames ++ job ∷ []);
       stack = (
         subst (λ l. IsAt shop (path root frames) node l (suc (suc lower))) (sym back) (subst (λ l. IsAt shop (path root frames) node links (suc l)) e i.here),
-        next.1, next.2, next.3,
+        next.1, next.2, next.3, i.behind.0,
         subst (λ l. IsStack shop root l (suc (suc (suc lower))) frames) (sym back) (subst (λ l. IsStack shop root links (suc (suc l)) frames) e i.stack)
       );
       answer =
@@ -125,7 +125,7 @@ reading-up shop value place root whole node links back below last at bytes frame
     (record {
       here = subst (λ l. IsAt shop (path root higher) f.node l (suc (suc below))) (sym is) s.0;
       behind = (s.2, λ low. s.3);
-      stack = subst (λ l. IsStack shop root l (suc (suc (suc below))) higher) (sym is) s.4;
+      stack = subst (λ l. IsStack shop root l (suc (suc (suc below))) higher) (sym is) s.5;
       answer = reading-none shop value place root whole node links below last at bytes (f ∷ higher) was none;
     })
 

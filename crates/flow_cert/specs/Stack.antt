@@ -122,7 +122,7 @@ abbrev pub IsStack : Shop → List ℕ → List ℕ → ℕ → List Frame → T
 IsStack shop root links left [] = Unit {0}
 IsStack shop root links left (f ∷ fs) =
     IsAt shop (path root fs) f.node (slice_set links f.last f.job) left
-    × (1 ≤ f.job) × (f.job ≤ shop.jobs) × (has (path root fs) f.job ≡ false)
+    × (1 ≤ f.job) × (f.job ≤ shop.jobs) × (has (path root fs) f.job ≡ false) × (f.last ≤ shop.jobs)
     × IsStack shop root (slice_set links f.last f.job) (suc left) fs
 
 -- the children of a list are read, from behind one on

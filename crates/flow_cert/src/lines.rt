@@ -54,7 +54,6 @@ pub(crate) fn lines_end(
             at: end + 1,
         });
     }
-    let _jobs = claim.instance.jobs();
     let mut place = line;
     let mut at = from;
     let mut last = 0;

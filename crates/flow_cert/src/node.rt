@@ -33,8 +33,9 @@ fn time_of_all(instance: &Instance, machine: u16) -> u64
     requires to { machine ≤ instance.now.machines }
     ensures value { result ≡ sum_by (λ job. time instance.now job machine) (jobs_left instance.now.jobs []) }
 {
+    let jobs = instance.jobs();
     let mut total = 0;
-    for job in 1..instance.jobs() + 1 {
+    for job in 1..jobs + 1 {
         total += u64::from(instance.time(job, machine));
     }
     total
@@ -45,14 +46,13 @@ impl Node {
     pub(crate) fn root(instance: &Instance) -> Self
         ensures { IsNode instance.now [] result instance.now.jobs }
     {
+        let machines = instance.machines();
         let mut owed = [0; MAX_MACHINES];
-        for machine in 1..instance.machines() + 1 {
+        for machine in 1..machines + 1 {
             owed[machine as usize - 1] = time_of_all(instance, machine);
         }
-        Node {
-            front: Front::empty(),
-            owed,
-        }
+        let front = Front::empty();
+        Node { front, owed }
     }
 
     /// The list with a job at its end.
@@ -68,7 +68,8 @@ impl Node {
         front_push(claim.instance, &mut front, job);
         let mut owed = self.owed;
         let row = &claim.rows[job as usize - 1];
-        for machine in 1..claim.instance.machines() + 1 {
+        let machines = claim.instance.machines();
+        for machine in 1..machines + 1 {
             let place = machine as usize - 1;
             owed[place] -= u64::from(row.times[place]);
         }
@@ -87,7 +88,6 @@ fn completion_of(claim: &Claim, front: &Front, job: u16, machine: u16) -> u64
         result ≡ completion claim.now.instance.now (list ++ job ∷ []) machine }
     ensures small { result ≤ MAX_COMPLETION + machine * MAX_TIME }
 {
-    let _machines = claim.instance.machines();
     let row = &claim.rows[job as usize - 1];
     let mut free = 0;
     for earlier in 1..machine + 1 {
@@ -105,7 +105,6 @@ fn least_behind(claim: &Claim, links: &[u16], machine: u16) -> Lows
     requires to { machine ≤ claim.now.instance.now.machines }
     ensures { (list : List ℕ) → AreLinks claim.now.instance.now.jobs list links.now → AreLows claim.now.instance.now list machine result }
 {
-    let _machines = claim.instance.machines();
     let place = machine as usize - 1;
     let mut least = u32::MAX;
     let mut second = u32::MAX;

@@ -33,6 +33,7 @@ fn step(
     ensures { (list : List ℕ) → IsAt claim.now.instance.now list node.now links.now (left_before child left) → IsChild claim.now.instance.now.jobs list child →
         StepGives claim.now.instance.now claim.now.value place left (grown list child) byte result }
 {
+    let machines = claim.instance.machines();
     if left == 0 {
         if byte != b'.' {
             return Err(CheckFault::Tree(place));
@@ -49,7 +50,7 @@ fn step(
         return Err(CheckFault::Tree(place));
     }
     let machine = u16::from(byte - b'A') + 1;
-    if machine > claim.instance.machines() {
+    if machine > machines {
         return Err(CheckFault::Tree(place));
     }
     if bound(claim, node, links, child, machine) < claim.value {
@@ -78,7 +79,11 @@ pub(crate) fn tree_end(
     if from >= claim.bytes.len() {
         return Err(CheckFault::Tree(place));
     }
-    if !step(claim, place, &node, links, None, left, claim.bytes[from])? {
+    let open = match step(claim, place, &node, links, None, left, claim.bytes[from]) {
+        Ok(open) => open,
+        Err(fault) => return Err(fault),
+    };
+    if !open {
         return Ok(from + 1);
     }
     stack.clear();
