@@ -1,21 +1,20 @@
 -- The fronts, the times owed and the bounds of lists.
-use Rattle.std.proofs.Common.{◌≡◌, ◌≢◌, ℕ, zero, suc, ◌+◌, ◌-◌, ◌*◌, ◌<◌, ◌≤◌, Bool, true, false, cond, not, List, [], ◌∷◌, ◌++◌, length, map, slice_index, refl, ap, sym, ◌∙◌, subst, inl, inr, arith, set, get_or, length-append}
+use Rattle.std.proofs.Common.{◌≡◌, ◌≢◌, ℕ, zero, suc, ◌+◌, ◌-◌, ◌*◌, ◌<◌, ◌≤◌, Bool, true, false, cond, not, List, [], ◌∷◌, ◌++◌, length, slice_index, refl, ap, sym, ◌∙◌, subst, inl, inr, arith, set, length-append}
 use Rattle.std.specs.List.{filter, sum_by}
-use Rattle.std.proofs.lemmas.List.{get_or-set_same, get_or-set_other, length-set}
+use Rattle.std.proofs.lemmas.List.{get_or-set_same, get_or-set_other}
 use Rattle.std.proofs.lemmas.Bool.{cases_lt}
-use Rattle.flow_core.specs.declared.limits.TheConstants.{MAX_JOBS, MAX_MACHINES, MAX_TIME, MAX_COMPLETION}
+use Rattle.flow_core.specs.declared.limits.TheConstants.{MAX_JOBS, MAX_MACHINES, MAX_TIME}
 use Rattle.flow_core.specs.Shop.{Shop, numbers, time, time_between, IsWithinLimits}
-use Rattle.flow_core.specs.Least.{least}
 use Rattle.flow_core.specs.Paths.{completion}
 use Rattle.flow_core.specs.Front.{IsFrontOf, IsWithinFront}
 use Rattle.flow_core.specs.Sequences.{has, jobs_left}
-use Rattle.flow_core.specs.Bound.{machine_bound, bound_at, front_of}
+use Rattle.flow_core.specs.Bound.{bound_at, front_of}
 use Rattle.flow_core.proofs.Recurrence.{after, completed, completion-is, completion-after, after-same}
 use Rattle.flow_core.proofs.Fronts.{free_at, front-within, time-small}
 use Rattle.flow_core.proofs.Admissible.{front_of-is}
 use Rattle.flow_core.proofs.JobsLeft.{kept, kept-more, filter-more}
 use Rattle.std.proofs.lemmas.Bool.Decides.{eqb_tells}
-use Rattle.flow_cert.specs.Stack.{IsNode, IsAt, AreLows, tails, least_below, second_below, children}
+use Rattle.flow_cert.specs.Stack.{IsNode, AreLows, tails, least_below, second_below, children}
 use Rattle.flow_cert.specs.declared.node.Node.{Node}
 use Rattle.flow_cert.specs.declared.node.Lows.{Lows}
 use Rattle.flow_cert.proofs.Links.{left-sum, left-count, left-split, left-without, left_under}

@@ -1,12 +1,12 @@
 -- The steps of reading a tree with a stack.
-use Rattle.std.proofs.Common.{◌≡◌, ◌≢◌, ℕ, zero, suc, ◌+◌, ◌-◌, ◌<◌, ◌≤◌, Bool, true, false, List, [], ◌∷◌, ◌++◌, length, drop, slice_index, slice_set, Result, Ok, Err, refl, ap, sym, subst, ◌∙◌, arith, get_or, reverse}
+use Rattle.std.proofs.Common.{◌≡◌, ◌≢◌, ℕ, zero, suc, ◌+◌, ◌<◌, ◌≤◌, Bool, true, false, List, [], ◌∷◌, ◌++◌, length, drop, slice_index, slice_set, Result, Ok, Err, refl, ap, sym, subst, ◌∙◌, arith, get_or, reverse}
 use Rattle.std.proofs.lemmas.List.{reverse-append}
 use Rattle.std.proofs.Math.Seq.{drop-cons}
 use Rattle.flow_core.specs.Shop.{Shop}
 use Rattle.flow_core.specs.Bound.{bound_at}
-use Rattle.flow_core.specs.Sequences.{has, jobs_left}
+use Rattle.flow_core.specs.Sequences.{jobs_left}
 use Rattle.flow_cert.specs.Faults.{read_tree, each_tree, then_read}
-use Rattle.flow_cert.specs.Stack.{StepGives, TreeGives, children, IsNext, IsPlace, AreLinks, IsNode, IsAt, path, resume, IsStack, IsReading}
+use Rattle.flow_cert.specs.Stack.{StepGives, TreeGives, children, IsNext, AreLinks, IsNode, IsAt, path, resume, IsStack, IsReading}
 use Rattle.flow_cert.specs.declared.fault.CheckFault.{CheckFault}
 use Rattle.flow_cert.specs.declared.fault.CheckFault.TheVariants.{Memory, Header, Size, Value, Sequence, NotAttained, Tree, Weak, Low, End}
 use Rattle.flow_cert.specs.declared.node.Node.{Node}

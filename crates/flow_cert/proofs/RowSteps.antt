@@ -1,7 +1,7 @@
 -- The times of rows.
-use Rattle.std.proofs.Common.{◌≡◌, ◌≢◌, ℕ, zero, suc, ◌+◌, ◌-◌, ◌*◌, ◌<◌, ◌≤◌, List, [], ◌∷◌, ◌++◌, length, slice_index, slice_index_or, refl, ap, sym, ◌∙◌, subst, inl, inr, arith, set, get_or}
+use Rattle.std.proofs.Common.{◌≡◌, ◌≢◌, ℕ, zero, suc, ◌+◌, ◌-◌, ◌*◌, ◌<◌, ◌≤◌, List, length, slice_index, ap, sym, ◌∙◌, inl, inr, arith, set}
 use Rattle.std.specs.List.{range_with_len, sum_by}
-use Rattle.std.proofs.lemmas.List.{get_or-set_other, get_or-set_same, get_or_push}
+use Rattle.std.proofs.lemmas.List.{get_or-set_other, get_or-set_same}
 use Rattle.std.proofs.lemmas.List.Sums.{sum_by-cons}
 use Rattle.std.proofs.lemmas.Bool.{cases_lt}
 use Rattle.flow_core.specs.declared.limits.TheConstants.{MAX_TIME}

@@ -1,10 +1,10 @@
-use Rattle.std.proofs.Common.{◌≡◌, ℕ, suc, ◌+◌, ◌-◌, ◌<◌, ◌≤◌, List, [], ◌∷◌, ◌++◌, length, drop, slice_index, slice_set, refl, sym, ap, subst, ◌∙◌, arith}
+use Rattle.std.proofs.Common.{◌≡◌, ℕ, suc, ◌+◌, ◌-◌, List, [], ◌∷◌, ◌++◌, drop, slice_index, slice_set, refl, sym, ap, subst, ◌∙◌, arith}
 use Rattle.flow_core.specs.Bound.{bound_at}
 use Rattle.flow_core.specs.Sequences.{extensions}
 use Rattle.flow_cert.specs.Faults.{trees_value}
 use Rattle.flow_cert.specs.Stack.{IsAt, IsNode, awaited}
-use Rattle.flow_cert.proofs.Links.{next-some, next-place, start-place, links-out, links-back}
-use Rattle.flow_cert.proofs.LineSteps.{awaited-start, awaited-none, awaited-next, lines-err}
+use Rattle.flow_cert.proofs.Links.{next-some, next-place, links-out, links-back}
+use Rattle.flow_cert.proofs.LineSteps.{awaited-none, awaited-next, lines-err}
 use Rattle.flow_cert.proofs.lines.+lines_end.Goals as goal
 
 pub returns-then-job-eq0-clause-lines : goal.returns-then-job-eq0-clause-lines

@@ -1,5 +1,5 @@
-use Rattle.std.proofs.Common.{◌≡◌, ◌≢◌, ℕ, suc, ◌+◌, ◌-◌, ◌*◌, ◌≤◌, ◌<◌, List, [], Option, Some, None, slice_index, ap, sym, subst, ◌∙◌, arith}
-use Rattle.flow_core.specs.declared.limits.TheConstants.{MAX_TIME, MAX_COMPLETION, MAX_JOBS, MAX_MACHINES}
+use Rattle.std.proofs.Common.{◌≡◌, ℕ, suc, ◌+◌, ◌-◌, ◌≤◌, List, [], Some, slice_index, ap, sym, subst, ◌∙◌, arith}
+use Rattle.flow_core.specs.declared.limits.TheConstants.{MAX_MACHINES}
 use Rattle.flow_core.specs.Shop.{time}
 use Rattle.flow_core.specs.Bound.{bound_at}
 use Rattle.flow_cert.specs.Stack.{IsAt, IsChild, grown, left_before}

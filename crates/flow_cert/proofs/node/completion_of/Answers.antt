@@ -1,5 +1,5 @@
-use Rattle.std.proofs.Common.{◌≡◌, ℕ, ◌+◌, ◌-◌, ◌*◌, ◌≤◌, ◌<◌, List, max, slice_index, refl, ap, sym, ◌∙◌, arith}
-use Rattle.flow_core.specs.declared.limits.TheConstants.{MAX_TIME, MAX_COMPLETION}
+use Rattle.std.proofs.Common.{◌≡◌, ◌+◌, ◌-◌, ◌≤◌, max, slice_index, refl, ap, sym, ◌∙◌, arith}
+use Rattle.flow_core.specs.declared.limits.TheConstants.{MAX_COMPLETION}
 use Rattle.flow_core.specs.Shop.{time}
 use Rattle.flow_core.proofs.Recurrence.{after}
 use Rattle.flow_core.proofs.Fronts.{free_at, after-step, time-small}

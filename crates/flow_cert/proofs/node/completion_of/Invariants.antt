@@ -1,4 +1,4 @@
-use Rattle.std.proofs.Common.{◌≡◌, ℕ, ◌+◌, ◌-◌, ◌*◌, ◌≤◌}
+use Rattle.std.proofs.Common.{◌≡◌, ◌+◌, ◌-◌, ◌*◌, ◌≤◌}
 use Rattle.flow_core.specs.declared.limits.TheConstants.{MAX_TIME, MAX_COMPLETION}
 use Rattle.flow_core.proofs.Recurrence.{after}
 use Rattle.flow_core.proofs.Fronts.{free_at}

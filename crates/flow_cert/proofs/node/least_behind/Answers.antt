@@ -1,4 +1,4 @@
-use Rattle.std.proofs.Common.{◌≡◌, ◌≢◌, ℕ, ◌+◌, ◌-◌, ◌≤◌, ◌<◌, List, ◌∷◌, min, max, length, slice_index, ap, sym, ◌∙◌, arith}
+use Rattle.std.proofs.Common.{◌≡◌, ℕ, ◌+◌, min, max, slice_index, ap, sym, ◌∙◌, arith}
 use Rattle.flow_core.specs.Shop.{time_between}
 use Rattle.flow_cert.specs.Stack.{IsNext, tails, children, least_below, second_below}
 use Rattle.flow_cert.proofs.Links.{children-none, children-next, next-place, next-some}

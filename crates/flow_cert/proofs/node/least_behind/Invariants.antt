@@ -1,4 +1,4 @@
-use Rattle.std.proofs.Common.{◌≡◌, ℕ, ◌+◌, ◌-◌, ◌≤◌, List}
+use Rattle.std.proofs.Common.{◌≡◌, ℕ, ◌+◌, ◌-◌, List}
 use Rattle.flow_core.specs.Sequences.{jobs_left}
 use Rattle.flow_cert.specs.Stack.{AreLinks, IsPlace, children, tails, least_below, second_below}
 use Rattle.flow_cert.proofs.node.least_behind.Given as goal

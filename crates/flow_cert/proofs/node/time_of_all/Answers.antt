@@ -1,4 +1,4 @@
-use Rattle.std.proofs.Common.{◌≡◌, ℕ, ◌+◌, ◌-◌, ◌≤◌, Bool, not, [], ap, ◌∙◌, arith}
+use Rattle.std.proofs.Common.{◌≡◌, ℕ, ◌+◌, ◌-◌, Bool, not, [], ◌∙◌, arith}
 use Rattle.flow_core.specs.Shop.{time}
 use Rattle.flow_core.specs.Sequences.{has}
 use Rattle.flow_core.proofs.JobsLeft.{kept}

@@ -1,4 +1,4 @@
-use Rattle.std.proofs.Common.{◌≡◌, ℕ, ◌+◌, ◌-◌, ◌*◌, ◌≤◌, not, [], sum_by}
+use Rattle.std.proofs.Common.{◌≡◌, ◌-◌, ◌*◌, ◌≤◌, not, [], sum_by}
 use Rattle.std.specs.List.{filter}
 use Rattle.flow_core.specs.declared.limits.TheConstants.{MAX_TIME}
 use Rattle.flow_core.specs.Shop.{numbers, time}

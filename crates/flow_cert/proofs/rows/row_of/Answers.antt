@@ -1,7 +1,7 @@
-use Rattle.std.proofs.Common.{◌≡◌, ℕ, ◌+◌, ◌-◌, ◌*◌, ◌<◌, ◌≤◌, length, arith, ap, ◌∙◌}
+use Rattle.std.proofs.Common.{◌≡◌, ℕ, ◌+◌, ◌-◌, ◌<◌, ◌≤◌, length, arith, ap, ◌∙◌}
 use Rattle.std.proofs.lemmas.List.{length-set}
-use Rattle.flow_core.specs.declared.limits.TheConstants.{MAX_TIME, MAX_MACHINES}
-use Rattle.flow_core.specs.Shop.{time, time_between}
+use Rattle.flow_core.specs.declared.limits.TheConstants.{MAX_MACHINES}
+use Rattle.flow_core.specs.Shop.{time_between}
 use Rattle.flow_cert.proofs.RowSteps.{time_between-first, tail-small, made-more}
 use Rattle.flow_cert.proofs.rows.row_of.Goals as goal
 

@@ -1,5 +1,5 @@
-use Rattle.std.proofs.Common.{◌≡◌, ℕ, ◌≤◌, ◌+◌, ◌-◌, ◌*◌, ◌<◌, length}
-use Rattle.flow_core.specs.declared.limits.TheConstants.{MAX_MACHINES, MAX_TIME}
+use Rattle.std.proofs.Common.{◌≡◌, ◌≤◌, ◌+◌, length}
+use Rattle.flow_core.specs.declared.limits.TheConstants.{MAX_MACHINES}
 use Rattle.flow_core.specs.Shop.{time_between}
 use Rattle.flow_cert.proofs.RowSteps.{Made}
 use Rattle.flow_cert.proofs.rows.row_of.Given as goal

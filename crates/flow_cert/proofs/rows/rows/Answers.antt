@@ -1,4 +1,4 @@
-use Rattle.std.proofs.Common.{◌≡◌, ℕ, ◌+◌, ◌-◌, ◌<◌, ◌≤◌, ◌∷◌, [], ◌++◌, length, arith, ap, sym, subst, ◌∙◌}
+use Rattle.std.proofs.Common.{◌∷◌, [], length, arith, ap}
 use Rattle.std.proofs.lemmas.List.{length-append}
 use Rattle.flow_cert.proofs.RowsMade.{each-more}
 use Rattle.flow_cert.proofs.rows.rows.Goals as goal

@@ -1,4 +1,4 @@
-use Rattle.std.proofs.Common.{◌≡◌, ℕ, ◌≤◌, ◌+◌, ◌-◌, ◌<◌, length}
+use Rattle.std.proofs.Common.{◌≡◌, ℕ, ◌≤◌, ◌-◌, ◌<◌, length}
 use Rattle.std.specs.List.{slice_index_or}
 use Rattle.flow_cert.specs.Rows.{IsRow}
 use Rattle.flow_cert.specs.declared.rows.Row.{Row}

@@ -1,4 +1,4 @@
-use Rattle.std.proofs.Common.{◌≡◌, ℕ, suc, ◌+◌, ◌-◌, ◌≤◌, ◌<◌, ap, subst, ◌∙◌, arith}
+use Rattle.std.proofs.Common.{◌≡◌, suc, ◌+◌, ◌-◌, ap, subst, ◌∙◌, arith}
 use Rattle.flow_core.specs.Bound.{bound_at}
 use Rattle.flow_cert.specs.Stack.{IsAt, grown, left_before}
 use Rattle.flow_cert.proofs.TreeBytes.{cut-before, cut-past, cut-weak, cut-strong}

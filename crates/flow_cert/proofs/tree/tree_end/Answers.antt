@@ -1,8 +1,7 @@
-use Rattle.std.proofs.Common.{◌≡◌, ℕ, suc, ◌+◌, ◌-◌, ◌*◌, ◌<◌, ◌≤◌, List, [], ◌∷◌, ◌++◌, length, drop, reverse, take, get_or, slice_index, slice_set, refl, sym, ap, subst, ◌∙◌, arith, length-append}
-use Rattle.std.proofs.lemmas.List.{length-set}
+use Rattle.std.proofs.Common.{◌≡◌, ℕ, suc, ◌+◌, ◌-◌, List, [], ◌∷◌, ◌++◌, drop, reverse, take, get_or, slice_index, slice_set, refl, sym, ap, subst, ◌∙◌, arith}
 use Rattle.flow_core.specs.Bound.{bound_at}
 use Rattle.flow_cert.specs.Faults.{read_tree}
-use Rattle.flow_cert.specs.Stack.{path, put_back, IsReading, IsAt, IsStack}
+use Rattle.flow_cert.specs.Stack.{path, put_back, IsReading, IsStack}
 use Rattle.flow_cert.proofs.Links.{next-some, links-back}
 use Rattle.flow_cert.proofs.Reading.{no-byte, reading-next, reading-start, reading-fault, reading-leaf, reading-dive, reading-done, reading-up, step-open, step-whole, step-bad, tree-fails, drop-step, drop-past, reverse-push}
 use Rattle.flow_cert.specs.declared.fault.CheckFault.TheVariants.{Tree}

@@ -1,4 +1,4 @@
-use Rattle.std.proofs.Common.{◌≡◌, ◌-◌, [], Ok, Err, sym, subst}
+use Rattle.std.proofs.Common.{◌-◌, [], Ok, Err, sym, subst}
 use Rattle.flow_core.specs.Sequences.{cut}
 use Rattle.flow_cert.specs.Stack.{IsAt, IsNode, AreLinks, LinesGive}
 use Rattle.flow_cert.proofs.TreesGiven.{trees-ok, trees-err}

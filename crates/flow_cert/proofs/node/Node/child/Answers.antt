@@ -1,4 +1,4 @@
-use Rattle.std.proofs.Common.{◌≡◌, ◌≢◌, ℕ, ◌+◌, ◌-◌, ◌≤◌, ◌<◌, length, slice_index, ap, sym, ◌∙◌, arith}
+use Rattle.std.proofs.Common.{◌≡◌, ◌≢◌, ℕ, ◌+◌, ◌-◌, ◌≤◌, slice_index, ◌∙◌, arith}
 use Rattle.std.proofs.lemmas.List.{length-set, get_or-set_other}
 use Rattle.flow_core.specs.declared.limits.TheConstants.{MAX_MACHINES}
 use Rattle.flow_core.specs.Shop.{time}

@@ -1,4 +1,4 @@
-use Rattle.std.proofs.Common.{◌≡◌, ℕ, ◌+◌, ◌-◌, ◌≤◌, ◌<◌, arith}
+use Rattle.std.proofs.Common.{arith}
 use Rattle.flow_cert.proofs.NodeSteps.{root-node}
 use Rattle.flow_cert.proofs.node.Node.root.Goals as goal
 

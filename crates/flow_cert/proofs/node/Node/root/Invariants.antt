@@ -1,4 +1,4 @@
-use Rattle.std.proofs.Common.{◌≡◌, ℕ, ◌+◌, ◌-◌, ◌≤◌, ◌<◌, [], sum_by, length, slice_index}
+use Rattle.std.proofs.Common.{◌≡◌, ℕ, ◌-◌, ◌≤◌, ◌<◌, [], sum_by, length, slice_index}
 use Rattle.flow_core.specs.declared.limits.TheConstants.{MAX_MACHINES}
 use Rattle.flow_core.specs.Shop.{time}
 use Rattle.flow_core.specs.Sequences.{jobs_left}
