@@ -3,6 +3,8 @@
 
 mod fault;
 mod laws;
+mod number;
 
 pub use fault::CheckFault;
 pub use laws::{certificate_is_sound, value_is_exact};
+pub use number::read_number;
