@@ -4,6 +4,7 @@
 mod fault;
 mod laws;
 mod number;
+mod trees;
 
 pub use fault::CheckFault;
 pub use laws::{certificate_is_sound, value_is_exact};
