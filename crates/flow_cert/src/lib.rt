@@ -2,10 +2,10 @@
 #![tactic(auto)]
 
 mod fault;
+mod heading;
 mod laws;
 mod number;
 mod trees;
 
 pub use fault::CheckFault;
 pub use laws::{certificate_is_sound, value_is_exact};
-pub use number::read_number;

@@ -16,7 +16,7 @@ fn with_digit(value: u64, started: bool, byte: u8) -> Option<u64>
 
 /// The decimal number without leading zeros with which a text begins, and what follows the byte that ends it. `None`
 /// where the text does not begin with such a number below 2^64 and that byte.
-pub fn read_number(text: &[u8], end: u8) -> Option<(u64, &[u8])>
+pub(crate) fn read_number(text: &[u8], end: u8) -> Option<(u64, &[u8])>
     requires { end < 48 }
     ensures found { IfSome result (λ r. BeginsWithNumber text.now end r.0 r.1.now) }
     ensures only { (n : ℕ) (rest : List ℕ) → BeginsWithNumber text.now end n rest → IsSomeAnd result (λ r. (r.0 ≡ n) × (r.1.now ≡ rest)) }
