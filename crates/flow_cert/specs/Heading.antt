@@ -2,7 +2,6 @@
 use Rattle.std.specs.Prelude.{ℕ, ◌≡◌, ◌≤◌, ◌<◌, ◌+◌, ◌-◌, ◌*◌, ◌^◌, Bool, ◌&&◌, not, nat_eq, nat_lt, List, [], ◌∷◌, ◌++◌}
 use Rattle.std.specs.Fmt.{decimal}
 use Rattle.flow_core.specs.declared.limits.TheConstants.{MAX_DEPTH}
-use Rattle.flow_core.specs.Shop.{Shop}
 use Rattle.flow_core.specs.Sequences.{IsSequence}
 use Rattle.flow_cert.specs.Certificate.{line, spaced}
 use Rattle.flow_cert.specs.Faults.{is_digit}
@@ -20,10 +19,10 @@ is_further value started byte =
 abbrev pub BeginsWithJob : ℕ → List ℕ → ℕ → ℕ → List ℕ → Type 0
 BeginsWithJob n text end job rest = (1 ≤ job) × (job ≤ n) × (text ≡ decimal job ++ end ∷ rest)
 
--- a text begins with the line of an instance's size and a depth
-abbrev pub BeginsWithSize : Shop → List ℕ → ℕ → List ℕ → Type 0
-BeginsWithSize shop text depth rest =
-    (depth ≤ shop.jobs) × (depth ≤ MAX_DEPTH) × (text ≡ line (spaced (shop.jobs ∷ shop.machines ∷ depth ∷ [])) ++ rest)
+-- a text begins with the line of so many jobs and machines, and a depth
+abbrev pub BeginsWithSize : ℕ → ℕ → List ℕ → ℕ → List ℕ → Type 0
+BeginsWithSize jobs machines text depth rest =
+    (depth ≤ jobs) × (depth ≤ MAX_DEPTH) × (text ≡ line (spaced (jobs ∷ machines ∷ depth ∷ [])) ++ rest)
 
 -- a text begins with the line of a sequence
 abbrev pub BeginsWithSequence : ℕ → List ℕ → List ℕ → List ℕ → Type 0

@@ -2,6 +2,7 @@
 
 ghost use Rattle.std.specs.Prelude.{◌≡◌, ℕ, ◌<◌, ◌≤◌, ◌++◌, List, IfSome, IfOk, IfErr, Ok, Err};
 ghost use Rattle.std.specs.Option.{IsSomeAnd};
+ghost use Rattle.flow_core.specs.Shop.{IsWithinLimits};
 ghost use Rattle.flow_core.specs.Paths.{span};
 ghost use Rattle.flow_cert.specs.Certificate.{line, title};
 ghost use Rattle.flow_cert.specs.Faults.{certificate_value, cut_value};
@@ -29,17 +30,18 @@ fn read_title(text: &[u8]) -> Option<&[u8]>
     text.strip_prefix(TITLE)
 }
 
-/// The depth in the line of the instance's size, and what follows that line.
-fn read_size<'a>(instance: &Instance, text: &'a [u8]) -> Option<(u16, &'a [u8])>
-    ensures found { IfSome result (λ r. BeginsWithSize instance.now text.now r.0 r.1.now) }
-    ensures only { (depth : ℕ) (rest : List ℕ) → BeginsWithSize instance.now text.now depth rest → IsSomeAnd result (λ r. (r.0 ≡ depth) × (r.1.now ≡ rest)) }
+/// The depth in the line of so many jobs and machines, and what follows that line.
+fn read_size(jobs: u16, machines: u16, text: &[u8]) -> Option<(u16, &[u8])>
+    ensures found { IfSome result (λ r. BeginsWithSize jobs machines text.now r.0 r.1.now) }
+    ensures only { (depth : ℕ) (rest : List ℕ) → BeginsWithSize jobs machines text.now depth rest → IsSomeAnd result (λ r. (r.0 ≡ depth) × (r.1.now ≡ rest)) }
 {
-    let n = u64::from(instance.jobs());
-    let m = u64::from(instance.machines());
-    let (jobs, machines_text) = read_number(text, b' ')?;
-    let (machines, depth_text) = read_number(machines_text, b' ')?;
+    let (first, machines_text) = read_number(text, b' ')?;
+    let (second, depth_text) = read_number(machines_text, b' ')?;
     let (depth, rest) = read_number(depth_text, b'\n')?;
-    if jobs != n || machines != m || depth > n || depth > u64::from(MAX_DEPTH) {
+    if first != u64::from(jobs) || second != u64::from(machines) {
+        return None;
+    }
+    if depth > u64::from(jobs) || depth > u64::from(MAX_DEPTH) {
         return None;
     }
     Some((depth as u16, rest))
@@ -86,14 +88,17 @@ pub(crate) fn read_heading<'a>(
     instance: &Instance,
     text: &'a [u8],
 ) -> Result<Heading<'a>, CheckFault>
+    ensures limits { IsWithinLimits instance.now }
     ensures depth { IfOk result (λ heading. heading.depth ≤ instance.now.jobs) }
     ensures found { IfOk result (λ heading. certificate_value instance.now text.now ≡ cut_value instance.now heading.depth heading.value heading.trees.now) }
     ensures fault { IfErr result (λ fault. certificate_value instance.now text.now ≡ Err fault) }
 {
+    let jobs = instance.jobs();
+    let machines = instance.machines();
     let Some(size_text) = read_title(text) else {
         return Err(CheckFault::Header);
     };
-    let Some((depth, value_text)) = read_size(instance, size_text) else {
+    let Some((depth, value_text)) = read_size(jobs, machines, size_text) else {
         return Err(CheckFault::Size);
     };
     let Some((value, sequence_text)) = read_number(value_text, b'\n') else {
