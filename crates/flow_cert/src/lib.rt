@@ -1,10 +1,13 @@
 //! Certificates of a least makespan, and the checker that reads them.
 #![tactic(auto)]
 
+mod cut_bound;
 mod fault;
 mod heading;
 mod laws;
 mod number;
+mod lines;
+mod tree;
 mod trees;
 
 pub use fault::CheckFault;
