@@ -1,9 +1,14 @@
 -- What a checker gives that answers what a text is read as.
-use Rattle.std.proofs.Common.{◌≡◌, ℕ, List, Ok, Err, sym, ◌∙◌}
+use Rattle.std.proofs.Common.{◌≡◌, ◌⊎◌, inl, inr, ℕ, Bool, true, false, cond, List, drop, Result, Ok, Err, refl, ap, sym, ◌∙◌}
+use Rattle.std.specs.Str.{bytes_eq}
+use Rattle.std.specs.Cmp.Lexicographic.{bytes_decides}
 use Rattle.flow_core.specs.Shop.{Shop, IsWithinLimits}
 use Rattle.flow_core.specs.Sequences.{IsLeastMakespan}
-use Rattle.flow_cert.specs.Certificate.{IsCertificate}
-use Rattle.flow_cert.specs.Faults.{certificate_value}
+use Rattle.flow_cert.specs.Certificate.{IsCertificate, line, ending}
+use Rattle.flow_cert.specs.Check.{IsFirstFault, IsOfNoValue}
+use Rattle.flow_cert.specs.Faults.{certificate_value, cut_value, end_value}
+use Rattle.flow_cert.specs.Trees.{TreesGive}
+use Rattle.flow_cert.specs.declared.fault.CheckFault.TheVariants.{Memory, Header, Size, Value, Sequence, NotAttained, Tree, Weak, Low, End}
 use Rattle.flow_cert.specs.declared.fault.CheckFault.{CheckFault}
 use Rattle.flow_cert.proofs.Exact.{value_is_exact}
 use Rattle.flow_cert.proofs.TreesExact.{fault-value}
@@ -18,3 +23,72 @@ value-least shop bytes value limits read =
 -- a text with a fault is a certificate of no value
 pub fault-lawless : (shop : Shop) (bytes : List ℕ) (fault : CheckFault) → IsWithinLimits shop → certificate_value shop bytes ≡ Err fault → (value : ℕ) → IsCertificate shop bytes value → ⊥
 fault-lawless shop bytes fault limits read value is = fault-value fault value (sym read ∙ (value_is_exact shop bytes value limits).1 is)
+
+-- what a read value or fault gives to the clauses of a check
+
+pub first-fault : (shop : Shop) (bytes : List ℕ) (fault : CheckFault) → certificate_value shop bytes ≡ Err fault → IsFirstFault shop bytes fault
+first-fault shop bytes Memory e = tt
+first-fault shop bytes Header e = e
+first-fault shop bytes Size e = e
+first-fault shop bytes Value e = e
+first-fault shop bytes Sequence e = e
+first-fault shop bytes NotAttained e = e
+first-fault shop bytes (Tree line) e = e
+first-fault shop bytes (Weak line) e = e
+first-fault shop bytes (Low line) e = e
+first-fault shop bytes End e = e
+
+pub no-value : (shop : Shop) (bytes : List ℕ) (fault : CheckFault) → IsWithinLimits shop → IsFirstFault shop bytes fault → IsOfNoValue shop bytes fault
+no-value shop bytes Memory limits e = tt
+no-value shop bytes Header limits e = fault-lawless shop bytes Header limits e
+no-value shop bytes Size limits e = fault-lawless shop bytes Size limits e
+no-value shop bytes Value limits e = fault-lawless shop bytes Value limits e
+no-value shop bytes Sequence limits e = fault-lawless shop bytes Sequence limits e
+no-value shop bytes NotAttained limits e = fault-lawless shop bytes NotAttained limits e
+no-value shop bytes (Tree line) limits e = fault-lawless shop bytes (Tree line) limits e
+no-value shop bytes (Weak line) limits e = fault-lawless shop bytes (Weak line) limits e
+no-value shop bytes (Low line) limits e = fault-lawless shop bytes (Low line) limits e
+no-value shop bytes End limits e = fault-lawless shop bytes End limits e
+
+abbrev refused : CheckFault → Result ℕ CheckFault
+refused fault = Err fault
+
+-- a lawful certificate is refused for want of memory alone
+pub only-memory : (shop : Shop) (bytes : List ℕ) (fault : CheckFault) (value : ℕ) → IsOfNoValue shop bytes fault → IsCertificate shop bytes value → (refused fault ≡ Ok value) ⊎ (refused fault ≡ Err Memory)
+only-memory shop bytes Memory value none is = inr refl
+only-memory shop bytes Header value none is = absurd (none value is)
+only-memory shop bytes Size value none is = absurd (none value is)
+only-memory shop bytes Value value none is = absurd (none value is)
+only-memory shop bytes Sequence value none is = absurd (none value is)
+only-memory shop bytes NotAttained value none is = absurd (none value is)
+only-memory shop bytes (Tree line) value none is = absurd (none value is)
+only-memory shop bytes (Weak line) value none is = absurd (none value is)
+only-memory shop bytes (Low line) value none is = absurd (none value is)
+only-memory shop bytes End value none is = absurd (none value is)
+
+-- the faults of the trees are those of the text
+pub trees-fault : (shop : Shop) (depth value from : ℕ) (bytes rest : List ℕ) (fault : CheckFault) → certificate_value shop bytes ≡ cut_value shop depth value (drop from rest) → TreesGive shop depth value from rest (Err fault) → IsFirstFault shop bytes fault
+trees-fault shop depth value from bytes rest Memory e h = tt
+trees-fault shop depth value from bytes rest Header e h = e ∙ h
+trees-fault shop depth value from bytes rest Size e h = e ∙ h
+trees-fault shop depth value from bytes rest Value e h = e ∙ h
+trees-fault shop depth value from bytes rest Sequence e h = e ∙ h
+trees-fault shop depth value from bytes rest NotAttained e h = e ∙ h
+trees-fault shop depth value from bytes rest (Tree line) e h = e ∙ h
+trees-fault shop depth value from bytes rest (Weak line) e h = e ∙ h
+trees-fault shop depth value from bytes rest (Low line) e h = e ∙ h
+trees-fault shop depth value from bytes rest End e h = e ∙ h
+
+-- the last line
+
+pub checked-value : (shop : Shop) (depth value : ℕ) (bytes lines last : List ℕ) → certificate_value shop bytes ≡ cut_value shop depth value lines → cut_value shop depth value lines ≡ end_value value last → last ≡ line ending → certificate_value shop bytes ≡ Ok value
+checked-value shop depth value bytes lines last before trees is =
+    before ∙ trees ∙ ap (λ b. cond b (Ok value) (Err End)) ((bytes_decides last (line ending)).1 is)
+
+pub checked-end : (shop : Shop) (depth value : ℕ) (bytes lines last : List ℕ) → certificate_value shop bytes ≡ cut_value shop depth value lines → cut_value shop depth value lines ≡ end_value value last → (last ≡ line ending → ⊥) → certificate_value shop bytes ≡ Err End
+checked-end shop depth value bytes lines last before trees other =
+    before ∙ trees ∙ ap (λ b. cond b (Ok value) (Err End)) (differs (bytes_eq last (line ending)) refl)
+  where
+    differs : (b : Bool) → bytes_eq last (line ending) ≡ b → bytes_eq last (line ending) ≡ false
+    differs false e = e
+    differs true e = absurd (other ((bytes_decides last (line ending)).0 e))

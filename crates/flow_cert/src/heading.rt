@@ -16,6 +16,7 @@ use flow_core::{front_push, Front, Instance, JobSet, MAX_DEPTH};
 const TITLE: &[u8] = b"flowshop certificate 1\n";
 
 /// What the lines before the trees say, and the text that follows them.
+#[derive(Clone, Copy)]
 pub(crate) struct Heading<'a> {
     pub(crate) depth: u16,
     pub(crate) value: u64,
