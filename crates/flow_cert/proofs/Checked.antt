@@ -1,7 +1,7 @@
 -- What a checker gives that answers what a text is read as.
-use Rattle.std.proofs.Common.{◌≡◌, ◌⊎◌, inl, inr, ℕ, Bool, true, false, cond, List, drop, Result, Ok, Err, refl, ap, sym, ◌∙◌}
+use Rattle.std.proofs.Common.{◌≡◌, ◌⊎◌, inl, inr, ℕ, Bool, true, false, cond, ◌-◌, List, take, drop, length, IfErr, Result, Ok, Err, refl, ap, subst, sym, ◌∙◌}
 use Rattle.std.specs.Str.{bytes_eq}
-use Rattle.std.specs.Cmp.Lexicographic.{bytes_decides}
+use Rattle.std.proofs.lemmas.List.{take_rest}
 use Rattle.flow_core.specs.Shop.{Shop, IsWithinLimits}
 use Rattle.flow_core.specs.Sequences.{IsLeastMakespan}
 use Rattle.flow_cert.specs.Certificate.{IsCertificate, line, ending}
@@ -50,7 +50,7 @@ no-value shop bytes (Weak line) limits e = fault-lawless shop bytes (Weak line) 
 no-value shop bytes (Low line) limits e = fault-lawless shop bytes (Low line) limits e
 no-value shop bytes End limits e = fault-lawless shop bytes End limits e
 
-abbrev refused : CheckFault → Result ℕ CheckFault
+abbrev pub refused : CheckFault → Result ℕ CheckFault
 refused fault = Err fault
 
 -- a lawful certificate is refused for want of memory alone
@@ -79,16 +79,31 @@ trees-fault shop depth value from bytes rest (Weak line) e h = e ∙ h
 trees-fault shop depth value from bytes rest (Low line) e h = e ∙ h
 trees-fault shop depth value from bytes rest End e h = e ∙ h
 
+-- what a checker answers with a fault
+
+pub none-at : (shop : Shop) (bytes : List ℕ) (answer : Result ℕ CheckFault) (fault : CheckFault) → IsWithinLimits shop → answer ≡ Err fault → IsFirstFault shop bytes fault → IfErr answer (λ f. IsOfNoValue shop bytes f)
+none-at shop bytes answer fault limits is first =
+    subst (λ (r : Result ℕ CheckFault). IfErr r (λ f. IsOfNoValue shop bytes f)) (sym is) (no-value shop bytes fault limits first)
+
+pub lawful-at : (shop : Shop) (bytes : List ℕ) (answer : Result ℕ CheckFault) (fault : CheckFault) → IsWithinLimits shop → answer ≡ Err fault → IsFirstFault shop bytes fault → (value : ℕ) → IsCertificate shop bytes value → (answer ≡ Ok value) ⊎ (answer ≡ Err Memory)
+lawful-at shop bytes answer fault limits is first value of_value =
+    subst (λ (r : Result ℕ CheckFault). (r ≡ Ok value) ⊎ (r ≡ Err Memory)) (sym is) (only-memory shop bytes fault value (no-value shop bytes fault limits first) of_value)
+
 -- the last line
 
-pub checked-value : (shop : Shop) (depth value : ℕ) (bytes lines last : List ℕ) → certificate_value shop bytes ≡ cut_value shop depth value lines → cut_value shop depth value lines ≡ end_value value last → last ≡ line ending → certificate_value shop bytes ≡ Ok value
-checked-value shop depth value bytes lines last before trees is =
-    before ∙ trees ∙ ap (λ b. cond b (Ok value) (Err End)) ((bytes_decides last (line ending)).1 is)
+pub checked-value : (shop : Shop) (depth value end : ℕ) (bytes lines : List ℕ) (same : Bool) → certificate_value shop bytes ≡ cut_value shop depth value lines → TreesGive shop depth value 0 lines (Ok end) →
+    same ≡ bytes_eq (take (length lines - end) (drop end lines)) (line ending) → same ≡ true → certificate_value shop bytes ≡ Ok value
+checked-value shop depth value end bytes lines same before trees is yes =
+    before ∙ trees.0 ∙ ap (λ xs. end_value value xs) (sym (take_rest lines end)) ∙ ap (λ b. cond b (Ok value) (Err End)) (sym is ∙ yes)
 
-pub checked-end : (shop : Shop) (depth value : ℕ) (bytes lines last : List ℕ) → certificate_value shop bytes ≡ cut_value shop depth value lines → cut_value shop depth value lines ≡ end_value value last → (last ≡ line ending → ⊥) → certificate_value shop bytes ≡ Err End
-checked-end shop depth value bytes lines last before trees other =
-    before ∙ trees ∙ ap (λ b. cond b (Ok value) (Err End)) (differs (bytes_eq last (line ending)) refl)
-  where
-    differs : (b : Bool) → bytes_eq last (line ending) ≡ b → bytes_eq last (line ending) ≡ false
-    differs false e = e
-    differs true e = absurd (other ((bytes_decides last (line ending)).0 e))
+pub checked-end : (shop : Shop) (depth value end : ℕ) (bytes lines : List ℕ) (same : Bool) → certificate_value shop bytes ≡ cut_value shop depth value lines → TreesGive shop depth value 0 lines (Ok end) →
+    same ≡ bytes_eq (take (length lines - end) (drop end lines)) (line ending) → same ≡ false → certificate_value shop bytes ≡ Err End
+checked-end shop depth value end bytes lines same before trees is no_end =
+    before ∙ trees.0 ∙ ap (λ xs. end_value value xs) (sym (take_rest lines end)) ∙ ap (λ b. cond b (Ok value) (Err End)) (sym is ∙ no_end)
+
+abbrev accepted : ℕ → Result ℕ CheckFault
+accepted value = Ok value
+
+-- a text that is read as a value is a lawful certificate of no other
+pub lawful-value : (shop : Shop) (bytes : List ℕ) (read value : ℕ) → IsWithinLimits shop → certificate_value shop bytes ≡ Ok read → IsCertificate shop bytes value → (accepted read ≡ Ok value) ⊎ (accepted read ≡ Err Memory)
+lawful-value shop bytes read value limits is of_value = inl (sym is ∙ (value_is_exact shop bytes value limits).1 of_value)

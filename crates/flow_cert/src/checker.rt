@@ -1,8 +1,9 @@
 //! The checker.
 
 ghost use Rattle.std.specs.Prelude.{◌≡◌, ◌⊎◌, ℕ, IfOk, IfErr, Ok, Err};
+ghost use Rattle.std.specs.Str.{bytes_eq};
 ghost use Rattle.flow_core.specs.Sequences.{IsLeastMakespan};
-ghost use Rattle.flow_cert.specs.Certificate.{IsCertificate};
+ghost use Rattle.flow_cert.specs.Certificate.{IsCertificate, line, ending};
 ghost use Rattle.flow_cert.specs.Check.{IsFirstFault, IsOfNoValue};
 ghost use Rattle.flow_cert.specs.declared.fault.CheckFault.TheVariants.{Memory};
 
@@ -15,6 +16,13 @@ use std::alloc::Global;
 /// The last line, with its end.
 const ENDING: &[u8] = b"end\n";
 
+/// Whether a text is the last line alone.
+fn is_ending(text: &[u8]) -> bool
+    ensures { result ≡ bytes_eq text.now (line ending) }
+{
+    text == ENDING
+}
+
 /// The value of a lawful certificate, which is the instance's least makespan, or the first fault of the text. `Memory` only
 /// at a growth that was refused. Any lawful certificate is accepted, whoever made it.
 pub fn check(alloc: Global, instance: &Instance, bytes: &[u8]) -> Result<u64, CheckFault>
@@ -26,7 +34,7 @@ pub fn check(alloc: Global, instance: &Instance, bytes: &[u8]) -> Result<u64, Ch
 {
     let heading = read_heading(instance, bytes)?;
     let end = trees_end(alloc, instance, heading.depth, heading.value, heading.trees, 0)?;
-    if &heading.trees[end..] != ENDING {
+    if !is_ending(&heading.trees[end..]) {
         return Err(CheckFault::End);
     }
     Ok(heading.value)
