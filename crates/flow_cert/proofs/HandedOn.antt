@@ -1,0 +1,51 @@
+-- Bytes that are handed on in pieces.
+use Rattle.std.proofs.Common.{◌≡◌, ◌<◌, ℕ, List, [], ◌∷◌, Option, ◌++◌, length, arith, append_assoc, sym, ap, subst, ◌∙◌, length-append}
+use Rattle.std.specs.Io.KnownBytes.{Appends}
+use Rattle.std.proofs.KnownBytes.{Appends-trans}
+use Rattle.flow_core.specs.Bytes.{AddsProperPrefix}
+use Rattle.flow_cert.specs.Gathered.{HandsOn}
+
+joined : (x first next front y tail : List ℕ) → x ++ first ≡ front ++ y → (rest : List ℕ) → y ++ next ≡ tail ++ rest → x ++ (first ++ next) ≡ (front ++ tail) ++ rest
+joined x first next front y tail before rest behind =
+    sym (append_assoc x first next)
+    ∙ ap (λ t. t ++ next) before
+    ∙ append_assoc front y next
+    ∙ ap (λ t. front ++ t) behind
+    ∙ sym (append_assoc front tail rest)
+
+-- one piece behind another
+pub then-hands : (a b c : Option (List ℕ)) (x y z first next : List ℕ) → HandsOn a b x first y → HandsOn b c y next z → HandsOn a c x (first ++ next) z
+then-hands a b c x y z first next h k = record {
+  front = h.front ++ k.front;
+  whole = joined x first next h.front y k.front h.whole z k.whole;
+  added = Appends-trans a b c h.front k.front h.added k.added;
+}
+
+-- a piece that is not handed on whole, behind another
+pub then-stops : (a b c : Option (List ℕ)) (x y first next : List ℕ) → HandsOn a b x first y → AddsProperPrefix b c (y ++ next) → AddsProperPrefix a c (x ++ (first ++ next))
+then-stops a b c x y first next h (front, back, whole, some, added) =
+    (h.front ++ front, back, joined x first next h.front y front h.whole back whole, some, Appends-trans a b c h.front front h.added added)
+
+-- nor is what it begins handed on whole
+pub stops-within : (a b : Option (List ℕ)) (x done rest text : List ℕ) → text ≡ done ++ rest → AddsProperPrefix a b (x ++ done) → AddsProperPrefix a b (x ++ text)
+stops-within a b x done rest text is (front, back, whole, some, added) = (
+  front,
+  back ++ rest,
+  ap (λ t. x ++ t) is ∙ sym (append_assoc x done rest) ∙ ap (λ t. t ++ rest) whole ∙ append_assoc front back rest,
+  omega (arith, length-append back rest),
+  added,
+)
+
+-- all is put at the end
+pub then-puts : (a b c : Option (List ℕ)) (y text : List ℕ) → HandsOn a b [] text y → Appends b c y → Appends a c text
+then-puts a b c y text h k = subst (Appends a c) (sym h.whole) (Appends-trans a b c h.front y h.added k)
+
+-- what is put at the end is not all taken
+pub then-stops_putting : (a b c : Option (List ℕ)) (y text : List ℕ) → HandsOn a b [] text y → AddsProperPrefix b c y → AddsProperPrefix a c text
+then-stops_putting a b c y text h (front, back, whole, some, added) = (
+  h.front ++ front,
+  back,
+  h.whole ∙ ap (λ t. h.front ++ t) whole ∙ sym (append_assoc h.front front back),
+  some,
+  Appends-trans a b c h.front front h.added added,
+)

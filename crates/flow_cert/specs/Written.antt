@@ -1,0 +1,29 @@
+-- The certificates that are written.
+use Rattle.std.specs.Prelude.{◌≡◌, ℕ, List, map}
+use Rattle.flow_core.specs.Sequences.{IsLeastMakespan}
+use Rattle.flow_search.specs.Plans.{Planned, IsPlan, trees_of, verdict_of}
+use Rattle.flow_search.specs.Verdicts.{IsVerdict}
+use Rattle.flow_search.specs.declared.verdict.Verdict.{Verdict}
+use Rattle.flow_cert.specs.Certificate.{certificate_text, IsCertificate}
+
+-- the certificate of a plan: its verdict, with the tree of each prefix
+abbrev pub certificate_of : Planned → List ℕ
+certificate_of plan =
+    certificate_text plan.shop plan.options.depth (verdict_of plan).value (verdict_of plan).sequence (trees_of plan)
+
+-- the text of a plan's sizes, with a value, a sequence and trees
+abbrev pub text_with : Planned → Verdict → List ℕ
+text_with plan verdict =
+    certificate_text plan.shop plan.options.depth verdict.value verdict.sequence (map (λ tree. tree.items) verdict.trees.items)
+
+-- the certificate of a plan is lawful
+abbrev pub PlanIsCertified : Type 0
+PlanIsCertified = (plan : Planned) → IsPlan plan → IsCertificate plan.shop (certificate_of plan) (verdict_of plan).value
+
+-- with the verdict of a plan, the text is the certificate of the plan, it is lawful, and the value is the least makespan
+abbrev pub VerdictIsCertified : Type 0
+VerdictIsCertified =
+    (plan : Planned) (verdict : Verdict) → IsPlan plan → IsVerdict plan verdict →
+    (text_with plan verdict ≡ certificate_of plan)
+    × IsCertificate plan.shop (certificate_of plan) verdict.value
+    × IsLeastMakespan plan.shop verdict.value
