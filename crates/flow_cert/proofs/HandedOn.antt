@@ -44,6 +44,16 @@ stops-within a b x done rest text is (front, back, whole, some, added) = (
 pub stops-before : (a b : Option (List ℕ)) (done rest : List ℕ) → AddsProperPrefix a b done → AddsProperPrefix a b (done ++ rest)
 stops-before a b done rest = stops-within a b [] done rest (done ++ rest) refl
 
+-- a text with some pieces behind it
+abbrev pub behind : List ℕ → List (List ℕ) → List ℕ
+behind text [] = text
+behind text (piece ∷ pieces) = behind (text ++ piece) pieces
+
+-- where a text is not handed on whole, nor are the pieces behind it
+pub stops-early : (a b : Option (List ℕ)) (text : List ℕ) (pieces : List (List ℕ)) → AddsProperPrefix a b text → AddsProperPrefix a b (behind text pieces)
+stops-early a b text [] h = h
+stops-early a b text (piece ∷ pieces) h = stops-early a b (text ++ piece) pieces (stops-before a b text piece h)
+
 -- all that was gathered is put, and what follows too
 pub puts-straight : (a b c : Option (List ℕ)) (x bytes z : List ℕ) → Appends a b x → z ≡ [] → Appends b c bytes → HandsOn a c x bytes z
 puts-straight a b c x bytes z first none next = record {

@@ -1,17 +1,21 @@
 -- The certificates that are written.
-use Rattle.std.specs.Prelude.{◌≡◌, ℕ, List, map}
+use Rattle.std.specs.Prelude.{◌≡◌, ℕ, List, [], ◌∷◌, map}
 use Rattle.flow_core.specs.Sequences.{IsLeastMakespan}
 use Rattle.flow_search.specs.Plans.{Planned, IsPlan, trees_of, verdict_of}
 use Rattle.flow_search.specs.Verdicts.{IsVerdict}
 use Rattle.flow_search.specs.declared.verdict.Verdict.{Verdict}
-use Rattle.flow_cert.specs.Certificate.{certificate_text, IsCertificate}
+use Rattle.flow_cert.specs.Certificate.{line, spaced, certificate_text, IsCertificate}
 
 -- the certificate of a plan: its verdict, with the tree of each prefix
 abbrev pub certificate_of : Planned → List ℕ
 certificate_of plan =
     certificate_text plan.shop plan.options.depth (verdict_of plan).value (verdict_of plan).sequence (trees_of plan)
 
--- the text of a plan's sizes, with a value, a sequence and trees
+-- the line of a plan's sizes
+abbrev pub size_line : Planned → List ℕ
+size_line plan = line (spaced (plan.shop.jobs ∷ plan.shop.machines ∷ plan.options.depth ∷ []))
+
+-- the text of a plan with a verdict, whichever it is
 abbrev pub text_with : Planned → Verdict → List ℕ
 text_with plan verdict =
     certificate_text plan.shop plan.options.depth verdict.value verdict.sequence (map (λ tree. tree.items) verdict.trees.items)

@@ -8,11 +8,28 @@ ghost use Rattle.flow_search.specs.Plans.{prefixes_of};
 ghost use Rattle.flow_search.specs.Verdicts.{IsVerdict};
 ghost use Rattle.flow_cert.specs.Certificate.{line};
 ghost use Rattle.flow_cert.specs.Gathered.{HandsOn};
-ghost use Rattle.flow_cert.specs.Written.{certificate_of, text_with};
+ghost use Rattle.flow_cert.specs.Written.{certificate_of, text_with, size_line};
 
 use crate::gathered::Gathered;
 use flow_core::{Sink, WriteFault};
 use flow_search::{Plan, Verdict};
+
+/// Hands the line of the sizes on.
+fn add_sizes<S: Sink>(
+    gathered: &mut Gathered,
+    out: &mut S,
+    plan: &Plan,
+) -> Result<(), WriteFault>
+    requires { S.has_failed out.old ≡ false }
+    ensures failed { S.has_failed out.new ≡ is_err result }
+    ensures ok { OnOk result (HandsOn (S.taken out.old) (S.taken out.new) gathered.old (size_line plan.now) gathered.new) }
+    ensures err { OnErr result (AddsProperPrefix (S.taken out.old) (S.taken out.new) (gathered.old ++ size_line plan.now)) }
+{
+    let jobs = plan.instance().jobs();
+    let machines = plan.instance().machines();
+    let depth = plan.options().depth() as u16;
+    gathered.add_numbers(out, &[jobs, machines, depth])
+}
 
 /// Hands a line for each tree on.
 fn add_trees<S: Sink>(
@@ -46,11 +63,8 @@ pub fn write_certificate<S: Sink>(
     ensures of_plan { IsVerdict plan.now verdict.now → text_with plan.now verdict.now ≡ certificate_of plan.now }
 {
     let mut gathered = Gathered::none();
-    let instance = plan.instance();
-    let depth = plan.options().depth() as u16;
-    let sizes = [instance.jobs(), instance.machines(), depth];
     gathered.add(out, b"flowshop certificate 1\n")?;
-    gathered.add_numbers(out, &sizes)?;
+    add_sizes(&mut gathered, out, plan)?;
     gathered.add_number(out, verdict.value)?;
     gathered.add(out, b"\n")?;
     gathered.add_numbers(out, verdict.sequence.jobs())?;
