@@ -1,5 +1,5 @@
 -- The certificate of a plan is lawful.
-use Rattle.std.proofs.Common.{◌≡◌, ℕ, zero, suc, ◌+◌, ◌-◌, ◌*◌, ◌^◌, ◌<◌, ◌≤◌, Bool, nat_le, List, [], ◌∷◌, ◌++◌, Option, Some, None, length, map, refl, ap, sym, subst, ◌∙◌, inl, inr, arith, length-append}
+use Rattle.std.proofs.Common.{◌≡◌, ℕ, zero, suc, ◌+◌, ◌-◌, ◌*◌, ◌^◌, ◌<◌, ◌≤◌, Bool, nat_le, List, [], ◌∷◌, ◌++◌, Option, Some, None, length, map, refl, ap, sym, subst, ◌∙◌, inl, inr, arith, length-append, length-map}
 use Rattle.std.specs.List.{AllZip, AllByRecursion, flat_map, filter, find, concat}
 use Rattle.std.specs.Option.{option_map_or}
 use Rattle.std.proofs.Math.Nat.{mul-le-mul_right}
@@ -13,7 +13,7 @@ use Rattle.flow_core.specs.Sequences.{jobs_left, cut, IsSequence, IsLeastMakespa
 use Rattle.flow_core.specs.Bound.{bound_at}
 use Rattle.flow_core.proofs.Fronts.{completion-small}
 use Rattle.flow_search.specs.Search.{comes_before, in_force, tree_at, tree, letter, sequences_from}
-use Rattle.flow_search.specs.Plans.{Planned, IsPlan, trees_of, verdict_of}
+use Rattle.flow_search.specs.Plans.{Planned, IsPlan, prefixes_of, trees_of, verdict_of}
 use Rattle.flow_search.specs.Verdicts.{IsVerdict}
 use Rattle.flow_search.specs.declared.verdict.Verdict.{Verdict}
 use Rattle.flow_search.proofs.Lists.{all-weaken, find-some}
@@ -121,10 +121,10 @@ text-of-plan plan verdict of =
 
 pub verdict_is_certified : VerdictIsCertified
 verdict_is_certified plan verdict is of =
-    let lawful = plan_is_certified plan is in
     let v = verdict_is_least plan.shop plan.start plan.options.depth is.deep (is.is_sequence, sym is.is_span) in
-    (
-      text-of-plan plan verdict of,
-      subst (IsCertificate plan.shop (certificate_of plan)) (sym of.value) lawful,
-      subst (λ n. IsLeastMakespan plan.shop n) (sym of.value) v.1,
-    )
+    record {
+      each = sym (length-map verdict.trees.items (λ tree. tree.items)) ∙ ap length of.trees ∙ length-map (prefixes_of plan) (tree plan.shop bound_at plan.start.value);
+      text = text-of-plan plan verdict of;
+      lawful = subst (IsCertificate plan.shop (certificate_of plan)) (sym of.value) (plan_is_certified plan is);
+      least = subst (IsLeastMakespan plan.shop) (sym of.value) v.1;
+    }

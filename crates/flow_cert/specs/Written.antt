@@ -1,7 +1,7 @@
 -- The certificates that are written.
-use Rattle.std.specs.Prelude.{◌≡◌, ℕ, List, [], ◌∷◌, map}
+use Rattle.std.specs.Prelude.{◌≡◌, ℕ, List, [], ◌∷◌, length, map}
 use Rattle.flow_core.specs.Sequences.{IsLeastMakespan}
-use Rattle.flow_search.specs.Plans.{Planned, IsPlan, trees_of, verdict_of}
+use Rattle.flow_search.specs.Plans.{Planned, IsPlan, prefixes_of, trees_of, verdict_of}
 use Rattle.flow_search.specs.Verdicts.{IsVerdict}
 use Rattle.flow_search.specs.declared.verdict.Verdict.{Verdict}
 use Rattle.flow_cert.specs.Certificate.{line, spaced, certificate_text, IsCertificate}
@@ -24,10 +24,14 @@ text_with plan verdict =
 abbrev pub PlanIsCertified : Type 0
 PlanIsCertified = (plan : Planned) → IsPlan plan → IsCertificate plan.shop (certificate_of plan) (verdict_of plan).value
 
--- with the verdict of a plan, the text is the certificate of the plan, it is lawful, and the value is the least makespan
+-- a verdict of a plan has one tree for each prefix, its text is the certificate of the plan, that is lawful for the value, and
+-- the value is the least makespan
+pub record IsCertified (plan : Planned) (verdict : Verdict) : Type 0 where
+  pub each : length verdict.trees.items ≡ length (prefixes_of plan)
+  pub text : text_with plan verdict ≡ certificate_of plan
+  pub lawful : IsCertificate plan.shop (certificate_of plan) verdict.value
+  pub least : IsLeastMakespan plan.shop verdict.value
+
+-- a verdict of a plan is certified
 abbrev pub VerdictIsCertified : Type 0
-VerdictIsCertified =
-    (plan : Planned) (verdict : Verdict) → IsPlan plan → IsVerdict plan verdict →
-    (text_with plan verdict ≡ certificate_of plan)
-    × IsCertificate plan.shop (certificate_of plan) verdict.value
-    × IsLeastMakespan plan.shop verdict.value
+VerdictIsCertified = (plan : Planned) (verdict : Verdict) → IsPlan plan → IsVerdict plan verdict → IsCertified plan verdict

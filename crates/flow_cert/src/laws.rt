@@ -20,7 +20,7 @@ pub fn plan_is_certified()
     ensures { PlanIsCertified }
 {}
 
-/// With the verdict of a plan, the text is the certificate of the plan, and its value is the least makespan.
+/// A verdict of a plan has one tree for each prefix, and its text is the plan's certificate, lawful for the least makespan.
 pub fn verdict_is_certified()
     ensures { VerdictIsCertified }
 {}

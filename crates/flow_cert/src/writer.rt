@@ -1,6 +1,6 @@
 //! Writing a certificate.
 
-ghost use Rattle.std.specs.Prelude.{◌≡◌, ◌↔◌, ◌++◌, false, true, length, map, vec_len, is_err, IsErr, OnOk, OnErr};
+ghost use Rattle.std.specs.Prelude.{◌≡◌, ◌↔◌, ◌++◌, false, true, length, map, is_err, IsErr, OnOk, OnErr};
 ghost use Rattle.std.specs.List.{flat_map};
 ghost use Rattle.std.specs.Io.KnownBytes.{Appends};
 ghost use Rattle.flow_core.specs.Bytes.{AddsProperPrefix};
@@ -56,7 +56,7 @@ pub fn write_certificate<S: Sink>(
     out: &mut S,
 ) -> Result<(), WriteFault>
     requires works { S.has_failed out.old ≡ false }
-    requires trees { vec_len verdict.now.trees ≡ length (prefixes_of plan.now) }
+    requires each { length verdict.now.trees.items ≡ length (prefixes_of plan.now) }
     ensures device { IsErr result ↔ (S.has_failed out.new ≡ true) }
     ensures ok { OnOk result (Appends (S.taken out.old) (S.taken out.new) (text_with plan.now verdict.now)) }
     ensures err { OnErr result (AddsProperPrefix (S.taken out.old) (S.taken out.new) (text_with plan.now verdict.now)) }
