@@ -1,9 +1,13 @@
 //! Certificates of a least makespan, and the checker that reads them.
 #![tactic(auto)]
 
+mod cut_bound;
 mod fault;
 mod gathered;
 mod laws;
+mod lines;
+mod tree;
+mod trees;
 mod writer;
 
 pub use fault::CheckFault;
