@@ -3,3 +3,4 @@ pub mod Earlier
 pub mod Walk
 pub mod BestOf
 pub mod LeastVerdict
+pub mod Nodes

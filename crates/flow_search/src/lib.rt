@@ -5,6 +5,7 @@ mod laws;
 mod options;
 mod outcome;
 mod plan;
+mod subtree;
 mod verdict;
 
 pub use laws::{verdict_is_least, walk_is_tree};
