@@ -4,3 +4,5 @@ pub mod Walk
 pub mod BestOf
 pub mod LeastVerdict
 pub mod Nodes
+pub mod Prefixes
+pub mod CutLemmas

@@ -1,4 +1,4 @@
-use Rattle.std.proofs.Common.{◌≡◌, ◌≢◌, ℕ, zero, suc, ◌+◌, ◌-◌, ◌<◌, ◌≤◌, Bool, true, false, cond, not, ◌||◌, nat_eq, nat_lt, nat_le, List, [], ◌∷◌, ◌++◌, Option, Some, None, length, map, set, slice_index, slice_index_or, slice_set, refl, ap, sym, subst, ◌∙◌, inl, inr, arith, append_assoc, length-append}
+use Rattle.std.proofs.Common.{◌≡◌, ◌≢◌, ℕ, zero, suc, ◌+◌, ◌-◌, ◌<◌, ◌≤◌, Bool, true, false, cond, not, ◌||◌, nat_eq, nat_lt, nat_le, List, [], ◌∷◌, ◌++◌, Option, Some, None, length, map, set, slice_index, slice_index_or, slice_set, take, refl, ap, sym, subst, ◌∙◌, inl, inr, arith, append_assoc, length-append}
 use Rattle.std.specs.List.{filter, find, range_with_len, sum_by}
 use Rattle.std.proofs.lemmas.Bool.{cond-true, cond-false, eqb-false, cases_lt}
 use Rattle.std.proofs.lemmas.Bool.Decides.{eqb_tells}
@@ -80,7 +80,7 @@ pub members-are : (shop : Shop) (node front : List ℕ) (unscheduled : List Bool
     members unscheduled ≡ jobs_left shop.jobs node
 members-are shop node front unscheduled count at = members-is unscheduled shop.jobs at.none ∙ left-is shop node front unscheduled count at
 
-kept-both : (p : ℕ → Bool) (n : ℕ) → kept (λ _. 1) p n + kept (λ _. 1) (λ k. not (p k)) n ≡ n
+pub kept-both : (p : ℕ → Bool) (n : ℕ) → kept (λ _. 1) p n + kept (λ _. 1) (λ k. not (p k)) n ≡ n
 kept-both p zero = refl
 kept-both p (suc n) = omega (arith, kept-more (λ _. 1) p n, kept-more (λ _. 1) (λ k. not (p k)) n, kept-both p n, one (p (suc n)))
   where
@@ -337,3 +337,13 @@ below-over shop budget count left job old now next high there b entered over =
     let same : length next.tree.items ≡ length now.tree.items = ap length entered.tree in
     let sizes : length (now.tree.items ++ (first.0 ++ rest.0)) ≡ length (old.tree.items ++ (walked shop count old).0) = ap length all in
     omega (arith, over, child, same, sizes, length-append now.tree.items (first.0 ++ rest.0), length-append first.0 rest.0, length-append old.tree.items (walked shop count old).0)
+
+-- a list without its last item
+pub take-last : (n : ℕ) (xs ys : List ℕ) (x : ℕ) → xs ≡ ys ++ x ∷ [] → n ≡ length xs → take (n - 1) xs ≡ ys
+take-last n xs ys x e size =
+    let count : n - 1 ≡ length ys = omega (arith, size, ap length e, length-append ys (x ∷ [])) in
+    ap (λ k. take k xs) count ∙ ap (take (length ys)) e ∙ whole ys
+  where
+    whole : (ys : List ℕ) → take (length ys) (ys ++ x ∷ []) ≡ ys
+    whole [] = refl
+    whole (y ∷ ys) = ap (λ zs. y ∷ zs) (whole ys)

@@ -28,6 +28,15 @@ pub record IsAt (shop : Shop) (node : List ℕ) (front : List ℕ) (unscheduled 
   pub none : (job : ℕ) → shop.jobs < job → contains unscheduled job ≡ false
   pub size : length unscheduled ≡ MAX_JOBS
 
+-- a search before its first node: all jobs are left, and nothing is seen or written
+pub record IsFresh (shop : Shop) (start : ℕ) (search : Search) : Type 0 where
+  pub node : search.node.items ≡ []
+  pub left : (job : ℕ) → 1 ≤ job → job ≤ shop.jobs → contains search.unscheduled job ≡ true
+  pub none : (job : ℕ) → shop.jobs < job → contains search.unscheduled job ≡ false
+  pub size : length search.unscheduled ≡ MAX_JOBS
+  pub incumbent : incumbent_of search ≡ (start, None)
+  pub tree : search.tree.items ≡ []
+
 -- one byte more in the tree, within the budget
 pub record Wrote (budget byte : ℕ) (old new : Search) : Type 0 where
   pub tree : new.tree.items ≡ old.tree.items ++ byte ∷ []

@@ -1,6 +1,7 @@
 //! The search for a least makespan: options, the cut, the subtrees, and the run on one thread.
 #![tactic(auto)]
 
+mod cut_lists;
 mod laws;
 mod options;
 mod outcome;

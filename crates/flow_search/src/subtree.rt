@@ -1,17 +1,17 @@
 //! The search of the subtree of a prefix.
 
-ghost use Rattle.std.specs.Prelude.{◌≡◌, ℕ, ◌+◌, ◌<◌, ◌≤◌, List, ◌++◌, ◌∷◌, [], length, find, nat_le, false, OnOk};
+ghost use Rattle.std.specs.Prelude.{◌≡◌, ℕ, ◌+◌, ◌<◌, ◌≤◌, List, ◌++◌, ◌∷◌, [], length, find, nat_le, false, IfOk, OnOk};
 ghost use Rattle.flow_core.specs.declared.limits.TheConstants.{MAX_JOBS};
 ghost use Rattle.flow_core.specs.Shop.{numbers};
 ghost use Rattle.flow_core.specs.Front.{IsWithinFront};
 ghost use Rattle.flow_core.specs.JobSet.{contains, members};
 ghost use Rattle.flow_core.specs.Bound.{machine_bound};
-ghost use Rattle.flow_search.specs.Nodes.{IsAt, Wrote, Saw, Entered, Left, Walked, walked};
+ghost use Rattle.flow_search.specs.Nodes.{IsAt, IsFresh, Wrote, Saw, Entered, Left, Walked, walked};
 ghost use Rattle.flow_search.specs.declared.subtree.Stop.TheVariants.{Memory};
 
 use flow_bound::bound;
 use flow_core::{Front, Instance, JobSet, front_push};
-use std::alloc::{AllocError, AllocFailed};
+use std::alloc::{AllocError, AllocFailed, Global};
 
 /// Why a search ended early.
 #[derive(Clone, Copy, Debug, PartialEq, Eq)]
@@ -54,6 +54,21 @@ pub struct Search {
 }
 
 impl Search {
+    /// The search at the node of the empty list, with room for the jobs of a sequence.
+    pub fn new(alloc: Global, instance: &Instance, start: u64) -> Result<Search, AllocError>
+        ensures { IfOk result (λ search. IsFresh instance.now start search) }
+    {
+        let jobs = instance.jobs() as usize;
+        Ok(Search {
+            node: Vec::with_capacity(alloc, jobs)?,
+            unscheduled: JobSet::all(instance),
+            value: start,
+            improved: false,
+            best: Vec::with_capacity(alloc, jobs)?,
+            tree: Vec::new(alloc),
+        })
+    }
+
     /// Puts a byte behind the tree, where the budget has room for it.
     fn write(&mut self, budget: usize, byte: u8) -> Result<(), Stop>
         ensures done { OnOk result (Wrote budget byte self.old self.new) }
@@ -80,7 +95,7 @@ impl Search {
     }
 
     /// Goes to the node with a job more.
-    fn enter(&mut self, job: u16) -> Result<(), AllocFailed<u16>>
+    pub fn enter(&mut self, job: u16) -> Result<(), AllocFailed<u16>>
         requires from { 1 ≤ job }
         requires to { job ≤ MAX_JOBS }
         ensures { OnOk result (Entered job self.old self.new) }
