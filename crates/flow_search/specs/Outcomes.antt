@@ -27,6 +27,13 @@ abbrev pub AreLawful : Planned → List Outcome → Type 0
 AreLawful plan outcomes =
     (number : ℕ) (other : Outcome) → number < length outcomes → IsLawful plan number (slice_index_or outcomes number other)
 
+-- the outcome has the tree of its prefix
+abbrev pub IsDone : Outcome → Type 0
+IsDone (Done best text) = Unit {0}
+IsDone OverBudget = ⊥
+IsDone NoMemory = ⊥
+IsDone NoPrefix = ⊥
+
 -- the least number whose tree is longer than the budget, if there is one
 abbrev pub first_over_budget : Planned → Option ℕ
 first_over_budget plan = position (λ text. nat_lt plan.options.budget (length text)) (trees_of plan)

@@ -1,10 +1,10 @@
 //! The verdict of a plan.
 
-ghost use Rattle.std.specs.Prelude.{◌≡◌, ℕ, length, vec_len, None, Some, IfOk, OnOk};
+ghost use Rattle.std.specs.Prelude.{◌≡◌, ℕ, length, vec_len, None, Some, IfOk, OnOk, All};
 ghost use Rattle.flow_core.specs.Paths.{span};
 ghost use Rattle.flow_core.specs.Sequences.{IsSequence, IsLeastMakespan};
 ghost use Rattle.flow_search.specs.Plans.{prefixes_of};
-ghost use Rattle.flow_search.specs.Outcomes.{AreLawful, first_over_budget};
+ghost use Rattle.flow_search.specs.Outcomes.{AreLawful, IsDone, first_over_budget};
 ghost use Rattle.flow_search.specs.Verdicts.{IsVerdict};
 
 use crate::outcome::Outcome;
@@ -40,6 +40,7 @@ pub fn conclude(_alloc: Global, _plan: &Plan, _outcomes: Vec<Outcome>) -> Result
     ensures least { IfOk result (λ verdict. IsLeastMakespan _plan.now.shop verdict.value) }
     ensures attained { IfOk result (λ verdict. span _plan.now.shop verdict.sequence ≡ verdict.value) }
     ensures sequence { IfOk result (λ verdict. IsSequence _plan.now.shop.jobs verdict.sequence) }
+    ensures done { OnOk result (All IsDone _outcomes.items) }
     ensures within { OnOk result (first_over_budget _plan.now ≡ None) }
     ensures over { (number : ℕ) → result ≡ Err (RunFault.OverBudget number) → first_over_budget _plan.now ≡ Some number }
 {
