@@ -7,3 +7,5 @@ mod bytes;
 mod instances;
 #[cfg(test)]
 mod values;
+#[cfg(test)]
+mod written;
