@@ -7,5 +7,3 @@ mod bytes;
 mod instances;
 #[cfg(test)]
 mod values;
-#[cfg(test)]
-mod written;
