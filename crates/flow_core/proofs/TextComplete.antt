@@ -1,4 +1,4 @@
--- What is in the grammar is read.
+-- What is in the grammar is what the walk over the lines gives.
 use Rattle.std.proofs.Common.{◌≡◌, ◌∙◌, ap, subst, ◌<◌, ◌≤◌, ◌+◌, ◌-◌, ◌*◌, ◌^◌, ℕ, zero, suc, Bool, true, false, not, cond, eqb, nat_lt, nat_le, List, Option, Some, None, Ok, Err, Result, ◌++◌, ◌∷◌, [], length, filter, flat_map, slice_index, arith, rules, refl, sym, append_assoc, append-nil, inl, inr, ◌⊎◌, ◌&&◌, length-append}
 use Rattle.std.specs.List.{list_all, AllByRecursion}
 use Rattle.std.proofs.Math.Nat.{mul-le-mul_left}
@@ -338,7 +338,7 @@ complete (l ∷ ls) s n all some k g =
     let on = forward s l ls all k g in
     bind-is (placed (n + 1) (after_line s l)) (λ t. walk t (n + 1) ls) on.to (Ok all) (ap (placed (n + 1)) on.is) (complete ls on.to (n + 1) all some on.wants on.goes)
 
--- what is in the grammar is what the plain program reads
+-- what is in the grammar is what the walk gives
 pub walk-Reads : (b : List ℕ) (all : List Block) → Reads b all → walk start 0 (lines_of b) ≡ Ok all
 walk-Reads b all r =
     let g : FromFirst start (solid (lines_of b)) all = record { groups = r.groups; more = all; split = r.split; each = r.each; whole = refl } in

@@ -7,19 +7,17 @@ use std::test::Fail;
 
 /// Whether two instances have the same jobs, machines and times.
 fn is_same(instance: &Instance, other: &Instance) -> bool {
-    instance.jobs() == other.jobs()
-        && instance.machines() == other.machines()
-        && (1..=instance.machines()).all(|machine| {
-            (1..=instance.jobs()).all(|job| {
-                job >= 1
-                    && job <= instance.jobs()
-                    && job <= other.jobs()
-                    && machine >= 1
-                    && machine <= instance.machines()
-                    && machine <= other.machines()
-                    && instance.time(job, machine) == other.time(job, machine)
-            })
-        })
+    if instance.jobs() != other.jobs() || instance.machines() != other.machines() {
+        return false;
+    }
+    for machine in 1..=instance.machines() {
+        for job in 1..=instance.jobs() {
+            if instance.time(job, machine) != other.time(job, machine) {
+                return false;
+            }
+        }
+    }
+    true
 }
 
 /// The only block of a text.
