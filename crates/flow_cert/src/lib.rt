@@ -1,8 +1,11 @@
 //! Certificates of a least makespan, and the checker that reads them.
 #![tactic(auto)]
 
+mod cut_bound;
 mod fault;
 mod laws;
+mod lines;
+mod tree;
 mod trees;
 
 pub use fault::CheckFault;
