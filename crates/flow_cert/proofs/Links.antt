@@ -162,18 +162,22 @@ next-joined n list last zero next a some b = absurd (some refl)
 next-joined n list last (suc job) zero a some b = λ k low high. elim (cases_lt k (suc job)) [
   | inl under ↦ has-more list (suc job) k (a.3 k low under)
   | inr over ↦ elim (eqb_tells k (suc job)) [
-      | inl same ↦ ap (has (list ++ suc job ∷ [])) same.1 ∙ has-same list (suc job)
-      | inr other ↦ has-more list (suc job) k (b k (omega (arith, over, other.1)) high)
-    ]
+    | inl same ↦ ap (has (list ++ suc job ∷ [])) same.1 ∙ has-same list (suc job)
+    | inr other ↦ has-more list (suc job) k (b k (omega (arith, over, other.1)) high)
+  ]
 ]
-next-joined n list last (suc job) (suc next) a some b =
-    (omega (arith, a.0, b.0), b.1, has-other list (suc job) (suc next) (omega (arith, b.0)) ∙ b.2, λ k low high. elim (cases_lt k (suc job)) [
-      | inl under ↦ has-more list (suc job) k (a.3 k low under)
-      | inr over ↦ elim (eqb_tells k (suc job)) [
-          | inl same ↦ ap (has (list ++ suc job ∷ [])) same.1 ∙ has-same list (suc job)
-          | inr other ↦ has-more list (suc job) k (b.3 k (omega (arith, over, other.1)) high)
-        ]
-    ])
+next-joined n list last (suc job) (suc next) a some b = (
+  omega (arith, a.0, b.0),
+  b.1,
+  has-other list (suc job) (suc next) (omega (arith, b.0)) ∙ b.2,
+  λ k low high. elim (cases_lt k (suc job)) [
+    | inl under ↦ has-more list (suc job) k (a.3 k low under)
+    | inr over ↦ elim (eqb_tells k (suc job)) [
+      | inl same ↦ ap (has (list ++ suc job ∷ [])) same.1 ∙ has-same list (suc job)
+      | inr other ↦ has-more list (suc job) k (b.3 k (omega (arith, over, other.1)) high)
+    ]
+  ],
+)
 
 next-kept : (n : ℕ) (list : List ℕ) (from job next : ℕ) → IsNext n list from next → next ≢ job → IsNext n (list ++ job ∷ []) from next
 next-kept n list from job zero is other = λ k low high. has-more list job k (is k low high)
@@ -201,20 +205,23 @@ links-out n list links last job next are at leads some is =
     let b : IsNext n list job next = same-next n list job (slice_index links job) next (sym is) (are.each job place) in
     record {
       each = λ k here. elim (eqb_tells k last) [
-          | inl same ↦
-              let value : next ≡ slice_index (slice_set links last next) k = sym (ap (slice_index (slice_set links last next)) same.1 ∙ get_or-set_same links last next 0 (omega (arith, are.size, at.0))) in
-              subst (λ f. IsNext n (list ++ job ∷ []) f (slice_index (slice_set links last next) k)) (sym same.1)
-              (same-next n (list ++ job ∷ []) last next (slice_index (slice_set links last next) k) value (next-joined n list last job next a some b))
-          | inr other ↦
-              let value : slice_index links k ≡ slice_index (slice_set links last next) k = sym (get_or-set_other links last k next 0 other.1) in
-              let there : IsPlace n list k = (here.0, λ low. elim (eqb_tells k job) [
-                  | inl same ↦ absurd (false≢true (sym (here.1 low) ∙ ap (has (list ++ job ∷ [])) same.1 ∙ has-same list job))
-                  | inr apart ↦ sym (has-other list job k apart.1) ∙ here.1 low
-                ]) in
-              let from_k : IsNext n list k (slice_index links k) = are.each k there in
-              let away : slice_index links k ≢ job = λ e. one-before n list k last job there at (same-next n list k (slice_index links k) job e from_k) a some other.1 in
-              same-next n (list ++ job ∷ []) k (slice_index links k) (slice_index (slice_set links last next) k) value (next-kept n list k job (slice_index links k) from_k away)
-        ];
+        | inl same ↦
+            let value : next ≡ slice_index (slice_set links last next) k = sym (ap (slice_index (slice_set links last next)) same.1 ∙ get_or-set_same links last next 0 (omega (arith, are.size, at.0))) in
+            subst (λ f. IsNext n (list ++ job ∷ []) f (slice_index (slice_set links last next) k)) (sym same.1)
+            (same-next n (list ++ job ∷ []) last next (slice_index (slice_set links last next) k) value (next-joined n list last job next a some b))
+        | inr other ↦
+            let value : slice_index links k ≡ slice_index (slice_set links last next) k = sym (get_or-set_other links last k next 0 other.1) in
+            let there : IsPlace n list k = (
+              here.0,
+              λ low. elim (eqb_tells k job) [
+                | inl same ↦ absurd (false≢true (sym (here.1 low) ∙ ap (has (list ++ job ∷ [])) same.1 ∙ has-same list job))
+                | inr apart ↦ sym (has-other list job k apart.1) ∙ here.1 low
+              ],
+            ) in
+            let from_k : IsNext n list k (slice_index links k) = are.each k there in
+            let away : slice_index links k ≢ job = λ e. one-before n list k last job there at (same-next n list k (slice_index links k) job e from_k) a some other.1 in
+            same-next n (list ++ job ∷ []) k (slice_index links k) (slice_index (slice_set links last next) k) value (next-kept n list k job (slice_index links k) from_k away)
+      ];
       size = length-set links last next ∙ are.size;
     }
 

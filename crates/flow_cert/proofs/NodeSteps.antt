@@ -79,7 +79,6 @@ child-completion shop list front job machine to is =
     after-same shop job (free_at front) (completed shop (λ _. 0) list) machine (λ k low high. is k low (omega (arith, high, to)) ∙ completion-is shop list k)
     ∙ sym (completion-after shop list job machine)
 
-
 tails-append : (shop : Shop) (machine : ℕ) (us vs : List ℕ) → tails shop machine (us ++ vs) ≡ tails shop machine us ++ tails shop machine vs
 tails-append shop machine [] vs = refl
 tails-append shop machine (u ∷ us) vs = ap (λ xs. time_between shop u (machine + 1) shop.machines ∷ xs) (tails-append shop machine us vs)
@@ -90,7 +89,7 @@ pub own-bound : (shop : Shop) (list : List ℕ) (node : Node) (left machine : �
 own-bound shop list node left machine lows limits is from to low =
     let most : shop.machines ≤ MAX_MACHINES = limits.machines in
     let cap = least-below-cap 4294967295 (MAX_MACHINES * MAX_TIME) (λ job. time_between shop job (machine + 1) shop.machines) (jobs_left shop.jobs list) (omega (arith, is.some))
-        (λ job. omega (arith, tail-small shop job (shop.machines - machine) machine limits (omega (arith, to)), most)) (omega arith) in
+    (λ job. omega (arith, tail-small shop job (shop.machines - machine) machine limits (omega (arith, to)), most)) (omega arith) in
     let front : slice_index node.front (machine - 1) ≡ slice_index (front_of shop list) (machine - 1) = is.times machine from to ∙ sym (front_of-is shop list machine from to) in
     (omega (arith, front, is.owed machine from to, low.0, cap.0), omega (arith, low.0, cap.0, cap.1))
 
@@ -105,19 +104,19 @@ child-bound shop list node left job machine free t tail behind lows limits is fr
     let us : List ℕ = left_under list job in
     let vs : List ℕ = children shop.jobs list (job + 1) in
     let whole : tails shop machine (jobs_left shop.jobs list) ≡ tails shop machine us ++ f job ∷ tails shop machine vs =
-        ap (tails shop machine) (left-split shop.jobs list job low high fresh) ∙ tails-append shop machine us (job ∷ vs) in
+    ap (tails shop machine) (left-split shop.jobs list job low high fresh) ∙ tails-append shop machine us (job ∷ vs) in
     let rest : tails shop machine (jobs_left shop.jobs (list ++ job ∷ [])) ≡ tails shop machine us ++ tails shop machine vs =
-        ap (tails shop machine) (left-without shop.jobs list job low high) ∙ tails-append shop machine us vs in
+    ap (tails shop machine) (left-without shop.jobs list job low high) ∙ tails-append shop machine us vs in
     let one : Without (f job) (least_below 4294967295 (tails shop machine us ++ f job ∷ tails shop machine vs)) (second_below 4294967295 4294967295 (tails shop machine us ++ f job ∷ tails shop machine vs)) (least_below 4294967295 (tails shop machine us ++ tails shop machine vs)) =
-        without-one (f job) 4294967295 4294967295 (tails shop machine us) (tails shop machine vs) (omega arith) in
+    without-one (f job) 4294967295 4294967295 (tails shop machine us) (tails shop machine vs) (omega arith) in
     let least_is : lows.least ≡ least_below 4294967295 (tails shop machine us ++ f job ∷ tails shop machine vs) = are.0 ∙ ap (least_below 4294967295) whole in
     let second_is : lows.second ≡ second_below 4294967295 4294967295 (tails shop machine us ++ f job ∷ tails shop machine vs) = are.1 ∙ ap (second_below 4294967295 4294967295) whole in
     let rest_is : least_below 4294967295 (tails shop machine (jobs_left shop.jobs (list ++ job ∷ []))) ≡ least_below 4294967295 (tails shop machine us ++ tails shop machine vs) = ap (least_below 4294967295) rest in
     let behind_is : behind ≡ least_below 4294967295 (tails shop machine (jobs_left shop.jobs (list ++ job ∷ []))) =
-        same-without tail (f job) lows.least (least_below 4294967295 (tails shop machine us ++ f job ∷ tails shop machine vs)) lows.second (second_below 4294967295 4294967295 (tails shop machine us ++ f job ∷ tails shop machine vs)) behind (least_below 4294967295 (tails shop machine us ++ tails shop machine vs)) is_tail least_is second_is picked one ∙ sym rest_is in
+    same-without tail (f job) lows.least (least_below 4294967295 (tails shop machine us ++ f job ∷ tails shop machine vs)) lows.second (second_below 4294967295 4294967295 (tails shop machine us ++ f job ∷ tails shop machine vs)) behind (least_below 4294967295 (tails shop machine us ++ tails shop machine vs)) is_tail least_is second_is picked one ∙ sym rest_is in
     let count = left-count shop.jobs list job low high fresh in
     let cap = least-below-cap 4294967295 (MAX_MACHINES * MAX_TIME) f (jobs_left shop.jobs (list ++ job ∷ [])) (omega (arith, is.some, count))
-        (λ j. omega (arith, tail-small shop j (shop.machines - machine) machine limits (omega (arith, to)), most)) (omega arith) in
+    (λ j. omega (arith, tail-small shop j (shop.machines - machine) machine limits (omega (arith, to)), most)) (omega arith) in
     let front : free ≡ slice_index (front_of shop (list ++ job ∷ [])) (machine - 1) = is_free ∙ sym (front_of-is shop (list ++ job ∷ []) machine from to) in
     let sum = left-sum (λ j. time shop j machine) shop.jobs list job low high fresh in
     (omega (arith, front, is.owed machine from to, sum, is_t, behind_is, cap.0), omega (arith, behind_is, cap.0, cap.1))

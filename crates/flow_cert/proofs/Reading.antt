@@ -90,8 +90,11 @@ reading-dive shop value place root whole node child links less below lower last 
       behind = start-place shop.jobs (path root frames ++ job ∷ []);
       stack = (
         subst (λ l. IsAt shop (path root frames) node l (suc (suc lower))) (sym back) (subst (λ l. IsAt shop (path root frames) node links (suc l)) e i.here),
-        next.1, next.2, next.3, i.behind.0,
-        subst (λ l. IsStack shop root l (suc (suc (suc lower))) frames) (sym back) (subst (λ l. IsStack shop root links (suc (suc l)) frames) e i.stack)
+        next.1,
+        next.2,
+        next.3,
+        i.behind.0,
+        subst (λ l. IsStack shop root l (suc (suc (suc lower))) frames) (sym back) (subst (λ l. IsStack shop root links (suc (suc l)) frames) e i.stack),
       );
       answer =
           reading-child shop value place root whole node links below last at bytes frames (byte ∷ drop (at + 1) bytes) i some dropped

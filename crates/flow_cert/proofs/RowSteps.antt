@@ -41,7 +41,8 @@ made-more shop job machine t b times tails low in_times in_tails is_t is_b made 
           let was = made k later to in
           (get_or-set_other times (machine - 1) (k - 1) t 0 other ∙ was.0, get_or-set_other tails (machine - 1) (k - 1) b 0 other ∙ was.1)
       | inr here ↦
-          let e : machine ≡ k = omega arith in
-          (ap (λ i. slice_index (set times (machine - 1) t) (i - 1)) (sym e) ∙ get_or-set_same times (machine - 1) t 0 in_times ∙ is_t ∙ ap (time shop job) e,
-          ap (λ i. slice_index (set tails (machine - 1) b) (i - 1)) (sym e) ∙ get_or-set_same tails (machine - 1) b 0 in_tails ∙ is_b ∙ ap (λ i. time_between shop job (i + 1) shop.machines) e)
+          let e : machine ≡ k = omega arith in (
+            ap (λ i. slice_index (set times (machine - 1) t) (i - 1)) (sym e) ∙ get_or-set_same times (machine - 1) t 0 in_times ∙ is_t ∙ ap (time shop job) e,
+            ap (λ i. slice_index (set tails (machine - 1) b) (i - 1)) (sym e) ∙ get_or-set_same tails (machine - 1) b 0 in_tails ∙ is_b ∙ ap (λ i. time_between shop job (i + 1) shop.machines) e,
+          )
     ]

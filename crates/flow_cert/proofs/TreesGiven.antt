@@ -34,14 +34,14 @@ link-more old new job low size pushed each k h = elim (cases_lt k (job - 1)) [
 pub all-linked : (n : ℕ) (old new : List ℕ) → length old ≡ n → new ≡ old ++ 0 ∷ [] → ((k : ℕ) → k < n → slice_index old k ≡ k + 1) → AreLinks n [] new
 all-linked n old new size pushed each = record {
   each = λ job place. elim (cases_lt job n) [
-      | inl earlier ↦
-          let leads : suc job ≡ slice_index new job = omega (arith, ap (λ l. slice_index l job) pushed ∙ before-last old 0 job (omega (arith, size, earlier)) ∙ each job earlier) in
-          subst (IsNext n [] job) leads (omega arith, omega (arith, earlier), refl, λ k low high. absurd (omega (arith, low, high)))
-      | inr last ↦
-          let at : job ≡ n = omega (arith, last, place.0) in
-          let leads : 0 ≡ slice_index new job = sym (ap (λ l. slice_index l job) pushed ∙ at-last old 0 job (omega (arith, size, at))) in
-          subst (IsNext n [] job) leads (λ k low high. absurd (omega (arith, low, high, at)))
-    ];
+    | inl earlier ↦
+        let leads : suc job ≡ slice_index new job = omega (arith, ap (λ l. slice_index l job) pushed ∙ before-last old 0 job (omega (arith, size, earlier)) ∙ each job earlier) in
+        subst (IsNext n [] job) leads (omega arith, omega (arith, earlier), refl, λ k low high. absurd (omega (arith, low, high)))
+    | inr last ↦
+        let at : job ≡ n = omega (arith, last, place.0) in
+        let leads : 0 ≡ slice_index new job = sym (ap (λ l. slice_index l job) pushed ∙ at-last old 0 job (omega (arith, size, at))) in
+        subst (IsNext n [] job) leads (λ k low high. absurd (omega (arith, low, high, at)))
+  ];
   size = omega (arith, ap length pushed, length-append old (0 ∷ []), size);
 }
 

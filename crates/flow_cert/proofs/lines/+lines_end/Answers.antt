@@ -56,8 +56,8 @@ returns-in-Err-lines_end-clause-lines t c list at =
     let after : List (List ℕ) = awaited c.args.claim.now.instance.now.jobs c.args.more list ((slice_index c.children.links c.children.last) + 1) ++ rest in
     let first : List (List ℕ) = extensions c.args.claim.now.instance.now.jobs (c.args.more - 1) (list ++ (slice_index c.children.links c.children.last) ∷ []) in
     let before = c.children.invariant.fault list here rest
-        ∙ ap (λ ps. trees_value c.args.claim.now.instance.now bound_at c.args.claim.now.value (c.args.left - c.args.more) ps c.children.place (drop c.children.at c.args.claim.now.bytes.now)) (awaited-next c.args.claim.now.instance.now.jobs c.args.more list c.children.last (slice_index c.children.links c.children.last) rest leads c.if-job-eq0.false)
-        ∙ ap (λ l. trees_value c.args.claim.now.instance.now bound_at c.args.claim.now.value l (first ++ after) c.children.place (drop c.children.at c.args.claim.now.bytes.now)) (sym same) in
+    ∙ ap (λ ps. trees_value c.args.claim.now.instance.now bound_at c.args.claim.now.value (c.args.left - c.args.more) ps c.children.place (drop c.children.at c.args.claim.now.bytes.now)) (awaited-next c.args.claim.now.instance.now.jobs c.args.more list c.children.last (slice_index c.children.links c.children.last) rest leads c.if-job-eq0.false)
+    ∙ ap (λ l. trees_value c.args.claim.now.instance.now bound_at c.args.claim.now.value l (first ++ after) c.children.place (drop c.children.at c.args.claim.now.bytes.now)) (sym same) in
     before ∙ bad after)
     (c.in-Err-lines_end.ensures.lines (list ++ (slice_index c.children.links c.children.last) ∷ []) there)
 
@@ -86,18 +86,18 @@ children-preserved t c =
           let here : IsAt c.args.claim.now.instance.now list c.args.node c.children.links c.args.left = subst (λ l. IsAt c.args.claim.now.instance.now list c.args.node l c.args.left) same_links now in
           let place = c.children.invariant.behind list here in
           let leads = here.are_links.each c.children.last place in
-    let next = next-some c.args.claim.now.instance.now.jobs list c.children.last (slice_index c.children.links c.children.last) leads c.if-job-eq0.false in
-    let more_left : c.args.left ≡ suc (c.args.left - 1) = omega (arith, c.if-more-eq0.false, c.requires.more) in
-    let there : IsAt c.args.claim.now.instance.now (list ++ (slice_index c.children.links c.children.last) ∷ []) c.child-child.result (slice_set c.children.links c.children.last (slice_index c.children.links (slice_index c.children.links c.children.last))) (c.args.left - 1) = record {
-      is_node = c.child-child.ensures list (c.args.left - 1) (subst (IsNode c.args.claim.now.instance.now list c.args.node) more_left here.is_node) next.3;
-      are_links = links-out c.args.claim.now.instance.now.jobs list c.children.links c.children.last (slice_index c.children.links c.children.last) (slice_index c.children.links (slice_index c.children.links c.children.last)) here.are_links place refl c.if-job-eq0.false refl;
-    } in
-    let same : c.args.left - 1 - (c.args.more - 1) ≡ c.args.left - c.args.more = omega (arith, c.if-more-eq0.false, c.requires.more) in
-    let after : List (List ℕ) = awaited c.args.claim.now.instance.now.jobs c.args.more list ((slice_index c.children.links c.children.last) + 1) ++ rest in
-    let first : List (List ℕ) = extensions c.args.claim.now.instance.now.jobs (c.args.more - 1) (list ++ (slice_index c.children.links c.children.last) ∷ []) in
-    let before = c.children.invariant.fault list here rest
-        ∙ ap (λ ps. trees_value c.args.claim.now.instance.now bound_at c.args.claim.now.value (c.args.left - c.args.more) ps c.children.place (drop c.children.at c.args.claim.now.bytes.now)) (awaited-next c.args.claim.now.instance.now.jobs c.args.more list c.children.last (slice_index c.children.links c.children.last) rest leads c.if-job-eq0.false)
-        ∙ ap (λ l. trees_value c.args.claim.now.instance.now bound_at c.args.claim.now.value l (first ++ after) c.children.place (drop c.children.at c.args.claim.now.bytes.now)) (sym same) in
-    before ∙ c.in-Ok-lines_end.ensures.lines (list ++ (slice_index c.children.links c.children.last) ∷ []) there after
+          let next = next-some c.args.claim.now.instance.now.jobs list c.children.last (slice_index c.children.links c.children.last) leads c.if-job-eq0.false in
+          let more_left : c.args.left ≡ suc (c.args.left - 1) = omega (arith, c.if-more-eq0.false, c.requires.more) in
+          let there : IsAt c.args.claim.now.instance.now (list ++ (slice_index c.children.links c.children.last) ∷ []) c.child-child.result (slice_set c.children.links c.children.last (slice_index c.children.links (slice_index c.children.links c.children.last))) (c.args.left - 1) = record {
+            is_node = c.child-child.ensures list (c.args.left - 1) (subst (IsNode c.args.claim.now.instance.now list c.args.node) more_left here.is_node) next.3;
+            are_links = links-out c.args.claim.now.instance.now.jobs list c.children.links c.children.last (slice_index c.children.links c.children.last) (slice_index c.children.links (slice_index c.children.links c.children.last)) here.are_links place refl c.if-job-eq0.false refl;
+          } in
+          let same : c.args.left - 1 - (c.args.more - 1) ≡ c.args.left - c.args.more = omega (arith, c.if-more-eq0.false, c.requires.more) in
+          let after : List (List ℕ) = awaited c.args.claim.now.instance.now.jobs c.args.more list ((slice_index c.children.links c.children.last) + 1) ++ rest in
+          let first : List (List ℕ) = extensions c.args.claim.now.instance.now.jobs (c.args.more - 1) (list ++ (slice_index c.children.links c.children.last) ∷ []) in
+          let before = c.children.invariant.fault list here rest
+          ∙ ap (λ ps. trees_value c.args.claim.now.instance.now bound_at c.args.claim.now.value (c.args.left - c.args.more) ps c.children.place (drop c.children.at c.args.claim.now.bytes.now)) (awaited-next c.args.claim.now.instance.now.jobs c.args.more list c.children.last (slice_index c.children.links c.children.last) rest leads c.if-job-eq0.false)
+          ∙ ap (λ l. trees_value c.args.claim.now.instance.now bound_at c.args.claim.now.value l (first ++ after) c.children.place (drop c.children.at c.args.claim.now.bytes.now)) (sym same) in
+          before ∙ c.in-Ok-lines_end.ensures.lines (list ++ (slice_index c.children.links c.children.last) ∷ []) there after
           ∙ ap (λ l. trees_value c.args.claim.now.instance.now bound_at c.args.claim.now.value l after c.in-Ok-lines_end.spot.line (drop c.in-Ok-lines_end.spot.at c.args.claim.now.bytes.now)) same;
     }

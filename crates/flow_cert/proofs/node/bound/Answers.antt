@@ -60,11 +60,11 @@ overflow_add-result-in-Some-2 c =
     let row = c.requires.rows.each c.in-Some.job (record { times = []; tails = [] }) job_is.0 job_is.1 c.args.machine c.requires.from c.requires.to in
     let there : c.from-in-Some.result ≡ time c.args.claim.now.instance.now c.in-Some.job c.args.machine = c.from-in-Some.ensures ∙ row.0 in
     let is = child-bound c.args.claim.now.instance.now list c.args.node.now left c.in-Some.job c.args.machine c.completion_of.result c.from-in-Some.result _ c.from-in-Some-2.result c.least_behind-lows.result c.requires.rows.limits at.is_node
-        c.requires.from c.requires.to job_is.0 job_is.1 job_is.2 (c.least_behind-lows.ensures list at.are_links) (c.completion_of.ensures.value list at.is_node.times) there row.1
-        (elim c.if-alone.branch [
-          | then-alone w ↦ (λ e. c.from-in-Some-2.ensures ∙ w.behind-is, λ n. absurd (n w.if-alone.true))
-          | else-alone w ↦ (λ e. absurd (w.if-alone.false e), λ n. c.from-in-Some-2.ensures ∙ w.behind-is)
-        ]) in
+    c.requires.from c.requires.to job_is.0 job_is.1 job_is.2 (c.least_behind-lows.ensures list at.are_links) (c.completion_of.ensures.value list at.is_node.times) there row.1
+    (elim c.if-alone.branch [
+      | then-alone w ↦ (λ e. c.from-in-Some-2.ensures ∙ w.behind-is, λ n. absurd (n w.if-alone.true))
+      | else-alone w ↦ (λ e. absurd (w.if-alone.false e), λ n. c.from-in-Some-2.ensures ∙ w.behind-is)
+    ]) in
     let owed = owed-fits c.args.claim.now.instance.now list c.args.node.now (suc (suc left)) c.args.machine c.requires.rows.limits at.is_node c.requires.from c.requires.to in
     let most : c.args.claim.now.instance.now.machines ≤ MAX_MACHINES = c.requires.rows.limits.machines in
     omega (arith, owed, c.completion_of.ensures.small, most, c.requires.to, is.1)
@@ -86,9 +86,9 @@ returns-after-alone c list left at kid =
     let row = c.requires.rows.each c.in-Some.job (record { times = []; tails = [] }) job_is.0 job_is.1 c.args.machine c.requires.from c.requires.to in
     let there : c.from-in-Some.result ≡ time c.args.claim.now.instance.now c.in-Some.job c.args.machine = c.from-in-Some.ensures ∙ row.0 in
     let is = child-bound c.args.claim.now.instance.now list c.args.node.now left c.in-Some.job c.args.machine c.completion_of.result c.from-in-Some.result _ c.from-in-Some-2.result c.least_behind-lows.result c.requires.rows.limits here.is_node
-        c.requires.from c.requires.to job_is.0 job_is.1 job_is.2 (c.least_behind-lows.ensures list here.are_links) (c.completion_of.ensures.value list here.is_node.times) there row.1
-        (elim c.if-alone.branch [
-          | then-alone w ↦ (λ e. c.from-in-Some-2.ensures ∙ w.behind-is, λ n. absurd (n w.if-alone.true))
-          | else-alone w ↦ (λ e. absurd (w.if-alone.false e), λ n. c.from-in-Some-2.ensures ∙ w.behind-is)
-        ]) in
+    c.requires.from c.requires.to job_is.0 job_is.1 job_is.2 (c.least_behind-lows.ensures list here.are_links) (c.completion_of.ensures.value list here.is_node.times) there row.1
+    (elim c.if-alone.branch [
+      | then-alone w ↦ (λ e. c.from-in-Some-2.ensures ∙ w.behind-is, λ n. absurd (n w.if-alone.true))
+      | else-alone w ↦ (λ e. absurd (w.if-alone.false e), λ n. c.from-in-Some-2.ensures ∙ w.behind-is)
+    ]) in
     is.0 ∙ ap (λ o. bound_at c.args.claim.now.instance.now (grown list o) c.args.machine) (sym c.in-Some.is)

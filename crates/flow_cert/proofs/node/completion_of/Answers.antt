@@ -15,7 +15,7 @@ loop-earlier-preserved c =
     let within : slice_index c.args.front.now (c.loop-earlier.earlier - 1) ≤ MAX_COMPLETION = c.requires.within (c.loop-earlier.earlier - 1) (omega (arith, low, high)) in
     let sum : c.max.result + c.from-time.result ≡ max (slice_index c.args.front.now (c.loop-earlier.earlier - 1)) c.loop-earlier.free + c.from-time.result = omega (arith, c.max.ensures, c.at.ensures) in
     let value = after-step c.args.claim.now.instance.now c.args.front.now c.args.front.now c.args.job c.loop-earlier.earlier c.loop-earlier.free c.from-time.result (c.max.result + c.from-time.result)
-        low c.loop-earlier.invariant.value refl there sum in
+    low c.loop-earlier.invariant.value refl there sum in
     let next : c.loop-earlier.earlier + 1 - 1 ≡ c.loop-earlier.earlier = omega arith in
     record {
       value = value ∙ ap (after c.args.claim.now.instance.now (free_at c.args.front.now) c.args.job) (sym next);

@@ -13,9 +13,10 @@ pub returns-then-job-eq0 : goal.returns-then-job-eq0
 returns-then-job-eq0 c list are =
     let n : ℕ = c.args.claim.now.instance.now.jobs in
     let next : IsNext n list c.jobs.last (slice_index c.args.links.now c.jobs.last) = are.each c.jobs.last (c.jobs.invariant.place list are) in
-    let none = children-none n list c.jobs.last (slice_index c.args.links.now c.jobs.last) next c.if-job-eq0.true in
-    (sym (c.jobs.invariant.least list are ∙ ap (λ js. least_below c.jobs.least (tails c.args.claim.now.instance.now c.args.machine js)) none),
-    sym (c.jobs.invariant.second list are ∙ ap (λ js. second_below c.jobs.least c.jobs.second (tails c.args.claim.now.instance.now c.args.machine js)) none))
+    let none = children-none n list c.jobs.last (slice_index c.args.links.now c.jobs.last) next c.if-job-eq0.true in (
+      sym (c.jobs.invariant.least list are ∙ ap (λ js. least_below c.jobs.least (tails c.args.claim.now.instance.now c.args.machine js)) none),
+      sym (c.jobs.invariant.second list are ∙ ap (λ js. second_below c.jobs.least c.jobs.second (tails c.args.claim.now.instance.now c.args.machine js)) none),
+    )
 
 pub jobs-preserved : goal.jobs-preserved
 jobs-preserved c =
