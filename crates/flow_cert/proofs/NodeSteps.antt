@@ -69,21 +69,21 @@ known-more shop list node left machine lows limits is from to low = record {
   size = is.size;
   known = record {
     each = λ k low_k high_k. elim (eqb_tells k machine) [
-        | inl same ↦
-            let most : shop.machines ≤ MAX_MACHINES = limits.machines in
-            let a : lows.least ≡ slice_index (set node.least (machine - 1) lows.least) (k - 1) = sym (ap (λ i. slice_index (set node.least (machine - 1) lows.least) (i - 1)) same.1 ∙ get_or-set_same node.least (machine - 1) lows.least 0 (omega (arith, is.known.least_size, from, to, most))) in
-            let b : lows.second ≡ slice_index (set node.second (machine - 1) lows.second) (k - 1) = sym (ap (λ i. slice_index (set node.second (machine - 1) lows.second) (i - 1)) same.1 ∙ get_or-set_same node.second (machine - 1) lows.second 0 (omega (arith, is.known.second_size, from, to, most))) in
-            let here : AreLows shop list k lows = subst (λ i. AreLows shop list i lows) (sym same.1) low in
-            inr (sym a ∙ here.0, sym b ∙ here.1)
-        | inr other ↦
-            let apart : k - 1 ≢ machine - 1 = omega (arith, other.1, low_k, from) in
-            let a : slice_index (set node.least (machine - 1) lows.least) (k - 1) ≡ slice_index node.least (k - 1) = get_or-set_other node.least (machine - 1) (k - 1) lows.least 0 apart in
-            let b : slice_index (set node.second (machine - 1) lows.second) (k - 1) ≡ slice_index node.second (k - 1) = get_or-set_other node.second (machine - 1) (k - 1) lows.second 0 apart in
-            elim (is.known.each k low_k high_k) [
-              | inl none ↦ inl (a ∙ none)
-              | inr was ↦ inr (a ∙ was.0, b ∙ was.1)
-            ]
-      ];
+      | inl same ↦
+          let most : shop.machines ≤ MAX_MACHINES = limits.machines in
+          let a : lows.least ≡ slice_index (set node.least (machine - 1) lows.least) (k - 1) = sym (ap (λ i. slice_index (set node.least (machine - 1) lows.least) (i - 1)) same.1 ∙ get_or-set_same node.least (machine - 1) lows.least 0 (omega (arith, is.known.least_size, from, to, most))) in
+          let b : lows.second ≡ slice_index (set node.second (machine - 1) lows.second) (k - 1) = sym (ap (λ i. slice_index (set node.second (machine - 1) lows.second) (i - 1)) same.1 ∙ get_or-set_same node.second (machine - 1) lows.second 0 (omega (arith, is.known.second_size, from, to, most))) in
+          let here : AreLows shop list k lows = subst (λ i. AreLows shop list i lows) (sym same.1) low in
+          inr (sym a ∙ here.0, sym b ∙ here.1)
+      | inr other ↦
+          let apart : k - 1 ≢ machine - 1 = omega (arith, other.1, low_k, from) in
+          let a : slice_index (set node.least (machine - 1) lows.least) (k - 1) ≡ slice_index node.least (k - 1) = get_or-set_other node.least (machine - 1) (k - 1) lows.least 0 apart in
+          let b : slice_index (set node.second (machine - 1) lows.second) (k - 1) ≡ slice_index node.second (k - 1) = get_or-set_other node.second (machine - 1) (k - 1) lows.second 0 apart in
+          elim (is.known.each k low_k high_k) [
+            | inl none ↦ inl (a ∙ none)
+            | inr was ↦ inr (a ∙ was.0, b ∙ was.1)
+          ]
+    ];
     least_size = length-set node.least (machine - 1) lows.least ∙ is.known.least_size;
     second_size = length-set node.second (machine - 1) lows.second ∙ is.known.second_size;
   };

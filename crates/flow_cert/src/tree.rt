@@ -80,7 +80,15 @@ pub(crate) fn tree_end(
     if from >= claim.bytes.len() {
         return Err(CheckFault::Tree(place));
     }
-    let open = match step(claim, place, &mut node, links, None, left, claim.bytes[from]) {
+    let open = match step(
+        claim,
+        place,
+        &mut node,
+        links,
+        None,
+        left,
+        claim.bytes[from],
+    ) {
         Ok(open) => open,
         Err(fault) => return Err(fault),
     };

@@ -1,4 +1,4 @@
-use Rattle.std.proofs.Common.{◌≡◌, inl, inr}
+use Rattle.std.proofs.Common.{inl, inr}
 use Rattle.flow_cert.proofs.NodeSteps.{known-more}
 use Rattle.flow_cert.proofs.node.lows_of.Goals as goal
 
