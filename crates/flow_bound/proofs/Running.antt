@@ -10,8 +10,7 @@ use Rattle.flow_core.specs.Least.{least, greatest}
 use Rattle.flow_core.proofs.Extremes.{greatest-append, map-map-append}
 use Rattle.flow_core.proofs.JobsLeft.{numbers-more}
 use Rattle.flow_core.proofs.Recurrence.{time_between-more, time_between-none}
-use Rattle.flow_bound.specs.Capped.{capped}
-use Rattle.flow_bound.proofs.Steps.{capped-push, capped-is, least-le-first, time_between-small}
+use Rattle.flow_bound.proofs.Steps.{capped, capped-push, capped-is, least-le-first, time_between-small}
 
 -- a value that is written for one more number
 pub done-more : (f : ℕ → ℕ) (xs : List ℕ) (k value : ℕ) → 1 ≤ k → k - 1 < length xs → value ≡ f k → ((j : ℕ) → 1 ≤ j → j < k → slice_index xs (j - 1) ≡ f j) → (j : ℕ) → 1 ≤ j → j < k + 1 → slice_index (set xs (k - 1) value) (j - 1) ≡ f j

@@ -5,8 +5,7 @@ use Rattle.flow_core.specs.Shop.{numbers, time, time_between}
 use Rattle.flow_core.specs.Least.{least}
 use Rattle.flow_core.specs.JobSet.{contains, members}
 use Rattle.flow_core.proofs.JobsLeft.{kept}
-use Rattle.flow_bound.specs.Capped.{capped}
-use Rattle.flow_bound.proofs.Steps.{kept-step, capped-step, members-is, admissible-members}
+use Rattle.flow_bound.proofs.Steps.{capped, kept-step, capped-step, members-is, admissible-members}
 use Rattle.flow_bound.proofs.Running.{capped-least-all, tail-small}
 use Rattle.flow_bound.proofs.machine_bound.bound.Goals as goal
 use Rattle.flow_bound.proofs.machine_bound.bound.Goals.{After-from-2, then-contains, else-contains}
