@@ -6,6 +6,8 @@ mod bounds;
 #[cfg(test)]
 mod bytes;
 #[cfg(test)]
+mod certificates;
+#[cfg(test)]
 mod instances;
 #[cfg(test)]
 mod text;
