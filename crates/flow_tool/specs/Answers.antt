@@ -1,0 +1,69 @@
+-- What a command answers for the bytes and numbers that it is given: the text that it writes, or its first refusal,
+-- want of memory and devices aside.
+use Rattle.std.specs.Prelude.{◌≡◌, ℕ, ◌-◌, ◌≤◌, ◌<◌, ◌⊎◌, ◌++◌, List, [], ◌∷◌, length, codes, decimal, Option, Some, None, Result, Ok, Err, slice_get}
+use Rattle.std.specs.List.{flat_map}
+use Rattle.flow_core.specs.Shop.{Shop}
+use Rattle.flow_core.specs.Paths.{span}
+use Rattle.flow_core.specs.SequenceFaults.{sequence_fault}
+use Rattle.flow_core.specs.TextFaults.{text_fault}
+use Rattle.flow_core.specs.Reads.{Reads}
+use Rattle.flow_core.specs.Generator.{generated, generator_fault}
+use Rattle.flow_core.specs.Written.{written}
+use Rattle.flow_core.specs.declared.instance.InstanceFault.{InstanceFault}
+use Rattle.flow_core.specs.declared.text.block.Block.{Block}
+use Rattle.flow_bound.specs.Neh.{IsNeh}
+use Rattle.flow_bound.specs.Taillard.{taillard_bound}
+use Rattle.flow_tool.specs.declared.fault.ToolFault.{ToolFault}
+use Rattle.flow_tool.specs.declared.fault.ToolFault.TheVariants as tool
+
+-- an answer: a text, or a refusal
+abbrev pub Answer : Type 0
+Answer = Result (List ℕ) ToolFault
+
+-- the block of a text that an index names, from 1; or the first fault of the text; or that the index names none of its blocks
+abbrev pub Picks : List ℕ → ℕ → Result Block ToolFault → Type 0
+Picks text index (Ok block) = (blocks : List Block) × Reads text blocks × (1 ≤ index) × (slice_get blocks (index - 1) ≡ Some block)
+Picks text index (Err (tool.Text fault)) = text_fault text ≡ Some fault
+Picks text index (Err tool.Index) = (blocks : List Block) × Reads text blocks × ((index ≡ 0) ⊎ (length blocks < index))
+Picks text index (Err fault) = ⊥
+
+-- the answer for the block that an index names, or why it names none
+abbrev pub AnswersFor : ℕ → (Block → Answer → Type 0) → List ℕ → Answer → Type 0
+AnswersFor index Answers text answer =
+    ((block : Block) × Picks text index (Ok block) × Answers block answer)
+    ⊎ ((fault : ToolFault) × Picks text index (Err fault) × (answer ≡ Err fault))
+
+-- a makespan's line
+abbrev pub makespan_line : ℕ → List ℕ
+makespan_line value = codes "makespan " ++ decimal value ++ codes "\n"
+
+-- `span`: the makespan of the jobs in this order, or their first fault
+abbrev pub span_answer : Shop → List ℕ → Answer
+span_answer shop jobs = elim (sequence_fault shop.jobs jobs) [ None ↦ Ok (makespan_line (span shop jobs)) | Some fault ↦ Err (tool.Sequence fault) ]
+
+-- what `span` answers for a text
+abbrev pub AnswersSpan : ℕ → List ℕ → List ℕ → Answer → Type 0
+AnswersSpan index jobs = AnswersFor index (λ block answer. answer ≡ span_answer block.instance jobs)
+
+-- a sequence's line: the word, a space before each job number, and the line feed
+abbrev pub sequence_line : List ℕ → List ℕ
+sequence_line jobs = codes "sequence" ++ flat_map (λ job. 32 ∷ decimal job) jobs ++ 10 ∷ []
+
+-- what `neh` answers for a block: the starting sequence and its makespan
+abbrev pub AnswersStart : Shop → Answer → Type 0
+AnswersStart shop answer = (sequence : List ℕ) × IsNeh shop sequence × (answer ≡ Ok (sequence_line sequence ++ makespan_line (span shop sequence)))
+
+-- what `neh` answers for a text
+abbrev pub AnswersNeh : ℕ → List ℕ → Answer → Type 0
+AnswersNeh index = AnswersFor index (λ block. AnswersStart block.instance)
+
+-- the text of a generated instance: upper bound is the makespan of the starting sequence, lower bound Taillard's
+abbrev pub IsGeneratedText : ℕ → Shop → List ℕ → Type 0
+IsGeneratedText seed shop text =
+    (sequence : List ℕ) × IsNeh shop sequence
+    × (text ≡ written (record { seed = seed; upper = span shop sequence; lower = taillard_bound shop; instance = shop }))
+
+-- what `gen` answers for its numbers
+abbrev pub AnswersGen : ℕ → ℕ → ℕ → Answer → Type 0
+AnswersGen jobs machines seed (Ok text) = (generator_fault jobs machines seed ≡ None) × IsGeneratedText seed (generated jobs machines seed) text
+AnswersGen jobs machines seed (Err fault) = (refusal : InstanceFault) × (generator_fault jobs machines seed ≡ Some refusal) × (fault ≡ tool.Instance refusal)

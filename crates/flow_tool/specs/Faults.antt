@@ -1,0 +1,31 @@
+-- A fault of a layer, as a fault of the command: want of memory is the same in all.
+use Rattle.flow_core.specs.declared.bytes.fault.ReadFault.{ReadFault}
+use Rattle.flow_core.specs.declared.bytes.fault.ReadFault.TheVariants as read
+use Rattle.flow_core.specs.declared.text.fault.TextFault.{TextFault}
+use Rattle.flow_core.specs.declared.text.fault.TextFault.TheVariants as text
+use Rattle.flow_core.specs.declared.sequence.SequenceFault.{SequenceFault}
+use Rattle.flow_core.specs.declared.sequence.SequenceFault.TheVariants as sequence
+use Rattle.flow_core.specs.declared.instance.InstanceFault.{InstanceFault}
+use Rattle.flow_core.specs.declared.instance.InstanceFault.TheVariants as instance
+use Rattle.flow_tool.specs.declared.fault.ToolFault.{ToolFault}
+use Rattle.flow_tool.specs.declared.fault.ToolFault.TheVariants as tool
+
+-- a fault of reading
+abbrev pub of_read : ReadFault → ToolFault
+of_read read.Memory = tool.Memory
+of_read fault = tool.Read fault
+
+-- a fault of a text
+abbrev pub of_text : TextFault → ToolFault
+of_text text.Memory = tool.Memory
+of_text fault = tool.Text fault
+
+-- a fault of a sequence
+abbrev pub of_sequence : SequenceFault → ToolFault
+of_sequence sequence.Memory = tool.Memory
+of_sequence fault = tool.Sequence fault
+
+-- a fault of an instance
+abbrev pub of_instance : InstanceFault → ToolFault
+of_instance instance.Memory = tool.Memory
+of_instance fault = tool.Instance fault

@@ -1,0 +1,10 @@
+//! The program: one command, over files or standard input.
+#![tactic(auto)]
+
+mod fault;
+mod lines;
+mod picked;
+mod span;
+mod starting;
+
+fn main(_rt: HostRuntime) {}
