@@ -1,0 +1,70 @@
+-- Certificates: texts that prove a least makespan. A bound gives a number for an instance, a list of jobs and a machine.
+use Rattle.std.specs.Prelude.{ℕ, zero, suc, ◌≡◌, ◌-◌, ◌+◌, ◌^◌, ◌<◌, ◌≤◌, ◌⊎◌, List, [], ◌∷◌, ◌++◌, map, codes}
+use Rattle.std.specs.Fmt.{decimal}
+use Rattle.std.specs.List.{AllZip, concat, flat_map, join_with_byte}
+use Rattle.flow_core.specs.declared.limits.TheConstants.{MAX_DEPTH}
+use Rattle.flow_core.specs.Shop.{Shop}
+use Rattle.flow_core.specs.Paths.{span}
+use Rattle.flow_core.specs.Sequences.{IsSequence, IsLeastMakespan, jobs_left, cut}
+use Rattle.flow_core.specs.Bound.{bound_at}
+
+-- the letter of a machine: A for 1
+abbrev pub letter : ℕ → ℕ
+letter machine = 64 + machine
+
+-- a text is a tree that covers a value from a list on, with so many jobs left: a point where none is left, a letter for a bound,
+-- or a plus before the trees of the next jobs in increasing order
+abbrev pub Covers : Shop → (Shop → List ℕ → ℕ → ℕ) → ℕ → ℕ → List ℕ → List ℕ → Type 0
+Covers shop bound value zero jobs text = (text ≡ 46 ∷ []) × (value ≤ span shop jobs)
+Covers shop bound value (suc left) jobs text =
+    ((machine : ℕ) × (1 ≤ machine) × (machine ≤ shop.machines) × (text ≡ letter machine ∷ []) × (value ≤ bound shop jobs machine))
+    ⊎ ((parts : List (List ℕ)) × (text ≡ 43 ∷ concat parts)
+    × AllZip (λ job part. Covers shop bound value left (jobs ++ job ∷ []) part) (jobs_left shop.jobs jobs) parts)
+
+-- a line: a text with its end
+abbrev pub line : List ℕ → List ℕ
+line text = text ++ 10 ∷ []
+
+-- numbers in decimal, with one space between them
+abbrev pub spaced : List ℕ → List ℕ
+spaced ns = join_with_byte 32 (map decimal ns)
+
+-- the first line, and the last
+abbrev pub title : List ℕ
+title = codes "flowshop certificate 1"
+
+abbrev pub ending : List ℕ
+ending = codes "end"
+
+-- the text of a certificate, with a tree for each prefix of the cut
+abbrev pub certificate_text : Shop → ℕ → ℕ → List ℕ → List (List ℕ) → List ℕ
+certificate_text shop depth value sequence trees =
+    line title
+    ++ line (spaced (shop.jobs ∷ shop.machines ∷ depth ∷ []))
+    ++ line (decimal value)
+    ++ line (spaced sequence)
+    ++ flat_map line trees
+    ++ line ending
+
+-- what a certificate holds: a sequence that has the value, and trees that cover it from each prefix of the cut
+pub record Certifies (shop : Shop) (value depth : ℕ) (sequence : List ℕ) (trees : List (List ℕ)) : Type 0 where
+  pub jobs_enough : depth ≤ shop.jobs
+  pub shallow : depth ≤ MAX_DEPTH
+  pub fits : value < 2 ^ 64
+  pub whole : IsSequence shop.jobs sequence
+  pub attained : span shop sequence ≡ value
+  pub covered : AllZip (λ prefix tree. Covers shop bound_at value (shop.jobs - depth) prefix tree) (cut shop.jobs depth) trees
+
+-- a text is a lawful certificate of a value
+abbrev pub IsCertificate : Shop → List ℕ → ℕ → Type 0
+IsCertificate shop bytes value =
+    (depth : ℕ) × (sequence : List ℕ) × (trees : List (List ℕ))
+    × Certifies shop value depth sequence trees × (bytes ≡ certificate_text shop depth value sequence trees)
+
+-- the value of a lawful certificate, whoever made it, is the least makespan
+abbrev pub CertificateIsSound : Type 0
+CertificateIsSound = (shop : Shop) (bytes : List ℕ) (value : ℕ) → IsCertificate shop bytes value → IsLeastMakespan shop value
+
+-- a text is a certificate of one value at most
+abbrev pub ValueIsOne : Type 0
+ValueIsOne = (shop : Shop) (bytes : List ℕ) (v w : ℕ) → IsCertificate shop bytes v → IsCertificate shop bytes w → v ≡ w

@@ -1,0 +1,58 @@
+//! Why a text is no certificate.
+
+ghost use Rattle.std.specs.Prelude.{◌≡◌};
+ghost use Rattle.flow_cert.specs.declared.fault.CheckFault.TheVariants.{Memory};
+
+use std::alloc::{AllocError, AllocFailed};
+use thiserror::Error;
+
+/// Why a text is no certificate: the first line at fault, and in a tree's line, counted from 1, its first faulty byte.
+#[derive(Clone, Copy, Debug, PartialEq, Eq, Error)]
+pub enum CheckFault {
+    /// A growth was refused.
+    #[error("Memory")]
+    Memory,
+    /// The first line is not that of a certificate.
+    #[error("Header")]
+    Header,
+    /// The second line does not hold the instance's jobs and machines and a depth.
+    #[error("Size")]
+    Size,
+    /// The third line is not one number, or it is too large.
+    #[error("Value")]
+    Value,
+    /// The fourth line is not a sequence.
+    #[error("Sequence")]
+    Sequence,
+    /// The sequence's makespan is not the value.
+    #[error("NotAttained")]
+    NotAttained,
+    /// This line is not one tree.
+    #[error("Tree {0}")]
+    Tree(usize),
+    /// In this line a machine's bound is below the value.
+    #[error("Weak {0}")]
+    Weak(usize),
+    /// In this line a sequence's makespan is below the value.
+    #[error("Low {0}")]
+    Low(usize),
+    /// What follows the trees is not the last line alone.
+    #[error("End")]
+    End,
+}
+
+impl From<AllocError> for CheckFault {
+    ghost from_gives = { λ _ fault. fault ≡ Memory };
+
+    fn from(_error: AllocError) -> CheckFault {
+        CheckFault::Memory
+    }
+}
+
+impl<T: Drop> From<AllocFailed<T>> for CheckFault {
+    ghost from_gives = { λ _ fault. fault ≡ Memory };
+
+    fn from(_error: AllocFailed<T>) -> CheckFault {
+        CheckFault::Memory
+    }
+}

@@ -1,0 +1,5 @@
+pub mod Lists
+pub mod Earlier
+pub mod Walk
+pub mod BestOf
+pub mod LeastVerdict

@@ -1,0 +1,37 @@
+-- How a run is made, and what numbers say so.
+use Rattle.std.specs.Prelude.{ℕ, ◌≤◌, nat_le, [], ◌∷◌, Option, Some, None, Result, Ok, Err}
+use Rattle.std.specs.Int.{is_in_range}
+use Rattle.flow_core.specs.Refusals.{fault_unless, first_fault}
+use Rattle.flow_core.specs.declared.limits.TheConstants.{MAX_WORKERS, MAX_DEPTH, MAX_BUDGET}
+use Rattle.flow_search.specs.declared.options.OptionFault.{OptionFault}
+use Rattle.flow_search.specs.declared.options.OptionFault.TheVariants.{Workers, Depth, Budget}
+
+-- options: how many workers there are, the depth of the cut, and how many bytes a tree may have
+pub record Choices : Type 0 where
+  pub workers : ℕ
+  pub depth : ℕ
+  pub budget : ℕ
+
+-- options are within the limits
+pub record AreWithinLimits (options : Choices) : Type 0 where
+  pub some_worker : 1 ≤ options.workers
+  pub workers : options.workers ≤ MAX_WORKERS
+  pub depth : options.depth ≤ MAX_DEPTH
+  pub some_byte : 1 ≤ options.budget
+  pub budget : options.budget ≤ MAX_BUDGET
+
+-- why three numbers are no options, if they are none
+abbrev pub option_fault : ℕ → ℕ → ℕ → Option OptionFault
+option_fault workers depth budget = first_fault (
+    fault_unless (is_in_range 1 MAX_WORKERS workers) Workers
+    ∷ fault_unless (nat_le depth MAX_DEPTH) Depth
+    ∷ fault_unless (is_in_range 1 MAX_BUDGET budget) Budget
+    ∷ [])
+
+-- the options of three numbers, or the first fault
+abbrev pub options_or_fault : ℕ → ℕ → ℕ → Result Choices OptionFault
+options_or_fault workers depth budget =
+    elim (option_fault workers depth budget) [
+      | None ↦ Ok (record { workers = workers; depth = depth; budget = budget })
+      | Some fault ↦ Err fault
+    ]

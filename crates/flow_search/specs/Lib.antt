@@ -1,0 +1,6 @@
+pub mod Choices
+pub mod Search
+pub mod Walk
+pub mod Plans
+pub mod Outcomes
+pub mod Verdicts

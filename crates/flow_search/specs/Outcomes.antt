@@ -1,0 +1,39 @@
+-- What becomes of the prefixes of a plan.
+use Rattle.std.specs.Prelude.{ℕ, ◌≡◌, ◌+◌, ◌<◌, ◌≤◌, nat_lt, List, [], ◌∷◌, map, length, position, slice_index_or, Option, Some, None}
+use Rattle.std.specs.Option.{option_map, option_or}
+use Rattle.flow_search.specs.Search.{Found}
+use Rattle.flow_search.specs.Plans.{Planned, prefixes_of, tree_of, best_of, trees_of, verdict_of}
+use Rattle.flow_search.specs.declared.outcome.Best.{Best}
+use Rattle.flow_search.specs.declared.outcome.Outcome.{Outcome}
+use Rattle.flow_search.specs.declared.outcome.Outcome.TheVariants.{Done, OverBudget, NoMemory, NoPrefix}
+
+-- a sequence with its makespan, as the definitions have it
+abbrev pub found_of : Best → Found
+found_of best = record { value = best.value; sequence = best.sequence }
+
+-- A lawful outcome of a prefix: its best and its tree, within the budget; or over the budget, where the tree is longer.
+-- Want of memory says nothing, and the prefix is there.
+abbrev pub IsLawful : Planned → ℕ → Outcome → Type 0
+IsLawful plan number (Done best text) =
+    (option_map found_of best ≡ best_of plan number)
+    × (text.items ≡ tree_of plan number)
+    × (length text.items ≤ plan.options.budget)
+IsLawful plan number OverBudget = plan.options.budget < length (tree_of plan number)
+IsLawful plan number NoMemory = Unit {0}
+IsLawful plan number NoPrefix = ⊥
+
+-- each outcome is a lawful one of the prefix of its place
+abbrev pub AreLawful : Planned → List Outcome → Type 0
+AreLawful plan outcomes =
+    (number : ℕ) (other : Outcome) → number < length outcomes → IsLawful plan number (slice_index_or outcomes number other)
+
+-- the outcome has the tree of its prefix
+abbrev pub IsDone : Outcome → Type 0
+IsDone (Done best text) = Unit {0}
+IsDone OverBudget = ⊥
+IsDone NoMemory = ⊥
+IsDone NoPrefix = ⊥
+
+-- the least number whose tree is longer than the budget, if there is one
+abbrev pub first_over_budget : Planned → Option ℕ
+first_over_budget plan = position (λ text. nat_lt plan.options.budget (length text)) (trees_of plan)

@@ -1,0 +1,64 @@
+-- What is searched, from where, and in which parts.
+use Rattle.std.specs.Prelude.{ℕ, ◌≡◌, ◌≤◌, nat_le, List, [], ◌∷◌, length, slice_index_or, Option, Some, None}
+use Rattle.flow_core.specs.Refusals.{fault_unless, first_fault}
+use Rattle.flow_core.specs.declared.limits.TheConstants.{MAX_PREFIXES}
+use Rattle.flow_core.specs.Shop.{Shop, IsWithinLimits}
+use Rattle.flow_core.specs.Paths.{span}
+use Rattle.flow_core.specs.Sequences.{IsSequence, cut}
+use Rattle.flow_core.specs.Bound.{bound_at}
+use Rattle.flow_bound.specs.Neh.{IsNeh}
+use Rattle.flow_search.specs.Choices.{Choices, AreWithinLimits}
+use Rattle.flow_search.specs.Search.{Found, tree, trees, best, verdict}
+use Rattle.flow_search.specs.declared.plan.PlanFault.{PlanFault}
+use Rattle.flow_search.specs.declared.plan.PlanFault.TheVariants.{Depth, Prefixes, Memory}
+
+-- a plan: an instance, a starting sequence with its makespan, and options
+pub record Planned : Type 0 where
+  pub shop : Shop
+  pub start : Found
+  pub options : Choices
+
+-- the prefixes of a plan, numbered from 0
+abbrev pub prefixes_of : Planned → List (List ℕ)
+prefixes_of plan = cut plan.shop.jobs plan.options.depth
+
+abbrev pub prefix_of : Planned → ℕ → List ℕ
+prefix_of plan number = slice_index_or (prefixes_of plan) number []
+
+-- a plan is within the limits, and starts from the sequence of Nawaz, Enscore and Ham
+pub record IsPlan (plan : Planned) : Type 0 where
+  pub shop_limits : IsWithinLimits plan.shop
+  pub option_limits : AreWithinLimits plan.options
+  pub is_neh : IsNeh plan.shop plan.start.sequence
+  pub is_sequence : IsSequence plan.shop.jobs plan.start.sequence
+  pub is_span : plan.start.value ≡ span plan.shop plan.start.sequence
+  pub deep : plan.options.depth ≤ plan.shop.jobs
+  pub few : length (prefixes_of plan) ≤ MAX_PREFIXES
+
+-- why there is no plan of an instance and options, if there is none
+abbrev pub plan_fault : Shop → Choices → Option PlanFault
+plan_fault shop options = first_fault (
+    fault_unless (nat_le options.depth shop.jobs) Depth
+    ∷ fault_unless (nat_le (length (cut shop.jobs options.depth)) MAX_PREFIXES) Prefixes
+    ∷ [])
+
+-- a fault, want of memory aside
+abbrev pub but_memory : PlanFault → Option PlanFault
+but_memory Memory = None
+but_memory fault = Some fault
+
+-- the tree of a prefix
+abbrev pub tree_of : Planned → ℕ → List ℕ
+tree_of plan number = tree plan.shop bound_at plan.start.value (prefix_of plan number)
+
+-- the best of a prefix
+abbrev pub best_of : Planned → ℕ → Option Found
+best_of plan number = best plan.shop plan.start.value (prefix_of plan number)
+
+-- the trees of a plan, by the numbers of their prefixes
+abbrev pub trees_of : Planned → List (List ℕ)
+trees_of plan = trees plan.shop bound_at plan.start.value plan.options.depth
+
+-- the verdict of a plan
+abbrev pub verdict_of : Planned → Found
+verdict_of plan = verdict plan.shop plan.start plan.options.depth

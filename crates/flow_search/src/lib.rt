@@ -1,0 +1,14 @@
+//! The search for a least makespan: options, the cut, the subtrees, and the run on one thread.
+#![tactic(auto)]
+
+mod laws;
+mod options;
+mod outcome;
+mod plan;
+mod verdict;
+
+pub use laws::{verdict_is_least, walk_is_tree};
+pub use options::{OptionFault, Options};
+pub use outcome::{Best, Outcome, answer};
+pub use plan::{Plan, PlanFault, prepare};
+pub use verdict::{RunFault, Verdict, conclude, solve_plain};

@@ -1,0 +1,99 @@
+//! How a run is made.
+
+ghost use Rattle.std.specs.Prelude.{◌≡◌};
+ghost use Rattle.flow_search.specs.Choices.{AreWithinLimits, options_or_fault};
+
+use flow_core::{MAX_BUDGET, MAX_DEPTH, MAX_WORKERS};
+use std::alloc::AllocError;
+use std::marker::Model;
+use thiserror::Error;
+
+/// Why numbers are no options, in the order in which it is tested.
+#[derive(Clone, Copy, Debug, PartialEq, Eq, Error)]
+pub enum OptionFault {
+    /// The number of workers is not in `1..=64`.
+    #[error("Workers")]
+    Workers,
+    /// The depth is above 3.
+    #[error("Depth")]
+    Depth,
+    /// The budget is not in `1..=100000000`.
+    #[error("Budget")]
+    Budget,
+}
+
+/// How many workers a run has, the depth of its cut, and how many bytes a tree may have.
+#[derive(Debug)]
+pub struct Options {
+    workers: u32,
+    depth: u32,
+    budget: u32,
+}
+
+impl Model for Options {
+    ghost use Rattle.flow_search.specs.Choices.{Choices, AreWithinLimits};
+
+    ghost Value = { Choices };
+
+    ghost view = { λ o. record { workers = o.workers; depth = o.depth; budget = o.budget } };
+
+    ghost invariant = { λ o. AreWithinLimits (record { workers = o.workers; depth = o.depth; budget = o.budget }) };
+
+    ghost inverse = { λ c. record { workers = c.workers; depth = c.depth; budget = c.budget } };
+}
+
+impl Clone for Options {
+    fn clone(&self) -> Result<Self, AllocError>
+        ensures { result ≡ Ok self.now }
+    {
+        Ok(*self)
+    }
+}
+
+impl Copy for Options {}
+
+impl Options {
+    /// The options of three numbers, or the first fault.
+    pub fn new(workers: u32, depth: u32, budget: u32) -> Result<Options, OptionFault>
+        ensures { result ≡ options_or_fault workers depth budget }
+    {
+        if workers < 1 || workers > MAX_WORKERS {
+            return Err(OptionFault::Workers);
+        }
+        if depth > MAX_DEPTH {
+            return Err(OptionFault::Depth);
+        }
+        if budget < 1 || budget > MAX_BUDGET {
+            return Err(OptionFault::Budget);
+        }
+        Ok(Options {
+            workers,
+            depth,
+            budget,
+        })
+    }
+
+    /// How many workers there are.
+    pub fn workers(&self) -> u32
+        ensures value { result ≡ self.now.workers }
+        ensures limits { AreWithinLimits self.now }
+    {
+        self.workers
+    }
+
+    /// The depth of the cut.
+    pub fn depth(&self) -> u32
+        ensures value { result ≡ self.now.depth }
+        ensures limits { AreWithinLimits self.now }
+    {
+        self.depth
+    }
+
+    /// How many bytes a tree may have.
+    pub fn budget(&self) -> u32
+        ensures value { result ≡ self.now.budget }
+        ensures limits { AreWithinLimits self.now }
+    {
+        self.budget
+    }
+}
