@@ -1,0 +1,41 @@
+-- What a run leaves of its lanes, and why it has no report.
+use Rattle.std.specs.Prelude.{◌≡◌, ℕ, ◌<◌, List, Some, true, length, All, HoldsAt}
+use Rattle.flow_search.specs.declared.verdict.RunFault.{RunFault}
+use Rattle.flow_search.specs.declared.verdict.RunFault.TheVariants as run_fault
+use Rattle.flow_search.specs.Plans.{Planned}
+use Rattle.flow_search.specs.Outcomes.{IsLawful, is_done, first_over_budget}
+use Rattle.flow_lanes.specs.declared.settled.Settled.{Settled}
+use Rattle.flow_pool.specs.declared.ends.Task.{Task}
+use Rattle.flow_pool.specs.declared.ends.Answer.{Answer}
+use Rattle.flow_pool.specs.declared.whole_run.TheConstants.{SLOTS}
+use Rattle.flow_pool.specs.declared.whole_run.SolveFault.{SolveFault}
+use Rattle.flow_pool.specs.declared.whole_run.SolveFault.TheVariants.{Memory, Threads, OverBudget}
+use Rattle.flow_pool.specs.Work.{prefix_count, share, tasks_of, answered}
+
+-- the answer is done, and lawful for its prefix
+pub record IsDoneAnswer (plan : Planned) (answer : Answer) : Type 0 where
+  pub lawful : IsLawful plan answer.number answer.outcome
+  pub done : is_done answer.outcome ≡ true
+
+-- the settled lanes of a worker hold its tasks and an answer to each, and no lane is longer than all are
+pub record IsWholeWork (plan : Planned) (worker : ℕ) (lanes : Settled Task × Settled Answer) : Type 0 where
+  pub tasks : lanes.0.items ≡ tasks_of plan.options.workers (prefix_count plan) worker
+  pub numbers : answered lanes.1.items ≡ share plan.options.workers (prefix_count plan) worker
+  pub answers : All (IsDoneAnswer plan) lanes.1.items
+  pub slots : (lanes.0.lane.capacity ≡ SLOTS) × (lanes.1.lane.capacity ≡ SLOTS)
+
+-- one pair of settled lanes for each worker in order
+pub record AreWholeWork (plan : Planned) (lanes : List (Settled Task × Settled Answer)) : Type 0 where
+  pub count : length lanes ≡ plan.options.workers
+  pub each : (worker : ℕ) → worker < plan.options.workers → HoldsAt (IsWholeWork plan worker) lanes worker
+
+-- a run over the budget names the first prefix whose tree is longer; of want of memory or of threads nothing is said
+abbrev pub IsSolveFault : Planned → SolveFault → Type 0
+IsSolveFault plan Memory = Unit {0}
+IsSolveFault plan Threads = Unit {0}
+IsSolveFault plan (OverBudget number) = first_over_budget plan ≡ Some number
+
+-- how the fault of a verdict is named by a run
+abbrev pub solve_fault : RunFault → SolveFault
+solve_fault (run_fault.OverBudget number) = OverBudget number
+solve_fault run_fault.Memory = Memory

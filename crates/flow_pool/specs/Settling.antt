@@ -1,0 +1,46 @@
+-- When lanes can be put away, and what is seen of them.
+use Rattle.std.specs.Prelude.{◌≡◌, ℕ, ◌+◌, Bool, true, false, List, [], ◌∷◌, ◌++◌, length}
+use Rattle.flow_lanes.specs.Lane.{Lane}
+use Rattle.flow_lanes.specs.declared.settled.Settled.{Settled}
+use Rattle.flow_pool.specs.declared.ends.Task.{Task}
+use Rattle.flow_pool.specs.declared.ends.Task.TheVariants.{Prefix, End}
+use Rattle.flow_pool.specs.declared.ends.Answer.{Answer}
+use Rattle.flow_pool.specs.declared.ends.HubEnds.{HubEnds}
+use Rattle.flow_pool.specs.declared.ends.WorkerEnds.{WorkerEnds}
+use Rattle.flow_pool.specs.Work.{answered, asking}
+
+-- there is one end, and it stands last
+abbrev pub ends_once : List Task → Bool
+ends_once [] = false
+ends_once (Prefix number ∷ tasks) = ends_once tasks
+ends_once (End ∷ []) = true
+ends_once (End ∷ task ∷ tasks) = false
+
+-- the hub has sent its one end, and taken as many answers as it sent prefixes
+pub record IsCollected (hub : HubEnds) : Type 0 where
+  pub ends : ends_once hub.tasks.sent ≡ true
+  pub count : length hub.tasks.sent ≡ length hub.answers.received + 1
+
+-- the worker has sent one answer for each prefix that it was asked, and has its end
+abbrev pub IsAnswered : WorkerEnds → Type 0
+IsAnswered ends = ends.tasks.received ≡ asking (answered ends.answers.sent) ++ End ∷ []
+
+-- what a worker received
+abbrev pub worker_tasks : WorkerEnds → List Task
+worker_tasks ends = ends.tasks.received
+
+-- what a worker sent
+abbrev pub worker_answers : WorkerEnds → List Answer
+worker_answers ends = ends.answers.sent
+
+-- the two settled lanes of a worker
+abbrev pub pair_lanes : Settled Task × Settled Answer → Lane × Lane
+pair_lanes pair = (pair.0.lane, pair.1.lane)
+
+-- the tasks that went through them
+abbrev pub pair_tasks : Settled Task × Settled Answer → List Task
+pair_tasks pair = pair.0.items
+
+-- the answers that went through them
+abbrev pub pair_answers : Settled Task × Settled Answer → List Answer
+pair_answers pair = pair.1.items

@@ -1,0 +1,59 @@
+-- What a worker is asked, and which answers fit.
+use Rattle.std.specs.Prelude.{◌≡◌, ℕ, ◌+◌, ◌%◌, ◌<◌, ◌≤◌, cond, nat_eq, List, [], ◌∷◌, ◌++◌, length, map, filter, All}
+use Rattle.std.specs.List.{range_with_len}
+use Rattle.flow_search.specs.declared.outcome.Outcome.TheVariants.{NoPrefix}
+use Rattle.flow_search.specs.Plans.{Planned, prefixes_of}
+use Rattle.flow_search.specs.Outcomes.{IsLawful}
+use Rattle.flow_pool.specs.declared.ends.Task.{Task}
+use Rattle.flow_pool.specs.declared.ends.Task.TheVariants.{Prefix, End}
+use Rattle.flow_pool.specs.declared.ends.Answer.{Answer}
+use Rattle.flow_pool.specs.declared.ends.WorkerEnds.{WorkerEnds}
+use Rattle.flow_lanes.specs.Lane.{Lane}
+
+-- which of n prefixes are one worker's of k: worker, worker + k, and so on
+abbrev pub share : ℕ → ℕ → ℕ → List ℕ
+share k n worker = filter (λ number. nat_eq (number % k) worker) (range_with_len 0 n)
+
+-- a task for each prefix
+abbrev pub asking : List ℕ → List Task
+asking numbers = map Prefix numbers
+
+-- the tasks of one worker of k, where there are n prefixes: its share, and then one end
+abbrev pub tasks_of : ℕ → ℕ → ℕ → List Task
+tasks_of k n worker = asking (share k n worker) ++ End ∷ []
+
+-- how often a prefix is asked for
+abbrev pub times_asked : ℕ → List Task → ℕ
+times_asked number [] = 0
+times_asked number (Prefix other ∷ tasks) = cond (nat_eq other number) 1 0 + times_asked number tasks
+times_asked number (End ∷ tasks) = times_asked number tasks
+
+-- how many prefixes a plan has
+abbrev pub prefix_count : Planned → ℕ
+prefix_count plan = length (prefixes_of plan)
+
+-- an answer has a lawful outcome of its prefix, or says that there is no such prefix
+pub record IsLawfulAnswer (plan : Planned) (answer : Answer) : Type 0 where
+  pub within : answer.number < prefix_count plan → IsLawful plan answer.number answer.outcome
+  pub beyond : prefix_count plan ≤ answer.number → answer.outcome ≡ NoPrefix
+
+-- which prefixes were answered
+abbrev pub answered : List Answer → List ℕ
+answered answers = map (λ answer. answer.number) answers
+
+-- the answers fit the tasks: these are one for each answer in order, and then one end; and each answer is lawful
+pub record Fit (plan : Planned) (tasks : List Task) (answers : List Answer) : Type 0 where
+  pub asked : tasks ≡ asking (answered answers) ++ End ∷ []
+  pub lawful : All (IsLawfulAnswer plan) answers
+
+-- nothing went through a worker's ends yet
+abbrev pub IsFresh : WorkerEnds → Type 0
+IsFresh ends = (ends.tasks.received ≡ []) × (ends.answers.sent ≡ [])
+
+-- a worker has served its lanes to the end
+abbrev pub IsServed : Planned → WorkerEnds → Type 0
+IsServed plan ends = Fit plan ends.tasks.received ends.answers.sent
+
+-- which lanes a worker's ends are of
+abbrev pub worker_lanes : WorkerEnds → Lane × Lane
+worker_lanes ends = (ends.tasks.lane, ends.answers.lane)
