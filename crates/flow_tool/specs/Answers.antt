@@ -13,6 +13,8 @@ use Rattle.flow_core.specs.declared.instance.InstanceFault.{InstanceFault}
 use Rattle.flow_core.specs.declared.text.block.Block.{Block}
 use Rattle.flow_bound.specs.Neh.{IsNeh}
 use Rattle.flow_bound.specs.Taillard.{taillard_bound}
+use Rattle.flow_cert.specs.Faults.{certificate_value}
+use Rattle.flow_cert.specs.declared.fault.CheckFault.{CheckFault}
 use Rattle.flow_tool.specs.declared.fault.ToolFault.{ToolFault}
 use Rattle.flow_tool.specs.declared.fault.ToolFault.TheVariants as tool
 
@@ -67,3 +69,16 @@ IsGeneratedText seed shop text =
 abbrev pub AnswersGen : ℕ → ℕ → ℕ → Answer → Type 0
 AnswersGen jobs machines seed (Ok text) = (generator_fault jobs machines seed ≡ None) × IsGeneratedText seed (generated jobs machines seed) text
 AnswersGen jobs machines seed (Err fault) = (refusal : InstanceFault) × (generator_fault jobs machines seed ≡ Some refusal) × (fault ≡ tool.Instance refusal)
+
+-- the line of a value that a certificate proves least
+abbrev pub optimal_line : ℕ → List ℕ
+optimal_line value = codes "optimal " ++ decimal value ++ codes "\n"
+
+-- what is answered for a value that was read, or for the first fault
+abbrev pub check_answer : Result ℕ CheckFault → Answer
+check_answer (Ok value) = Ok (optimal_line value)
+check_answer (Err fault) = Err (tool.Certificate fault)
+
+-- what `check` answers for the bytes of a certificate
+abbrev pub AnswersCheck : Shop → List ℕ → Answer → Type 0
+AnswersCheck shop bytes answer = answer ≡ check_answer (certificate_value shop bytes)

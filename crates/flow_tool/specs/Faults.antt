@@ -7,6 +7,8 @@ use Rattle.flow_core.specs.declared.sequence.SequenceFault.{SequenceFault}
 use Rattle.flow_core.specs.declared.sequence.SequenceFault.TheVariants as sequence
 use Rattle.flow_core.specs.declared.instance.InstanceFault.{InstanceFault}
 use Rattle.flow_core.specs.declared.instance.InstanceFault.TheVariants as instance
+use Rattle.flow_cert.specs.declared.fault.CheckFault.{CheckFault}
+use Rattle.flow_cert.specs.declared.fault.CheckFault.TheVariants as check
 use Rattle.flow_tool.specs.declared.fault.ToolFault.{ToolFault}
 use Rattle.flow_tool.specs.declared.fault.ToolFault.TheVariants as tool
 
@@ -29,3 +31,8 @@ of_sequence fault = tool.Sequence fault
 abbrev pub of_instance : InstanceFault → ToolFault
 of_instance instance.Memory = tool.Memory
 of_instance fault = tool.Instance fault
+
+-- a fault of a certificate
+abbrev pub of_check : CheckFault → ToolFault
+of_check check.Memory = tool.Memory
+of_check fault = tool.Certificate fault

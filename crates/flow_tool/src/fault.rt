@@ -1,8 +1,9 @@
 //! Why a command refused.
 
 ghost use Rattle.std.specs.Prelude.{◌≡◌};
-ghost use Rattle.flow_tool.specs.Faults.{of_read, of_text, of_sequence, of_instance};
+ghost use Rattle.flow_tool.specs.Faults.{of_read, of_text, of_sequence, of_instance, of_check};
 
+use flow_cert::CheckFault;
 use flow_core::{InstanceFault, ReadFault, SequenceFault, TextFault, WriteFault};
 use thiserror::Error;
 
@@ -27,6 +28,9 @@ pub(crate) enum ToolFault {
     /// No instance is generated.
     #[error("refused instance {0}")]
     Instance(InstanceFault),
+    /// The bytes are no lawful certificate of the instance.
+    #[error("refused certificate {0}")]
+    Certificate(CheckFault),
     /// The sink refused.
     #[error("failed write {0}")]
     Write(WriteFault),
@@ -75,5 +79,14 @@ pub(crate) fn of_instance(fault: InstanceFault) -> ToolFault
     match fault {
         InstanceFault::Memory => ToolFault::Memory,
         _ => ToolFault::Instance(fault),
+    }
+}
+
+pub(crate) fn of_check(fault: CheckFault) -> ToolFault
+    ensures { result ≡ of_check fault }
+{
+    match fault {
+        CheckFault::Memory => ToolFault::Memory,
+        _ => ToolFault::Certificate(fault),
     }
 }

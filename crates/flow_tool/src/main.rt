@@ -1,6 +1,7 @@
 //! The program: one command, over files or standard input.
 #![tactic(auto)]
 
+mod checking;
 mod fault;
 mod lines;
 mod picked;
