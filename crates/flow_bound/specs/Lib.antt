@@ -1,3 +1,4 @@
+pub mod Heads
 pub mod Neh
 pub mod Taillard
 pub mod Capped

@@ -3,6 +3,10 @@
 
 mod insertion;
 mod machine_bound;
+mod machine_load;
+mod order;
+mod totals;
 
 pub use insertion::neh;
 pub use machine_bound::bound;
+pub use machine_load::taillard_bound;

@@ -52,7 +52,7 @@ within-times times small = split (nat_lt (position_or_len is_too_great times) (l
         let fits : get_or times (position_or_len is_too_great times) 0 ≤ MAX_TIME = small (position_or_len is_too_great times) 0 below in
         absurd (false≢true (grind (arith, nat_tests)))
 
-range-in : (most n : ℕ) → is_in_range 1 most n ≡ true → (1 ≤ n) × (n ≤ most)
+pub range-in : (most n : ℕ) → is_in_range 1 most n ≡ true → (1 ≤ n) × (n ≤ most)
 range-in most n e = grind (arith, nat_tests)
 
 in-range : (most n : ℕ) → 1 ≤ n → n ≤ most → is_in_range 1 most n ≡ true

@@ -11,3 +11,8 @@ pub mod SequenceFaults
 pub mod Generator
 pub mod Bytes
 pub mod Devices
+pub mod Lines
+pub mod Text
+pub mod TextFaults
+pub mod TextWalk
+pub mod Written

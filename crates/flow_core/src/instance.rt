@@ -124,6 +124,14 @@ impl Instance {
         self.machines
     }
 
+    /// The times, machine by machine and for each machine job by job.
+    pub(crate) fn times(&self) -> &[u32]
+        ensures value { result.now ≡ self.now.times }
+        ensures limits { IsWithinLimits self.now }
+    {
+        self.times.as_slice()
+    }
+
     /// The time of a job on a machine, both counted from 1.
     pub fn time(&self, job: u16, machine: u16) -> u32
         requires job_from { 1 ≤ job }

@@ -7,6 +7,9 @@ ghost use Rattle.flow_core.specs.Sequences.{IsSequence};
 ghost use Rattle.flow_core.specs.InstanceFaults.{instance_fault};
 ghost use Rattle.flow_core.specs.SequenceFaults.{sequence_fault};
 ghost use Rattle.flow_core.specs.Bound.{BoundIsAdmissible};
+ghost use Rattle.flow_core.specs.Text.{Reads};
+ghost use Rattle.flow_core.specs.TextFaults.{text_fault};
+ghost use Rattle.flow_core.specs.declared.text.block.Block.{Block};
 
 /// A completion time is the weight of a heaviest staircase path.
 pub fn completion_is_greatest()
@@ -40,4 +43,11 @@ pub fn instances_have_no_fault()
 pub fn sequences_have_no_fault()
     ensures is { (n : ℕ) (jobs : List ℕ) → sequence_fault n jobs ≡ None → IsSequence n jobs }
     ensures has { (n : ℕ) (jobs : List ℕ) → IsSequence n jobs → sequence_fault n jobs ≡ None }
+{}
+
+/// A text has no fault exactly where it has a reading, and it has one reading at most.
+pub fn texts_have_no_fault()
+    ensures is { (text : List ℕ) → text_fault text ≡ None → (blocks : List Block) × Reads text blocks }
+    ensures has { (text : List ℕ) (blocks : List Block) → Reads text blocks → text_fault text ≡ None }
+    ensures one { (text : List ℕ) (blocks others : List Block) → Reads text blocks → Reads text others → blocks ≡ others }
 {}

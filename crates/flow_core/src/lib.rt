@@ -9,6 +9,7 @@ mod job_set;
 mod laws;
 mod limits;
 mod sequence;
+mod text;
 
 pub use bytes::{
     MemorySink, MemorySource, ReadFault, Refused, Sink, Source, StdSink, StdSource, WriteFault,
@@ -20,10 +21,11 @@ pub use instance::{Instance, InstanceFault};
 pub use job_set::JobSet;
 pub use laws::{
     bound_is_admissible, completion_by_recurrence, completion_is_greatest, instances_have_no_fault,
-    sequences_have_no_fault,
+    sequences_have_no_fault, texts_have_no_fault,
 };
 pub use limits::{
-    MAX_BUDGET, MAX_COMPLETION, MAX_DEPTH, MAX_JOBS, MAX_MACHINES, MAX_PREFIXES, MAX_TIME,
-    MAX_WORKERS,
+    MAX_BUDGET, MAX_COMPLETION, MAX_DEPTH, MAX_JOBS, MAX_MACHINES, MAX_NUMBER, MAX_PREFIXES,
+    MAX_TIME, MAX_WORKERS,
 };
 pub use sequence::{Sequence, SequenceFault};
+pub use text::{Block, TextFault, block_text, read_blocks};

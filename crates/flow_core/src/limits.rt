@@ -12,6 +12,9 @@ pub const MAX_TIME: u32 = 99_999;
 /// The greatest completion time at which a front takes another job. No list of an instance's jobs reaches it.
 pub const MAX_COMPLETION: u64 = 1_000_000_000;
 
+/// The greatest number in benchmark text.
+pub const MAX_NUMBER: u32 = 4_294_967_295;
+
 /// The most workers of a run.
 pub const MAX_WORKERS: u32 = 64;
 

@@ -1,27 +1,29 @@
 -- How the facts of the hub and of the workers come together.
-use Rattle.std.proofs.Common.{◌≡◌, ℕ, ◌+◌, ◌<◌, ◌≤◌, List, [], ◌∷◌, ◌++◌, length, map, get_or, refl, sym, ap, ◌∙◌, arith, true, length-append, subst, zero-add}
+use Rattle.std.proofs.Common.{◌≡◌, ℕ, ◌<◌, List, [], ◌∷◌, ◌++◌, length, map, get_or, refl, sym, ap, ◌∙◌, arith, length-append, subst, zero-add}
 use Rattle.std.specs.Prelude.{All, HoldsAt, slice_index_or, ◌/◌, ◌%◌}
 use Rattle.std.proofs.Math.Nat.{mod-lt}
 use Rattle.std.specs.List.{range_with_len}
 use Rattle.std.proofs.lemmas.List.{length-map, get_or-map, append_cancel_right}
 use Rattle.std.proofs.lemmas.Simd.{map-map}
-use Rattle.std.proofs.lemmas.List.Elements.{All-map, All-same, All-get_or}
+use Rattle.std.proofs.lemmas.List.Elements.{All-same}
 use Rattle.std.proofs.lemmas.List.FromFn.{fill_by_all, length-map-range_with_len, get_or-map-range_with_len, length-range_with_len, get_or-range_with_len}
-use Rattle.flow_plan.specs.declared.Plan.{Plan}
-use Rattle.flow_plan.specs.declared.Outcome.{Outcome}
-use Rattle.flow_plan.specs.Plan.{prefix_count, IsLawful, AreLawful, is_done}
+use Rattle.flow_search.specs.declared.outcome.Outcome.{Outcome}
+use Rattle.flow_search.specs.Plans.{Planned}
+use Rattle.flow_search.specs.Outcomes.{IsLawful, AreLawful, IsDone}
 use Rattle.flow_lanes.specs.Lane.{Lane}
 use Rattle.flow_lanes.specs.declared.settled.Settled.{Settled}
 use Rattle.flow_pool.specs.declared.ends.Task.{Task}
-use Rattle.flow_pool.specs.declared.ends.Task.TheVariants.{Prefix, End}
+use Rattle.flow_pool.specs.declared.ends.Task.TheVariants.{End}
 use Rattle.flow_pool.specs.declared.ends.Answer.{Answer}
 use Rattle.flow_pool.specs.declared.ends.HubEnds.{HubEnds}
 use Rattle.flow_pool.specs.declared.ends.WorkerEnds.{WorkerEnds}
+use Rattle.flow_pool.specs.declared.whole_run.TheConstants.{SLOTS}
 use Rattle.flow_pool.specs.Deal.{dealt, by_lane}
-use Rattle.flow_pool.specs.Work.{IsServed, IsAnswered, IsLawfulAnswer, numbers_of, asking}
-use Rattle.flow_pool.specs.Hub.{HasCollected, hub_lanes, sent_lists, received_lists, tasks_of, all_dealt, ends_once}
-use Rattle.flow_pool.specs.Report.{IsCollected, IsReport, IsDoneAnswer, worker_tasks, worker_answers, pair_tasks, pair_answers, pair_capacities, hub_capacities}
-use Rattle.flow_pool.proofs.Undeal.{same_from_dealt, All-from_dealt, length-dealt_from, All-dealt_from}
+use Rattle.flow_pool.specs.Work.{share, asking, tasks_of, prefix_count, answered, IsLawfulAnswer, IsServed}
+use Rattle.flow_pool.specs.Hub.{HasCollected, hub_lanes, hub_slots, sent_lists, received_lists}
+use Rattle.flow_pool.specs.Settling.{IsCollected, ends_once, worker_tasks, worker_answers, pair_lanes, pair_tasks, pair_answers}
+use Rattle.flow_pool.specs.Report.{IsDoneAnswer, AreWholeWork}
+use Rattle.flow_pool.proofs.Undeal.{same_from_dealt, All-from_dealt, length-dealt_from, All-dealt_from, dealt_from-range}
 use Rattle.flow_pool.proofs.Turns.{get_or-dealt}
 use Rattle.flow_pool.proofs.Settles.{ends_once-asking, asking-injective}
 
@@ -50,122 +52,149 @@ by_lane-from_at {X} {Y} f g xs k e long at =
     let d = some_item xs (omega arith) in
     get_or-map f xs i d e within ∙ at i d within)
 
--- the hub has sent each lane one end, and taken an answer for each prefix that it sent
-pub All-IsCollected : (p : Plan) (before hubs : List HubEnds) (answers : List Answer) → HasCollected p before hubs answers → All IsCollected hubs
-All-IsCollected p before hubs answers has i d l =
-    let k = p.workers in
-    let n = prefix_count p in
-    let numbers = dealt k i (range_with_len 0 n) in
+-- a worker's turns have as many answers as its share has prefixes
+length-dealt-share : (k n worker : ℕ) (answers : List Answer) → length answers ≡ n → length (dealt k worker answers) ≡ length (share k n worker)
+length-dealt-share k n worker answers long =
+    length-dealt_from k worker 0 answers (range_with_len 0 n) (long ∙ sym (length-range_with_len 0 n)) ∙ ap length (dealt_from-range k worker 0 n)
+
+-- the hub has sent each worker one end, and taken an answer for each prefix that it sent
+pub All-IsCollected : (plan : Planned) (before hubs : List HubEnds) (answers : List Answer) → HasCollected plan before hubs answers → All IsCollected hubs
+All-IsCollected plan before hubs answers has i d l =
+    let k = plan.options.workers in
+    let n = prefix_count plan in
+    let numbers = share k n i in
     let sent : (get_or hubs i d).tasks.sent ≡ asking numbers ++ End ∷ [] = by_lane-at (λ (h : HubEnds). h.tasks.sent) (tasks_of k n) hubs k has.sent i d l in
     let got : (get_or hubs i d).answers.received ≡ dealt k i answers = by_lane-at (λ (h : HubEnds). h.answers.received) (λ lane. dealt k lane answers) hubs k has.received i d l in
-    let as_many : length (dealt k i answers) ≡ length numbers = length-dealt_from k i 0 answers (range_with_len 0 n) (has.count ∙ sym (length-range_with_len 0 n)) in
+    let as_many : length (dealt k i answers) ≡ length numbers = length-dealt-share k n i answers has.count in
     let asked : length (asking numbers) ≡ length numbers = rw length-map refl in
     record {
       ends = ap ends_once sent ∙ ends_once-asking numbers;
       count = ap length sent ∙ omega (arith, length-append (asking numbers) (End ∷ []), ap length got);
     }
 
--- each worker has answered just the prefixes of its lane
-pub numbers-by_lane : (p : Plan) (before hubs : List HubEnds) (ends : List WorkerEnds) (answers : List Answer)
-    → HasCollected p before hubs answers → All (IsServed p) ends → map worker_tasks ends ≡ sent_lists hubs
-    → map (λ e. numbers_of (worker_answers e)) ends ≡ by_lane p.workers (λ lane. dealt p.workers lane (range_with_len 0 (prefix_count p)))
-numbers-by_lane p before hubs ends answers has served same =
-    let k = p.workers in
-    let n = prefix_count p in
+-- each worker has answered just its share
+pub answered-by_lane : (plan : Planned) (before hubs : List HubEnds) (ends : List WorkerEnds) (answers : List Answer)
+    → HasCollected plan before hubs answers → All (IsServed plan) ends → map worker_tasks ends ≡ sent_lists hubs
+    → map (λ e. answered (worker_answers e)) ends ≡ by_lane plan.options.workers (share plan.options.workers (prefix_count plan))
+answered-by_lane plan before hubs ends answers has served same =
+    let k = plan.options.workers in
+    let n = prefix_count plan in
     let tasks : map worker_tasks ends ≡ by_lane k (tasks_of k n) = same ∙ has.sent in
-    by_lane-from_at (λ (e : WorkerEnds). numbers_of (worker_answers e)) (λ lane. dealt k lane (range_with_len 0 n)) ends k [] (by_lane-length worker_tasks (tasks_of k n) ends k tasks) (λ i d l.
+    by_lane-from_at (λ (e : WorkerEnds). answered (worker_answers e)) (share k n) ends k [] (by_lane-length worker_tasks (tasks_of k n) ends k tasks) (λ i d l.
     let e = get_or ends i d in
-    let both : asking (numbers_of (worker_answers e)) ++ End ∷ [] ≡ asking (dealt k i (range_with_len 0 n)) ++ End ∷ [] =
-    sym (served i d l).0 ∙ by_lane-at worker_tasks (tasks_of k n) ends k tasks i d l in
+    let both : asking (answered (worker_answers e)) ++ End ∷ [] ≡ asking (share k n i) ++ End ∷ [] =
+    sym (served i d l).asked ∙ by_lane-at worker_tasks (tasks_of k n) ends k tasks i d l in
     asking-injective _ _ (append_cancel_right _ _ (End ∷ []) both))
 
 -- item i of the answers has number i
-pub numbers-in_order : (p : Plan) (before hubs : List HubEnds) (ends : List WorkerEnds) (answers : List Answer)
-    → HasCollected p before hubs answers → All (IsServed p) ends → map worker_tasks ends ≡ sent_lists hubs → map worker_answers ends ≡ received_lists hubs → 0 < p.workers
-    → numbers_of answers ≡ range_with_len 0 (prefix_count p)
-numbers-in_order p before hubs ends answers has served same_tasks same_answers some =
-    let k = p.workers in
-    let n = prefix_count p in
-    let numbers = numbers-by_lane p before hubs ends answers has served same_tasks in
-    let long = by_lane-length (λ (e : WorkerEnds). numbers_of (worker_answers e)) (λ lane. dealt k lane (range_with_len 0 n)) ends k numbers in
+pub answered-in_order : (plan : Planned) (before hubs : List HubEnds) (ends : List WorkerEnds) (answers : List Answer)
+    → HasCollected plan before hubs answers → All (IsServed plan) ends → map worker_tasks ends ≡ sent_lists hubs → map worker_answers ends ≡ received_lists hubs → 0 < plan.options.workers
+    → answered answers ≡ range_with_len 0 (prefix_count plan)
+answered-in_order plan before hubs ends answers has served same_tasks same_answers some =
+    let k = plan.options.workers in
+    let n = prefix_count plan in
+    let numbers = answered-by_lane plan before hubs ends answers has served same_tasks in
+    let long = by_lane-length (λ (e : WorkerEnds). answered (worker_answers e)) (share k n) ends k numbers in
     let d = some_item ends (omega arith) in
     same_from_dealt (λ (a : Answer). a.number) k 0 answers (range_with_len 0 n) some (has.count ∙ sym (length-range_with_len 0 n)) (λ lane l.
     let within : lane < length ends = omega arith in
-    ap numbers_of (sym (by_lane-at worker_answers (λ lane'. dealt k lane' answers) ends k (same_answers ∙ has.received) lane d within))
-    ∙ by_lane-at (λ (e : WorkerEnds). numbers_of (worker_answers e)) (λ lane'. dealt k lane' (range_with_len 0 n)) ends k numbers lane d within)
+    ap answered (sym (by_lane-at worker_answers (λ lane'. dealt k lane' answers) ends k (same_answers ∙ has.received) lane d within))
+    ∙ (by_lane-at (λ (e : WorkerEnds). answered (worker_answers e)) (share k n) ends k numbers lane d within
+    ∙ sym (dealt_from-range k lane 0 n)))
 
 -- each answer is lawful
-pub All-IsLawfulAnswer : (p : Plan) (before hubs : List HubEnds) (ends : List WorkerEnds) (answers : List Answer)
-    → HasCollected p before hubs answers → All (IsServed p) ends → map worker_answers ends ≡ received_lists hubs → 0 < p.workers
-    → All (IsLawfulAnswer p) answers
-All-IsLawfulAnswer p before hubs ends answers has served same some =
-    let k = p.workers in
+pub All-IsLawfulAnswer : (plan : Planned) (before hubs : List HubEnds) (ends : List WorkerEnds) (answers : List Answer)
+    → HasCollected plan before hubs answers → All (IsServed plan) ends → map worker_answers ends ≡ received_lists hubs → 0 < plan.options.workers
+    → All (IsLawfulAnswer plan) answers
+All-IsLawfulAnswer plan before hubs ends answers has served same some =
+    let k = plan.options.workers in
     let got : map worker_answers ends ≡ by_lane k (λ lane. dealt k lane answers) = same ∙ has.received in
     let long = by_lane-length worker_answers (λ lane. dealt k lane answers) ends k got in
     let d = some_item ends (omega arith) in
-    All-from_dealt (IsLawfulAnswer p) k 0 answers some (λ lane l.
+    All-from_dealt (IsLawfulAnswer plan) k 0 answers some (λ lane l.
     let within : lane < length ends = omega arith in
-    All-same (IsLawfulAnswer p) _ _ (sym (by_lane-at worker_answers (λ lane'. dealt k lane' answers) ends k got lane d within)) (served lane d within).1)
+    All-same (IsLawfulAnswer plan) _ _ (sym (by_lane-at worker_answers (λ lane'. dealt k lane' answers) ends k got lane d within)) (served lane d within).lawful)
+
+-- the number of an answer is its place
+number-at : (answers : List Answer) (n : ℕ) → answered answers ≡ range_with_len 0 n → length answers ≡ n → (i : ℕ) (d : Answer) → i < length answers → (get_or answers i d).number ≡ i
+number-at answers n numbers long i d within =
+    sym (get_or-map (λ (b : Answer). b.number) answers i d 0 within) ∙ (ap (λ ns. get_or ns i 0) numbers ∙ (get_or-range_with_len 0 n i 0 (omega arith) ∙ zero-add i))
 
 -- outcome i is lawful for prefix i
-pub AreLawful-outcomes : (p : Plan) (answers : List Answer) (outcomes : List Outcome) → length answers ≡ prefix_count p → numbers_of answers ≡ range_with_len 0 (prefix_count p)
-    → All (IsLawfulAnswer p) answers → outcomes ≡ map (λ a. a.outcome) answers → AreLawful p outcomes
-AreLawful-outcomes p answers outcomes long numbers lawful same i d l =
-    let n = prefix_count p in
+pub AreLawful-outcomes : (plan : Planned) (answers : List Answer) (outcomes : List Outcome) → length answers ≡ prefix_count plan → answered answers ≡ range_with_len 0 (prefix_count plan)
+    → All (IsLawfulAnswer plan) answers → outcomes ≡ map (λ a. a.outcome) answers → AreLawful plan outcomes
+AreLawful-outcomes plan answers outcomes long numbers lawful same i d l =
+    let n = prefix_count plan in
     let as_many : length (map (λ (a : Answer). a.outcome) answers) ≡ length answers = rw length-map refl in
     let within : i < length answers = omega (arith, ap length same) in
     let da = some_item answers (omega arith) in
     let a = get_or answers i da in
-    let number : a.number ≡ i =
-    sym (get_or-map (λ (b : Answer). b.number) answers i da 0 within) ∙ (ap (λ ns. get_or ns i 0) numbers ∙ (get_or-range_with_len 0 n i 0 (omega arith) ∙ zero-add i)) in
+    let number : a.number ≡ i = number-at answers n numbers long i da within in
     let outcome : get_or outcomes i d ≡ a.outcome = ap (λ os. get_or os i d) same ∙ get_or-map (λ (b : Answer). b.outcome) answers i da d within in
-    let here : IsLawful p a.number a.outcome = (lawful i da within).within (omega arith) in
-    let P : ℕ → Type 0 = λ m. IsLawful p m a.outcome in
-    let Q : Outcome → Type 0 = λ o. IsLawful p i o in
+    let here : IsLawful plan a.number a.outcome = (lawful i da within).within (omega arith) in
+    let P : ℕ → Type 0 = λ m. IsLawful plan m a.outcome in
+    let Q : Outcome → Type 0 = λ o. IsLawful plan i o in
     subst Q (sym outcome) (subst P number here)
 
 -- each answer is done, and lawful
-pub All-IsDoneAnswer : (p : Plan) (answers : List Answer) (outcomes : List Outcome) → length answers ≡ prefix_count p → numbers_of answers ≡ range_with_len 0 (prefix_count p)
-    → All (IsLawfulAnswer p) answers → outcomes ≡ map (λ a. a.outcome) answers → All (λ o. is_done o ≡ true) outcomes → All (IsDoneAnswer p) answers
-All-IsDoneAnswer p answers outcomes long numbers lawful same done i da within =
-    let n = prefix_count p in
+pub All-IsDoneAnswer : (plan : Planned) (answers : List Answer) (outcomes : List Outcome) → length answers ≡ prefix_count plan → answered answers ≡ range_with_len 0 (prefix_count plan)
+    → All (IsLawfulAnswer plan) answers → outcomes ≡ map (λ a. a.outcome) answers → All IsDone outcomes → All (IsDoneAnswer plan) answers
+All-IsDoneAnswer plan answers outcomes long numbers lawful same done i da within =
+    let n = prefix_count plan in
     let as_many : length (map (λ (a : Answer). a.outcome) answers) ≡ length answers = rw length-map refl in
     let a = get_or answers i da in
-    let number : a.number ≡ i =
-    sym (get_or-map (λ (b : Answer). b.number) answers i da 0 within) ∙ (ap (λ ns. get_or ns i 0) numbers ∙ (get_or-range_with_len 0 n i 0 (omega arith) ∙ zero-add i)) in
+    let number : a.number ≡ i = number-at answers n numbers long i da within in
     let outcome : get_or outcomes i da.outcome ≡ a.outcome = ap (λ os. get_or os i da.outcome) same ∙ get_or-map (λ (b : Answer). b.outcome) answers i da da.outcome within in
     record {
       lawful = (lawful i da within).within (omega arith);
-      done = ap is_done (sym outcome) ∙ done i da.outcome (omega (arith, ap length same));
+      done = subst IsDone outcome (done i da.outcome (omega (arith, ap length same)));
     }
 
--- of each worker in order: all its tasks, and an answer to each that is done
-pub IsReport-from_parts : (p : Plan) (before hubs : List HubEnds) (ends : List WorkerEnds) (answers : List Answer) (lanes : List (Settled Task × Settled Answer)) (slots : ℕ)
-    → HasCollected p before hubs answers → All (IsServed p) ends → All (IsDoneAnswer p) answers
+-- the settled lanes of each worker hold its whole work
+pub AreWholeWork-from_parts : (plan : Planned) (before hubs : List HubEnds) (ends : List WorkerEnds) (answers : List Answer) (lanes : List (Settled Task × Settled Answer))
+    → HasCollected plan before hubs answers → All (IsServed plan) ends → All (IsDoneAnswer plan) answers
     → map pair_tasks lanes ≡ sent_lists hubs → map pair_tasks lanes ≡ map worker_tasks ends
     → map pair_answers lanes ≡ received_lists hubs → map pair_answers lanes ≡ map worker_answers ends
-    → map pair_capacities lanes ≡ map hub_capacities hubs → map hub_capacities before ≡ by_lane p.workers (λ lane. (slots, slots))
-    → IsReport p slots lanes
-IsReport-from_parts p before hubs ends answers lanes slots has served done t0 t1 a0 a1 c0 c1 =
-    let k = p.workers in
-    let n = prefix_count p in
-    let by_worker = numbers-by_lane p before hubs ends answers has served (sym t1 ∙ t0) in
+    → map pair_lanes lanes ≡ map hub_lanes hubs → map hub_slots before ≡ by_lane plan.options.workers (λ lane. (SLOTS, SLOTS))
+    → AreWholeWork plan lanes
+AreWholeWork-from_parts plan before hubs ends answers lanes has served done t0 t1 a0 a1 c0 c1 =
+    let k = plan.options.workers in
+    let n = prefix_count plan in
+    let tasks : map pair_tasks lanes ≡ by_lane k (tasks_of k n) = t0 ∙ has.sent in
+    let numbers : map (λ (q : Settled Task × Settled Answer). answered (pair_answers q)) lanes ≡ by_lane k (share k n) =
+    sym (map-map answered pair_answers lanes) ∙ (ap (map answered) a1 ∙ (map-map answered worker_answers ends ∙ answered-by_lane plan before hubs ends answers has served (sym t1 ∙ t0))) in
     let got : map pair_answers lanes ≡ by_lane k (λ lane. dealt k lane answers) = a0 ∙ has.received in
-    let cut : Lane × Lane → ℕ × ℕ = λ q. (q.0.capacity, q.1.capacity) in
-    let same_capacities : map hub_capacities hubs ≡ map hub_capacities before =
-    sym (map-map cut hub_lanes hubs) ∙ (ap (map cut) has.lanes ∙ map-map cut hub_lanes before) in
+    let slots_of : Lane × Lane → ℕ × ℕ = λ q. (q.0.capacity, q.1.capacity) in
+    let slots : map (λ (q : Settled Task × Settled Answer). slots_of (pair_lanes q)) lanes ≡ by_lane k (λ lane. (SLOTS, SLOTS)) =
+    sym (map-map slots_of pair_lanes lanes) ∙ (ap (map slots_of) (c0 ∙ has.lanes) ∙ (map-map slots_of hub_lanes before ∙ c1)) in
+    let count : length lanes ≡ k = by_lane-length pair_tasks (tasks_of k n) lanes k tasks in
     record {
-      tasks = t0 ∙ has.sent;
-      numbers = sym (map-map numbers_of pair_answers lanes) ∙ (ap (map numbers_of) a1 ∙ (map-map numbers_of worker_answers ends ∙ by_worker));
-      answers = λ i d l. All-same (IsDoneAnswer p) _ _ (by_lane-at pair_answers (λ lane. dealt k lane answers) lanes k got i d l) (All-dealt_from (IsDoneAnswer p) k i 0 answers done);
-      capacities = c0 ∙ (same_capacities ∙ c1);
+      count = count;
+      each = λ worker within d.
+          let here : worker < length lanes = omega arith in
+          let both = by_lane-at (λ (q : Settled Task × Settled Answer). slots_of (pair_lanes q)) (λ lane. (SLOTS, SLOTS)) lanes k slots worker d here in
+          record {
+            tasks = by_lane-at pair_tasks (tasks_of k n) lanes k tasks worker d here;
+            numbers = by_lane-at (λ (q : Settled Task × Settled Answer). answered (pair_answers q)) (share k n) lanes k numbers worker d here;
+            answers = All-same (IsDoneAnswer plan) _ _ (by_lane-at pair_answers (λ lane. dealt k lane answers) lanes k got worker d here) (All-dealt_from (IsDoneAnswer plan) k worker 0 answers done);
+            slots = (ap (λ (s : ℕ × ℕ). s.0) both, ap (λ (s : ℕ × ℕ). s.1) both);
+          };
     }
 
--- answer i is answer i / k of lane i % k
-pub answer-in_turn : (p : Plan) (before hubs : List HubEnds) (answers : List Answer) → HasCollected p before hubs answers → 0 < p.workers → (i : ℕ) (d : Answer) → i < length answers
-    → HoldsAt (λ h. slice_index_or h.answers.received (i / p.workers) d ≡ slice_index_or answers i d) hubs (i % p.workers)
-answer-in_turn p before hubs answers has some i d l h =
-    let k = p.workers in
+-- as many answers came from each worker as it was sent prefixes
+pub answers-as_many : (plan : Planned) (before hubs : List HubEnds) (answers : List Answer) → HasCollected plan before hubs answers → (worker : ℕ) → worker < plan.options.workers
+    → HoldsAt (λ h. length h.answers.received ≡ length (share plan.options.workers (prefix_count plan) worker)) hubs worker
+answers-as_many plan before hubs answers has worker within h =
+    let k = plan.options.workers in
+    let long = by_lane-length (λ (h' : HubEnds). h'.answers.received) (λ lane. dealt k lane answers) hubs k has.received in
+    ap length (by_lane-at (λ (h' : HubEnds). h'.answers.received) (λ lane. dealt k lane answers) hubs k has.received worker h (omega arith))
+    ∙ length-dealt-share k (prefix_count plan) worker answers has.count
+
+-- answer i is answer i / k of worker i % k
+pub answer-in_turn : (plan : Planned) (before hubs : List HubEnds) (answers : List Answer) → HasCollected plan before hubs answers → 0 < plan.options.workers → (i : ℕ) (d : Answer) → i < length answers
+    → HoldsAt (λ h. slice_index_or h.answers.received (i / plan.options.workers) d ≡ slice_index_or answers i d) hubs (i % plan.options.workers)
+answer-in_turn plan before hubs answers has some i d l h =
+    let k = plan.options.workers in
     let long = by_lane-length (λ (h' : HubEnds). h'.answers.received) (λ lane. dealt k lane answers) hubs k has.received in
     let within : i % k < length hubs = (let m = mod-lt i some in omega arith) in
     ap (λ xs. slice_index_or xs (i / k) d) (by_lane-at (λ (h' : HubEnds). h'.answers.received) (λ lane. dealt k lane answers) hubs k has.received (i % k) h within)

@@ -17,6 +17,10 @@ IsFreshHub hub = (hub.tasks.sent ≡ []) × (hub.answers.received ≡ [])
 abbrev pub hub_lanes : HubEnds → Lane × Lane
 hub_lanes hub = (hub.tasks.lane, hub.answers.lane)
 
+-- how many slots these have
+abbrev pub hub_slots : HubEnds → ℕ × ℕ
+hub_slots hub = (hub.tasks.lane.capacity, hub.answers.lane.capacity)
+
 -- what was sent to each worker
 abbrev pub sent_lists : List HubEnds → List (List Task)
 sent_lists hubs = map (λ hub. hub.tasks.sent) hubs

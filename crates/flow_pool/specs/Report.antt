@@ -1,9 +1,9 @@
 -- What a run leaves of its lanes, and why it has no report.
-use Rattle.std.specs.Prelude.{◌≡◌, ℕ, ◌<◌, List, Some, true, length, All, HoldsAt}
+use Rattle.std.specs.Prelude.{◌≡◌, ℕ, ◌<◌, List, Some, length, All, HoldsAt}
 use Rattle.flow_search.specs.declared.verdict.RunFault.{RunFault}
 use Rattle.flow_search.specs.declared.verdict.RunFault.TheVariants as run_fault
 use Rattle.flow_search.specs.Plans.{Planned}
-use Rattle.flow_search.specs.Outcomes.{IsLawful, is_done, first_over_budget}
+use Rattle.flow_search.specs.Outcomes.{IsLawful, IsDone, first_over_budget}
 use Rattle.flow_lanes.specs.declared.settled.Settled.{Settled}
 use Rattle.flow_pool.specs.declared.ends.Task.{Task}
 use Rattle.flow_pool.specs.declared.ends.Answer.{Answer}
@@ -15,7 +15,7 @@ use Rattle.flow_pool.specs.Work.{prefix_count, share, tasks_of, answered}
 -- the answer is done, and lawful for its prefix
 pub record IsDoneAnswer (plan : Planned) (answer : Answer) : Type 0 where
   pub lawful : IsLawful plan answer.number answer.outcome
-  pub done : is_done answer.outcome ≡ true
+  pub done : IsDone answer.outcome
 
 -- the settled lanes of a worker hold its tasks and an answer to each, and no lane is longer than all are
 pub record IsWholeWork (plan : Planned) (worker : ℕ) (lanes : Settled Task × Settled Answer) : Type 0 where

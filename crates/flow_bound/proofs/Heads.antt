@@ -1,0 +1,116 @@
+-- Running sums of times, and the least, the greatest and the sum over the first numbers.
+use Rattle.std.proofs.Common.{◌≡◌, ◌≢◌, ℕ, zero, suc, ◌+◌, ◌-◌, ◌*◌, ◌<◌, ◌≤◌, min, max, List, [], ◌∷◌, ◌++◌, length, length-append, map, slice_index, set, replicate, refl, ap, sym, ◌∙◌, inl, inr, arith}
+use Rattle.std.specs.List.{sum_by}
+use Rattle.std.proofs.lemmas.Bool.{cases_lt}
+use Rattle.std.proofs.lemmas.List.{get_or-set_other, get_or-set_same}
+use Rattle.std.proofs.lemmas.List.Sums.{sum_by_push}
+use Rattle.flow_core.specs.declared.limits.TheConstants.{MAX_MACHINES, MAX_TIME}
+use Rattle.flow_core.specs.Shop.{Shop, numbers, time, time_between, IsWithinLimits}
+use Rattle.flow_core.specs.Least.{least, greatest}
+use Rattle.flow_core.proofs.Extremes.{greatest-append, map-map-append}
+use Rattle.flow_core.proofs.JobsLeft.{numbers-more}
+use Rattle.flow_core.proofs.Recurrence.{time_between-more, time_between-none}
+use Rattle.flow_bound.specs.Capped.{capped}
+use Rattle.flow_bound.proofs.Steps.{capped-push, capped-is, least-le-first, time_between-small}
+
+-- a value that is written for one more number
+pub done-more : (f : ℕ → ℕ) (xs : List ℕ) (k value : ℕ) → 1 ≤ k → k - 1 < length xs → value ≡ f k → ((j : ℕ) → 1 ≤ j → j < k → slice_index xs (j - 1) ≡ f j) → (j : ℕ) → 1 ≤ j → j < k + 1 → slice_index (set xs (k - 1) value) (j - 1) ≡ f j
+done-more f xs k value from within is done j low high =
+    elim (cases_lt j k) [
+      | inl below ↦ let other : j - 1 ≢ k - 1 = omega arith in rw get_or-set_other (done j low below)
+      | inr here ↦
+          let e : j ≡ k = omega arith in
+          ap (λ n. slice_index (set xs (k - 1) value) (n - 1)) e ∙ get_or-set_same xs (k - 1) value 0 within ∙ is ∙ ap f (sym e)
+    ]
+
+-- and the values of the numbers behind it stay
+pub others-stay : (f : ℕ → ℕ) (xs : List ℕ) (k value last : ℕ) → 1 ≤ k → ((j : ℕ) → k ≤ j → j ≤ last → slice_index xs (j - 1) ≡ f j) → (j : ℕ) → k + 1 ≤ j → j ≤ last → slice_index (set xs (k - 1) value) (j - 1) ≡ f j
+others-stay f xs k value last from others j low high =
+    let other : j - 1 ≢ k - 1 = omega arith in rw get_or-set_other (others j (omega arith) high)
+
+pub numbers-step : (k : ℕ) → 1 ≤ k → numbers 1 (k + 1 - 1) ≡ numbers 1 (k - 1) ++ k ∷ []
+numbers-step zero low = absurd (omega arith)
+numbers-step (suc n) low =
+    let a : suc n + 1 - 1 ≡ suc n = omega arith in
+    let b : n ≡ suc n - 1 = omega arith in
+    ap (numbers 1) a ∙ numbers-more n ∙ ap (λ m. numbers 1 m ++ suc n ∷ []) b
+
+pub sum-step : (f : ℕ → ℕ) (k : ℕ) → 1 ≤ k → sum_by f (numbers 1 (k + 1 - 1)) ≡ sum_by f (numbers 1 (k - 1)) + f k
+sum-step f k low = ap (sum_by f) (numbers-step k low) ∙ sum_by_push f (numbers 1 (k - 1)) k
+
+pub least-step : (cap : ℕ) (f : ℕ → ℕ) (k : ℕ) → 1 ≤ k → capped cap (map f (numbers 1 (k + 1 - 1))) ≡ min (capped cap (map f (numbers 1 (k - 1)))) (f k)
+least-step cap f k low =
+    ap (λ xs. capped cap (map f xs)) (numbers-step k low)
+    ∙ ap (capped cap) (map-map-append f (numbers 1 (k - 1)) (k ∷ []))
+    ∙ capped-push cap (map f (numbers 1 (k - 1))) (f k)
+
+pub greatest-step : (f : ℕ → ℕ) (k : ℕ) → 1 ≤ k → greatest (map f (numbers 1 (k + 1 - 1))) ≡ max (greatest (map f (numbers 1 (k - 1)))) (f k)
+greatest-step f k low =
+    let pushed : greatest (map f (numbers 1 (k + 1 - 1))) ≡ max (greatest (map f (numbers 1 (k - 1)))) (greatest (f k ∷ [])) =
+    ap (λ xs. greatest (map f xs)) (numbers-step k low)
+    ∙ ap greatest (map-map-append f (numbers 1 (k - 1)) (k ∷ []))
+    ∙ greatest-append (map f (numbers 1 (k - 1))) (f k ∷ []) in
+    omega (arith, pushed)
+
+-- a cap above all values takes no part
+pub capped-least-all : (cap bound : ℕ) (f : ℕ → ℕ) (xs : List ℕ) → ((j : ℕ) → f j ≤ bound) → bound ≤ cap → 0 < length xs →
+    (capped cap (map f xs) ≡ least (map f xs)) × (least (map f xs) ≤ bound)
+capped-least-all cap bound f [] small below some = absurd (omega arith)
+capped-least-all cap bound f (x ∷ xs) small below some =
+    let is = capped-is cap (f x) (map f xs) in
+    let first = least-le-first (f x) (map f xs) in
+    let here : f x ≤ bound = small x in
+    (omega (arith, is, first, here), omega (arith, first, here))
+
+-- the times up to a machine and those behind it
+pub time_between-split : (shop : Shop) (job k m : ℕ) → k ≤ m → time_between shop job 1 m ≡ time_between shop job 1 k + time_between shop job (k + 1) m
+time_between-split shop job k zero h =
+    omega (arith, time_between-none shop job 1 0 (omega arith), ap (time_between shop job 1) none, time_between-none shop job (k + 1) 0 (omega arith))
+  where
+    none : k ≡ 0
+    none = omega arith
+time_between-split shop job k (suc m) h =
+    elim (cases_lt m k) [
+      | inl here ↦
+          let e : k ≡ suc m = omega arith in
+          let same : time_between shop job 1 k ≡ time_between shop job 1 (suc m) = ap (time_between shop job 1) e in
+          omega (arith, same, time_between-none shop job (k + 1) (suc m) (omega arith))
+      | inr below ↦
+          omega (arith, time_between-split shop job k m (omega arith), time_between-more shop job 1 m (omega arith), time_between-more shop job (k + 1) m (omega arith))
+    ]
+
+-- the time on one more machine
+pub head-step : (shop : Shop) (job machine : ℕ) → 1 ≤ machine → time_between shop job 1 machine ≡ time_between shop job 1 (machine - 1) + time shop job machine
+head-step shop job zero low = absurd (omega arith)
+head-step shop job (suc k) low =
+    let e : k ≡ suc k - 1 = omega arith in
+    time_between-more shop job 1 k (omega arith) ∙ ap (λ n. time_between shop job 1 n + time shop job (suc k)) e
+
+pub head-small : (shop : Shop) (job machine : ℕ) → IsWithinLimits shop → machine ≤ shop.machines → time_between shop job 1 machine ≤ MAX_MACHINES * MAX_TIME
+head-small shop job machine limits within =
+    let most : shop.machines ≤ MAX_MACHINES = limits.machines in
+    omega (arith, time_between-small shop job 1 machine (omega arith) limits, most)
+
+pub tail-small : (shop : Shop) (job machine : ℕ) → IsWithinLimits shop → time_between shop job (machine + 1) shop.machines ≤ MAX_MACHINES * MAX_TIME
+tail-small shop job machine limits =
+    let most : shop.machines ≤ MAX_MACHINES = limits.machines in
+    omega (arith, time_between-small shop job (machine + 1) shop.machines (omega arith) limits, most)
+
+zeros : (n i : ℕ) → slice_index (replicate n 0) i ≡ 0
+zeros zero i = refl
+zeros (suc n) zero = refl
+zeros (suc n) (suc i) = zeros n i
+
+-- before the first machine
+pub heads-none : (shop : Shop) (n job : ℕ) → slice_index (replicate n 0) (job - 1) ≡ time_between shop job 1 (1 - 1)
+heads-none shop n job = zeros n (job - 1) ∙ sym (time_between-none shop job 1 0 (omega arith))
+
+-- the least over all jobs, and its cap
+pub least-of-jobs : (cap bound : ℕ) (f : ℕ → ℕ) (n job : ℕ) → ((j : ℕ) → f j ≤ bound) → bound ≤ cap → 1 ≤ n → job ≡ n + 1 →
+    (capped cap (map f (numbers 1 (job - 1))) ≡ least (map f (numbers 1 n))) × (least (map f (numbers 1 n)) ≤ bound)
+least-of-jobs cap bound f zero job small below some end = absurd (omega arith)
+least-of-jobs cap bound f (suc n) job small below some end =
+    let e : job - 1 ≡ suc n = omega arith in
+    let long : 0 < length (numbers 1 (suc n)) = omega (arith, ap length (numbers-more n), length-append (numbers 1 n) (suc n ∷ [])) in
+    let whole = capped-least-all cap bound f (numbers 1 (suc n)) small below long in
+    (ap (λ m. capped cap (map f (numbers 1 m))) e ∙ whole.0, whole.1)

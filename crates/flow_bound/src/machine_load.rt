@@ -1,0 +1,66 @@
+//! Taillard's lower bound on the makespan of every sequence.
+
+ghost use Rattle.std.specs.Prelude.{◌≡◌, ℕ, ◌-◌, ◌≤◌, List, map};
+ghost use Rattle.flow_core.specs.Shop.{numbers};
+ghost use Rattle.flow_core.specs.Least.{greatest};
+ghost use Rattle.flow_core.specs.Paths.{span};
+ghost use Rattle.flow_core.specs.Sequences.{IsSequence};
+ghost use Rattle.flow_bound.specs.Heads.{AreHeads, total};
+ghost use Rattle.flow_bound.specs.Taillard.{machine_load, taillard_bound};
+
+use crate::totals::totals;
+use flow_core::{Instance, MAX_JOBS};
+
+/// The greatest total of a job.
+fn greatest_total(instance: &Instance, totals: &[u32; MAX_JOBS]) -> u32
+    requires { AreHeads instance.now totals.now instance.now.machines }
+    ensures { result ≡ greatest (map (total instance.now) (numbers 1 instance.now.jobs)) }
+{
+    let mut most: u32 = 0;
+    for job in 1..instance.jobs() + 1 {
+        most = most.max(totals[job as usize - 1]);
+    }
+    most
+}
+
+/// What a machine owes all jobs, between the least head and the least tail. The heads become those of the next machine.
+fn load_of(
+    instance: &Instance,
+    heads: &mut [u32; MAX_JOBS],
+    totals: &[u32; MAX_JOBS],
+    machine: u16,
+) -> u64
+    requires from { 1 ≤ machine }
+    requires to { machine ≤ instance.now.machines }
+    requires heads { AreHeads instance.now heads.old (machine - 1) }
+    requires totals { AreHeads instance.now totals.now instance.now.machines }
+    ensures value { result ≡ machine_load instance.now machine }
+    ensures heads { AreHeads instance.now heads.new machine }
+{
+    let mut least_head = u32::MAX;
+    let mut owed = 0;
+    let mut least_tail = u32::MAX;
+    for job in 1..instance.jobs() + 1 {
+        let place = job as usize - 1;
+        let time = instance.time(job, machine);
+        least_head = least_head.min(heads[place]);
+        owed += time;
+        heads[place] += time;
+        least_tail = least_tail.min(totals[place] - heads[place]);
+    }
+    u64::from(least_head) + u64::from(owed) + u64::from(least_tail)
+}
+
+/// Taillard's lower bound: no sequence has a smaller makespan.
+pub fn taillard_bound(instance: &Instance) -> u64
+    ensures value { result ≡ taillard_bound instance.now }
+    ensures admissible { (sequence : List ℕ) → IsSequence instance.now.jobs sequence → result ≤ span instance.now sequence }
+{
+    let totals = totals(instance);
+    let mut most = u64::from(greatest_total(instance, &totals));
+    let mut heads = [0; MAX_JOBS];
+    for machine in 1..instance.machines() + 1 {
+        most = most.max(load_of(instance, &mut heads, &totals, machine));
+    }
+    most
+}

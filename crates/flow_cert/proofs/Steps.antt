@@ -1,0 +1,108 @@
+use Rattle.std.proofs.Common.{◌≡◌, ℕ, zero, suc, ◌+◌, ◌-◌, ◌*◌, ◌<◌, ◌≤◌, min, Bool, true, false, cond, List, [], ◌∷◌, ◌++◌, length, map, refl, ap, sym, ◌∙◌, inl, inr, arith}
+use Rattle.std.specs.List.{filter}
+use Rattle.std.proofs.lemmas.Bool.{cases_lt}
+use Rattle.std.proofs.lemmas.List.{get_or_past}
+use Rattle.flow_core.specs.declared.limits.TheConstants.{MAX_MACHINES, MAX_TIME}
+use Rattle.flow_core.specs.Shop.{Shop, numbers, time, time_between, IsWithinLimits}
+use Rattle.flow_core.specs.Least.{least}
+use Rattle.flow_core.specs.JobSet.{contains, members}
+use Rattle.flow_core.proofs.JobsLeft.{filter-more, kept, kept-more}
+use Rattle.flow_core.proofs.Recurrence.{time_between-more, time_between-none}
+use Rattle.flow_core.proofs.Fronts.{time-small}
+use Rattle.flow_cert.specs.Capped.{capped}
+
+-- one more job, which the set has or not
+pub kept-step : (f : ℕ → ℕ) (p : ℕ → Bool) (k : ℕ) → 1 ≤ k → kept f p (k + 1 - 1) ≡ kept f p (k - 1) + cond (p k) (f k) 0
+kept-step f p zero low = absurd (omega arith)
+kept-step f p (suc n) low =
+    let a : suc n + 1 - 1 ≡ suc n = omega arith in
+    let b : n ≡ suc n - 1 = omega arith in
+    ap (kept f p) a ∙ kept-more f p n ∙ ap (λ m. kept f p m + cond (p (suc n)) (f (suc n)) 0) b
+
+pub capped-push : (cap : ℕ) (xs : List ℕ) (x : ℕ) → capped cap (xs ++ x ∷ []) ≡ min (capped cap xs) x
+capped-push cap [] x = omega arith
+capped-push cap (y ∷ ys) x = omega (arith, capped-push cap ys x)
+
+map-push : (f : ℕ → ℕ) (xs : List ℕ) (x : ℕ) → map f (xs ++ x ∷ []) ≡ map f xs ++ f x ∷ []
+map-push f [] x = refl
+map-push f (y ∷ ys) x = ap (λ zs. f y ∷ zs) (map-push f ys x)
+
+capped_kept : (cap : ℕ) (f : ℕ → ℕ) (xs : List ℕ) (k : ℕ) (b : Bool) → capped cap (map f (xs ++ cond b (k ∷ []) [])) ≡ cond b (min (capped cap (map f xs)) (f k)) (capped cap (map f xs))
+capped_kept cap f xs k true = ap (capped cap) (map-push f xs k) ∙ capped-push cap (map f xs) (f k)
+capped_kept cap f [] k false = refl
+capped_kept cap f (x ∷ xs) k false = ap (min (f x)) (capped_kept cap f xs k false)
+
+pub capped-step : (cap : ℕ) (f : ℕ → ℕ) (p : ℕ → Bool) (k : ℕ) → 1 ≤ k → capped cap (map f (filter p (numbers 1 (k + 1 - 1)))) ≡ cond (p k) (min (capped cap (map f (filter p (numbers 1 (k - 1))))) (f k)) (capped cap (map f (filter p (numbers 1 (k - 1)))))
+capped-step cap f p zero low = absurd (omega arith)
+capped-step cap f p (suc n) low =
+    let a : suc n + 1 - 1 ≡ suc n = omega arith in
+    let b : n ≡ suc n - 1 = omega arith in
+    ap (λ m. capped cap (map f (filter p (numbers 1 m)))) a
+    ∙ ap (λ xs. capped cap (map f xs)) (filter-more p n)
+    ∙ capped_kept cap f (filter p (numbers 1 n)) (suc n) (p (suc n))
+    ∙ ap (λ m. cond (p (suc n)) (min (capped cap (map f (filter p (numbers 1 m)))) (f (suc n))) (capped cap (map f (filter p (numbers 1 m))))) b
+
+-- a cap above the first number of a list takes no part
+pub capped-is : (cap : ℕ) (x : ℕ) (xs : List ℕ) → capped cap (x ∷ xs) ≡ min (least (x ∷ xs)) cap
+capped-is cap x [] = refl
+capped-is cap x (y ∷ ys) = omega (arith, capped-is cap y ys)
+
+pub least-le-first : (x : ℕ) (xs : List ℕ) → least (x ∷ xs) ≤ x
+least-le-first x [] = omega arith
+least-le-first x (y ∷ ys) = omega arith
+
+-- past the last number that passes the range does not matter
+filter-past : (p : ℕ → Bool) (a d : ℕ) → ((k : ℕ) → a < k → p k ≡ false) → filter p (numbers 1 (d + a)) ≡ filter p (numbers 1 a)
+filter-past p a zero h = ap (λ n. filter p (numbers 1 n)) (omega arith)
+filter-past p a (suc d) h =
+    let e : suc d + a ≡ suc (d + a) = omega arith in
+    ap (λ n. filter p (numbers 1 n)) e
+    ∙ filter-more p (d + a)
+    ∙ ap (λ b. filter p (numbers 1 (d + a)) ++ cond b (suc (d + a) ∷ []) []) (h (suc (d + a)) (omega arith))
+    ∙ append-none (filter p (numbers 1 (d + a)))
+    ∙ filter-past p a d h
+  where
+    append-none : (xs : List ℕ) → xs ++ [] ≡ xs
+    append-none [] = refl
+    append-none (x ∷ xs) = ap (λ ys. x ∷ ys) (append-none xs)
+
+pub members-is : (set : List Bool) (n : ℕ) → ((k : ℕ) → n < k → contains set k ≡ false) → members set ≡ filter (contains set) (numbers 1 n)
+members-is set n h =
+    elim (cases_lt (length set) n) [
+      | inl short ↦
+          let e : n ≡ (n - length set) + length set = omega arith in
+          sym (filter-past (contains set) (length set) (n - length set) (λ k past. get_or_past set (k - 1) false (omega arith)))
+          ∙ ap (λ m. filter (contains set) (numbers 1 m)) (sym e)
+      | inr long ↦
+          let e : length set ≡ (length set - n) + n = omega arith in
+          ap (λ m. filter (contains set) (numbers 1 m)) e ∙ filter-past (contains set) n (length set - n) h
+    ]
+
+-- the times from a machine on fit
+pub time_between-small : (shop : Shop) (job a b : ℕ) → 1 ≤ a → IsWithinLimits shop → time_between shop job a b ≤ b * MAX_TIME
+time_between-small shop job a zero low limits = omega (arith, time_between-none shop job a 0 (omega arith))
+time_between-small shop job a (suc b) low limits =
+    elim (cases_lt (suc b) a) [
+      | inl above ↦ omega (arith, time_between-none shop job a (suc b) above)
+      | inr here ↦ omega (arith, time_between-more shop job a b here, time_between-small shop job a b low limits, time-small shop job (suc b) limits)
+    ]
+
+-- the least time behind a machine of a set that is not empty
+pub capped-least : (shop : Shop) (xs : List ℕ) (machine : ℕ) → IsWithinLimits shop → 0 < length xs →
+    (capped 18446744073709551615 (map (λ job. time_between shop job (machine + 1) shop.machines) xs) ≡ least (map (λ job. time_between shop job (machine + 1) shop.machines) xs))
+    × (least (map (λ job. time_between shop job (machine + 1) shop.machines) xs) ≤ MAX_MACHINES * MAX_TIME)
+capped-least shop [] machine limits some = absurd (omega arith)
+capped-least shop (x ∷ xs) machine limits some =
+    let most : shop.machines ≤ MAX_MACHINES = limits.machines in
+    let first = time_between-small shop x (machine + 1) shop.machines (omega arith) limits in
+    let f : ℕ → ℕ = λ job. time_between shop job (machine + 1) shop.machines in
+    let le = least-le-first (f x) (map f xs) in
+    let is = capped-is 18446744073709551615 (f x) (map f xs) in
+    (omega (arith, first, le, is), omega (arith, first, le))
+
+pub time_between-step : (shop : Shop) (job a k : ℕ) → 1 ≤ a → a ≤ k → time_between shop job a (k + 1 - 1) ≡ time_between shop job a (k - 1) + time shop job k
+time_between-step shop job a zero from low = absurd (omega arith)
+time_between-step shop job a (suc n) from low =
+    let e : suc n + 1 - 1 ≡ suc n = omega arith in
+    let d : n ≡ suc n - 1 = omega arith in
+    ap (time_between shop job a) e ∙ time_between-more shop job a n low ∙ ap (λ m. time_between shop job a m + time shop job (suc n)) d

@@ -1,0 +1,16 @@
+use Rattle.std.proofs.Common.{◌≡◌, ◌∙◌, ◌+◌, ap, sym, arith, length}
+use Rattle.flow_core.specs.TextWalk.{state_of, walk}
+use Rattle.flow_core.proofs.TextGrammar.{line-keeps, walk-more}
+use Rattle.flow_core.proofs.text.read.walk_text.Goals as goal
+
+pub loop-rest-preserved : goal.loop-rest-preserved
+loop-rest-preserved c =
+    let before = c.loop-rest.invariant in
+    let state = state_of c.loop-rest.progress in
+    record {
+      answer = walk-more state (state_of c.in-Ok.next) c.loop-rest.count c.first_line.result.0.now _ c.in-Ok.ensures
+          ∙ ap (walk state c.loop-rest.count) (sym c.first_line.ensures.lines)
+          ∙ before.answer;
+      keeps = line-keeps state (state_of c.in-Ok.next) c.first_line.result.0.now before.keeps c.in-Ok.ensures;
+      few = omega (arith, before.few, c.first_line.ensures.shorter);
+    }

@@ -1,0 +1,50 @@
+-- The lines of a text, what a line is, and the numbers on it.
+use Rattle.std.specs.Prelude.{ℕ, Bool, true, false, not, ◌||◌, ◌&&◌, ◌==◌, nat_lt, nat_le, if◌then◌else◌, List, [], ◌∷◌, length, map, filter}
+use Rattle.std.specs.List.{list_all, onto_first, slice_split}
+use Rattle.std.specs.Str.Parse.{digits_value}
+use Rattle.flow_core.specs.declared.limits.TheConstants.{MAX_NUMBER}
+
+-- the lines of a text, without their ends: a line ends with LF or with the text
+abbrev pub lines_of : List ℕ → List (List ℕ)
+lines_of [] = []
+lines_of (b ∷ bs) = if b == 10 then [] ∷ lines_of bs else onto_first b (lines_of bs)
+
+-- a space, a tab or a CR
+abbrev pub is_blank : ℕ → Bool
+is_blank b = b == 32 || b == 9 || b == 13
+
+abbrev pub is_digit : ℕ → Bool
+is_digit b = nat_le 48 b && nat_le b 57
+
+-- what stands from the first byte on that is not a blank
+abbrev pub after_blanks : List ℕ → List ℕ
+after_blanks [] = []
+after_blanks (b ∷ bs) = if is_blank b then after_blanks bs else b ∷ bs
+
+-- blanks alone, or nothing
+abbrev pub is_blank_line : List ℕ → Bool
+is_blank_line line = elim (after_blanks line) [ [] ↦ true | b ∷ bs ↦ false ]
+
+-- the first byte that is not a blank is not a digit
+abbrev pub is_label_line : List ℕ → Bool
+is_label_line line = elim (after_blanks line) [ [] ↦ false | b ∷ bs ↦ not (is_digit b) ]
+
+-- the first byte that is not a blank is a digit
+abbrev pub is_number_line : List ℕ → Bool
+is_number_line line = elim (after_blanks line) [ [] ↦ false | b ∷ bs ↦ is_digit b ]
+
+-- digits and blanks alone
+abbrev pub is_plain : List ℕ → Bool
+is_plain line = list_all (λ b. is_digit b || is_blank b) line
+
+-- the parts of a line between its blanks
+abbrev pub words : List ℕ → List (List ℕ)
+words line = filter (λ word. nat_lt 0 (length word)) (slice_split is_blank line)
+
+-- the numbers on a line of digits and blanks
+abbrev pub numbers_of : List ℕ → List ℕ
+numbers_of line = map (digits_value 10) (words line)
+
+-- whether each number may stand in a text
+abbrev pub are_small : List ℕ → Bool
+are_small numbers = list_all (λ n. nat_le n MAX_NUMBER) numbers

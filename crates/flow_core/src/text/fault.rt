@@ -1,0 +1,83 @@
+//! What can be wrong with a text.
+
+ghost use Rattle.std.specs.Prelude.{◌≡◌};
+ghost use Rattle.flow_core.specs.TextWalk.{at_line};
+ghost use Rattle.flow_core.specs.declared.text.fault.LineFault.TheVariants.{Memory};
+
+use std::alloc::{AllocError, AllocFailed};
+use thiserror::Error;
+
+/// What is wrong with a line.
+#[derive(Clone, Copy, Debug, PartialEq, Eq)]
+pub(crate) enum LineFault {
+    Memory,
+    Label,
+    Byte,
+    Number,
+    Head,
+    Limits,
+    Times,
+}
+
+/// The first fault of a text, with the number of its line, from 1. What is missing at the end of a text stands at the line
+/// behind its last.
+#[derive(Clone, Copy, Debug, PartialEq, Eq, Error)]
+pub enum TextFault {
+    /// A growth was refused.
+    #[error("Memory")]
+    Memory,
+    /// The text has blank lines alone, or none.
+    #[error("NoBlock")]
+    NoBlock,
+    /// A label line is wanted.
+    #[error("Label {0}")]
+    Label(usize),
+    /// A byte of a number line is neither a digit nor a blank.
+    #[error("Byte {0}")]
+    Byte(usize),
+    /// A number is above 4,294,967,295.
+    #[error("Number {0}")]
+    Number(usize),
+    /// The head of a block has fewer or more than five numbers.
+    #[error("Head {0}")]
+    Head(usize),
+    /// The jobs or machines of a head are not in `1..=500` or `1..=20`, or a time is above 99,999.
+    #[error("Limits {0}")]
+    Limits(usize),
+    /// There are fewer or more times than one for each job and machine.
+    #[error("Times {0}")]
+    Times(usize),
+}
+
+impl From<AllocError> for LineFault {
+    ghost from_gives = { λ _ fault. fault ≡ Memory };
+
+    fn from(_error: AllocError) -> LineFault {
+        LineFault::Memory
+    }
+}
+
+impl<T: Drop> From<AllocFailed<T>> for LineFault {
+    ghost from_gives = { λ _ fault. fault ≡ Memory };
+
+    fn from(_error: AllocFailed<T>) -> LineFault {
+        LineFault::Memory
+    }
+}
+
+impl LineFault {
+    /// The fault of the line with this number.
+    pub(crate) fn at(self, line: usize) -> TextFault
+        ensures { result ≡ at_line self line }
+    {
+        match self {
+            LineFault::Memory => TextFault::Memory,
+            LineFault::Label => TextFault::Label(line),
+            LineFault::Byte => TextFault::Byte(line),
+            LineFault::Number => TextFault::Number(line),
+            LineFault::Head => TextFault::Head(line),
+            LineFault::Limits => TextFault::Limits(line),
+            LineFault::Times => TextFault::Times(line),
+        }
+    }
+}

@@ -1,0 +1,97 @@
+//! One line: where it ends, what it is, and its numbers.
+
+ghost use Rattle.std.specs.Prelude.{◌≡◌, ◌+◌, ◌-◌, ◌*◌, ◌<◌, ◌≤◌, ◌∷◌, length, IsTrue};
+ghost use Rattle.std.specs.Char.{digit_value};
+ghost use Rattle.std.specs.Option.{SomeIff};
+ghost use Rattle.flow_core.specs.Lines.{lines_of, is_blank, is_digit, is_plain, after_blanks};
+ghost use Rattle.flow_core.specs.TextWalk.{line_numbers, LineGives, first};
+
+use crate::limits::MAX_NUMBER;
+use crate::text::fault::LineFault;
+
+/// Whether a byte is a space, a tab or a CR.
+fn is_blank_byte(byte: u8) -> bool
+    ensures { result ≡ is_blank byte }
+{
+    byte == b' ' || byte == b'\t' || byte == b'\r'
+}
+
+/// Whether a line has digits and blanks alone.
+fn is_plain_line(line: &[u8]) -> bool
+    ensures { result ≡ is_plain line.now }
+{
+    line.iter()
+        .all(|byte| byte.is_ascii_digit() || is_blank_byte(*byte))
+}
+
+/// The first line of a text that is not empty, and the text behind its end.
+pub(crate) fn first_line(text: &[u8]) -> (&[u8], &[u8])
+    requires { 0 < length text.now }
+    ensures lines { lines_of text.now ≡ result.0.now ∷ lines_of result.1.now }
+    ensures shorter { length result.1.now < length text.now }
+{
+    for (i, byte) in text.iter().enumerate() {
+        if *byte == b'\n' {
+            let (line, rest) = text.split_at(i);
+            return (line, &rest[1..]);
+        }
+    }
+    text.split_at(text.len())
+}
+
+/// The first byte that is no blank.
+pub(crate) fn first_solid(line: &[u8]) -> Option<u8>
+    ensures { result ≡ first (after_blanks line.now) }
+{
+    for byte in line {
+        if !is_blank_byte(*byte) {
+            return Some(*byte);
+        }
+    }
+    None
+}
+
+/// The number with one more digit, where it still may stand in a text.
+fn with_digit(number: u32, byte: u8) -> Option<u32>
+    requires { IsTrue (is_digit byte) }
+    ensures { SomeIff result (number * 10 + digit_value byte ≤ MAX_NUMBER) (number * 10 + digit_value byte) }
+{
+    let wide = u64::from(number) * 10 + u64::from(byte - b'0');
+    if wide <= u64::from(MAX_NUMBER) {
+        Some(wide as u32)
+    } else {
+        None
+    }
+}
+
+/// Leaves the numbers of a line in `numbers`, or answers the first thing that is wrong with its bytes.
+#[tactic(auto, unfolding(crate::specs::TextWalk::line_numbers))]
+pub(crate) fn numbers_in(line: &[u8], numbers: &mut Vec<u32>) -> Result<(), LineFault>
+    ensures { LineGives (λ _. numbers.new.items) result (line_numbers line.now) }
+{
+    if !is_plain_line(line) {
+        return Err(LineFault::Byte);
+    }
+    numbers.clear();
+    let mut begun: Option<u32> = None;
+    for byte in line {
+        if is_blank_byte(*byte) {
+            match begun {
+                Some(number) => {
+                    numbers.push(number)?;
+                    begun = None;
+                }
+                None => {}
+            }
+        } else {
+            match with_digit(begun.unwrap_or(0), *byte) {
+                Some(number) => begun = Some(number),
+                None => return Err(LineFault::Number),
+            }
+        }
+    }
+    if let Some(number) = begun {
+        numbers.push(number)?;
+    }
+    Ok(())
+}

@@ -1,0 +1,46 @@
+//! Reading a whole text.
+
+ghost use Rattle.std.specs.Prelude.{◌≡◌, ◌≢◌, List, None, Some, IfOk, OnOk, IfErr};
+ghost use Rattle.flow_core.specs.Lines.{lines_of};
+ghost use Rattle.flow_core.specs.Text.{Reads};
+ghost use Rattle.flow_core.specs.TextFaults.{text_fault};
+ghost use Rattle.flow_core.specs.TextWalk.{start, walk, TextGives};
+ghost use Rattle.flow_core.specs.declared.text.block.Block.{Block};
+ghost use Rattle.flow_core.specs.declared.text.fault.TextFault.TheVariants.{Memory};
+
+use crate::text::block::Block;
+use crate::text::fault::TextFault;
+use crate::text::line::first_line;
+use crate::text::walk::{after_any_line, begin, finish};
+use std::alloc::Global;
+
+/// The blocks of a text, or its first fault.
+pub fn read_blocks(alloc: Global, text: &[u8]) -> Result<Vec<Block>, TextFault>
+    ensures value { IfOk result (λ blocks. Reads text.now blocks.items) }
+    ensures accepted { OnOk result (text_fault text.now ≡ None) }
+    ensures refused { IfErr result (λ fault. fault ≢ Memory → text_fault text.now ≡ Some fault) }
+    // A text that has a reading is refused for want of memory alone.
+    ensures only { (blocks : List Block) → Reads text.now blocks → IfErr result (λ fault. fault ≡ Memory) }
+{
+    walk_text(alloc, text)
+}
+
+#[tactic(auto, unfolding(crate::specs::TextWalk::walk))]
+fn walk_text(alloc: Global, text: &[u8]) -> Result<Vec<Block>, TextFault>
+    ensures { TextGives (λ blocks. blocks.items) result (walk start 0 (lines_of text.now)) }
+{
+    let mut progress = begin(alloc);
+    let mut numbers = Vec::new(alloc);
+    let mut rest = text;
+    let mut count = 0usize;
+    while !rest.is_empty() {
+        let (line, behind) = first_line(rest);
+        count += 1;
+        match after_any_line(alloc, progress, line, &mut numbers) {
+            Ok(next) => progress = next,
+            Err(fault) => return Err(fault.at(count)),
+        }
+        rest = behind;
+    }
+    finish(progress, count + 1)
+}

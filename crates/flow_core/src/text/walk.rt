@@ -1,0 +1,203 @@
+//! The reading of a text line by line.
+
+ghost use Rattle.std.specs.Prelude.{◌≡◌, ◌++◌, true, false, length, MatchOption};
+ghost use Rattle.flow_core.specs.TextFaults.{is_head, are_times};
+ghost use Rattle.flow_core.specs.TextWalk.{state_of, start, after_label, after_head_numbers, after_times, after_numbers, after_line, at_end, sizes_of, sizes, SizesFit, Keeps, LineGives, TextGives};
+
+use crate::instance::Instance;
+use crate::limits::{MAX_JOBS, MAX_MACHINES, MAX_TIME};
+use crate::text::block::Block;
+use crate::text::fault::{LineFault, TextFault};
+use crate::text::line::{first_solid, numbers_in};
+use crate::text::progress::{Head, Progress, Want};
+use std::alloc::Global;
+
+/// Nothing was read yet.
+pub(crate) fn begin(alloc: Global) -> Progress
+    ensures { state_of result ≡ start }
+{
+    Progress {
+        want: Want::FirstLabel,
+        numbers: Vec::new(alloc),
+        head: Head {
+            jobs: 1,
+            machines: 1,
+            seed: 0,
+            upper: 0,
+            lower: 0,
+        },
+        blocks: Vec::new(alloc),
+    }
+}
+
+/// The head that five numbers make, where it is within the limits.
+fn head_of(numbers: &[u32]) -> Option<Head>
+    requires { length numbers.now ≡ 5 }
+    ensures { MatchOption result (is_head numbers.now ≡ false) (λ head. (is_head numbers.now ≡ true) × (sizes head ≡ sizes_of numbers.now)) }
+{
+    let jobs = numbers[0];
+    let machines = numbers[1];
+    if jobs >= 1
+        && jobs as usize <= MAX_JOBS
+        && machines >= 1
+        && machines as usize <= MAX_MACHINES
+    {
+        Some(Head {
+            jobs: jobs as u16,
+            machines: machines as u16,
+            seed: numbers[2],
+            upper: numbers[3],
+            lower: numbers[4],
+        })
+    } else {
+        None
+    }
+}
+
+#[tactic(auto, unfolding(crate::specs::TextWalk::after_label))]
+fn after_label_line(mut progress: Progress) -> Result<Progress, LineFault>
+    ensures { LineGives state_of result (after_label (state_of progress)) }
+{
+    match progress.want {
+        Want::FirstLabel => {
+            progress.want = Want::HeadNumbers;
+            progress.numbers.clear();
+            Ok(progress)
+        }
+        Want::HeadNumbers => Err(LineFault::Head),
+        Want::SecondLabel => {
+            progress.want = Want::Times;
+            progress.numbers.clear();
+            Ok(progress)
+        }
+        Want::Times => Err(LineFault::Times),
+    }
+}
+
+/// Some more numbers of a head.
+#[tactic(auto, unfolding(crate::specs::TextWalk::after_head_numbers))]
+fn with_head_numbers(mut progress: Progress, new: &[u32]) -> Result<Progress, LineFault>
+    ensures { LineGives state_of result (after_head_numbers (state_of progress) (progress.numbers.items ++ new.now)) }
+{
+    progress.numbers.extend_from_slice(new)?;
+    let count = progress.numbers.len();
+    if count > 5 {
+        return Err(LineFault::Head);
+    }
+    if count < 5 {
+        return Ok(progress);
+    }
+    match head_of(progress.numbers.as_slice()) {
+        Some(head) => {
+            progress.want = Want::SecondLabel;
+            progress.head = head;
+            progress.numbers.clear();
+            Ok(progress)
+        }
+        None => Err(LineFault::Limits),
+    }
+}
+
+/// Whether each time is within the limit.
+fn are_within_limit(times: &[u32]) -> bool
+    ensures { result ≡ are_times times.now }
+{
+    times.iter().all(|time| *time <= MAX_TIME)
+}
+
+/// Some more times of a block.
+#[tactic(auto, unfolding(crate::specs::TextWalk::after_times))]
+fn with_times(alloc: Global, mut progress: Progress, new: &[u32]) -> Result<Progress, LineFault>
+    requires head { SizesFit (sizes progress.head) }
+    requires times { are_times progress.numbers.items ≡ true }
+    ensures { LineGives state_of result (after_times (state_of progress) new.now (progress.numbers.items ++ new.now)) }
+{
+    let head = progress.head;
+    let wanted = head.jobs as usize * head.machines as usize;
+    progress.numbers.extend_from_slice(new)?;
+    let count = progress.numbers.len();
+    if count > wanted {
+        return Err(LineFault::Times);
+    }
+    if !are_within_limit(new) {
+        return Err(LineFault::Limits);
+    }
+    if count < wanted {
+        return Ok(progress);
+    }
+    let times = std::mem::replace(&mut progress.numbers, Vec::new(alloc));
+    progress.blocks.push(Block {
+        seed: head.seed,
+        upper: head.upper,
+        lower: head.lower,
+        instance: Instance::from_times(head.jobs, head.machines, times),
+    })?;
+    progress.want = Want::FirstLabel;
+    Ok(progress)
+}
+
+/// One more line, which begins with a digit. `numbers` is room for those of a line.
+#[tactic(auto, unfolding(crate::specs::TextWalk::after_numbers))]
+fn after_number_line(
+    alloc: Global,
+    progress: Progress,
+    line: &[u8],
+    numbers: &mut Vec<u32>,
+) -> Result<Progress, LineFault>
+    requires { Keeps (state_of progress) }
+    ensures { LineGives state_of result (after_numbers (state_of progress) line.now) }
+{
+    match progress.want {
+        Want::FirstLabel => Err(LineFault::Label),
+        Want::HeadNumbers => {
+            numbers_in(line, numbers)?;
+            with_head_numbers(progress, numbers.as_slice())
+        }
+        Want::SecondLabel => Err(LineFault::Label),
+        Want::Times => {
+            numbers_in(line, numbers)?;
+            with_times(alloc, progress, numbers.as_slice())
+        }
+    }
+}
+
+/// One more line. `numbers` is room for those of a line.
+#[tactic(auto, unfolding(crate::specs::TextWalk::after_line))]
+pub(crate) fn after_any_line(
+    alloc: Global,
+    progress: Progress,
+    line: &[u8],
+    numbers: &mut Vec<u32>,
+) -> Result<Progress, LineFault>
+    requires { Keeps (state_of progress) }
+    ensures { LineGives state_of result (after_line (state_of progress) line.now) }
+{
+    match first_solid(line) {
+        None => Ok(progress),
+        Some(byte) => {
+            if byte.is_ascii_digit() {
+                after_number_line(alloc, progress, line, numbers)
+            } else {
+                after_label_line(progress)
+            }
+        }
+    }
+}
+
+/// The blocks at the end of a text, or what is missing at the line behind it.
+#[tactic(auto, unfolding(crate::specs::TextWalk::at_end))]
+pub(crate) fn finish(progress: Progress, line: usize) -> Result<Vec<Block>, TextFault>
+    ensures { TextGives (λ blocks. blocks.items) result (at_end (state_of progress) line) }
+{
+    match progress.want {
+        Want::FirstLabel => {
+            if progress.blocks.is_empty() {
+                return Err(TextFault::NoBlock);
+            }
+            Ok(progress.blocks)
+        }
+        Want::HeadNumbers => Err(TextFault::Head(line)),
+        Want::SecondLabel => Err(TextFault::Label(line)),
+        Want::Times => Err(TextFault::Times(line)),
+    }
+}

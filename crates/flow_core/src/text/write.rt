@@ -1,0 +1,90 @@
+//! Writing a block.
+
+ghost use Rattle.std.specs.Prelude.{◌≡◌, ◌<◌, ◌≤◌, ◌++◌, ◌∷◌, [], length, OnOk, IfOk, decimal};
+ghost use Rattle.flow_core.specs.Text.{Reads};
+ghost use Rattle.flow_core.specs.Written.{row_text, head_label, times_label, written};
+
+use crate::instance::Instance;
+use crate::limits::MAX_NUMBER;
+use crate::text::block::Block;
+use itoa::Buffer;
+use std::alloc::{AllocError, Global};
+
+const HEAD_LABEL: &[u8] =
+    b"number of jobs, number of machines, initial seed, upper bound and lower bound :\n";
+
+const TIMES_LABEL: &[u8] = b"processing times :\n";
+
+fn push_number(out: &mut Vec<u8>, number: u32) -> Result<(), AllocError>
+    ensures { OnOk result (out.new.items ≡ out.old.items ++ decimal number) }
+{
+    let mut buffer = Buffer::new();
+    out.extend_from_slice(buffer.format(number).as_bytes())
+}
+
+/// Numbers with a space between, and the end of the line.
+fn push_row(out: &mut Vec<u8>, numbers: &[u32]) -> Result<(), AllocError>
+    requires { 0 < length numbers.now }
+    ensures { OnOk result (out.new.items ≡ out.old.items ++ row_text numbers.now) }
+{
+    push_number(out, numbers[0])?;
+    let others = &numbers[1..];
+    for number in others {
+        out.push(b' ')?;
+        push_number(out, *number)?;
+    }
+    out.push(b'\n')?;
+    Ok(())
+}
+
+/// The line with the head of a block.
+fn push_head(
+    out: &mut Vec<u8>,
+    instance: &Instance,
+    seed: u32,
+    upper: u32,
+    lower: u32,
+) -> Result<(), AllocError>
+    ensures row { OnOk result (out.new.items ≡ out.old.items
+        ++ row_text (instance.now.jobs ∷ instance.now.machines ∷ seed ∷ upper ∷ lower ∷ [])) }
+    ensures small { (seed ≤ MAX_NUMBER) × (upper ≤ MAX_NUMBER) × (lower ≤ MAX_NUMBER) }
+{
+    let jobs = u32::from(instance.jobs());
+    let machines = u32::from(instance.machines());
+    push_row(out, &[jobs, machines, seed, upper, lower])
+}
+
+#[tactic(auto, unfolding(crate::specs::Written::head_label))]
+fn push_head_label(out: &mut Vec<u8>) -> Result<(), AllocError>
+    ensures { OnOk result (out.new.items ≡ out.old.items ++ head_label) }
+{
+    out.extend_from_slice(HEAD_LABEL)
+}
+
+#[tactic(auto, unfolding(crate::specs::Written::times_label))]
+fn push_times_label(out: &mut Vec<u8>) -> Result<(), AllocError>
+    ensures { OnOk result (out.new.items ≡ out.old.items ++ times_label) }
+{
+    out.extend_from_slice(TIMES_LABEL)
+}
+
+/// The text of a block.
+pub fn block_text(alloc: Global, block: &Block) -> Result<Vec<u8>, AllocError>
+    ensures value { IfOk result (λ text. text.items ≡ written block.now) }
+    // It reads as that block alone.
+    ensures again { IfOk result (λ text. Reads text.items (block.now ∷ [])) }
+{
+    let mut out = Vec::new(alloc);
+    let instance = &block.instance;
+    let jobs = instance.jobs() as usize;
+    let machines = instance.machines() as usize;
+    push_head_label(&mut out)?;
+    push_head(&mut out, instance, block.seed, block.upper, block.lower)?;
+    push_times_label(&mut out)?;
+    let times = instance.times();
+    for machine in 0..machines {
+        let from = machine * jobs;
+        push_row(&mut out, &times[from..from + jobs])?;
+    }
+    Ok(out)
+}
