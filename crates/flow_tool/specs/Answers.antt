@@ -6,13 +6,20 @@ use Rattle.flow_core.specs.Shop.{Shop}
 use Rattle.flow_core.specs.Paths.{span}
 use Rattle.flow_core.specs.SequenceFaults.{sequence_fault}
 use Rattle.flow_core.specs.TextFaults.{text_fault}
-use Rattle.flow_core.specs.Reads.{Reads}
+use Rattle.flow_core.specs.Text.{Reads}
 use Rattle.flow_core.specs.Generator.{generated, generator_fault}
 use Rattle.flow_core.specs.Written.{written}
 use Rattle.flow_core.specs.declared.instance.InstanceFault.{InstanceFault}
 use Rattle.flow_core.specs.declared.text.block.Block.{Block}
 use Rattle.flow_bound.specs.Neh.{IsNeh}
 use Rattle.flow_bound.specs.Taillard.{taillard_bound}
+use Rattle.flow_search.specs.Choices.{Choices, options_or_fault}
+use Rattle.flow_search.specs.Plans.{Planned, IsPlan, plan_fault}
+use Rattle.flow_search.specs.Outcomes.{first_over_budget}
+use Rattle.flow_search.specs.declared.options.OptionFault.{OptionFault}
+use Rattle.flow_search.specs.declared.plan.PlanFault.{PlanFault}
+use Rattle.flow_pool.specs.declared.whole_run.SolveFault.TheVariants.{Threads, OverBudget}
+use Rattle.flow_cert.specs.Written.{certificate_of}
 use Rattle.flow_cert.specs.Faults.{certificate_value}
 use Rattle.flow_cert.specs.declared.fault.CheckFault.{CheckFault}
 use Rattle.flow_tool.specs.declared.fault.ToolFault.{ToolFault}
@@ -82,3 +89,27 @@ check_answer (Err fault) = Err (tool.Certificate fault)
 -- what `check` answers for the bytes of a certificate
 abbrev pub AnswersCheck : Shop → List ℕ → Answer → Type 0
 AnswersCheck shop bytes answer = answer ≡ check_answer (certificate_value shop bytes)
+
+-- what `solve` answers for a plan: its certificate, where each tree is within the budget; or the first prefix whose tree is not, or
+-- that a worker could not be started
+abbrev pub AnswersRun : Planned → Answer → Type 0
+AnswersRun plan (Ok text) = (first_over_budget plan ≡ None) × (text ≡ certificate_of plan)
+AnswersRun plan (Err fault) =
+    (fault ≡ tool.Run Threads)
+    ⊎ ((number : ℕ) × (first_over_budget plan ≡ Some number) × (fault ≡ tool.Run (OverBudget number)))
+
+-- what it answers for an instance and options: that of their plan, or why they have none
+abbrev pub AnswersPlan : Shop → Choices → Answer → Type 0
+AnswersPlan shop options answer =
+    ((plan : Planned) × IsPlan plan × (plan.shop ≡ shop) × (plan.options ≡ options) × (plan_fault shop options ≡ None) × AnswersRun plan answer)
+    ⊎ ((fault : PlanFault) × (plan_fault shop options ≡ Some fault) × (answer ≡ Err (tool.Plan fault)))
+
+-- what it answers for an instance, where the options are read
+abbrev pub AnswersOptions : Shop → Result Choices OptionFault → Answer → Type 0
+AnswersOptions shop (Ok options) answer = AnswersPlan shop options answer
+AnswersOptions shop (Err fault) answer = answer ≡ Err (tool.Choice fault)
+
+-- what `solve` answers for a text
+abbrev pub AnswersSolve : ℕ → ℕ → ℕ → ℕ → List ℕ → Answer → Type 0
+AnswersSolve index workers depth budget =
+    AnswersFor index (λ block. AnswersOptions block.instance (options_or_fault workers depth budget))

@@ -7,6 +7,10 @@ use Rattle.flow_core.specs.declared.sequence.SequenceFault.{SequenceFault}
 use Rattle.flow_core.specs.declared.sequence.SequenceFault.TheVariants as sequence
 use Rattle.flow_core.specs.declared.instance.InstanceFault.{InstanceFault}
 use Rattle.flow_core.specs.declared.instance.InstanceFault.TheVariants as instance
+use Rattle.flow_search.specs.declared.plan.PlanFault.{PlanFault}
+use Rattle.flow_search.specs.declared.plan.PlanFault.TheVariants as plan
+use Rattle.flow_pool.specs.declared.whole_run.SolveFault.{SolveFault}
+use Rattle.flow_pool.specs.declared.whole_run.SolveFault.TheVariants as solve
 use Rattle.flow_cert.specs.declared.fault.CheckFault.{CheckFault}
 use Rattle.flow_cert.specs.declared.fault.CheckFault.TheVariants as check
 use Rattle.flow_tool.specs.declared.fault.ToolFault.{ToolFault}
@@ -31,6 +35,16 @@ of_sequence fault = tool.Sequence fault
 abbrev pub of_instance : InstanceFault → ToolFault
 of_instance instance.Memory = tool.Memory
 of_instance fault = tool.Instance fault
+
+-- a fault of a plan
+abbrev pub of_plan : PlanFault → ToolFault
+of_plan plan.Memory = tool.Memory
+of_plan fault = tool.Plan fault
+
+-- a fault of a run
+abbrev pub of_solve : SolveFault → ToolFault
+of_solve solve.Memory = tool.Memory
+of_solve fault = tool.Run fault
 
 -- a fault of a certificate
 abbrev pub of_check : CheckFault → ToolFault

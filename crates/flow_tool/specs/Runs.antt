@@ -1,9 +1,12 @@
 -- What a run of a command does with its sources and its sink.
 use Rattle.std.specs.Prelude.{◌≡◌, ℕ, ◌≤◌, ◌⊎◌, List, length, Option, Ok, Err}
 use Rattle.std.specs.Io.KnownBytes.{Appends}
+use Rattle.flow_core.specs.Shop.{Shop}
+use Rattle.flow_core.specs.Sequences.{IsLeastMakespan}
 use Rattle.flow_core.specs.Bytes.{AddsProperPrefix, GrowsBeyond}
 use Rattle.flow_core.specs.declared.bytes.fault.ReadFault.TheVariants as read
 use Rattle.flow_core.specs.declared.bytes.fault.WriteFault.TheVariants as write
+use Rattle.flow_cert.specs.Certificate.{IsCertificate}
 use Rattle.flow_tool.specs.declared.fault.ToolFault.{ToolFault}
 use Rattle.flow_tool.specs.declared.fault.ToolFault.TheVariants as tool
 use Rattle.flow_tool.specs.Answers.{Answer}
@@ -39,3 +42,8 @@ abbrev pub EndsAlone : Type 0 → (Answer → Type 0) → Option (List ℕ) → 
 EndsAlone Untouched Answers taken takes fault =
     (Untouched × ((fault ≡ tool.Memory) ⊎ Answers (Err fault)))
     ⊎ ((fault ≡ tool.Write write.Device) × WrotePart Answers taken takes)
+
+-- a sink took a lawful certificate of an instance, of its least makespan
+abbrev pub WroteCertificate : Shop → Option (List ℕ) → Option (List ℕ) → Type 0
+WroteCertificate shop old new =
+    (certificate : List ℕ) × (value : ℕ) × Appends old new certificate × IsCertificate shop certificate value × IsLeastMakespan shop value

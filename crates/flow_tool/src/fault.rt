@@ -1,10 +1,12 @@
 //! Why a command refused.
 
 ghost use Rattle.std.specs.Prelude.{◌≡◌};
-ghost use Rattle.flow_tool.specs.Faults.{of_read, of_text, of_sequence, of_instance, of_check};
+ghost use Rattle.flow_tool.specs.Faults.{of_read, of_text, of_sequence, of_instance, of_plan, of_solve, of_check};
 
 use flow_cert::CheckFault;
 use flow_core::{InstanceFault, ReadFault, SequenceFault, TextFault, WriteFault};
+use flow_pool::SolveFault;
+use flow_search::{OptionFault, PlanFault};
 use thiserror::Error;
 
 /// Why a command refused, in the order in which it is tested; its text is the line on standard error.
@@ -28,6 +30,15 @@ pub(crate) enum ToolFault {
     /// No instance is generated.
     #[error("refused instance {0}")]
     Instance(InstanceFault),
+    /// The numbers are no options.
+    #[error("refused option {0}")]
+    Choice(OptionFault),
+    /// The instance and the options have no plan.
+    #[error("refused plan {0}")]
+    Plan(PlanFault),
+    /// A worker could not be started, or a tree is longer than the budget.
+    #[error("refused run {0}")]
+    Run(SolveFault),
     /// The bytes are no lawful certificate of the instance.
     #[error("refused certificate {0}")]
     Certificate(CheckFault),
@@ -79,6 +90,24 @@ pub(crate) fn of_instance(fault: InstanceFault) -> ToolFault
     match fault {
         InstanceFault::Memory => ToolFault::Memory,
         _ => ToolFault::Instance(fault),
+    }
+}
+
+pub(crate) fn of_plan(fault: PlanFault) -> ToolFault
+    ensures { result ≡ of_plan fault }
+{
+    match fault {
+        PlanFault::Memory => ToolFault::Memory,
+        _ => ToolFault::Plan(fault),
+    }
+}
+
+pub(crate) fn of_solve(fault: SolveFault) -> ToolFault
+    ensures { result ≡ of_solve fault }
+{
+    match fault {
+        SolveFault::Memory => ToolFault::Memory,
+        _ => ToolFault::Run(fault),
     }
 }
 

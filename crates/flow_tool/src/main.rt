@@ -3,19 +3,19 @@
 
 ghost use Rattle.std.specs.Prelude.{◌≡◌, false};
 
-mod checking;
 mod command;
 mod fault;
+mod generated;
 mod lines;
 mod picked;
 mod span;
 mod starting;
 
-use checking::run_check;
 use clap::error::ErrorKind;
 use command::{OfBlock, Order, make_command, order_of};
 use fault::ToolFault;
 use flow_core::{Source, StdSink, StdSource, WriteFault};
+use generated::run_gen;
 use span::run_span;
 use starting::run_neh;
 use std::fs::File;
@@ -77,7 +77,14 @@ fn run(rt: &HostRuntime) -> Result<(), Stop> {
 /// Does what was asked for. The file is opened before anything is read.
 fn obey(rt: &HostRuntime, order: &Order) -> Result<(), Stop> {
     match order {
-        Order::Gen { .. } => Err(Stop::CommandLine),
+        Order::Gen {
+            jobs,
+            machines,
+            seed,
+        } => {
+            let mut out = StdSink::new(io::writer(rt));
+            run_gen(rt.alloc(), *jobs, *machines, *seed, &mut out).map_err(Stop::Fault)
+        }
         Order::OfBlock { file, index, what } => {
             if *file == "stdin" {
                 return obey_for_block(rt, *index, what, &mut StdSource::new(rt.reader()));
@@ -104,10 +111,7 @@ fn obey_for_block<S: Source>(
     let done = match what {
         OfBlock::Span { jobs } => run_span(alloc, file, index, jobs.as_slice(), &mut out),
         OfBlock::Neh => run_neh(alloc, file, index, &mut out),
-        OfBlock::Check { cert } => match File::open(rt, *cert) {
-            Ok(cert) => run_check(alloc, file, index, &mut StdSource::new(cert), &mut out),
-            Err(_) => return Err(Stop::Open),
-        },
+        OfBlock::Check { .. } => return Err(Stop::CommandLine),
     };
     done.map_err(Stop::Fault)
 }
