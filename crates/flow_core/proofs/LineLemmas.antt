@@ -1,11 +1,9 @@
 -- The first line of a text.
-use Rattle.std.proofs.Common.{◌≡◌, ◌∙◌, ap, subst, ◌<◌, ◌≤◌, ◌+◌, ◌-◌, ℕ, zero, suc, Bool, true, false, cond, eqb, List, Option, Some, None, ◌++◌, ◌∷◌, [], length, take, drop, get_or, arith, rules, refl, sym, eq-eqb, sub-one, add-one, length-drop}
+use Rattle.std.proofs.Common.{◌≡◌, ◌<◌, ◌-◌, ℕ, zero, suc, List, ◌∷◌, [], length, take, drop, get_or, arith, refl, add-one, length-drop}
 use Rattle.std.proofs.Math.Seq.{take-length}
 use Rattle.std.proofs.lemmas.List.{drop-drop}
-use Rattle.std.proofs.lemmas.Grind.{common_steps}
 use Rattle.std.proofs.lemmas.Bool.Decides.{nat_tests}
 use Rattle.flow_core.specs.Lines.{lines_of}
-use Rattle.std.specs.List.{onto_first}
 
 -- a text that begins with a whole line
 pub lines_of-line : (bs : List ℕ) (i : ℕ) → i < length bs → get_or bs i 0 ≡ 10 → ((k : ℕ) → k < i → get_or bs k 0 ≡ 10 → ⊥) → lines_of bs ≡ take i bs ∷ lines_of (drop (suc i) bs)

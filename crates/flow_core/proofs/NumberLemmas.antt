@@ -1,13 +1,12 @@
 -- The numbers of a line, read byte by byte.
-use Rattle.std.proofs.Common.{◌≡◌, ◌∙◌, ap, subst, ◌<◌, ◌≤◌, ◌+◌, ◌-◌, ◌*◌, ◌&&◌, ℕ, zero, suc, Bool, true, false, not, cond, eqb, nat_lt, nat_le, List, Option, Some, None, Err, Ok, ◌++◌, ◌∷◌, [], length, map, filter, take, drop, get_or, unwrap_or, arith, rules, refl, sym, eq-eqb, append_assoc}
-use Rattle.std.specs.List.{list_all, onto_first, slice_split}
+use Rattle.std.proofs.Common.{◌≡◌, ◌∙◌, ap, ◌<◌, ◌≤◌, ◌+◌, ◌*◌, ℕ, Bool, true, false, cond, nat_lt, nat_le, List, Option, Some, None, Err, ◌++◌, ◌∷◌, [], length, map, filter, drop, get_or, unwrap_or, arith, refl, sym, append_assoc}
+use Rattle.std.specs.List.{onto_first, slice_split}
 use Rattle.std.specs.Char.{digit_value}
 use Rattle.std.specs.Str.Parse.{digits_value, digits_value_after}
-use Rattle.std.proofs.lemmas.Grind.{common_steps}
 use Rattle.std.proofs.lemmas.Bool.Decides.{nat_tests}
 use Rattle.std.proofs.lemmas.List.{at_drop_more}
 use Rattle.std.proofs.lemmas.List.Folds.{list_all-append}
-use Rattle.flow_core.specs.Lines.{is_blank, is_plain, words, numbers_of, are_small}
+use Rattle.flow_core.specs.Lines.{is_blank, is_plain, numbers_of, are_small}
 use Rattle.flow_core.specs.TextWalk.{line_numbers}
 use Rattle.flow_core.specs.declared.limits.TheConstants.{MAX_NUMBER}
 use Rattle.flow_core.specs.declared.text.fault.LineFault.TheVariants as line

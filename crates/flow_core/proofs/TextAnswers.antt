@@ -1,5 +1,5 @@
 -- What the answer of the reader says of the text.
-use Rattle.std.proofs.Common.{◌≡◌, ◌∙◌, ap, ℕ, List, Option, Some, None, Ok, Err, Result, refl, sym}
+use Rattle.std.proofs.Common.{◌≡◌, ◌∙◌, ap, ℕ, List, Some, None, Ok, Err, Result, refl, sym}
 use Rattle.std.specs.Prelude.{◌≢◌, IfOk, OnOk, IfErr}
 use Rattle.flow_core.specs.Lines.{lines_of}
 use Rattle.flow_core.specs.Text.{Reads}

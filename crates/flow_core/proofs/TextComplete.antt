@@ -1,8 +1,7 @@
--- What is in the grammar is read.
-use Rattle.std.proofs.Common.{◌≡◌, ◌∙◌, ap, subst, ◌<◌, ◌≤◌, ◌+◌, ◌-◌, ◌*◌, ◌^◌, ℕ, zero, suc, Bool, true, false, not, cond, eqb, nat_lt, nat_le, List, Option, Some, None, Ok, Err, Result, ◌++◌, ◌∷◌, [], length, filter, flat_map, slice_index, arith, rules, refl, sym, append_assoc, append-nil, inl, inr, ◌⊎◌, ◌&&◌, length-append}
+-- What is in the grammar is what the walk over the lines gives.
+use Rattle.std.proofs.Common.{◌≡◌, ◌∙◌, ap, subst, ◌<◌, ◌≤◌, ◌+◌, ◌*◌, ℕ, Bool, true, false, not, cond, eqb, nat_lt, List, Some, None, Ok, Err, Result, ◌++◌, ◌∷◌, [], length, flat_map, arith, refl, sym, append_assoc, append-nil, length-append}
 use Rattle.std.specs.List.{list_all, AllByRecursion}
 use Rattle.std.proofs.Math.Nat.{mul-le-mul_left}
-use Rattle.std.proofs.lemmas.Grind.{common_steps}
 use Rattle.std.proofs.lemmas.List.Folds.{list_all-append}
 use Rattle.std.proofs.lemmas.Bool.Decides.{nat_tests}
 use Rattle.flow_core.specs.Lines.{lines_of, after_blanks, is_digit, is_blank, is_plain, numbers_of, is_blank_line, is_label_line, is_number_line}
@@ -10,18 +9,16 @@ use Rattle.flow_core.proofs.NumberLemmas.{numbers_after, numbers_of-after}
 use Rattle.flow_core.specs.declared.text.block.Block.{Block}
 use Rattle.flow_core.specs.TextFaults.{is_head}
 use Rattle.flow_core.specs.Shop.{Shop, IsWithinLimits}
-use Rattle.flow_core.specs.declared.limits.TheConstants.{MAX_NUMBER, MAX_TIME}
+use Rattle.flow_core.specs.declared.limits.TheConstants.{MAX_TIME}
 use Rattle.std.specs.Char.{digit_value}
 use Rattle.std.proofs.lemmas.List.Elements.{recursion_from_All}
-use Rattle.flow_core.specs.TextWalk.{◌>>=◌, State, Sizes, sizes_of, start, walk, placed, at_line, at_end, after_line, after_label, after_numbers, after_head_numbers, after_times, line_numbers, block_of}
-use Rattle.flow_core.specs.Text.{IsNumbers, IsBlock, IsGroup, AreGroups, Reads, head_of}
+use Rattle.flow_core.specs.TextWalk.{◌>>=◌, State, Sizes, sizes_of, start, walk, placed, at_end, after_line, after_label, after_numbers, after_head_numbers, after_times, line_numbers, block_of}
+use Rattle.flow_core.specs.Text.{IsNumbers, IsBlock, AreGroups, Reads, head_of}
 use Rattle.flow_core.specs.declared.text.fault.LineFault.{LineFault}
-use Rattle.flow_core.specs.declared.text.fault.LineFault.TheVariants as line
-use Rattle.flow_core.specs.declared.text.fault.TextFault.{TextFault}
 use Rattle.flow_core.specs.declared.text.fault.TextFault.TheVariants as text
 use Rattle.flow_core.specs.declared.text.progress.Want.{Want}
 use Rattle.flow_core.specs.declared.text.progress.Want.TheVariants.{FirstLabel, HeadNumbers, SecondLabel, Times}
-use Rattle.flow_core.proofs.TextGrammar.{solid, at, small, is_time, GoesOn, FromFirst, FromHead, FromSecond, FromTimes, and_true, five, solid-more, solid-blank}
+use Rattle.flow_core.proofs.TextGrammar.{solid, at, small, is_time, GoesOn, FromFirst, FromHead, FromSecond, FromTimes, and_true, solid-more, solid-blank}
 
 -- something is still wanted
 abbrev pub Wants : State → Type 0
@@ -338,9 +335,8 @@ complete (l ∷ ls) s n all some k g =
     let on = forward s l ls all k g in
     bind-is (placed (n + 1) (after_line s l)) (λ t. walk t (n + 1) ls) on.to (Ok all) (ap (placed (n + 1)) on.is) (complete ls on.to (n + 1) all some on.wants on.goes)
 
--- what is in the grammar is what the plain program reads
+-- what is in the grammar is what the walk gives
 pub walk-Reads : (b : List ℕ) (all : List Block) → Reads b all → walk start 0 (lines_of b) ≡ Ok all
 walk-Reads b all r =
     let g : FromFirst start (solid (lines_of b)) all = record { groups = r.groups; more = all; split = r.split; each = r.each; whole = refl } in
     complete (lines_of b) start 0 all r.some tt g
-

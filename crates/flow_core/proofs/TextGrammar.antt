@@ -1,7 +1,6 @@
--- The plain program for the grammar accepts only what is in it.
-use Rattle.std.proofs.Common.{◌≡◌, ◌∙◌, ap, subst, ◌<◌, ◌≤◌, ◌+◌, ◌-◌, ◌*◌, ◌^◌, ℕ, zero, suc, Bool, true, false, not, cond, eqb, nat_lt, nat_le, List, Option, Some, None, Ok, Err, Result, ◌++◌, ◌∷◌, [], length, filter, flat_map, slice_index, arith, rules, refl, sym, append_assoc, append-nil, inl, inr, ◌⊎◌, ◌&&◌}
+-- What the walk over the lines accepts is in the grammar.
+use Rattle.std.proofs.Common.{◌≡◌, ◌∙◌, ap, subst, ◌<◌, ◌≤◌, ◌+◌, ◌*◌, ℕ, Bool, true, false, not, cond, eqb, nat_lt, nat_le, List, Ok, Err, Result, ◌++◌, ◌∷◌, [], length, filter, flat_map, slice_index, arith, refl, sym, append_assoc, append-nil, inl, inr, ◌⊎◌, ◌&&◌}
 use Rattle.std.specs.List.{list_all, AllByRecursion}
-use Rattle.std.proofs.lemmas.Grind.{common_steps}
 use Rattle.std.proofs.lemmas.List.Folds.{list_all-append}
 use Rattle.std.proofs.lemmas.Bool.Decides.{nat_tests}
 use Rattle.flow_core.specs.Lines.{lines_of, after_blanks, is_digit, is_plain, numbers_of, is_blank_line, is_label_line, is_number_line}
@@ -10,8 +9,8 @@ use Rattle.std.specs.Prelude.{IfOk}
 use Rattle.flow_core.specs.TextFaults.{is_head}
 use Rattle.flow_core.specs.declared.limits.TheConstants.{MAX_NUMBER, MAX_TIME}
 use Rattle.std.proofs.lemmas.List.Elements.{All-from_recursion}
-use Rattle.flow_core.specs.TextWalk.{◌>>=◌, TextGives, SizesFit, Keeps, State, Sizes, sizes_of, start, walk, placed, at_line, at_end, after_line, after_label, after_numbers, after_head_numbers, after_times, line_numbers, block_of}
-use Rattle.flow_core.specs.Text.{IsNumbers, IsBlock, IsGroup, AreGroups, Reads}
+use Rattle.flow_core.specs.TextWalk.{◌>>=◌, TextGives, SizesFit, Keeps, State, Sizes, sizes_of, start, walk, placed, at_end, after_line, after_label, after_numbers, after_head_numbers, after_times, line_numbers, block_of}
+use Rattle.flow_core.specs.Text.{head_of, IsNumbers, IsBlock, AreGroups, Reads}
 use Rattle.flow_core.specs.declared.text.fault.LineFault.{LineFault}
 use Rattle.flow_core.specs.declared.text.fault.LineFault.TheVariants as line
 use Rattle.flow_core.specs.declared.text.fault.TextFault.{TextFault}
@@ -110,22 +109,28 @@ line_numbers_ok l ns e = go (is_plain l) (list_all small (numbers_of l)) refl re
 abbrev pub at : Want → List ℕ → Sizes → List Block → State
 at w ns h bs = record { want = w; numbers = ns; head = h; blocks = bs }
 
+-- the lines of a whole block, read backwards
+group-back : (ns : List ℕ) (h : Sizes) (bs : List Block) (l : List ℕ) (rest : List (List ℕ)) (all : List Block) → is_label_line l ≡ true → FromHead (at HeadNumbers [] h bs) rest all → FromFirst (at FirstLabel ns h bs) (l ∷ rest) all
+group-back ns h bs l rest all lab p =
+    let q = p.second in
+    let r = q.times in
+    let block = block_of (sizes_of p.ns) r.times in
+    let others = flat_map (λ g. g) r.groups in
+    let head : flat_map numbers_of p.heads ≡ head_of block = p.numbers ∙ five p.ns p.five in
+    record {
+      groups = (l ∷ p.heads ++ q.label ∷ r.rows) ∷ r.groups;
+      more = block ∷ r.more;
+      split = ap (λ x. l ∷ x) (p.split ∙ ap (λ x. p.heads ++ x) q.split ∙ ap (λ x. p.heads ++ q.label ∷ x) r.split ∙ sym (append_assoc p.heads (q.label ∷ r.rows) others));
+      each = (record { first_label = l; heads = p.heads; second_label = q.label; rows = r.rows; split = refl; first_is = lab; second_is = q.label_is; heads_are = p.heads_are; rows_are = r.rows_are; head = head; times = r.numbers; within = r.within }, r.each);
+      whole = r.whole;
+    }
+
 -- a label line, read backwards
 label-back : (w : Want) (ns : List ℕ) (h : Sizes) (bs : List Block) (t : State) (l : List ℕ) (rest : List (List ℕ)) (all : List Block) → is_label_line l ≡ true → after_label (at w ns h bs) ≡ Ok t → GoesOn t rest all → GoesOn (at w ns h bs) (l ∷ rest) all
 unfolding after_label
 label-back FirstLabel ns h bs t l rest all lab e g =
     let same : at HeadNumbers [] h bs ≡ t = cc in
-    let p : FromHead (at HeadNumbers [] h bs) rest all = rw (← same) at g in
-    let q = p.second in
-    let r = q.times in
-    let block = block_of (sizes_of p.ns) r.times in
-    record {
-      groups = (l ∷ p.heads ++ q.label ∷ r.rows) ∷ r.groups;
-      more = block ∷ r.more;
-      split = rw (p.split, q.split, r.split) (ap (λ x. l ∷ x) (sym (append_assoc p.heads (q.label ∷ r.rows) (flat_map (λ g. g) r.groups))));
-      each = (record { first_label = l; heads = p.heads; second_label = q.label; rows = r.rows; split = refl; first_is = lab; second_is = q.label_is; heads_are = p.heads_are; rows_are = r.rows_are; head = p.numbers ∙ five p.ns p.five; times = r.numbers; within = r.within }, r.each);
-      whole = r.whole;
-    }
+    group-back ns h bs l rest all lab (rw (← same) at g)
 label-back HeadNumbers ns h bs t l rest all lab e g = cc
 label-back SecondLabel ns h bs t l rest all lab e g =
     let same : at Times [] h bs ≡ t = cc in
@@ -367,7 +372,7 @@ walk-some (l ∷ ls) s n all e =
     let read = bind_ok (placed (n + 1) (after_line s l)) (λ t. walk t (n + 1) ls) all e in
     walk-some ls read.0 (n + 1) all read.2
 
--- what the plain program accepts is in the grammar
+-- what the walk accepts is in the grammar
 pub Reads-walk : (text : List ℕ) (all : List Block) → walk start 0 (lines_of text) ≡ Ok all → Reads text all
 Reads-walk text all e =
     let g : FromFirst start (solid (lines_of text)) all = sound (lines_of text) start 0 all tt e in

@@ -1,22 +1,21 @@
 -- What is written is read again.
-use Rattle.std.proofs.Common.{◌≡◌, ◌∙◌, ap, subst, ◌<◌, ◌≤◌, ◌+◌, ◌-◌, ◌*◌, ◌^◌, ℕ, zero, suc, Bool, true, false, not, cond, eqb, nat_lt, nat_le, List, Option, Some, None, ◌++◌, ◌∷◌, [], length, filter, map, flat_map, get_or, take, drop, decimal, codes, arith, rules, refl, sym, append_assoc, append-nil, ◌&&◌, ◌||◌, add-one, length-drop}
+use Rattle.std.proofs.Common.{◌≡◌, ◌∙◌, ap, ◌<◌, ◌≤◌, ◌+◌, ◌-◌, ◌*◌, ◌^◌, ℕ, zero, suc, Bool, true, false, cond, eqb, List, Some, None, ◌++◌, ◌∷◌, [], length, map, flat_map, get_or, take, drop, decimal, codes, arith, rules, refl, sym, append_assoc, append-nil, ◌&&◌, ◌||◌, length-drop}
 use Rattle.std.specs.List.{list_all, AllByRecursion}
 use Rattle.std.specs.Str.{all_ascii_digits}
 use Rattle.std.specs.Char.{is_ascii_digit}
 use Rattle.std.proofs.lemmas.Str.Parse.{IsNumeralModel, numerals_by_fold}
 use Rattle.std.proofs.lemmas.Fmt.{digits_decimal, digits_value-decimal, decimal_nonempty}
-use Rattle.std.proofs.lemmas.Grind.{common_steps}
 use Rattle.std.proofs.lemmas.List.{length-take-le}
 use Rattle.std.proofs.Math.Nat.{mul-le-mul_right}
 use Rattle.std.proofs.Math.Seq.{take-add, take-length}
 use Rattle.std.proofs.lemmas.Bool.Decides.{nat_tests}
 use Rattle.std.proofs.lemmas.List.Folds.{list_all-append}
-use Rattle.flow_core.specs.Lines.{lines_of, after_blanks, is_digit, is_blank, is_plain, numbers_of, is_blank_line, is_label_line, is_number_line}
+use Rattle.flow_core.specs.Lines.{lines_of, after_blanks, is_digit, is_blank, numbers_of, is_blank_line, is_label_line, is_number_line}
 use Rattle.std.specs.List.{onto_first}
 use Rattle.std.specs.Char.{digit_value}
 use Rattle.flow_core.proofs.NumberLemmas.{numbers_after, numbers_of-after}
 use Rattle.flow_core.specs.Shop.{Shop, IsWithinLimits, numbers, time}
-use Rattle.flow_core.specs.declared.limits.TheConstants.{MAX_JOBS, MAX_MACHINES, MAX_TIME, MAX_NUMBER}
+use Rattle.flow_core.specs.declared.limits.TheConstants.{MAX_TIME}
 use Rattle.flow_core.proofs.JobsLeft.{numbers-more}
 use Rattle.std.proofs.lemmas.List.{get_or-take, get_or-drop}
 use Rattle.std.proofs.lemmas.List.Elements.{recursion_from_All}
@@ -25,7 +24,7 @@ use Rattle.std.proofs.lemmas.Grind.{same_number_lists, flat_map-append}
 use Rattle.std.specs.List.{range_with_len}
 use Rattle.flow_core.specs.declared.text.block.Block.{Block}
 use Rattle.flow_core.specs.Written.{row_text, row, rows_text, head_label, times_label, written}
-use Rattle.flow_core.specs.Text.{head_of, IsNumbers, IsBlock, IsGroup, AreGroups, Reads}
+use Rattle.flow_core.specs.Text.{head_of, IsNumbers, IsBlock, Reads}
 use Rattle.flow_core.proofs.TextGrammar.{and_true, solid, solid-more}
 
 abbrev read_on : ℕ → List ℕ → ℕ
@@ -286,9 +285,9 @@ lines_of-written block w =
     let smalls = small-times shop w.instance in
     let pieces : rows ≡ piece_rows shop.jobs shop.machines shop.times = rows-pieces shop shop.machines fits in
     let last : lines_of rows ≡ row_lines shop.jobs shop.machines shop.times =
-        ap lines_of (pieces ∙ sym (append-nil (piece_rows shop.jobs shop.machines shop.times)))
-        ∙ lines_of-rows shop.jobs shop.machines shop.times [] w.instance.some_job fits smalls
-        ∙ append-nil (row_lines shop.jobs shop.machines shop.times) in
+    ap lines_of (pieces ∙ sym (append-nil (piece_rows shop.jobs shop.machines shop.times)))
+    ∙ lines_of-rows shop.jobs shop.machines shop.times [] w.instance.some_job fits smalls
+    ∙ append-nil (row_lines shop.jobs shop.machines shop.times) in
     let shape : written block ≡ head_label ++ (head ++ (times_label ++ rows)) = append_assoc (head_label ++ head) times_label rows ∙ append_assoc head_label head (times_label ++ rows) in
     ap lines_of shape
     ∙ lines_of-first (head ++ (times_label ++ rows))
@@ -308,10 +307,10 @@ Reads-written block w =
     let lines = row_lines shop.jobs shop.machines shop.times in
     let group = first_label ∷ row_line (head_of block) ∷ second_label ∷ lines in
     let left : solid group ≡ group =
-        solid-more first_label (row_line (head_of block) ∷ second_label ∷ lines) first-is.1
-        ∙ ap (λ z. first_label ∷ z) (solid-more (row_line (head_of block)) (second_label ∷ lines) (not-blank (row_line (head_of block)) head.number)
-        ∙ ap (λ z. row_line (head_of block) ∷ z) (solid-more second_label lines second-is.1
-        ∙ ap (λ z. second_label ∷ z) (solid-rows lines rows.0))) in
+    solid-more first_label (row_line (head_of block) ∷ second_label ∷ lines) first-is.1
+    ∙ ap (λ z. first_label ∷ z) (solid-more (row_line (head_of block)) (second_label ∷ lines) (not-blank (row_line (head_of block)) head.number)
+    ∙ ap (λ z. row_line (head_of block) ∷ z) (solid-more second_label lines second-is.1
+    ∙ ap (λ z. second_label ∷ z) (solid-rows lines rows.0))) in
     record {
       groups = group ∷ [];
       split = ap solid (lines_of-written block w) ∙ (left ∙ sym (append-nil group));
@@ -342,10 +341,10 @@ rows-push shop k jobs before old new times w below same all e f =
     let fits : k * shop.jobs + shop.jobs ≤ length shop.times = omega (arith, inside, w.count) in
     let count : k * jobs + jobs - k * jobs ≡ shop.jobs = omega (arith, same) in
     let piece : take (k * jobs + jobs - k * jobs) (drop (k * jobs) times) ≡ row shop (suc k) =
-        ap (λ n. take n (drop (k * jobs) times)) count
-        ∙ ap (λ n. take shop.jobs (drop (k * n) times)) same
-        ∙ ap (λ ts. take shop.jobs (drop (k * shop.jobs) ts)) all
-        ∙ sym (row-piece shop k fits) in
+    ap (λ n. take n (drop (k * jobs) times)) count
+    ∙ ap (λ n. take shop.jobs (drop (k * n) times)) same
+    ∙ ap (λ ts. take shop.jobs (drop (k * shop.jobs) ts)) all
+    ∙ sym (row-piece shop k fits) in
     let next : suc k ≡ k + 1 = omega arith in
     f
     ∙ ap (λ o. o ++ row_text (take (k * jobs + jobs - k * jobs) (drop (k * jobs) times))) e

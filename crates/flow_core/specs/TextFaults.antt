@@ -1,5 +1,5 @@
 -- The first fault of a text. What is wanted at a line is decided by the lines before it alone, which are given latest first.
-use Rattle.std.specs.Prelude.{ℕ, ◌+◌, ◌*◌, ◌%◌, Bool, true, not, ◌&&◌, ◌==◌, nat_lt, nat_le, if◌then◌else◌, List, [], ◌∷◌, ◌++◌, length, filter, Option, None, Some, slice_index}
+use Rattle.std.specs.Prelude.{ℕ, ◌+◌, ◌*◌, ◌%◌, Bool, true, not, ◌&&◌, ◌==◌, nat_lt, nat_le, if◌then◌else◌, List, [], ◌∷◌, ◌++◌, length, Option, None, Some, slice_index}
 use Rattle.std.specs.Int.{is_in_range}
 use Rattle.std.specs.List.{list_all}
 use Rattle.std.specs.Option.{option_or}

@@ -1,6 +1,6 @@
 -- The states in which a text is read line by line. Only private functions speak of them: which blocks a text reads as and
 -- what its first fault is stand in Text and TextFaults.
-use Rattle.std.specs.Prelude.{◌≡◌, ℕ, ◌+◌, ◌*◌, ◌≤◌, Bool, true, not, ◌==◌, nat_lt, if◌then◌else◌, List, [], ◌∷◌, ◌++◌, length, Option, None, Some, Result, Ok, Err, slice_index}
+use Rattle.std.specs.Prelude.{◌≡◌, ℕ, ◌+◌, ◌*◌, ◌≤◌, true, not, ◌==◌, nat_lt, if◌then◌else◌, List, [], ◌∷◌, ◌++◌, length, Option, None, Some, Result, Ok, Err, slice_index}
 use Rattle.flow_core.specs.Lines.{after_blanks, is_digit, is_plain, numbers_of, are_small}
 use Rattle.flow_core.specs.TextFaults.{is_head, are_times}
 use Rattle.flow_core.specs.declared.limits.TheConstants.{MAX_JOBS, MAX_MACHINES, MAX_NUMBER}

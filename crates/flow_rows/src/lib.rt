@@ -6,4 +6,6 @@ mod bytes;
 #[cfg(test)]
 mod instances;
 #[cfg(test)]
+mod text;
+#[cfg(test)]
 mod values;

@@ -4,3 +4,4 @@ pub mod Walk
 pub mod Plans
 pub mod Outcomes
 pub mod Verdicts
+pub mod Nodes

@@ -1,5 +1,6 @@
 -- What is searched, from where, and in which parts.
 use Rattle.std.specs.Prelude.{ℕ, ◌≡◌, ◌≤◌, nat_le, List, [], ◌∷◌, length, slice_index_or, Option, Some, None}
+use Rattle.std.specs.List.{concat}
 use Rattle.flow_core.specs.Refusals.{fault_unless, first_fault}
 use Rattle.flow_core.specs.declared.limits.TheConstants.{MAX_PREFIXES}
 use Rattle.flow_core.specs.Shop.{Shop, IsWithinLimits}
@@ -34,6 +35,12 @@ pub record IsPlan (plan : Planned) : Type 0 where
   pub is_span : plan.start.value ≡ span plan.shop plan.start.sequence
   pub deep : plan.options.depth ≤ plan.shop.jobs
   pub few : length (prefixes_of plan) ≤ MAX_PREFIXES
+
+-- the prefixes of a plan, stored by their number and one after another
+pub record IsStored (plan : Planned) (count : ℕ) (lists : List ℕ) : Type 0 where
+  pub is_plan : IsPlan plan
+  pub count_is : count ≡ length (prefixes_of plan)
+  pub lists_are : lists ≡ concat (prefixes_of plan)
 
 -- why there is no plan of an instance and options, if there is none
 abbrev pub plan_fault : Shop → Choices → Option PlanFault

@@ -1,10 +1,12 @@
 //! The search for a least makespan: options, the cut, the subtrees, and the run on one thread.
 #![tactic(auto)]
 
+mod cut_lists;
 mod laws;
 mod options;
 mod outcome;
 mod plan;
+mod subtree;
 mod verdict;
 
 pub use laws::{verdict_is_least, walk_is_tree};

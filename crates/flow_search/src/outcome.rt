@@ -1,11 +1,14 @@
 //! The outcome of a prefix.
 
-ghost use Rattle.std.specs.Prelude.{ℕ, ◌<◌, length};
-ghost use Rattle.flow_search.specs.Plans.{prefixes_of};
-ghost use Rattle.flow_search.specs.Outcomes.{IsLawful};
+ghost use Rattle.std.specs.Prelude.{◌≡◌, ℕ, ◌<◌, ◌≤◌, length, IfOk};
+ghost use Rattle.std.specs.Option.{option_map};
+ghost use Rattle.flow_search.specs.Plans.{prefixes_of, tree_of, best_of};
+ghost use Rattle.flow_search.specs.Nodes.{found_if};
+ghost use Rattle.flow_search.specs.Outcomes.{IsLawful, found_of};
 
 use crate::plan::Plan;
-use flow_core::Sequence;
+use crate::subtree::{Search, Stop, explore};
+use flow_core::{Front, Instance, Sequence, SequenceFault, front_push};
 use std::alloc::Global;
 
 /// A sequence below the starting makespan, with its own.
@@ -28,10 +31,63 @@ pub enum Outcome {
     NoPrefix,
 }
 
-/// The outcome of a prefix, by its number from 0: its best and its tree, where the budget has room for the tree.
-pub fn answer(_alloc: Global, _plan: &Plan, _number: u32) -> Outcome
-    requires { _number < length (prefixes_of _plan.now) }
-    ensures { IsLawful _plan.now _number result }
+/// The search of the whole subtree of a prefix.
+fn search_below(alloc: Global, plan: &Plan, number: u32) -> Result<Search, Stop>
+    requires { number < length (prefixes_of plan.now) }
+    ensures best { IfOk result (λ search. found_if search ≡ best_of plan.now number) }
+    ensures tree { IfOk result (λ search. search.tree.items ≡ tree_of plan.now number) }
+    ensures within { IfOk result (λ search. length search.tree.items ≤ plan.now.options.budget) }
+    ensures over { result ≡ Err Stop.OverBudget → plan.now.options.budget < length (tree_of plan.now number) }
 {
-    Outcome::NoMemory
+    let instance = plan.instance();
+    let prefix = plan.prefix(number);
+    let jobs = instance.jobs();
+    let mut search = Search::new(alloc, instance, plan.start_value())?;
+    let mut front = Front::empty();
+    for job in prefix {
+        front_push(instance, &mut front, *job);
+        search.enter(*job)?;
+    }
+    let count = jobs - prefix.len() as u16;
+    let budget = plan.options().budget() as usize;
+    explore(instance, budget, &front, count, &mut search)?;
+    Ok(search)
+}
+
+/// The best that a search found.
+fn best_found(
+    alloc: Global,
+    instance: &Instance,
+    search: &Search,
+) -> Result<Option<Best>, SequenceFault>
+    ensures { IfOk result (λ best. option_map found_of best ≡ found_if search.now) }
+{
+    if !search.improved {
+        return Ok(None);
+    }
+    let sequence = Sequence::new(alloc, instance, &search.best)?;
+    Ok(Some(Best {
+        value: search.value,
+        sequence,
+    }))
+}
+
+/// The outcome of a prefix, by its number from 0: its best and its tree, where the budget has room for the tree.
+pub fn answer(alloc: Global, plan: &Plan, number: u32) -> Outcome
+    requires { number < length (prefixes_of plan.now) }
+    ensures { IsLawful plan.now number result }
+{
+    let search = match search_below(alloc, plan, number) {
+        Ok(search) => search,
+        Err(Stop::OverBudget) => return Outcome::OverBudget,
+        Err(Stop::Memory) => return Outcome::NoMemory,
+    };
+    // The best is a sequence of the instance, so that nothing but a growth can be refused.
+    match best_found(alloc, plan.instance(), &search) {
+        Ok(best) => Outcome::Done {
+            best,
+            tree: search.tree,
+        },
+        Err(_) => Outcome::NoMemory,
+    }
 }

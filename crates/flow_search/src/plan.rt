@@ -1,10 +1,13 @@
 //! Plans: what is searched, from where, and the prefixes that part the search.
 
 ghost use Rattle.std.specs.Prelude.{◌≡◌, ℕ, ◌<◌, ◌≤◌, None, length, IfOk, OnOk, IfErr};
-ghost use Rattle.flow_search.specs.Plans.{IsPlan, prefixes_of, prefix_of, plan_fault};
+ghost use Rattle.flow_core.specs.Sequences.{AreJobs};
+ghost use Rattle.flow_search.specs.Plans.{IsPlan, prefixes_of, prefix_of, plan_fault, but_memory};
 ghost use Rattle.flow_search.specs.declared.plan.PlanFault.TheVariants.{Memory};
 
+use crate::cut_lists::{extend, prefix_count};
 use crate::options::Options;
+use flow_bound::neh;
 use flow_core::{Instance, Sequence};
 use std::alloc::{AllocError, AllocFailed, Global};
 use std::marker::Model;
@@ -47,20 +50,20 @@ pub struct Plan<'a> {
     options: Options,
     start: Sequence,
     start_value: u64,
-    prefixes: Vec<Vec<u16>>,
+    /// How many prefixes there are.
+    count: u32,
+    /// The prefixes, one after another.
+    lists: Vec<u16>,
 }
 
 impl<'a> Model for Plan<'a> {
-    ghost use Rattle.std.specs.Prelude.{◌≡◌, map};
-    ghost use Rattle.flow_search.specs.Plans.{Planned, IsPlan, prefixes_of};
+    ghost use Rattle.flow_search.specs.Plans.{Planned, IsStored};
 
     ghost Value = { Planned };
 
     ghost view = { λ p. record { shop = p.instance.now; start = record { value = p.start_value; sequence = p.start }; options = p.options } };
 
-    ghost invariant = { λ p.
-        IsPlan (record { shop = p.instance.now; start = record { value = p.start_value; sequence = p.start }; options = p.options })
-        × (map (λ prefix. prefix.items) p.prefixes.items ≡ prefixes_of (record { shop = p.instance.now; start = record { value = p.start_value; sequence = p.start }; options = p.options })) };
+    ghost invariant = { λ p. IsStored (record { shop = p.instance.now; start = record { value = p.start_value; sequence = p.start }; options = p.options }) p.count p.lists.items };
 }
 
 impl<'a> Plan<'a> {
@@ -85,16 +88,20 @@ impl<'a> Plan<'a> {
         ensures value { result ≡ length (prefixes_of self.now) }
         ensures plan { IsPlan self.now }
     {
-        self.prefixes.len() as u32
+        self.count
     }
 
     /// A prefix, by its number from 0.
     pub fn prefix(&self, number: u32) -> &[u16]
         requires { number < length (prefixes_of self.now) }
         ensures value { result.now ≡ prefix_of self.now number }
+        ensures jobs { AreJobs self.now.shop.jobs result.now }
+        ensures size { length result.now ≡ self.now.options.depth }
         ensures plan { IsPlan self.now }
     {
-        self.prefixes[number as usize].as_slice()
+        let depth = self.options.depth() as usize;
+        let from = number as usize * depth;
+        &self.lists[from..from + depth]
     }
 
     /// The starting sequence.
@@ -116,7 +123,7 @@ impl<'a> Plan<'a> {
 
 /// The plan of an instance and options, or the first fault.
 pub fn prepare<'a>(
-    _alloc: Global,
+    alloc: Global,
     instance: &'a Instance,
     options: Options,
 ) -> Result<Plan<'a>, PlanFault>
@@ -124,6 +131,26 @@ pub fn prepare<'a>(
     ensures options { IfOk result (λ plan. plan.options ≡ options) }
     ensures plan { IfOk result (λ plan. IsPlan plan) }
     ensures accepted { OnOk result (plan_fault instance.now options ≡ None) }
+    ensures refused { IfErr result (λ fault. plan_fault instance.now options ≡ but_memory fault) }
 {
-    Err(PlanFault::Memory)
+    let jobs = instance.jobs();
+    let depth = options.depth();
+    if depth > u32::from(jobs) {
+        return Err(PlanFault::Depth);
+    }
+    let Some(count) = prefix_count(jobs, depth) else {
+        return Err(PlanFault::Prefixes);
+    };
+    let (start, start_value) = neh(alloc, instance)?;
+    let mut list = Vec::with_capacity(alloc, depth as usize)?;
+    let mut lists = Vec::with_capacity(alloc, count as usize * depth as usize)?;
+    extend(jobs, depth, &mut list, &mut lists)?;
+    Ok(Plan {
+        instance,
+        options,
+        start,
+        start_value,
+        count,
+        lists,
+    })
 }

@@ -25,6 +25,7 @@ pub fn read_blocks(alloc: Global, text: &[u8]) -> Result<Vec<Block>, TextFault>
     walk_text(alloc, text)
 }
 
+/// The same, by the states of the walk over the lines.
 #[tactic(auto, unfolding(crate::specs::TextWalk::walk))]
 fn walk_text(alloc: Global, text: &[u8]) -> Result<Vec<Block>, TextFault>
     ensures { TextGives (λ blocks. blocks.items) result (walk start 0 (lines_of text.now)) }

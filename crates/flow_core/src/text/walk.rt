@@ -54,6 +54,7 @@ fn head_of(numbers: &[u32]) -> Option<Head>
     }
 }
 
+/// One more line, a label.
 #[tactic(auto, unfolding(crate::specs::TextWalk::after_label))]
 fn after_label_line(mut progress: Progress) -> Result<Progress, LineFault>
     ensures { LineGives state_of result (after_label (state_of progress)) }

@@ -15,6 +15,7 @@ const HEAD_LABEL: &[u8] =
 
 const TIMES_LABEL: &[u8] = b"processing times :\n";
 
+/// A number without leading zeros.
 fn push_number(out: &mut Vec<u8>, number: u32) -> Result<(), AllocError>
     ensures { OnOk result (out.new.items ≡ out.old.items ++ decimal number) }
 {
@@ -54,6 +55,7 @@ fn push_head(
     push_row(out, &[jobs, machines, seed, upper, lower])
 }
 
+/// The label of a head.
 #[tactic(auto, unfolding(crate::specs::Written::head_label))]
 fn push_head_label(out: &mut Vec<u8>) -> Result<(), AllocError>
     ensures { OnOk result (out.new.items ≡ out.old.items ++ head_label) }
@@ -61,6 +63,7 @@ fn push_head_label(out: &mut Vec<u8>) -> Result<(), AllocError>
     out.extend_from_slice(HEAD_LABEL)
 }
 
+/// The label of the times.
 #[tactic(auto, unfolding(crate::specs::Written::times_label))]
 fn push_times_label(out: &mut Vec<u8>) -> Result<(), AllocError>
     ensures { OnOk result (out.new.items ≡ out.old.items ++ times_label) }

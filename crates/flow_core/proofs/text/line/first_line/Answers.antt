@@ -1,6 +1,5 @@
-use Rattle.std.proofs.Common.{◌≡◌, arith, ◌∙◌, ap, ◌<◌, length, take, drop, [], rules, ◌∷◌}
+use Rattle.std.proofs.Common.{arith}
 use Rattle.std.proofs.lemmas.Grind.{common_steps}
-use Rattle.flow_core.specs.Lines.{lines_of}
 use Rattle.flow_core.proofs.LineLemmas.{lines_of-split, lines_of-last}
 use Rattle.flow_core.proofs.text.line.first_line.Goals as goal
 

@@ -1,7 +1,5 @@
-use Rattle.std.proofs.Common.{◌≡◌, arith, ◌∙◌, ap, ◌<◌, ◌≤◌, ◌*◌, ◌+◌, ◌-◌, unwrap_or, get_or, length, take, drop, [], rules, ◌∷◌, sym, refl}
+use Rattle.std.proofs.Common.{arith, ◌*◌, ◌+◌, unwrap_or, get_or, rules, sym, refl}
 use Rattle.std.specs.Char.{digit_value}
-use Rattle.std.proofs.lemmas.Grind.{common_steps}
-use Rattle.std.proofs.lemmas.Bool.Decides.{nat_tests}
 use Rattle.flow_core.proofs.NumberLemmas.{numbers-close, numbers-skip, numbers-digit, small-push, large-all, line_numbers-large, numbers_of-after}
 use Rattle.flow_core.proofs.text.line.numbers_in.Goals as goal
 use Rattle.flow_core.proofs.text.line.numbers_in.Goals.{then-is_blank_byte+in-Some+in_ok-push-in-Some, then-is_blank_byte+in-None, else-is_blank_byte+in-Some-with_digit}

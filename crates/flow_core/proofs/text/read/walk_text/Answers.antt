@@ -1,4 +1,4 @@
-use Rattle.std.proofs.Common.{◌≡◌, ◌∙◌, ◌+◌, ap, sym, arith, length}
+use Rattle.std.proofs.Common.{◌∙◌, ap, sym, arith}
 use Rattle.flow_core.specs.TextWalk.{state_of, walk}
 use Rattle.flow_core.proofs.TextGrammar.{line-keeps, walk-more}
 use Rattle.flow_core.proofs.text.read.walk_text.Goals as goal

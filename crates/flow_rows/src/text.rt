@@ -1,0 +1,193 @@
+//! Benchmark text: what is read, the first fault, and what is written.
+
+use crate::instances::{TWO_MACHINES_TEXT, two_machines};
+use flow_core::{Block, Instance, TextFault, block_text, generate, read_blocks};
+use std::alloc::Global;
+use std::test::Fail;
+
+/// Whether two instances have the same jobs, machines and times.
+fn is_same(instance: &Instance, other: &Instance) -> bool {
+    if instance.jobs() != other.jobs() || instance.machines() != other.machines() {
+        return false;
+    }
+    for machine in 1..=instance.machines() {
+        for job in 1..=instance.jobs() {
+            if instance.time(job, machine) != other.time(job, machine) {
+                return false;
+            }
+        }
+    }
+    true
+}
+
+/// The only block of a text.
+fn only_block(alloc: Global, text: &[u8]) -> Result<Block, Fail> {
+    let mut blocks = read_blocks(alloc, text)?;
+    match blocks.pop() {
+        Some(block) if blocks.is_empty() => Ok(block),
+        _ => Err(Fail::from("not one block")),
+    }
+}
+
+/// The fault of a text.
+fn fault_of(alloc: Global, text: &[u8]) -> Result<TextFault, Fail> {
+    match read_blocks(alloc, text) {
+        Ok(_) => Err(Fail::from("a text was read")),
+        Err(fault) => Ok(fault),
+    }
+}
+
+#[test]
+fn lenient_text_is_read(rt: HostRuntime) -> Result<(), Fail> {
+    let alloc = rt.alloc();
+    let text =
+        b"number of jobs :\r\n  3\t2 7 9\r\n9\r\n\r\nprocessing times :\r\n3 1\r\n2 2\r\n4 2\r\n";
+    let block = only_block(alloc, text)?;
+    assert_eq!(rt; (block.seed, block.upper, block.lower), (7, 9, 9));
+    assert!(rt; is_same(&block.instance, &two_machines(alloc)?));
+    Ok(())
+}
+
+#[test]
+fn first_fault_of_a_text_is_named(rt: HostRuntime) -> Result<(), Fail> {
+    let rows: [(&[u8], TextFault); 11] = [
+        (b"", TextFault::NoBlock),
+        (b"3 2 0 0 0\n", TextFault::Label(1)),
+        (b"a\n3 2 7 9 9 9\n", TextFault::Head(2)),
+        (b"a\n3 2 7 9 9\n9\n", TextFault::Label(3)),
+        (b"a\n3 x 7\n", TextFault::Byte(2)),
+        (b"a\n4294967296\n", TextFault::Number(2)),
+        (b"a\n501 1 1 1 1\n", TextFault::Limits(2)),
+        (b"a\n1 1 1 1 1\nb\n100000\n", TextFault::Limits(4)),
+        (b"a\n1 1 1 1 1\nb\n5 6\n", TextFault::Times(4)),
+        (b"a\n1 1 1 1 1\nb\n5\nc\n", TextFault::Head(6)),
+        (
+            b"number of jobs :\r\n  3\t2 7 9\r\n9\r\n\r\nprocessing times :\r\n3 1\r\n2 2\r\n4\r\n",
+            TextFault::Times(9),
+        ),
+    ];
+    for (text, fault) in rows {
+        assert_eq!(rt; fault_of(rt.alloc(), text)?, fault);
+    }
+    Ok(())
+}
+
+#[test]
+fn wild_numbers_are_named(rt: HostRuntime) -> Result<(), Fail> {
+    let alloc = rt.alloc();
+    let mut great = Vec::from_slice(alloc, b"a\n1")?;
+    for _ in 0..1_000u32 {
+        great.push(b'0')?;
+    }
+    assert_eq!(rt; fault_of(alloc, great.as_slice())?, TextFault::Number(2));
+    assert_eq!(rt; fault_of(alloc, b"a\n4294967296 x\n")?, TextFault::Byte(2));
+    let limits = b"a\n4294967295 4294967295 1 1 1\n";
+    assert_eq!(rt; fault_of(alloc, limits)?, TextFault::Limits(2));
+    let block = only_block(alloc, b"a\n1 1 4294967295 4294967295 4294967295\nb\n5\n")?;
+    assert_eq!(rt; (block.seed, block.upper, block.lower), (u32::MAX, u32::MAX, u32::MAX));
+    assert!(rt; is_same(&block.instance, &Instance::new(alloc, 1, 1, &[5])?));
+    Ok(())
+}
+
+#[test]
+fn leading_zeros_and_a_missing_line_end_are_read(rt: HostRuntime) -> Result<(), Fail> {
+    let alloc = rt.alloc();
+    let block = only_block(alloc, b"a\n1 1 1 1 1\nb\n05")?;
+    assert_eq!(rt; (block.seed, block.upper, block.lower), (1, 1, 1));
+    assert!(rt; is_same(&block.instance, &Instance::new(alloc, 1, 1, &[5])?));
+    Ok(())
+}
+
+#[test]
+fn block_is_written_in_one_form_and_read_again(rt: HostRuntime) -> Result<(), Fail> {
+    let alloc = rt.alloc();
+    let block = Block {
+        seed: 1,
+        upper: 122,
+        lower: 122,
+        instance: generate(alloc, 2, 2, 1)?,
+    };
+    let text = block_text(alloc, &block)?;
+    assert_eq!(rt;
+        text.as_slice(),
+        b"number of jobs, number of machines, initial seed, upper bound and lower bound :\n2 2 1 122 122\nprocessing times :\n1 14\n75 46\n".as_slice()
+    );
+    let again = only_block(alloc, text.as_slice())?;
+    assert_eq!(rt; (again.seed, again.upper, again.lower), (1, 122, 122));
+    assert!(rt; is_same(&again.instance, &block.instance));
+    Ok(())
+}
+
+#[test]
+fn blocks_in_sequence_are_read_in_order(rt: HostRuntime) -> Result<(), Fail> {
+    let alloc = rt.alloc();
+    let mut text = Vec::new(alloc);
+    for seed in 1..=10u32 {
+        let block = Block {
+            seed,
+            upper: 9,
+            lower: 8,
+            instance: two_machines(alloc)?,
+        };
+        text.extend_from_slice(block_text(alloc, &block)?.as_slice())?;
+    }
+    let blocks = read_blocks(alloc, text.as_slice())?;
+    assert_eq!(rt; blocks.len(), 10);
+    let two = two_machines(alloc)?;
+    let mut seed = 0u32;
+    for block in &blocks {
+        seed = seed.wrapping_add(1);
+        assert_eq!(rt; (block.seed, block.upper, block.lower), (seed, 9, 8));
+        assert!(rt; is_same(&block.instance, &two), "block {seed}");
+    }
+    Ok(())
+}
+
+/// What is missing behind so many bytes of the text of the two machines: its head has 80 and 10 bytes, and its times end at 121.
+fn missing(length: usize, line: usize) -> TextFault {
+    match length {
+        0 => TextFault::NoBlock,
+        1..=88 => TextFault::Head(line),
+        89..=90 => TextFault::Label(line),
+        _ => TextFault::Times(line),
+    }
+}
+
+#[test]
+fn prefixes_of_a_text_miss_what_is_behind_them(rt: HostRuntime) -> Result<(), Fail> {
+    let alloc = rt.alloc();
+    let whole = TWO_MACHINES_TEXT;
+    assert_eq!(rt; whole.len(), 121);
+    let mut line = 1usize;
+    for length in 0..120usize {
+        let prefix = &whole[..length];
+        // The number of lines plus 1.
+        if length > 0 && (length == 1 || whole[length - 2] == b'\n') {
+            line = line.wrapping_add(1);
+        }
+        assert_eq!(rt; fault_of(alloc, prefix)?, missing(length, line), "at {length}");
+    }
+    let block = only_block(alloc, &whole[..120])?;
+    assert_eq!(rt; (block.seed, block.upper, block.lower), (0, 0, 0));
+    assert!(rt; is_same(&block.instance, &two_machines(alloc)?));
+    Ok(())
+}
+
+#[test]
+fn text_faults_are_printed_with_their_line(rt: HostRuntime) -> Result<(), Fail> {
+    let alloc = rt.alloc();
+    let rows = [
+        (TextFault::Memory, "Memory"),
+        (TextFault::NoBlock, "NoBlock"),
+        (TextFault::Label(3), "Label 3"),
+        (TextFault::Byte(2), "Byte 2"),
+        (TextFault::Number(2), "Number 2"),
+        (TextFault::Head(6), "Head 6"),
+        (TextFault::Limits(4), "Limits 4"),
+        (TextFault::Times(9), "Times 9"),
+    ];
+    for (fault, text) in rows {
+        assert_eq!(rt; format!(in alloc; "{fault}")?.as_str(), text);
+    }
+    Ok(())
+}

@@ -1,0 +1,83 @@
+use Rattle.std.proofs.Common.{◌≡◌, ℕ, ◌+◌, ◌-◌, ◌<◌, ◌≤◌, ◌++◌, ◌∷◌, [], List, length, get_or, Err, Result, subst, ap, sym, ◌∙◌, arith}
+use Rattle.std.proofs.lemmas.Result.{err_from_is_err_and}
+use Rattle.flow_core.specs.Front.{IsFrontOf, IsWithinFront}
+use Rattle.flow_core.specs.Bound.{bound_at}
+use Rattle.flow_search.specs.Search.{tree, best}
+use Rattle.flow_search.specs.Plans.{Planned, prefix_of}
+use Rattle.flow_search.specs.Nodes.{Walked, walked}
+use Rattle.flow_search.specs.declared.subtree.Search.{Search}
+use Rattle.flow_search.specs.declared.subtree.Stop.{Stop}
+use Rattle.flow_search.specs.declared.subtree.Stop.TheVariants.{OverBudget}
+use Rattle.flow_search.proofs.Nodes.{within-front}
+use Rattle.flow_search.proofs.Prefixes.{way-goes-on, prefix-done, prefix-over}
+use Rattle.flow_search.proofs.outcome.search_below.Goals as goal
+
+pub front_push-requires-clause-within : goal.front_push-requires-clause-within
+front_push-requires-clause-within c =
+    subst (λ shop. IsWithinFront shop c.loop-job.front) (sym c.instance-instance.ensures.value)
+    (within-front c.args.plan.now.shop c.loop-job.search.node.items c.loop-job.front c.loop-job.search.unscheduled (c.args.plan.now.shop.jobs - c.loop-job.job-index) c.loop-job.invariant.at)
+
+pub loop-job-preserved : goal.loop-job-preserved
+loop-job-preserved c =
+    let plan : Planned = c.args.plan.now in
+    let prefix : List ℕ = c.prefix-prefix.result.now in
+    let deep : plan.options.depth ≤ plan.shop.jobs = c.prefix-prefix.ensures.plan.deep in
+    let short : length prefix ≤ plan.shop.jobs = omega (arith, deep, c.prefix-prefix.ensures.size) in
+    let within : c.loop-job.job-index < length prefix = c.loop-job-test.true in
+    let front : IsFrontOf plan.shop (c.loop-job.search.node.items ++ get_or prefix c.loop-job.job-index 0 ∷ []) c.front_push.new.front =
+    subst (λ shop. IsFrontOf shop c.loop-job.search.node.items c.loop-job.front → IsFrontOf shop (c.loop-job.search.node.items ++ get_or prefix c.loop-job.job-index 0 ∷ []) c.front_push.new.front)
+    c.instance-instance.ensures.value (c.front_push.ensures.front c.loop-job.search.node.items) c.loop-job.invariant.at.is_front in
+    way-goes-on plan prefix c.loop-job.front c.front_push.new.front c.loop-job.job-index c.loop-job.search c.enter.new.self c.prefix-prefix.ensures.jobs short within
+    c.loop-job.invariant c.in_ok-enter.ensures front
+
+pub returns-in_err-explore-clause-over : goal.returns-in_err-explore-clause-over
+returns-in_err-explore-clause-over c e =
+    let plan : Planned = c.args.plan.now in
+    let prefix : List ℕ = c.prefix-prefix.result.now in
+    let deep : plan.options.depth ≤ plan.shop.jobs = c.prefix-prefix.ensures.plan.deep in
+    let short : length prefix ≤ plan.shop.jobs = omega (arith, deep, c.prefix-prefix.ensures.size) in
+    let p = err_from_is_err_and c.from_residual-in_err-explore.result c.from_residual-in_err-explore.ensures.1 in
+    let put : Stop → Result Search Stop = λ stop. Err stop in
+    let put_unit : Stop → Result (Unit {0}) Stop = λ stop. Err stop in
+    let was : p.0 ≡ OverBudget = let r : put p.0 ≡ put OverBudget = sym p.1 ∙ e in cc in
+    let same : put_unit c.in_err-explore.field-0.0 ≡ put_unit OverBudget = ap put_unit (sym p.2 ∙ was) in
+    let shop : c.instance-instance.result.now ≡ plan.shop = c.instance-instance.ensures.value in
+    let jobs : c.jobs-jobs.result ≡ plan.shop.jobs = c.jobs-jobs.ensures.value ∙ ap (λ s. s.jobs) shop in
+    let count : c.jobs-jobs.result - length prefix ≡ plan.shop.jobs - length prefix = ap (λ n. n - length prefix) jobs in
+    let over : c.budget-budget.result < length c.loop-job.search.tree.items + length (walked plan.shop (c.jobs-jobs.result - length prefix) c.loop-job.search).0 =
+    subst (λ s. c.budget-budget.result < length c.loop-job.search.tree.items + length (walked s (c.jobs-jobs.result - length prefix) c.loop-job.search).0) shop (c.in_err-explore.ensures.over same) in
+    let longer : c.budget-budget.result < length (tree plan.shop bound_at plan.start.value prefix) =
+    prefix-over plan prefix c.loop-job.front c.loop-job.job-index c.budget-budget.result (c.jobs-jobs.result - length prefix) c.loop-job.search c.prefix-prefix.ensures.jobs short
+    count (omega arith) (omega arith) c.loop-job.invariant over in
+    let named : length (tree plan.shop bound_at plan.start.value prefix) ≡ length (tree plan.shop bound_at plan.start.value (prefix_of plan c.args.number)) =
+    ap (λ q. length (tree plan.shop bound_at plan.start.value q)) c.prefix-prefix.ensures.value in
+    let budget : c.budget-budget.result ≡ plan.options.budget = c.budget-budget.ensures.value ∙ ap (λ o. o.budget) c.options.ensures.value in
+    omega (arith, longer, named, budget)
+
+pub returns-clause-best : goal.returns-clause-best
+returns-clause-best c =
+    let plan : Planned = c.args.plan.now in
+    let prefix : List ℕ = c.prefix-prefix.result.now in
+    let deep : plan.options.depth ≤ plan.shop.jobs = c.prefix-prefix.ensures.plan.deep in
+    let short : length prefix ≤ plan.shop.jobs = omega (arith, deep, c.prefix-prefix.ensures.size) in
+    let shop : c.instance-instance.result.now ≡ plan.shop = c.instance-instance.ensures.value in
+    let jobs : c.jobs-jobs.result ≡ plan.shop.jobs = c.jobs-jobs.ensures.value ∙ ap (λ s. s.jobs) shop in
+    let walk_done : Walked plan.shop c.budget-budget.result (c.jobs-jobs.result - length prefix) c.loop-job.search c.explore.new.search =
+    subst (λ s. Walked s c.budget-budget.result (c.jobs-jobs.result - length prefix) c.loop-job.search c.explore.new.search) shop c.in_ok-explore.ensures.done in
+    let is = prefix-done plan prefix c.loop-job.front c.loop-job.job-index c.budget-budget.result (c.jobs-jobs.result - length prefix) c.loop-job.search c.explore.new.search
+    c.prefix-prefix.ensures.jobs short (ap (λ n. n - length prefix) jobs) (omega arith) (omega arith) c.loop-job.invariant walk_done in
+    is.0 ∙ ap (best plan.shop plan.start.value) c.prefix-prefix.ensures.value
+
+pub returns-clause-tree : goal.returns-clause-tree
+returns-clause-tree c =
+    let plan : Planned = c.args.plan.now in
+    let prefix : List ℕ = c.prefix-prefix.result.now in
+    let deep : plan.options.depth ≤ plan.shop.jobs = c.prefix-prefix.ensures.plan.deep in
+    let short : length prefix ≤ plan.shop.jobs = omega (arith, deep, c.prefix-prefix.ensures.size) in
+    let shop : c.instance-instance.result.now ≡ plan.shop = c.instance-instance.ensures.value in
+    let jobs : c.jobs-jobs.result ≡ plan.shop.jobs = c.jobs-jobs.ensures.value ∙ ap (λ s. s.jobs) shop in
+    let walk_done : Walked plan.shop c.budget-budget.result (c.jobs-jobs.result - length prefix) c.loop-job.search c.explore.new.search =
+    subst (λ s. Walked s c.budget-budget.result (c.jobs-jobs.result - length prefix) c.loop-job.search c.explore.new.search) shop c.in_ok-explore.ensures.done in
+    let is = prefix-done plan prefix c.loop-job.front c.loop-job.job-index c.budget-budget.result (c.jobs-jobs.result - length prefix) c.loop-job.search c.explore.new.search
+    c.prefix-prefix.ensures.jobs short (ap (λ n. n - length prefix) jobs) (omega arith) (omega arith) c.loop-job.invariant walk_done in
+    is.1 ∙ ap (tree plan.shop bound_at plan.start.value) c.prefix-prefix.ensures.value

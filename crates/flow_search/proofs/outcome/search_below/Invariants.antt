@@ -1,0 +1,7 @@
+use Rattle.std.proofs.Common.{◌≡◌, ◌-◌, [], take}
+use Rattle.flow_search.specs.Nodes.{IsAt, incumbent_of}
+use Rattle.flow_search.proofs.Prefixes.{IsOnTheWay}
+use Rattle.flow_search.proofs.outcome.search_below.Given as goal
+
+abbrev pub invariant-loop-job : goal.invariant-loop-job
+invariant-loop-job l = IsOnTheWay l.plan l.prefix l.job-index l.front l.search
