@@ -3,10 +3,15 @@
 
 mod cut_bound;
 mod fault;
+mod gathered;
 mod laws;
 mod lines;
 mod tree;
 mod trees;
+mod writer;
 
 pub use fault::CheckFault;
-pub use laws::{certificate_is_sound, value_is_exact};
+pub use laws::{
+    certificate_is_sound, plan_is_certified, value_is_exact, verdict_is_certified,
+};
+pub use writer::write_certificate;
