@@ -25,6 +25,11 @@ pub(crate) enum Order<'a> {
 pub(crate) enum OfBlock<'a> {
     Span { jobs: Vec<u16> },
     Neh,
+    Solve {
+        workers: u32,
+        depth: u32,
+        budget: u32,
+    },
     Check { cert: &'a str },
 }
 
@@ -114,6 +119,9 @@ pub(crate) fn order_of<'a>(
     if let Some(given) = matches.subcommand_matches("neh") {
         return Ok(block_order(given, OfBlock::Neh));
     }
+    if let Some(given) = matches.subcommand_matches("solve") {
+        return Ok(solve_order(given));
+    }
     if let Some(given) = matches.subcommand_matches("check") {
         return Ok(check_order(given));
     }
@@ -134,6 +142,20 @@ fn block_order<'a>(given: &ArgMatches<'a>, what: OfBlock<'a>) -> Option<Order<'a
         index: given.get_one::<u32>("INDEX")?,
         what,
     })
+}
+
+fn solve_order<'a>(given: &ArgMatches<'a>) -> Option<Order<'a>> {
+    let workers = given.get_one::<u32>("workers")?;
+    let depth = given.get_one::<u32>("depth")?;
+    let budget = given.get_one::<u32>("budget")?;
+    block_order(
+        given,
+        OfBlock::Solve {
+            workers,
+            depth,
+            budget,
+        },
+    )
 }
 
 fn check_order<'a>(given: &ArgMatches<'a>) -> Option<Order<'a>> {

@@ -8,6 +8,7 @@ mod fault;
 mod generated;
 mod lines;
 mod picked;
+mod solving;
 mod span;
 mod starting;
 
@@ -15,7 +16,9 @@ use clap::error::ErrorKind;
 use command::{OfBlock, Order, make_command, order_of};
 use fault::ToolFault;
 use flow_core::{Source, StdSink, StdSource, WriteFault};
+use flow_pool::Open;
 use generated::run_gen;
+use solving::run_solve;
 use span::run_span;
 use starting::run_neh;
 use std::fs::File;
@@ -111,6 +114,13 @@ fn obey_for_block<S: Source>(
     let done = match what {
         OfBlock::Span { jobs } => run_span(alloc, file, index, jobs.as_slice(), &mut out),
         OfBlock::Neh => run_neh(alloc, file, index, &mut out),
+        OfBlock::Solve {
+            workers,
+            depth,
+            budget,
+        } => run_solve(
+            rt, alloc, file, index, *workers, *depth, *budget, &Open, &mut out,
+        ),
         OfBlock::Check { .. } => return Err(Stop::CommandLine),
     };
     done.map_err(Stop::Fault)
