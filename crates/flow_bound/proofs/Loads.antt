@@ -13,9 +13,9 @@ use Rattle.flow_core.proofs.Extremes.{greatest-range-le}
 use Rattle.flow_core.proofs.JobsLeft.{InRange, numbers-more, filter-more, has-filter, sum_by-jobs_left, least-le, sequence-has}
 use Rattle.flow_core.proofs.Recurrence.{after, completed, completion-is, after-first}
 use Rattle.flow_core.proofs.Admissible.{after-here, after-later, rest-bound}
-use Rattle.flow_bound.specs.Heads.{total}
+use Rattle.flow_bound.specs.Totals.{total}
 use Rattle.flow_bound.specs.Taillard.{machine_load, taillard_bound}
-use Rattle.flow_bound.proofs.Heads.{head-step}
+use Rattle.flow_bound.proofs.Running.{head-step}
 
 -- the empty list leaves all jobs
 left-all : (n : ℕ) → jobs_left n [] ≡ numbers 1 n

@@ -2,7 +2,7 @@ use Rattle.std.proofs.Common.{◌≡◌, ℕ, zero, suc, ◌+◌, ◌-◌, ◌*�
 use Rattle.std.specs.List.{filter}
 use Rattle.std.proofs.lemmas.Bool.{cases_lt}
 use Rattle.std.proofs.lemmas.List.{get_or_past}
-use Rattle.flow_core.specs.declared.limits.TheConstants.{MAX_MACHINES, MAX_TIME}
+use Rattle.flow_core.specs.declared.limits.TheConstants.{MAX_TIME}
 use Rattle.flow_core.specs.Shop.{Shop, numbers, time, time_between, IsWithinLimits}
 use Rattle.flow_core.specs.Least.{least}
 use Rattle.flow_core.specs.JobSet.{contains, members}
@@ -91,19 +91,6 @@ time_between-small shop job a (suc b) low limits =
       | inl above ↦ omega (arith, time_between-none shop job a (suc b) above)
       | inr here ↦ omega (arith, time_between-more shop job a b here, time_between-small shop job a b low limits, time-small shop job (suc b) limits)
     ]
-
--- the least time behind a machine of a set that is not empty
-pub capped-least : (shop : Shop) (xs : List ℕ) (machine : ℕ) → IsWithinLimits shop → 0 < length xs →
-    (capped 18446744073709551615 (map (λ job. time_between shop job (machine + 1) shop.machines) xs) ≡ least (map (λ job. time_between shop job (machine + 1) shop.machines) xs))
-    × (least (map (λ job. time_between shop job (machine + 1) shop.machines) xs) ≤ MAX_MACHINES * MAX_TIME)
-capped-least shop [] machine limits some = absurd (omega arith)
-capped-least shop (x ∷ xs) machine limits some =
-    let most : shop.machines ≤ MAX_MACHINES = limits.machines in
-    let first = time_between-small shop x (machine + 1) shop.machines (omega arith) limits in
-    let f : ℕ → ℕ = λ job. time_between shop job (machine + 1) shop.machines in
-    let le = least-le-first (f x) (map f xs) in
-    let is = capped-is 18446744073709551615 (f x) (map f xs) in
-    (omega (arith, first, le, is), omega (arith, first, le))
 
 pub time_between-step : (shop : Shop) (job a k : ℕ) → 1 ≤ a → a ≤ k → time_between shop job a (k + 1 - 1) ≡ time_between shop job a (k - 1) + time shop job k
 time_between-step shop job a zero from low = absurd (omega arith)

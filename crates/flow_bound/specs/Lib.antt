@@ -1,4 +1,4 @@
-pub mod Heads
+pub mod Totals
 pub mod Neh
 pub mod Taillard
 pub mod Capped

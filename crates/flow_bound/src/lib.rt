@@ -5,7 +5,7 @@ mod insertion;
 mod machine_bound;
 mod machine_load;
 mod order;
-mod totals;
+mod sums;
 
 pub use insertion::neh;
 pub use machine_bound::bound;

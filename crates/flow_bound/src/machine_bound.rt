@@ -1,63 +1,18 @@
-ghost use Rattle.std.specs.Prelude.{◌≡◌, ℕ, ◌+◌, ◌-◌, ◌*◌, ◌<◌, ◌≤◌, List, map, length, false, filter, sum_by};
-ghost use Rattle.flow_core.specs.declared.limits.TheConstants.{MAX_JOBS, MAX_MACHINES, MAX_TIME};
-ghost use Rattle.flow_core.specs.Shop.{IsWithinLimits, numbers, time, time_between};
+//! The machine bound of a front.
+
+ghost use Rattle.std.specs.Prelude.{◌≡◌, ℕ, ◌<◌, ◌≤◌, List, length, false};
 ghost use Rattle.flow_core.specs.Paths.{span};
 ghost use Rattle.flow_core.specs.Front.{IsFrontOf, IsWithinFront};
 ghost use Rattle.flow_core.specs.JobSet.{contains, members};
 ghost use Rattle.flow_core.specs.Sequences.{jobs_left, IsSequence, Extends};
 ghost use Rattle.flow_core.specs.Bound.{machine_bound};
-ghost use Rattle.flow_bound.specs.Capped.{capped};
 
+use crate::sums::times_from;
 use flow_core::{Front, Instance, JobSet};
 
-/// The time of a job on the machines behind one.
-fn time_behind(instance: &Instance, job: u16, machine: u16) -> u64
-    requires job_from { 1 ≤ job }
-    requires job_to { job ≤ instance.now.jobs }
-    requires machine_to { machine ≤ instance.now.machines }
-    ensures value { result ≡ time_between instance.now job (machine + 1) instance.now.machines }
-    ensures small { result ≤ MAX_MACHINES * MAX_TIME }
-{
-    let end = instance.machines() + 1;
-    let mut total = 0;
-    for later in machine + 1..end {
-        total += u64::from(instance.time(job, later));
-    }
-    total
-}
-
-/// The time that a machine owes the jobs of a set.
-fn time_owed(instance: &Instance, jobs: &JobSet, machine: u16) -> u64
-    requires from { 1 ≤ machine }
-    requires to { machine ≤ instance.now.machines }
-    ensures value { result ≡ sum_by (λ job. time instance.now job machine) (filter (contains jobs.now) (numbers 1 instance.now.jobs)) }
-    ensures small { result ≤ MAX_JOBS * MAX_TIME }
-    ensures limits { IsWithinLimits instance.now }
-{
-    let mut total = 0;
-    for job in 1..instance.jobs() + 1 {
-        if jobs.contains(job) {
-            total += u64::from(instance.time(job, machine));
-        }
-    }
-    total
-}
-
-/// The least time that a job of a set needs behind a machine, or the greatest number where it has none.
-fn least_time_behind(instance: &Instance, jobs: &JobSet, machine: u16) -> u64
-    requires to { machine ≤ instance.now.machines }
-    ensures { result ≡ capped u64.MAX (map (λ job. time_between instance.now job (machine + 1) instance.now.machines) (filter (contains jobs.now) (numbers 1 instance.now.jobs))) }
-{
-    let mut least = u64::MAX;
-    for job in 1..instance.jobs() + 1 {
-        if jobs.contains(job) {
-            least = least.min(time_behind(instance, job, machine));
-        }
-    }
-    least
-}
-
-/// The machine bound of a front and the jobs that are left.
+/// The machine bound: when a machine is free, the time that it still owes the jobs of a set, and the least time that one of them
+/// needs behind it. Where the front is that of a list, and the set has the jobs that the list leaves, no sequence that extends the
+/// list has a smaller makespan.
 pub fn bound(instance: &Instance, front: &Front, unscheduled: &JobSet, machine: u16) -> u64
     requires from { 1 ≤ machine }
     requires to { machine ≤ instance.now.machines }
@@ -69,6 +24,16 @@ pub fn bound(instance: &Instance, front: &Front, unscheduled: &JobSet, machine: 
         members unscheduled.now ≡ jobs_left instance.now.jobs scheduled → IsSequence instance.now.jobs sequence →
         Extends sequence scheduled → result ≤ span instance.now sequence }
 {
-    let owed = time_owed(instance, unscheduled, machine);
-    front.at(machine) + owed + least_time_behind(instance, unscheduled, machine)
+    let end = instance.jobs() + 1;
+    let tails = times_from(instance, machine + 1);
+    let mut owed: u32 = 0;
+    let mut least_tail = u32::MAX;
+    for job in 1..end {
+        let time = instance.time(job, machine);
+        if unscheduled.contains(job) {
+            owed += time;
+            least_tail = least_tail.min(tails[job as usize - 1]);
+        }
+    }
+    front.at(machine) + u64::from(owed) + u64::from(least_tail)
 }

@@ -5,15 +5,15 @@ ghost use Rattle.flow_core.specs.Shop.{numbers};
 ghost use Rattle.flow_core.specs.Least.{greatest};
 ghost use Rattle.flow_core.specs.Paths.{span};
 ghost use Rattle.flow_core.specs.Sequences.{IsSequence};
-ghost use Rattle.flow_bound.specs.Heads.{AreHeads, total};
+ghost use Rattle.flow_bound.specs.Totals.{AreTimes, total};
 ghost use Rattle.flow_bound.specs.Taillard.{machine_load, taillard_bound};
 
-use crate::totals::totals;
+use crate::sums::times_from;
 use flow_core::{Instance, MAX_JOBS};
 
 /// The greatest total of a job.
 fn greatest_total(instance: &Instance, totals: &[u32; MAX_JOBS]) -> u32
-    requires { AreHeads instance.now totals.now instance.now.machines }
+    requires { AreTimes instance.now totals.now 1 instance.now.machines }
     ensures { result ≡ greatest (map (total instance.now) (numbers 1 instance.now.jobs)) }
 {
     let mut most: u32 = 0;
@@ -32,10 +32,10 @@ fn load_of(
 ) -> u64
     requires from { 1 ≤ machine }
     requires to { machine ≤ instance.now.machines }
-    requires heads { AreHeads instance.now heads.old (machine - 1) }
-    requires totals { AreHeads instance.now totals.now instance.now.machines }
+    requires heads { AreTimes instance.now heads.old 1 (machine - 1) }
+    requires totals { AreTimes instance.now totals.now 1 instance.now.machines }
     ensures value { result ≡ machine_load instance.now machine }
-    ensures heads { AreHeads instance.now heads.new machine }
+    ensures heads { AreTimes instance.now heads.new 1 machine }
 {
     let mut least_head = u32::MAX;
     let mut owed = 0;
@@ -56,7 +56,7 @@ pub fn taillard_bound(instance: &Instance) -> u64
     ensures value { result ≡ taillard_bound instance.now }
     ensures admissible { (sequence : List ℕ) → IsSequence instance.now.jobs sequence → result ≤ span instance.now sequence }
 {
-    let totals = totals(instance);
+    let totals = times_from(instance, 1);
     let mut most = u64::from(greatest_total(instance, &totals));
     let mut heads = [0; MAX_JOBS];
     for machine in 1..instance.machines() + 1 {

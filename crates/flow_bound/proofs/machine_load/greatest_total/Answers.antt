@@ -1,8 +1,8 @@
 use Rattle.std.proofs.Common.{◌≡◌, ◌+◌, ◌-◌, map, max, slice_index_or, arith}
 use Rattle.flow_core.specs.Least.{greatest}
 use Rattle.flow_core.specs.Shop.{numbers}
-use Rattle.flow_bound.specs.Heads.{total}
-use Rattle.flow_bound.proofs.Heads.{greatest-step}
+use Rattle.flow_bound.specs.Totals.{total}
+use Rattle.flow_bound.proofs.Running.{greatest-step}
 use Rattle.flow_bound.proofs.machine_load.greatest_total.Goals as goal
 
 pub loop-job-preserved : goal.loop-job-preserved

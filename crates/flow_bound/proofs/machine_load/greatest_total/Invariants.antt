@@ -1,7 +1,7 @@
 use Rattle.std.proofs.Common.{◌≡◌, ◌-◌, map}
 use Rattle.flow_core.specs.Least.{greatest}
 use Rattle.flow_core.specs.Shop.{numbers}
-use Rattle.flow_bound.specs.Heads.{total}
+use Rattle.flow_bound.specs.Totals.{total}
 use Rattle.flow_bound.proofs.machine_load.greatest_total.Given as goal
 
 abbrev pub invariant-loop-job : goal.invariant-loop-job

@@ -2,9 +2,9 @@ use Rattle.std.proofs.Common.{◌≡◌, ◌+◌, ◌-◌, map, max, arith, ap, 
 use Rattle.flow_core.specs.declared.limits.TheConstants.{MAX_JOBS}
 use Rattle.flow_core.specs.Shop.{numbers, time_between}
 use Rattle.flow_core.specs.Least.{greatest}
-use Rattle.flow_bound.specs.Heads.{total}
+use Rattle.flow_bound.specs.Totals.{total}
 use Rattle.flow_bound.specs.Taillard.{machine_load, taillard_bound}
-use Rattle.flow_bound.proofs.Heads.{heads-none, greatest-step}
+use Rattle.flow_bound.proofs.Running.{times-none, greatest-step}
 use Rattle.flow_bound.proofs.Loads.{taillard-below}
 use Rattle.flow_bound.proofs.machine_load.taillard_bound.Goals as goal
 
@@ -14,7 +14,7 @@ loop-machine-init c =
     let totals : c.greatest_total.result ≡ greatest (map (total shop) (numbers 1 shop.jobs)) = c.greatest_total.ensures in
     let most : c.from-most.result ≡ max 0 (greatest (map (total shop) (numbers 1 shop.jobs))) = omega (arith, c.from-most.ensures, totals) in
     record {
-      heads = λ job from to. heads-none shop MAX_JOBS job;
+      heads = λ job from to. times-none shop MAX_JOBS job 1 (omega arith);
       most = most;
     }
 

@@ -102,8 +102,8 @@ zeros (suc n) zero = refl
 zeros (suc n) (suc i) = zeros n i
 
 -- before the first machine
-pub heads-none : (shop : Shop) (n job : ℕ) → slice_index (replicate n 0) (job - 1) ≡ time_between shop job 1 (1 - 1)
-heads-none shop n job = zeros n (job - 1) ∙ sym (time_between-none shop job 1 0 (omega arith))
+pub times-none : (shop : Shop) (n job first : ℕ) → 1 ≤ first → slice_index (replicate n 0) (job - 1) ≡ time_between shop job first (first - 1)
+times-none shop n job first low = zeros n (job - 1) ∙ sym (time_between-none shop job first (first - 1) (omega arith))
 
 -- the least over all jobs, and its cap
 pub least-of-jobs : (cap bound : ℕ) (f : ℕ → ℕ) (n job : ℕ) → ((j : ℕ) → f j ≤ bound) → bound ≤ cap → 1 ≤ n → job ≡ n + 1 →

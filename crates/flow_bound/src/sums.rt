@@ -1,0 +1,34 @@
+//! Each job's time on several machines.
+
+ghost use Rattle.std.specs.Prelude.{◌≡◌, ℕ, ◌+◌, ◌-◌, ◌*◌, ◌≤◌, slice_index};
+ghost use Rattle.flow_core.specs.declared.limits.TheConstants.{MAX_TIME};
+ghost use Rattle.flow_core.specs.Shop.{time};
+ghost use Rattle.flow_bound.specs.Totals.{AreTimes};
+
+use flow_core::{Instance, MAX_JOBS};
+
+/// Adds each job's time on a machine to its sum.
+fn add_times(instance: &Instance, sums: &mut [u32; MAX_JOBS], machine: u16)
+    requires from { 1 ≤ machine }
+    requires to { machine ≤ instance.now.machines }
+    requires small { (job : ℕ) → 1 ≤ job → job ≤ instance.now.jobs → slice_index sums.old (job - 1) ≤ machine * MAX_TIME }
+    ensures { (job : ℕ) → 1 ≤ job → job ≤ instance.now.jobs → slice_index sums.new (job - 1) ≡ slice_index sums.old (job - 1) + time instance.now job machine }
+{
+    for job in 1..instance.jobs() + 1 {
+        sums[job as usize - 1] += instance.time(job, machine);
+    }
+}
+
+/// The time of each job on the machines from one on, that of job 1 first.
+pub(crate) fn times_from(instance: &Instance, first: u16) -> [u32; MAX_JOBS]
+    requires from { 1 ≤ first }
+    requires to { first ≤ instance.now.machines + 1 }
+    ensures { AreTimes instance.now result first instance.now.machines }
+{
+    let mut sums = [0; MAX_JOBS];
+    let end = instance.machines() + 1;
+    for machine in first..end {
+        add_times(instance, &mut sums, machine);
+    }
+    sums
+}
