@@ -16,6 +16,8 @@ use flow_core::{Instance, Sink, Source};
 use flow_pool::{Gate, solve};
 use flow_search::{Options, prepare};
 use std::alloc::Global;
+use std::sync::Wait;
+use std::thread::Threads;
 
 /// Solves an instance, and writes the certificate of its plan.
 fn solve_instance<R: Threads + Wait + Sync, G: Gate + Sync, K: Sink>(
