@@ -19,6 +19,7 @@ use Rattle.flow_search.specs.Outcomes.{first_over_budget}
 use Rattle.flow_search.specs.declared.options.OptionFault.{OptionFault}
 use Rattle.flow_search.specs.declared.plan.PlanFault.{PlanFault}
 use Rattle.flow_pool.specs.declared.whole_run.SolveFault.TheVariants.{Threads, OverBudget}
+use Rattle.flow_cert.specs.Certificate.{IsCertificate}
 use Rattle.flow_cert.specs.Written.{certificate_of}
 use Rattle.flow_cert.specs.Faults.{certificate_value}
 use Rattle.flow_cert.specs.declared.fault.CheckFault.{CheckFault}
@@ -81,14 +82,10 @@ AnswersGen jobs machines seed (Err fault) = (refusal : InstanceFault) × (genera
 abbrev pub optimal_line : ℕ → List ℕ
 optimal_line value = codes "optimal " ++ decimal value ++ codes "\n"
 
--- what is answered for a value that was read, or for the first fault
-abbrev pub check_answer : Result ℕ CheckFault → Answer
-check_answer (Ok value) = Ok (optimal_line value)
-check_answer (Err fault) = Err (tool.Certificate fault)
-
--- what `check` answers for the bytes of a certificate
+-- what `check` answers for the bytes of a certificate: the value for which they are lawful, or their first fault
 abbrev pub AnswersCheck : Shop → List ℕ → Answer → Type 0
-AnswersCheck shop bytes answer = answer ≡ check_answer (certificate_value shop bytes)
+AnswersCheck shop bytes (Ok text) = (value : ℕ) × IsCertificate shop bytes value × (text ≡ optimal_line value)
+AnswersCheck shop bytes (Err fault) = (first : CheckFault) × (certificate_value shop bytes ≡ Err first) × (fault ≡ tool.Certificate first)
 
 -- what `solve` answers for a plan: its certificate, where each tree is within the budget; or the first prefix whose tree is not, or
 -- that a worker could not be started

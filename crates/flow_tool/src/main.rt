@@ -3,6 +3,7 @@
 
 ghost use Rattle.std.specs.Prelude.{◌≡◌, false};
 
+mod checking;
 mod command;
 mod fault;
 mod generated;
@@ -11,7 +12,10 @@ mod picked;
 mod solving;
 mod span;
 mod starting;
+#[cfg(test)]
+mod tests;
 
+use checking::run_check;
 use clap::error::ErrorKind;
 use command::{OfBlock, Order, make_command, order_of};
 use fault::ToolFault;
@@ -24,6 +28,8 @@ use starting::run_neh;
 use std::fs::File;
 use std::io;
 use std::process::ExitCode;
+use std::sync::Wait;
+use std::thread::Threads;
 
 /// Why a run did not succeed.
 enum Stop {
@@ -34,7 +40,7 @@ enum Stop {
 }
 
 fn main(rt: HostRuntime) -> ExitCode {
-    let stop = match run(&rt) {
+    let stop = match run(&rt, &rt) {
         Ok(()) => return ExitCode::SUCCESS,
         Err(stop) => stop,
     };
@@ -50,7 +56,7 @@ fn main(rt: HostRuntime) -> ExitCode {
 }
 
 /// Reads the command line, and does what it asks for. Help that was asked for is printed.
-fn run(rt: &HostRuntime) -> Result<(), Stop> {
+fn run<T: Threads + Wait + Sync>(rt: &HostRuntime, threads: &T) -> Result<(), Stop> {
     let alloc = rt.alloc();
     let words: Vec<String> = match std::env::args(rt) {
         Ok(words) => words.collect(alloc).map_err(|_| Stop::Memory)?,
@@ -71,14 +77,18 @@ fn run(rt: &HostRuntime) -> Result<(), Stop> {
         }
     };
     match order_of(alloc, &matches) {
-        Ok(Some(order)) => obey(rt, &order),
+        Ok(Some(order)) => obey(rt, threads, &order),
         Ok(None) => Err(Stop::CommandLine),
         Err(_) => Err(Stop::Memory),
     }
 }
 
 /// Does what was asked for. The file is opened before anything is read.
-fn obey(rt: &HostRuntime, order: &Order) -> Result<(), Stop> {
+fn obey<T: Threads + Wait + Sync>(
+    rt: &HostRuntime,
+    threads: &T,
+    order: &Order,
+) -> Result<(), Stop> {
     match order {
         Order::Gen {
             jobs,
@@ -90,10 +100,10 @@ fn obey(rt: &HostRuntime, order: &Order) -> Result<(), Stop> {
         }
         Order::OfBlock { file, index, what } => {
             if *file == "stdin" {
-                return obey_for_block(rt, *index, what, &mut StdSource::new(rt.reader()));
+                return obey_for_block(rt, threads, *index, what, &mut StdSource::new(rt.reader()));
             }
             match File::open(rt, *file) {
-                Ok(file) => obey_for_block(rt, *index, what, &mut StdSource::new(file)),
+                Ok(file) => obey_for_block(rt, threads, *index, what, &mut StdSource::new(file)),
                 Err(_) => Err(Stop::Open),
             }
         }
@@ -101,8 +111,9 @@ fn obey(rt: &HostRuntime, order: &Order) -> Result<(), Stop> {
 }
 
 /// Does what was asked for, for a block of the text that the file gives.
-fn obey_for_block<S: Source>(
+fn obey_for_block<T: Threads + Wait + Sync, S: Source>(
     rt: &HostRuntime,
+    threads: &T,
     index: u32,
     what: &OfBlock,
     file: &mut S,
@@ -119,9 +130,12 @@ fn obey_for_block<S: Source>(
             depth,
             budget,
         } => run_solve(
-            rt, alloc, file, index, *workers, *depth, *budget, &Open, &mut out,
+            threads, alloc, file, index, *workers, *depth, *budget, &Open, &mut out,
         ),
-        OfBlock::Check { .. } => return Err(Stop::CommandLine),
+        OfBlock::Check { cert } => match File::open(rt, *cert) {
+            Ok(cert) => run_check(alloc, file, index, &mut StdSource::new(cert), &mut out),
+            Err(_) => return Err(Stop::Open),
+        },
     };
     done.map_err(Stop::Fault)
 }

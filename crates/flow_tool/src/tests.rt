@@ -16,8 +16,10 @@ use flow_core::{
 use flow_pool::{Gate, Open, SolveFault};
 use flow_search::{OptionFault, PlanFault};
 use std::alloc::Global;
+use std::sync::Wait;
 use std::sync::atomic::{AtomicBool, Ordering};
 use std::test::Fail;
+use std::thread::Threads;
 
 /// The budget of a tree where none is to be refused.
 const AMPLE: u32 = 1_000_000;
@@ -59,11 +61,18 @@ fn span(alloc: Global, text: &[u8], index: u32, jobs: &[u16]) -> Ran {
     Ok(out)
 }
 
-fn solved(rt: &HostRuntime, text: &[u8], workers: u32, depth: u32, budget: u32) -> Ran {
-    let mut out = MemorySink::new(rt.alloc(), ROOM);
+fn solved<T: Threads + Wait + Sync>(
+    rt: &T,
+    alloc: Global,
+    text: &[u8],
+    workers: u32,
+    depth: u32,
+    budget: u32,
+) -> Ran {
+    let mut out = MemorySink::new(alloc, ROOM);
     run_solve(
         rt,
-        rt.alloc(),
+        alloc,
         &mut all_of(text),
         1,
         workers,
@@ -178,34 +187,36 @@ fn neh_prints_starting_sequence(rt: HostRuntime) -> Result<(), Fail> {
 
 #[test]
 fn solve_writes_same_bytes_with_any_workers(rt: HostRuntime) -> Result<(), Fail> {
+    let alloc = rt.alloc();
     let depths = [DEPTH_0, DEPTH_1, DEPTH_2, DEPTH_3];
     for (depth, certificate) in (0..4u32).zip(depths) {
         for workers in [1, 2, 3, 64] {
-            let ran = solved(&rt, THREE_MACHINES, workers, depth, AMPLE);
+            let ran = solved(&rt, alloc, THREE_MACHINES, workers, depth, AMPLE);
             assert!(rt; wrote(&ran, certificate));
         }
     }
-    let ran = solved(&rt, TWO_MACHINES, 1, 0, AMPLE);
+    let ran = solved(&rt, alloc, TWO_MACHINES, 1, 0, AMPLE);
     assert!(rt; wrote(&ran, b"flowshop certificate 1\n3 2 0\n9\n2 3 1\n+BBB\nend\n"));
-    let ran = solved(&rt, b"a\n1 1 0 0 0\nb\n0\n", 1, 0, AMPLE);
+    let ran = solved(&rt, alloc, b"a\n1 1 0 0 0\nb\n0\n", 1, 0, AMPLE);
     assert!(rt; wrote(&ran, b"flowshop certificate 1\n1 1 0\n0\n1\nA\nend\n"));
     Ok(())
 }
 
 #[test]
 fn solve_names_options_plan_and_budget(rt: HostRuntime) -> Result<(), Fail> {
+    let alloc = rt.alloc();
     for workers in [1, 2, 3, 64] {
-        let ran = solved(&rt, THREE_MACHINES, workers, 1, 3);
+        let ran = solved(&rt, alloc, THREE_MACHINES, workers, 1, 3);
         assert!(rt; refused(&ran, ToolFault::Run(SolveFault::OverBudget(2))));
-        assert!(rt; wrote(&solved(&rt, THREE_MACHINES, workers, 1, 4), DEPTH_1));
+        assert!(rt; wrote(&solved(&rt, alloc, THREE_MACHINES, workers, 1, 4), DEPTH_1));
     }
-    let ran = solved(&rt, THREE_MACHINES, 65, 4, 0);
+    let ran = solved(&rt, alloc, THREE_MACHINES, 65, 4, 0);
     assert!(rt; refused(&ran, ToolFault::Choice(OptionFault::Workers)));
-    let ran = solved(&rt, THREE_MACHINES, 1, 4, 0);
+    let ran = solved(&rt, alloc, THREE_MACHINES, 1, 4, 0);
     assert!(rt; refused(&ran, ToolFault::Choice(OptionFault::Depth)));
-    let ran = solved(&rt, THREE_MACHINES, 1, 1, 0);
+    let ran = solved(&rt, alloc, THREE_MACHINES, 1, 1, 0);
     assert!(rt; refused(&ran, ToolFault::Choice(OptionFault::Budget)));
-    let ran = solved(&rt, b"a\n1 1 0 0 0\nb\n0\n", 1, 2, AMPLE);
+    let ran = solved(&rt, alloc, b"a\n1 1 0 0 0\nb\n0\n", 1, 2, AMPLE);
     assert!(rt; refused(&ran, ToolFault::Plan(PlanFault::Depth)));
     Ok(())
 }
@@ -219,7 +230,7 @@ fn check_accepts_what_solve_wrote(rt: HostRuntime) -> Result<(), Fail> {
     ];
     for (text, line) in texts {
         for depth in 0..4u32 {
-            let certificate = solved(&rt, text, 2, depth, AMPLE)?;
+            let certificate = solved(&rt, alloc, text, 2, depth, AMPLE)?;
             assert!(rt; wrote(&checked(alloc, text, certificate.bytes()), line));
         }
     }
