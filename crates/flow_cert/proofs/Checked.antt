@@ -93,8 +93,8 @@ lawful-at shop bytes answer fault limits is first value of_value =
 
 pub checked-value : (shop : Shop) (depth value end : ℕ) (bytes lines : List ℕ) (same : Bool) → certificate_value shop bytes ≡ cut_value shop depth value lines → TreesGive shop depth value 0 lines (Ok end) →
     same ≡ bytes_eq (take (length lines - end) (drop end lines)) (line ending) → same ≡ true → certificate_value shop bytes ≡ Ok value
-checked-value shop depth value end bytes lines same before trees is yes =
-    before ∙ trees.0 ∙ ap (λ xs. end_value value xs) (sym (take_rest lines end)) ∙ ap (λ b. cond b (Ok value) (Err End)) (sym is ∙ yes)
+checked-value shop depth value end bytes lines same before trees is holds =
+    before ∙ trees.0 ∙ ap (λ xs. end_value value xs) (sym (take_rest lines end)) ∙ ap (λ b. cond b (Ok value) (Err End)) (sym is ∙ holds)
 
 pub checked-end : (shop : Shop) (depth value end : ℕ) (bytes lines : List ℕ) (same : Bool) → certificate_value shop bytes ≡ cut_value shop depth value lines → TreesGive shop depth value 0 lines (Ok end) →
     same ≡ bytes_eq (take (length lines - end) (drop end lines)) (line ending) → same ≡ false → certificate_value shop bytes ≡ Err End

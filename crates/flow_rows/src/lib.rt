@@ -4,8 +4,6 @@
 #[cfg(test)]
 mod bytes;
 #[cfg(test)]
-mod certificates;
-#[cfg(test)]
 mod instances;
 #[cfg(test)]
 mod text;
