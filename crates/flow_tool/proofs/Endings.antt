@@ -1,5 +1,6 @@
 -- A run whose sink refused.
-use Rattle.std.proofs.Common.{◌≡◌, refl, inl, inr, ℕ, List, Option, Ok}
+use Rattle.std.proofs.Common.{◌≡◌, ◌≤◌, refl, inl, inr, ℕ, List, length, Option, Ok}
+use Rattle.std.specs.Io.KnownBytes.{Appends}
 use Rattle.flow_core.specs.Bytes.{AddsProperPrefix}
 use Rattle.flow_core.specs.declared.bytes.fault.WriteFault.{WriteFault}
 use Rattle.flow_core.specs.declared.bytes.fault.WriteFault.TheVariants as write
@@ -22,3 +23,10 @@ ends-in-writing limit index Answers given gives taken takes fault block line cam
 pub ends-alone-in-writing : {Untouched : Type 0} (Answers : Answer → Type 0) (taken takes : Option (List ℕ)) (fault : WriteFault) (line : List ℕ) →
     Answers (Ok line) → AddsProperPrefix taken takes line → EndsAlone Untouched Answers taken takes (tool.Write fault)
 ends-alone-in-writing Answers taken takes fault line answers adds = inr (write-is fault, (line, answers, adds))
+
+-- a run for the bytes of a source
+pub ends-in-writing-for : {Untouched : Type 0} (limit : ℕ) (Answers : List ℕ → Answer → Type 0) (given gives taken takes : Option (List ℕ)) (fault : WriteFault) (bytes line : List ℕ) →
+    length bytes ≤ limit → Appends given gives bytes → Answers bytes (Ok line) → AddsProperPrefix taken takes line →
+    Ends Untouched limit Answers given gives taken takes (tool.Write fault)
+ends-in-writing-for limit Answers given gives taken takes fault bytes line within came answers adds =
+    inr (write-is fault, (bytes, within, came, (line, answers, adds)))

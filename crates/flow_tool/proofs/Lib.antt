@@ -1,2 +1,4 @@
+mod Certified
 mod Endings
 mod Small
+mod Solved
