@@ -11,7 +11,5 @@ mod trees;
 mod writer;
 
 pub use fault::CheckFault;
-pub use laws::{
-    certificate_is_sound, plan_is_certified, value_is_exact, verdict_is_certified,
-};
+pub use laws::{certificate_is_sound, plan_is_certified, value_is_exact, verdict_is_certified};
 pub use writer::write_certificate;
