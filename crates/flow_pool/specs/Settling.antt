@@ -1,5 +1,5 @@
 -- When lanes can be put away, and what is seen of them.
-use Rattle.std.specs.Prelude.{◌≡◌, ◌+◌, Bool, true, false, List, [], ◌∷◌, ◌++◌, length}
+use Rattle.std.specs.Prelude.{◌≡◌, ◌+◌, ◌<◌, Bool, true, false, List, [], ◌∷◌, ◌++◌, length}
 use Rattle.flow_lanes.specs.Lane.{Lane}
 use Rattle.flow_lanes.specs.declared.settled.Settled.{Settled}
 use Rattle.flow_pool.specs.declared.ends.Task.{Task}
@@ -15,6 +15,12 @@ ends_once [] = false
 ends_once (Prefix number ∷ tasks) = ends_once tasks
 ends_once (End ∷ []) = true
 ends_once (End ∷ task ∷ tasks) = false
+
+-- nothing went through the hub's ends yet, and they have room for a task
+pub record IsReadyHub (hub : HubEnds) : Type 0 where
+  pub sent : hub.tasks.sent ≡ []
+  pub received : hub.answers.received ≡ []
+  pub room : 0 < hub.tasks.known_free
 
 -- the hub has sent its one end, and taken as many answers as it sent prefixes
 pub record IsCollected (hub : HubEnds) : Type 0 where

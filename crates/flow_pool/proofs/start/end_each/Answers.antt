@@ -1,0 +1,23 @@
+use Rattle.std.proofs.Common.{◌≡◌, ◌∙◌, ◌+◌, ◌++◌, [], ◌∷◌, ap, sym, subst, length, arith}
+use Rattle.std.proofs.Math.Nat.{le_refl}
+use Rattle.std.proofs.Math.Seq.{map-set_same}
+use Rattle.std.proofs.lemmas.List.{get_or-set_other}
+use Rattle.std.proofs.lemmas.List.Elements.{AllWithin-more_set}
+use Rattle.flow_pool.specs.declared.ends.Task.TheVariants.{End}
+use Rattle.flow_pool.specs.Hub.{hub_lanes}
+use Rattle.flow_pool.specs.Settling.{IsReadyHub, IsCollected, ends_once}
+use Rattle.flow_pool.proofs.start.end_each.Goals as goal
+
+pub each-preserved : goal.each-preserved
+each-preserved c =
+    let i = c.each.invariant in
+    let hubs = c.each.hubs in
+    let lane = c.each.lane in
+    let hub = c.index-hubs-lane.result in
+    let ready = i.ready lane hub (le_refl lane) (omega arith) in
+    let sent : c.try_send.new.self.sent ≡ End ∷ [] = c.in-Ok.ensures.at_the_end ∙ ap (λ l. l ++ End ∷ []) ready.sent in
+    record {
+      lanes = map-set_same hub_lanes _ _ _ hub (cc) ∙ i.lanes;
+      ended = AllWithin-more_set hubs lane _ (omega arith) IsCollected i.ended (record { ends = ap ends_once sent; count = ap length sent ∙ sym (ap (λ l. length l + 1) ready.received) });
+      ready = λ k d low high. subst IsReadyHub (sym (get_or-set_other hubs lane k _ d (λ e. absurd (omega arith)))) (i.ready k d (omega arith) high);
+    }
