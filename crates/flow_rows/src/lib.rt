@@ -9,3 +9,5 @@ mod instances;
 mod text;
 #[cfg(test)]
 mod values;
+#[cfg(test)]
+mod written;
