@@ -6,3 +6,4 @@ pub mod LeastVerdict
 pub mod Nodes
 pub mod Prefixes
 pub mod CutLemmas
+pub mod Tallies

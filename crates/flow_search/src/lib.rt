@@ -7,6 +7,7 @@ mod options;
 mod outcome;
 mod plan;
 mod subtree;
+mod tally;
 mod verdict;
 
 pub use laws::{verdict_is_least, walk_is_tree};

@@ -1,16 +1,19 @@
 //! The verdict of a plan.
 
-ghost use Rattle.std.specs.Prelude.{◌≡◌, ℕ, length, vec_len, None, Some, IfOk, OnOk, All};
+ghost use Rattle.std.specs.Prelude.{◌≡◌, ℕ, ◌≤◌, ◌⊎◌, length, vec_len, None, Some, IfOk, OnOk, IfErr, All};
+ghost use Rattle.flow_core.specs.declared.limits.TheConstants.{MAX_PREFIXES};
 ghost use Rattle.flow_core.specs.Paths.{span};
 ghost use Rattle.flow_core.specs.Sequences.{IsSequence, IsLeastMakespan};
 ghost use Rattle.flow_search.specs.Plans.{prefixes_of};
 ghost use Rattle.flow_search.specs.Outcomes.{AreLawful, IsDone, first_over_budget};
-ghost use Rattle.flow_search.specs.Verdicts.{IsVerdict};
+ghost use Rattle.flow_search.specs.Verdicts.{IsVerdict, first_refusal};
+ghost use Rattle.flow_search.specs.declared.verdict.RunFault.TheVariants.{Memory};
 
-use crate::outcome::Outcome;
+use crate::outcome::{Outcome, answer};
 use crate::plan::Plan;
+use crate::tally::Tally;
 use flow_core::Sequence;
-use std::alloc::Global;
+use std::alloc::{AllocError, Global};
 use thiserror::Error;
 
 /// The least makespan, a sequence that attains it, and the tree of each prefix.
@@ -32,29 +35,74 @@ pub enum RunFault {
     Memory,
 }
 
-/// The verdict of a plan, by the outcomes of all its prefixes in order.
-pub fn conclude(_alloc: Global, _plan: &Plan, _outcomes: Vec<Outcome>) -> Result<Verdict, RunFault>
-    requires count { vec_len _outcomes ≡ length (prefixes_of _plan.now) }
-    requires lawful { AreLawful _plan.now _outcomes.items }
-    ensures verdict { IfOk result (λ verdict. IsVerdict _plan.now verdict) }
-    ensures least { IfOk result (λ verdict. IsLeastMakespan _plan.now.shop verdict.value) }
-    ensures attained { IfOk result (λ verdict. span _plan.now.shop verdict.sequence ≡ verdict.value) }
-    ensures sequence { IfOk result (λ verdict. IsSequence _plan.now.shop.jobs verdict.sequence) }
-    ensures done { OnOk result (All IsDone _outcomes.items) }
-    ensures within { OnOk result (first_over_budget _plan.now ≡ None) }
-    ensures over { (number : ℕ) → result ≡ Err (RunFault.OverBudget number) → first_over_budget _plan.now ≡ Some number }
-{
-    Err(RunFault::Memory)
+impl From<AllocError> for RunFault {
+    ghost from_gives = { λ _ fault. fault ≡ Memory };
+
+    fn from(_error: AllocError) -> RunFault {
+        RunFault::Memory
+    }
 }
 
-/// The verdict of a plan, on one thread.
-pub fn solve_plain(_alloc: Global, _plan: &Plan) -> Result<Verdict, RunFault>
-    ensures verdict { IfOk result (λ verdict. IsVerdict _plan.now verdict) }
-    ensures least { IfOk result (λ verdict. IsLeastMakespan _plan.now.shop verdict.value) }
-    ensures attained { IfOk result (λ verdict. span _plan.now.shop verdict.sequence ≡ verdict.value) }
-    ensures sequence { IfOk result (λ verdict. IsSequence _plan.now.shop.jobs verdict.sequence) }
-    ensures within { OnOk result (first_over_budget _plan.now ≡ None) }
-    ensures over { (number : ℕ) → result ≡ Err (RunFault.OverBudget number) → first_over_budget _plan.now ≡ Some number }
+/// The verdict of a plan, by the outcomes of all its prefixes in order. The first that is not done decides a refusal.
+pub fn conclude(alloc: Global, plan: &Plan, outcomes: Vec<Outcome>) -> Result<Verdict, RunFault>
+    requires count { vec_len outcomes ≡ length (prefixes_of plan.now) }
+    requires lawful { AreLawful plan.now outcomes.items }
+    ensures verdict { IfOk result (λ verdict. IsVerdict plan.now verdict) }
+    ensures least { IfOk result (λ verdict. IsLeastMakespan plan.now.shop verdict.value) }
+    ensures attained { IfOk result (λ verdict. span plan.now.shop verdict.sequence ≡ verdict.value) }
+    ensures sequence { IfOk result (λ verdict. IsSequence plan.now.shop.jobs verdict.sequence) }
+    ensures within { OnOk result (first_over_budget plan.now ≡ None) }
+    ensures over { (number : ℕ) → result ≡ Err (RunFault.OverBudget number) → first_over_budget plan.now ≡ Some number }
+    ensures done { OnOk result (All IsDone outcomes.items) }
+    ensures refused { IfErr result (λ fault. (first_refusal 0 outcomes.items ≡ Some fault) ⊎ ((first_refusal 0 outcomes.items ≡ None) × (fault ≡ Memory))) }
 {
-    Err(RunFault::Memory)
+    let count = plan.prefixes();
+    if let Some(fault) = refusal_among(&outcomes) {
+        return Err(fault);
+    }
+    let mut tally = Tally::new(alloc, count as usize)?;
+    for outcome in outcomes {
+        if let Outcome::Done { best, tree } = outcome {
+            tally.add(best, tree)?;
+        }
+    }
+    let verdict = tally.verdict(alloc, plan)?;
+    Ok(verdict)
+}
+
+/// The verdict of a plan, on one thread. It ends at the first outcome that is not done.
+pub fn solve_plain(alloc: Global, plan: &Plan) -> Result<Verdict, RunFault>
+    ensures verdict { IfOk result (λ verdict. IsVerdict plan.now verdict) }
+    ensures least { IfOk result (λ verdict. IsLeastMakespan plan.now.shop verdict.value) }
+    ensures attained { IfOk result (λ verdict. span plan.now.shop verdict.sequence ≡ verdict.value) }
+    ensures sequence { IfOk result (λ verdict. IsSequence plan.now.shop.jobs verdict.sequence) }
+    ensures within { OnOk result (first_over_budget plan.now ≡ None) }
+    ensures over { (number : ℕ) → result ≡ Err (RunFault.OverBudget number) → first_over_budget plan.now ≡ Some number }
+{
+    let count = plan.prefixes();
+    let mut tally = Tally::new(alloc, count as usize)?;
+    for number in 0..count {
+        match answer(alloc, plan, number) {
+            Outcome::Done { best, tree } => tally.add(best, tree)?,
+            Outcome::OverBudget => return Err(RunFault::OverBudget(number)),
+            Outcome::NoMemory | Outcome::NoPrefix => return Err(RunFault::Memory),
+        }
+    }
+    let verdict = tally.verdict(alloc, plan)?;
+    Ok(verdict)
+}
+
+/// The fault of the first outcome that is not done.
+fn refusal_among(outcomes: &[Outcome]) -> Option<RunFault>
+    requires { length outcomes.now ≤ MAX_PREFIXES }
+    ensures { result ≡ first_refusal 0 outcomes.now }
+{
+    for (number, outcome) in outcomes.iter().enumerate() {
+        match outcome {
+            Outcome::Done { .. } => {}
+            Outcome::OverBudget => return Some(RunFault::OverBudget(number as u32)),
+            Outcome::NoMemory | Outcome::NoPrefix => return Some(RunFault::Memory),
+        }
+    }
+    None
 }

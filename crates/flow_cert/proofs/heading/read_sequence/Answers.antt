@@ -1,0 +1,90 @@
+use Rattle.std.proofs.Common.{◌≡◌, ℕ, ◌+◌, ◌-◌, ◌≤◌, ◌<◌, Bool, true, false, List, [], ◌∷◌, ◌++◌, length, ap, sym, slice_index, ◌∙◌, inl, inr, arith}
+use Rattle.std.proofs.lemmas.Bool.{false≢true}
+use Rattle.flow_core.specs.declared.limits.TheConstants.{MAX_JOBS}
+use Rattle.flow_core.specs.JobSet.{contains}
+use Rattle.flow_core.specs.Sequences.{has}
+use Rattle.flow_core.specs.Paths.{span}
+use Rattle.flow_core.proofs.Fronts.{front-within}
+use Rattle.flow_cert.specs.Heading.{BeginsWithJob}
+use Rattle.flow_cert.proofs.SequenceLine.{IsDone, begins, next-job, end_of, ended, end-byte, as-read, done-more, all-done, only-done}
+use Rattle.flow_cert.proofs.heading.read_sequence.Goals as goal
+use Rattle.flow_cert.proofs.heading.read_sequence.Goals.{then-place-jobs, else-place-jobs}
+
+pub loop-place-init : goal.loop-place-init
+loop-place-init c =
+    begins c.args.instance.now c.args.text.now c.none-scheduled.result c.empty-front.result c.jobs-jobs.ensures.limits.some_job
+    (c.empty-front.ensures.front c.args.instance.now) c.none-scheduled.ensures.empty
+
+pub returns-in_err-job-clause-only : goal.returns-in_err-job-clause-only
+returns-in_err-job-clause-only c jobs rest h =
+    let n : ℕ = c.args.instance.now.jobs in
+    let done = c.loop-place.invariant.0 in
+    let is = c.loop-place.invariant.1 in
+    let within : c.loop-place.place ≤ n = omega (arith, c.loop-place-test.true, c.jobs-jobs.ensures.value) in
+    let byte : c.if-place-jobs.end ≡ end_of (n - length done) =
+        end-byte n c.loop-place.place (length done) c.if-place-jobs.end is.count within
+        (elim c.if-place-jobs.branch [
+          | then-place-jobs w ↦ inl (w.if-place-jobs.true ∙ c.jobs-jobs.ensures.value, w.end-is)
+          | else-place-jobs w ↦ inr ((λ e. w.if-place-jobs.false (e ∙ sym c.jobs-jobs.ensures.value)), w.end-is)
+        ]) in
+    let next = next-job c.args.instance.now c.args.text.now c.loop-place.place c.loop-place.scheduled c.loop-place.front c.loop-place.rest.now done is within jobs rest h in
+    let there : List ℕ = ended (n - length done - 1) next.1 ++ rest in
+    absurd (c.in_err-job.ensures.only next.0 there (as-read n c.jobs-jobs.result c.loop-place.rest.now (end_of (n - length done)) c.if-place-jobs.end next.0 there c.jobs-jobs.ensures.value byte next.3))
+
+pub returns-then-contains-clause-only : goal.returns-then-contains-clause-only
+returns-then-contains-clause-only c jobs rest h =
+    let n : ℕ = c.args.instance.now.jobs in
+    let done = c.loop-place.invariant.0 in
+    let is = c.loop-place.invariant.1 in
+    let within : c.loop-place.place ≤ n = omega (arith, c.loop-place-test.true, c.jobs-jobs.ensures.value) in
+    let byte : c.if-place-jobs.end ≡ end_of (n - length done) =
+        end-byte n c.loop-place.place (length done) c.if-place-jobs.end is.count within
+        (elim c.if-place-jobs.branch [
+          | then-place-jobs w ↦ inl (w.if-place-jobs.true ∙ c.jobs-jobs.ensures.value, w.end-is)
+          | else-place-jobs w ↦ inr ((λ e. w.if-place-jobs.false (e ∙ sym c.jobs-jobs.ensures.value)), w.end-is)
+        ]) in
+    let next = next-job c.args.instance.now c.args.text.now c.loop-place.place c.loop-place.scheduled c.loop-place.front c.loop-place.rest.now done is within jobs rest h in
+    let there : List ℕ = ended (n - length done - 1) next.1 ++ rest in
+    let same = c.in_ok-job.ensures.only next.0 there (as-read n c.jobs-jobs.result c.loop-place.rest.now (end_of (n - length done)) c.if-place-jobs.end next.0 there c.jobs-jobs.ensures.value byte next.3) in
+    let small : c.in_ok-job.job ≤ MAX_JOBS = omega (arith, c.in_ok-job.ensures.found.1, c.jobs-jobs.ensures.value, c.jobs-jobs.ensures.limits.jobs) in
+    absurd (false≢true (sym next.4 ∙ ap (has done) (sym same.0) ∙ sym (is.members c.in_ok-job.job c.in_ok-job.ensures.found.0 small) ∙ sym c.contains.ensures.value ∙ c.if-contains.true))
+
+pub front_push-requires-clause-within : goal.front_push-requires-clause-within
+front_push-requires-clause-within c =
+    let done = c.loop-place.invariant.0 in
+    let is = c.loop-place.invariant.1 in
+    front-within c.args.instance.now done c.loop-place.front c.jobs-jobs.ensures.limits (omega (arith, is.count, c.loop-place-test.true, c.jobs-jobs.ensures.value)) is.times
+
+pub loop-place-preserved : goal.loop-place-preserved
+loop-place-preserved c =
+    let n : ℕ = c.args.instance.now.jobs in
+    let done = c.loop-place.invariant.0 in
+    let is = c.loop-place.invariant.1 in
+    let within : c.loop-place.place ≤ n = omega (arith, c.loop-place-test.true, c.jobs-jobs.ensures.value) in
+    let byte : c.if-place-jobs.end ≡ end_of (n - length done) =
+        end-byte n c.loop-place.place (length done) c.if-place-jobs.end is.count within
+        (elim c.if-place-jobs.branch [
+          | then-place-jobs w ↦ inl (w.if-place-jobs.true ∙ c.jobs-jobs.ensures.value, w.end-is)
+          | else-place-jobs w ↦ inr ((λ e. w.if-place-jobs.false (e ∙ sym c.jobs-jobs.ensures.value)), w.end-is)
+        ]) in
+    (
+      done ++ c.in_ok-job.job ∷ [],
+      done-more c.args.instance.now c.args.text.now c.loop-place.place c.loop-place.scheduled c.loop-place.front c.loop-place.rest.now c.insert.new.self c.front_push.new.front c.in_ok-job.after.now c.in_ok-job.job done
+          is within c.jobs-jobs.ensures.limits.jobs
+          (as-read c.jobs-jobs.result n c.loop-place.rest.now c.if-place-jobs.end (end_of (n - length done)) c.in_ok-job.job c.in_ok-job.after.now (sym c.jobs-jobs.ensures.value) (sym byte) c.in_ok-job.ensures.found)
+          (λ job rest h. c.in_ok-job.ensures.only job rest (as-read n c.jobs-jobs.result c.loop-place.rest.now (end_of (n - length done)) c.if-place-jobs.end job rest c.jobs-jobs.ensures.value byte h))
+          (sym c.contains.ensures.value ∙ c.if-contains.false) c.contains.ensures.size c.insert.ensures.value (c.front_push.ensures.front done is.times),
+    )
+
+pub returns-clause-found : goal.returns-clause-found
+returns-clause-found c =
+    let n : ℕ = c.args.instance.now.jobs in
+    let done = c.loop-place.invariant.0 in
+    let is = c.loop-place.invariant.1 in
+    let last : c.loop-place.place ≡ n + 1 = omega (arith, c.loop-place-test.false, c.loop-place.auto.place-end, c.jobs-jobs.ensures.value) in
+    let machines = c.machines-machines.ensures.value in
+    let limits = c.jobs-jobs.ensures.limits in (
+      done,
+      all-done c.args.instance.now c.args.text.now c.loop-place.place c.loop-place.scheduled c.loop-place.front c.loop-place.rest.now done is last limits.some_job,
+      sym (c.at.ensures ∙ ap (λ m. slice_index c.loop-place.front (m - 1)) machines ∙ is.times c.args.instance.now.machines limits.some_machine (omega arith)),
+    )

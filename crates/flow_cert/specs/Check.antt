@@ -1,0 +1,17 @@
+-- What a check answers.
+use Rattle.std.specs.Prelude.{ℕ, ◌≡◌, List, Err}
+use Rattle.flow_core.specs.Shop.{Shop}
+use Rattle.flow_cert.specs.Certificate.{IsCertificate}
+use Rattle.flow_cert.specs.Faults.{certificate_value}
+use Rattle.flow_cert.specs.declared.fault.CheckFault.{CheckFault}
+use Rattle.flow_cert.specs.declared.fault.CheckFault.TheVariants.{Memory}
+
+-- a fault, want of memory aside, is the first of a text
+abbrev pub IsFirstFault : Shop → List ℕ → CheckFault → Type 0
+IsFirstFault shop bytes Memory = Unit {0}
+IsFirstFault shop bytes fault = certificate_value shop bytes ≡ Err fault
+
+-- where there is a fault, want of memory aside, the text is a lawful certificate of no value
+abbrev pub IsOfNoValue : Shop → List ℕ → CheckFault → Type 0
+IsOfNoValue shop bytes Memory = Unit {0}
+IsOfNoValue shop bytes fault = (value : ℕ) → ¬ IsCertificate shop bytes value

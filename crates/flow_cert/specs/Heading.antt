@@ -1,0 +1,29 @@
+-- What the lines before the trees begin with.
+use Rattle.std.specs.Prelude.{ℕ, ◌≡◌, ◌≤◌, ◌<◌, ◌+◌, ◌-◌, ◌*◌, ◌^◌, Bool, ◌&&◌, not, nat_eq, nat_lt, List, [], ◌∷◌, ◌++◌}
+use Rattle.std.specs.Fmt.{decimal}
+use Rattle.flow_core.specs.declared.limits.TheConstants.{MAX_DEPTH}
+use Rattle.flow_core.specs.Sequences.{IsSequence}
+use Rattle.flow_cert.specs.Certificate.{line, spaced}
+use Rattle.flow_cert.specs.Faults.{is_digit}
+
+-- a text begins with a number below 2^64 in decimal, and a byte that ends it
+abbrev pub BeginsWithNumber : List ℕ → ℕ → ℕ → List ℕ → Type 0
+BeginsWithNumber text end number rest = (number < 2 ^ 64) × (text ≡ decimal number ++ end ∷ rest)
+
+-- whether a byte is a further digit of a number below 2^64 without leading zeros, behind the value of earlier digits, if any
+abbrev pub is_further : ℕ → Bool → ℕ → Bool
+is_further value started byte =
+    is_digit byte && not (started && nat_eq value 0) && nat_lt (value * 10 + (byte - 48)) (2 ^ 64)
+
+-- a text begins with one of the jobs from 1 to n, and a byte that ends it
+abbrev pub BeginsWithJob : ℕ → List ℕ → ℕ → ℕ → List ℕ → Type 0
+BeginsWithJob n text end job rest = (1 ≤ job) × (job ≤ n) × (text ≡ decimal job ++ end ∷ rest)
+
+-- a text begins with the line of so many jobs and machines, and a depth
+abbrev pub BeginsWithSize : ℕ → ℕ → List ℕ → ℕ → List ℕ → Type 0
+BeginsWithSize jobs machines text depth rest =
+    (depth ≤ jobs) × (depth ≤ MAX_DEPTH) × (text ≡ line (spaced (jobs ∷ machines ∷ depth ∷ [])) ++ rest)
+
+-- a text begins with the line of a sequence
+abbrev pub BeginsWithSequence : ℕ → List ℕ → List ℕ → List ℕ → Type 0
+BeginsWithSequence n text jobs rest = IsSequence n jobs × (text ≡ line (spaced jobs) ++ rest)

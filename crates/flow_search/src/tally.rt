@@ -1,0 +1,85 @@
+//! What the first prefixes of a plan come to.
+
+ghost use Rattle.std.specs.Prelude.{◌≡◌, ℕ, ◌+◌, ◌<◌, length, IfOk, OnOk};
+ghost use Rattle.flow_core.specs.Paths.{span};
+ghost use Rattle.flow_core.specs.Sequences.{IsSequence, IsLeastMakespan};
+ghost use Rattle.flow_search.specs.Plans.{Planned, prefixes_of};
+ghost use Rattle.flow_search.specs.Outcomes.{IsLawful, first_over_budget};
+ghost use Rattle.flow_search.specs.Verdicts.{IsTally, IsVerdict, undercuts};
+ghost use Rattle.flow_search.specs.declared.outcome.Outcome.TheVariants.{Done};
+
+use crate::outcome::Best;
+use crate::plan::Plan;
+use crate::verdict::Verdict;
+use flow_core::Sequence;
+use std::alloc::{AllocError, Global};
+
+/// The trees of the first prefixes, and the first least of their bests.
+#[derive(Drop)]
+pub struct Tally {
+    pub trees: Vec<Vec<u8>>,
+    pub best: Option<Best>,
+}
+
+/// Whether a best undercuts another; where one is missing the other is the lower.
+fn undercuts(next: &Option<Best>, least: &Option<Best>) -> bool
+    ensures { result ≡ undercuts next.now least.now }
+{
+    match (next, least) {
+        (Some(next), Some(least)) => next.value < least.value,
+        (Some(_), None) => true,
+        (None, _) => false,
+    }
+}
+
+impl Tally {
+    /// The tally of no prefix, with room for so many trees.
+    pub fn new(alloc: Global, count: usize) -> Result<Tally, AllocError>
+        ensures { IfOk result (λ tally. (plan : Planned) → IsTally plan 0 tally) }
+    {
+        Ok(Tally {
+            trees: Vec::with_capacity(alloc, count)?,
+            best: None,
+        })
+    }
+
+    /// Adds what the next prefix comes to.
+    pub fn add(&mut self, best: Option<Best>, tree: Vec<u8>) -> Result<(), AllocError>
+        ensures { OnOk result ((plan : Planned) (number : ℕ) → number < length (prefixes_of plan) → IsTally plan number self.old →
+            IsLawful plan number (Done best tree) → IsTally plan (number + 1) self.new) }
+    {
+        if undercuts(&best, &self.best) {
+            self.best = best;
+        }
+        self.trees.push(tree)?;
+        Ok(())
+    }
+
+    /// The verdict, once all prefixes are in.
+    pub fn verdict(self, alloc: Global, plan: &Plan) -> Result<Verdict, AllocError>
+        requires { IsTally plan.now (length (prefixes_of plan.now)) self }
+        ensures verdict { IfOk result (λ verdict. IsVerdict plan.now verdict) }
+        ensures least { IfOk result (λ verdict. IsLeastMakespan plan.now.shop verdict.value) }
+        ensures attained { IfOk result (λ verdict. span plan.now.shop verdict.sequence ≡ verdict.value) }
+        ensures sequence { IfOk result (λ verdict. IsSequence plan.now.shop.jobs verdict.sequence) }
+    {
+        let start = plan.start();
+        let Tally { trees, best } = self;
+        if let Some(Best { value, sequence }) = best {
+            return Ok(Verdict {
+                value,
+                sequence,
+                trees,
+            });
+        }
+        // The start is a sequence of the instance, so that nothing but a growth can be refused.
+        let Ok(sequence) = Sequence::new(alloc, plan.instance(), start.jobs()) else {
+            return Err(AllocError);
+        };
+        Ok(Verdict {
+            value: plan.start_value(),
+            sequence,
+            trees,
+        })
+    }
+}
