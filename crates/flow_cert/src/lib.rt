@@ -2,13 +2,15 @@
 #![tactic(auto)]
 
 mod checker;
-mod cut_bound;
+mod claim;
 mod fault;
 mod gathered;
 mod heading;
 mod laws;
 mod lines;
+mod node;
 mod number;
+mod rows;
 mod tree;
 mod trees;
 mod writer;

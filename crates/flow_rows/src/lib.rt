@@ -2,7 +2,11 @@
 #![tactic(auto)]
 
 #[cfg(test)]
+mod bounds;
+#[cfg(test)]
 mod bytes;
+#[cfg(test)]
+mod certificates;
 #[cfg(test)]
 mod instances;
 #[cfg(test)]
