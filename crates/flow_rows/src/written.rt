@@ -40,7 +40,10 @@ fn certificate_has_fifty_bytes(rt: HostRuntime) -> Result<(), Fail> {
     let mut sink = MemorySink::new(alloc, 50);
     let written = write(alloc, &three_machines(alloc)?, 0, &mut sink)?;
     assert_eq!(rt; written, Ok(()));
-    assert_eq!(rt; sink.bytes(), b"flowshop certificate 1\n3 3 0\n12\n3 1 2\n+BC++.B\nend\n".as_slice());
+    assert_eq!(rt;
+        sink.bytes(),
+        b"flowshop certificate 1\n3 3 0\n12\n3 1 2\n+BC++.B\nend\n".as_slice()
+    );
     Ok(())
 }
 
@@ -48,9 +51,18 @@ fn certificate_has_fifty_bytes(rt: HostRuntime) -> Result<(), Fail> {
 fn certificate_has_a_tree_for_each_prefix(rt: HostRuntime) -> Result<(), Fail> {
     let alloc = rt.alloc();
     let trees: [(u32, &[u8]); 3] = [
-        (1, b"flowshop certificate 1\n3 3 1\n12\n3 1 2\nB\nC\n++.B\nend\n"),
-        (2, b"flowshop certificate 1\n3 3 2\n12\n3 1 2\nB\nB\nC\nB\n+.\nB\nend\n"),
-        (3, b"flowshop certificate 1\n3 3 3\n12\n3 1 2\n.\n.\n.\n.\n.\n.\nend\n"),
+        (
+            1,
+            b"flowshop certificate 1\n3 3 1\n12\n3 1 2\nB\nC\n++.B\nend\n",
+        ),
+        (
+            2,
+            b"flowshop certificate 1\n3 3 2\n12\n3 1 2\nB\nB\nC\nB\n+.\nB\nend\n",
+        ),
+        (
+            3,
+            b"flowshop certificate 1\n3 3 3\n12\n3 1 2\n.\n.\n.\n.\n.\n.\nend\n",
+        ),
     ];
     for (depth, text) in trees {
         let mut sink = MemorySink::new(alloc, 100);
@@ -67,7 +79,10 @@ fn start_stands_where_no_sequence_is_below_it(rt: HostRuntime) -> Result<(), Fai
     let mut sink = MemorySink::new(alloc, 100);
     let written = write(alloc, &two_machines(alloc)?, 0, &mut sink)?;
     assert_eq!(rt; written, Ok(()));
-    assert_eq!(rt; sink.bytes(), b"flowshop certificate 1\n3 2 0\n9\n2 3 1\n+BBB\nend\n".as_slice());
+    assert_eq!(rt;
+        sink.bytes(),
+        b"flowshop certificate 1\n3 2 0\n9\n2 3 1\n+BBB\nend\n".as_slice()
+    );
     Ok(())
 }
 
@@ -78,6 +93,9 @@ fn one_job_on_one_machine_has_a_certificate(rt: HostRuntime) -> Result<(), Fail>
     let mut sink = MemorySink::new(alloc, 100);
     let written = write(alloc, &instance, 0, &mut sink)?;
     assert_eq!(rt; written, Ok(()));
-    assert_eq!(rt; sink.bytes(), b"flowshop certificate 1\n1 1 0\n0\n1\nA\nend\n".as_slice());
+    assert_eq!(rt;
+        sink.bytes(),
+        b"flowshop certificate 1\n1 1 0\n0\n1\nA\nend\n".as_slice()
+    );
     Ok(())
 }
