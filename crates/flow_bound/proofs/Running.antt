@@ -10,8 +10,7 @@ use Rattle.flow_core.specs.Least.{least, greatest}
 use Rattle.flow_core.proofs.Extremes.{greatest-append, map-map-append}
 use Rattle.flow_core.proofs.JobsLeft.{numbers-more}
 use Rattle.flow_core.proofs.Recurrence.{time_between-more, time_between-none}
-use Rattle.flow_bound.specs.Capped.{capped}
-use Rattle.flow_bound.proofs.Steps.{capped-push, capped-is, least-le-first, time_between-small}
+use Rattle.flow_bound.proofs.Steps.{capped, capped-push, capped-is, least-le-first, time_between-small}
 
 -- a value that is written for one more number
 pub done-more : (f : ℕ → ℕ) (xs : List ℕ) (k value : ℕ) → 1 ≤ k → k - 1 < length xs → value ≡ f k → ((j : ℕ) → 1 ≤ j → j < k → slice_index xs (j - 1) ≡ f j) → (j : ℕ) → 1 ≤ j → j < k + 1 → slice_index (set xs (k - 1) value) (j - 1) ≡ f j
@@ -96,7 +95,7 @@ tail-small shop job machine limits =
     let most : shop.machines ≤ MAX_MACHINES = limits.machines in
     omega (arith, time_between-small shop job (machine + 1) shop.machines (omega arith) limits, most)
 
-zeros : (n i : ℕ) → slice_index (replicate n 0) i ≡ 0
+pub zeros : (n i : ℕ) → slice_index (replicate n 0) i ≡ 0
 zeros zero i = refl
 zeros (suc n) zero = refl
 zeros (suc n) (suc i) = zeros n i

@@ -14,7 +14,11 @@ use Rattle.flow_core.specs.Front.{IsFrontOf}
 use Rattle.flow_core.specs.Sequences.{jobs_left, IsSequence, Extends}
 use Rattle.flow_core.specs.Bound.{machine_bound}
 use Rattle.flow_core.proofs.Admissible.{admissible-front}
-use Rattle.flow_bound.specs.Capped.{capped}
+
+-- the least of a list and a cap
+abbrev pub capped : ℕ → List ℕ → ℕ
+capped cap [] = cap
+capped cap (x ∷ xs) = min x (capped cap xs)
 
 -- one more job, which the set has or not
 pub kept-step : (f : ℕ → ℕ) (p : ℕ → Bool) (k : ℕ) → 1 ≤ k → kept f p (k + 1 - 1) ≡ kept f p (k - 1) + cond (p k) (f k) 0

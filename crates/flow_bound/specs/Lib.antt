@@ -1,4 +1,3 @@
 pub mod Totals
 pub mod Neh
 pub mod Taillard
-pub mod Capped

@@ -1,42 +1,35 @@
-use Rattle.flow_core.specs.Bound.{bound_at}
-use Rattle.std.proofs.Common.{◌≡◌, ◌≢◌, ℕ, zero, suc, ◌+◌, ◌-◌, ◌≤◌, Bool, true, false, cond, not, List, [], ◌∷◌, ◌++◌, drop, Ok, Err, refl, ap, sym, ◌∙◌, arith, append_assoc}
-use Rattle.std.specs.List.{filter, range_with_len, flat_map}
+-- The steps of reading the lines of the trees.
+use Rattle.std.proofs.Common.{◌≡◌, ◌≢◌, ℕ, zero, suc, ◌+◌, ◌-◌, List, [], ◌∷◌, ◌++◌, drop, Ok, Err, refl, ap, ◌∙◌, arith, append_assoc}
+use Rattle.std.specs.List.{flat_map}
 use Rattle.flow_core.specs.Shop.{Shop}
-use Rattle.flow_core.specs.JobSet.{contains}
-use Rattle.flow_core.specs.Sequences.{has, extensions}
+use Rattle.flow_core.specs.Bound.{bound_at}
+use Rattle.flow_core.specs.Sequences.{extensions}
 use Rattle.flow_cert.specs.Faults.{read_tree, after_tree, trees_value}
-use Rattle.flow_cert.specs.Stack.{children, awaited, IsAt, LinesGive}
+use Rattle.flow_cert.specs.Stack.{children, awaited, IsNext, LinesGive}
 use Rattle.flow_cert.specs.declared.fault.CheckFault.{CheckFault}
 use Rattle.flow_cert.specs.declared.fault.CheckFault.TheVariants.{Memory, Header, Size, Value, Sequence, NotAttained, Tree, Weak, Low, End}
-use Rattle.flow_cert.proofs.Stacks.{children-next}
+use Rattle.flow_cert.proofs.Links.{children-next, children-none}
 
-pub last-ok : (shop : Shop) (value more left line : ℕ) (node bs after : List ℕ) (rest : List (List ℕ)) → more ≡ 0 → read_tree shop bound_at value line left node bs ≡ Ok (10 ∷ after) →
-    trees_value shop bound_at value (left - more) (extensions shop.jobs more node ++ rest) line bs ≡ trees_value shop bound_at value (left - more) rest (line + 1) after
-last-ok shop value (suc more) left line node bs after rest none h = absurd (omega (arith, none))
-last-ok shop value zero left line node bs after rest none h =
+pub last-ok : (shop : Shop) (value more left line : ℕ) (list bs after : List ℕ) (rest : List (List ℕ)) → more ≡ 0 → read_tree shop bound_at value line left list bs ≡ Ok (10 ∷ after) →
+    trees_value shop bound_at value (left - more) (extensions shop.jobs more list ++ rest) line bs ≡ trees_value shop bound_at value (left - more) rest (line + 1) after
+last-ok shop value (suc more) left line list bs after rest none h = absurd (omega (arith, none))
+last-ok shop value zero left line list bs after rest none h =
     let e : left - 0 ≡ left = omega arith in
-    ap (λ l. after_tree line (trees_value shop bound_at value (left - 0) rest (line + 1)) (read_tree shop bound_at value line l node bs)) e
+    ap (λ l. after_tree line (trees_value shop bound_at value (left - 0) rest (line + 1)) (read_tree shop bound_at value line l list bs)) e
     ∙ ap (after_tree line (trees_value shop bound_at value (left - 0) rest (line + 1))) h
 
-pub awaited-start : (n more : ℕ) (node : List ℕ) → more ≢ 0 → extensions n more node ≡ awaited n more node 1
-awaited-start n zero node some = absurd (some refl)
-awaited-start n (suc more) node some = let e : more ≡ suc more - 1 = omega arith in ap (λ m. flat_map (λ j. extensions n m (node ++ j ∷ [])) (children n node 1)) e
+pub awaited-start : (n more : ℕ) (list : List ℕ) → more ≢ 0 → extensions n more list ≡ awaited n more list 1
+awaited-start n zero list some = absurd (some refl)
+awaited-start n (suc more) list some = let e : more ≡ suc more - 1 = omega arith in ap (λ m. flat_map (λ j. extensions n m (list ++ j ∷ [])) (children n list 1)) e
 
-pub awaited-skip : (shop : Shop) (more : ℕ) (node front : List ℕ) (flags : List Bool) (left job : ℕ) → IsAt shop node front flags left → 1 ≤ job → job ≤ shop.jobs → contains flags job ≡ false → awaited shop.jobs more node job ≡ awaited shop.jobs more node (job + 1)
-awaited-skip shop more node front flags left job at low high out =
-    let p : ℕ → Bool = λ j. not (has node j) in
-    let len : shop.jobs + 1 - job ≡ suc (shop.jobs - job) = omega arith in
-    let rest : shop.jobs - job ≡ shop.jobs + 1 - (job + 1) = omega arith in
-    ap (flat_map (λ j. extensions shop.jobs (more - 1) (node ++ j ∷ [])))
-    (ap (λ n. filter p (range_with_len job n)) len
-    ∙ ap (λ b. cond b (job ∷ filter p (range_with_len (job + 1) (shop.jobs - job))) (filter p (range_with_len (job + 1) (shop.jobs - job)))) (sym (at.free job low high) ∙ out)
-    ∙ ap (λ n. filter p (range_with_len (job + 1) n)) rest)
+pub awaited-none : (n more : ℕ) (list : List ℕ) (last job : ℕ) → IsNext n list last job → job ≡ 0 → awaited n more list (last + 1) ≡ []
+awaited-none n more list last job is none = ap (flat_map (λ j. extensions n (more - 1) (list ++ j ∷ []))) (children-none n list last job is none)
 
-pub awaited-next : (shop : Shop) (more : ℕ) (node front : List ℕ) (flags : List Bool) (left job : ℕ) (rest : List (List ℕ)) → IsAt shop node front flags left → 1 ≤ job → job ≤ shop.jobs → contains flags job ≡ true →
-    awaited shop.jobs more node job ++ rest ≡ extensions shop.jobs (more - 1) (node ++ job ∷ []) ++ (awaited shop.jobs more node (job + 1) ++ rest)
-awaited-next shop more node front flags left job rest at low high there =
-    ap (λ js. flat_map (λ j. extensions shop.jobs (more - 1) (node ++ j ∷ [])) js ++ rest) (children-next shop node front flags left job job at low (omega arith) high there (λ k from to. absurd (omega (arith, from, to))))
-    ∙ append_assoc (extensions shop.jobs (more - 1) (node ++ job ∷ [])) (awaited shop.jobs more node (job + 1)) rest
+pub awaited-next : (n more : ℕ) (list : List ℕ) (last job : ℕ) (rest : List (List ℕ)) → IsNext n list last job → job ≢ 0 →
+    awaited n more list (last + 1) ++ rest ≡ extensions n (more - 1) (list ++ job ∷ []) ++ (awaited n more list (job + 1) ++ rest)
+awaited-next n more list last job rest is some =
+    ap (λ js. flat_map (λ j. extensions n (more - 1) (list ++ j ∷ [])) js ++ rest) (children-next n list last job is some)
+    ∙ append_assoc (extensions n (more - 1) (list ++ job ∷ [])) (awaited n more list (job + 1)) rest
 
 abbrev Bad : Shop → ℕ → ℕ → List (List ℕ) → ℕ → ℕ → List ℕ → CheckFault → Type 0
 Bad shop value left prefixes line from bytes fault = (rest : List (List ℕ)) → trees_value shop bound_at value left (prefixes ++ rest) line (drop from bytes) ≡ Err fault

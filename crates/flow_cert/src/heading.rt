@@ -23,7 +23,7 @@ pub(crate) struct Heading<'a> {
     pub(crate) trees: &'a [u8],
 }
 
-/// What follows the first line.
+/// What follows the first line, where a text begins with it.
 fn read_title(text: &[u8]) -> Option<&[u8]>
     ensures found { IfSome result (λ rest. text.now ≡ line title ++ rest.now) }
     ensures only { (rest : List ℕ) → text.now ≡ line title ++ rest → IsSomeAnd result (λ r. r.now ≡ rest) }
@@ -31,7 +31,7 @@ fn read_title(text: &[u8]) -> Option<&[u8]>
     text.strip_prefix(TITLE)
 }
 
-/// The depth in the line of so many jobs and machines, and what follows that line.
+/// The depth in the line of so many jobs and machines with which a text begins, and what follows that line.
 fn read_size(jobs: u16, machines: u16, text: &[u8]) -> Option<(u16, &[u8])>
     ensures found { IfSome result (λ r. BeginsWithSize jobs machines text.now r.0 r.1.now) }
     ensures only { (depth : ℕ) (rest : List ℕ) → BeginsWithSize jobs machines text.now depth rest → IsSomeAnd result (λ r. (r.0 ≡ depth) × (r.1.now ≡ rest)) }
@@ -61,7 +61,7 @@ fn read_job(text: &[u8], end: u8, jobs: u16) -> Option<(u16, &[u8])>
     Some((job as u16, rest))
 }
 
-/// The makespan of the sequence in the next line, and what follows that line.
+/// The makespan of the sequence in the line with which a text begins, and what follows that line.
 fn read_sequence<'a>(instance: &Instance, text: &'a [u8]) -> Option<(u64, &'a [u8])>
     ensures found { IfSome result (λ r. (jobs : List ℕ) × BeginsWithSequence instance.now.jobs text.now jobs r.1.now × (span instance.now jobs ≡ r.0)) }
     ensures only { (jobs rest : List ℕ) → BeginsWithSequence instance.now.jobs text.now jobs rest → IsSomeAnd result (λ r. (r.0 ≡ span instance.now jobs) × (r.1.now ≡ rest)) }

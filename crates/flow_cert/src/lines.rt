@@ -1,50 +1,52 @@
+//! Reading the lines of the trees.
+
 ghost use Rattle.std.specs.Prelude.{◌≡◌, ℕ, ◌+◌, ◌-◌, ◌<◌, ◌≤◌, List, length, IfOk};
 ghost use Rattle.flow_core.specs.Sequences.{extensions};
+ghost use Rattle.flow_cert.specs.Rows.{AreRows};
 ghost use Rattle.flow_cert.specs.Stack.{IsAt, LinesGive};
 
+use crate::claim::Claim;
 use crate::fault::CheckFault;
+use crate::node::Node;
 use crate::tree::{Frame, tree_end};
-use flow_core::{Front, Instance, JobSet, front_push};
 
-/// A place in a text: a line, and where it begins.
+/// A place in a text: a line, counted from 1, and where it begins.
 #[derive(Drop)]
-pub struct Spot {
+pub(crate) struct Spot {
     pub(crate) line: usize,
     pub(crate) at: usize,
 }
 
-/// Reads the tree lines of the prefixes that put so many more jobs behind a list.
-pub fn lines_end(
-    instance: &Instance,
-    value: u64,
+/// Reads the lines of the prefixes that put so many more jobs behind a list, one tree in each.
+pub(crate) fn lines_end(
+    claim: &Claim,
     more: u16,
+    node: Node,
     left: u16,
+    links: &mut [u16],
     line: usize,
-    front: &Front,
-    set: &JobSet,
-    bytes: &[u8],
     from: usize,
     stack: &mut Vec<Frame>,
 ) -> Result<Spot, CheckFault>
-    requires at { (node : List ℕ) × IsAt instance.now node front.now set.now left }
+    requires rows { AreRows claim.now.instance.now claim.now.rows.now }
+    requires at { (list : List ℕ) × IsAt claim.now.instance.now list node links.old left }
     requires more { more ≤ left }
-    requires from { from ≤ length bytes.now }
+    requires from { from ≤ length claim.now.bytes.now }
     requires line { line ≤ from + 5 }
-    ensures within { IfOk result (λ spot. (spot.at ≤ length bytes.now) × (spot.line ≤ spot.at + 5)) }
-    ensures lines { (node : List ℕ) → IsAt instance.now node front.now set.now left →
-        LinesGive instance.now value (left - more) (extensions instance.now.jobs more node) line from bytes.now result }
+    ensures within { IfOk result (λ spot. (spot.at ≤ length claim.now.bytes.now) × (spot.line ≤ spot.at + 5)) }
+    ensures back { IfOk result (λ _. links.new ≡ links.old) }
+    ensures lines { (list : List ℕ) → IsAt claim.now.instance.now list node links.old left →
+        LinesGive claim.now.instance.now claim.now.value (left - more) (extensions claim.now.instance.now.jobs more list) line from claim.now.bytes.now result }
 {
     if more == 0 {
-        let end = match tree_end(
-            instance, value, line, *front, *set, left, bytes, from, stack,
-        ) {
+        let end = match tree_end(claim, line, node, left, links, from, stack) {
             Ok(end) => end,
             Err(fault) => return Err(fault),
         };
-        if end >= bytes.len() {
+        if end >= claim.bytes.len() {
             return Err(CheckFault::Tree(line));
         }
-        if bytes[end] != 10 {
+        if claim.bytes[end] != b'\n' {
             return Err(CheckFault::Tree(line));
         }
         return Ok(Spot {
@@ -52,35 +54,25 @@ pub fn lines_end(
             at: end + 1,
         });
     }
-    let jobs = instance.jobs();
     let mut place = line;
     let mut at = from;
-    for job in 1..jobs + 1 {
-        if !set.contains(job) {
-            continue;
+    let mut last = 0;
+    'children: loop {
+        let job = links[last as usize];
+        if job == 0 {
+            return Ok(Spot { line: place, at });
         }
-        let mut child = *front;
-        front_push(instance, &mut child, job);
-        let mut rest = *set;
-        rest.remove(job);
-        match lines_end(
-            instance,
-            value,
-            more - 1,
-            left - 1,
-            place,
-            &child,
-            &rest,
-            bytes,
-            at,
-            stack,
-        ) {
+        let child = node.child(claim, job);
+        links[last as usize] = links[job as usize];
+        match lines_end(claim, more - 1, child, left - 1, links, place, at, stack) {
             Ok(spot) => {
                 place = spot.line;
                 at = spot.at;
             }
             Err(fault) => return Err(fault),
         }
+        links[last as usize] = job;
+        last = job;
+        continue 'children;
     }
-    Ok(Spot { line: place, at })
 }

@@ -4,7 +4,8 @@ ghost use Rattle.std.specs.Prelude.{◌≡◌, ℕ, ◌+◌, ◌-◌, ◌*◌, �
 ghost use Rattle.std.specs.Option.{IsSomeAnd, SomeIff};
 ghost use Rattle.flow_cert.specs.Heading.{BeginsWithNumber, is_further};
 
-/// The number with one more digit behind those that came before it, if there were some.
+/// The number with one more digit behind those that came before it, if some did. `None` for a byte that is no digit, a
+/// digit behind a leading zero, or a number of 2^64 and more.
 fn with_digit(value: u64, started: bool, byte: u8) -> Option<u64>
     ensures { SomeIff result (is_further value started byte ≡ true) (value * 10 + (byte - 48)) }
 {

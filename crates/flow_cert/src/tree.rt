@@ -1,137 +1,134 @@
-ghost use Rattle.std.specs.Prelude.{◌≡◌, ℕ, ◌+◌, ◌-◌, ◌<◌, ◌≤◌, List, length, drop, reverse};
-ghost use Rattle.flow_core.specs.Shop.{IsWithinLimits};
-ghost use Rattle.flow_core.specs.declared.limits.TheConstants.{MAX_JOBS};
+//! Reading one tree.
+
+ghost use Rattle.std.specs.Prelude.{◌≡◌, ℕ, ◌+◌, ◌-◌, ◌<◌, ◌≤◌, List, length, drop, IfOk};
 ghost use Rattle.flow_core.specs.Bound.{bound_at};
 ghost use Rattle.flow_cert.specs.Faults.{read_tree};
-ghost use Rattle.flow_cert.specs.Stack.{IsAt, IsNext, StepGives, TreeGives};
+ghost use Rattle.flow_cert.specs.Rows.{AreRows};
+ghost use Rattle.flow_cert.specs.Stack.{IsAt, IsChild, StepGives, TreeGives, grown, left_before};
 
-use crate::cut_bound::bound;
+use crate::claim::Claim;
 use crate::fault::CheckFault;
-use flow_core::{Front, Instance, JobSet, front_push};
+use crate::node::{Node, bound, makespan_at};
 
-/// A node whose child is being read: its front, and the child.
+/// A list whose child is being read: the child's job, and the job that leads to it.
 #[derive(Drop)]
-pub struct Frame {
-    front: Front,
+pub(crate) struct Frame {
+    node: Node,
     job: u16,
+    last: u16,
 }
 
-/// The next member of a set, from one job to the last.
-fn next_member(set: &JobSet, from: u16, last: u16) -> Option<u16>
-    requires from { 1 ≤ from }
-    requires last { last ≤ MAX_JOBS }
-    ensures { IsNext set.now from last result }
-{
-    for job in from..last + 1 {
-        if set.contains(job) {
-            return Some(job);
-        }
-    }
-    None
-}
-
-/// Reads one byte of a tree: whether the trees of the children follow it.
+/// Reads one byte of a tree at a list, or at its child: whether the trees of the children follow it.
 fn step(
-    instance: &Instance,
-    value: u64,
+    claim: &Claim,
     place: usize,
-    front: &Front,
-    set: &JobSet,
+    node: &Node,
+    links: &[u16],
+    child: Option<u16>,
     left: u16,
     byte: u8,
 ) -> Result<bool, CheckFault>
-    requires { (node : List ℕ) × IsAt instance.now node front.now set.now left }
-    ensures { (node : List ℕ) → IsAt instance.now node front.now set.now left → StepGives instance.now value place left node byte result }
+    requires rows { AreRows claim.now.instance.now claim.now.rows.now }
+    requires at { (list : List ℕ) × IsAt claim.now.instance.now list node.now links.now (left_before child left) × IsChild claim.now.instance.now.jobs list child }
+    ensures { (list : List ℕ) → IsAt claim.now.instance.now list node.now links.now (left_before child left) → IsChild claim.now.instance.now.jobs list child →
+        StepGives claim.now.instance.now claim.now.value place left (grown list child) byte result }
 {
-    let machines = instance.machines();
+    let machines = claim.instance.machines();
     if left == 0 {
-        if byte != 46 {
+        if byte != b'.' {
             return Err(CheckFault::Tree(place));
         }
-        if front.at(machines) < value {
+        if makespan_at(claim, node, child) < claim.value {
             return Err(CheckFault::Low(place));
         }
         return Ok(false);
     }
-    if byte == 43 {
+    if byte == b'+' {
         return Ok(true);
     }
-    if byte <= 64 {
+    if byte < b'A' {
         return Err(CheckFault::Tree(place));
     }
-    let machine = u16::from(byte - 64);
+    let machine = u16::from(byte - b'A') + 1;
     if machine > machines {
         return Err(CheckFault::Tree(place));
     }
-    if bound(instance, front, set, machine) < value {
+    if bound(claim, node, links, child, machine) < claim.value {
         return Err(CheckFault::Weak(place));
     }
     Ok(false)
 }
 
-/// Reads one tree from a place on, and answers where the text goes on.
-pub fn tree_end(
-    instance: &Instance,
-    value: u64,
+/// Reads the tree of a list from a place on, and answers where the text goes on.
+pub(crate) fn tree_end(
+    claim: &Claim,
     place: usize,
-    mut front: Front,
-    mut set: JobSet,
+    mut node: Node,
     left: u16,
-    bytes: &[u8],
+    links: &mut [u16],
     from: usize,
     stack: &mut Vec<Frame>,
 ) -> Result<usize, CheckFault>
-    requires at { (node : List ℕ) × IsAt instance.now node front set left }
-    requires from { from ≤ length bytes.now }
-    ensures { (node : List ℕ) → IsAt instance.now node front set left → TreeGives from bytes.now result (read_tree instance.now bound_at value place left node (drop from bytes.now)) }
+    requires rows { AreRows claim.now.instance.now claim.now.rows.now }
+    requires at { (list : List ℕ) × IsAt claim.now.instance.now list node links.old left }
+    requires from { from ≤ length claim.now.bytes.now }
+    ensures back { IfOk result (λ _. links.new ≡ links.old) }
+    ensures tree { (list : List ℕ) → IsAt claim.now.instance.now list node links.old left →
+        TreeGives from claim.now.bytes.now result (read_tree claim.now.instance.now bound_at claim.now.value place left list (drop from claim.now.bytes.now)) }
 {
-    let jobs = instance.jobs();
-    if from >= bytes.len() {
+    if from >= claim.bytes.len() {
         return Err(CheckFault::Tree(place));
     }
-    if !step(instance, value, place, &front, &set, left, bytes[from])? {
+    let open = match step(claim, place, &node, links, None, left, claim.bytes[from]) {
+        Ok(open) => open,
+        Err(fault) => return Err(fault),
+    };
+    if !open {
         return Ok(from + 1);
     }
     stack.clear();
     let mut below = left - 1;
     let mut at = from + 1;
-    let mut next = 1;
+    let mut last = 0;
     'children: loop {
-        match next_member(&set, next, jobs) {
-            Some(job) => {
-                if at >= bytes.len() {
-                    return Err(CheckFault::Tree(place));
-                }
-                let mut child = front;
-                front_push(instance, &mut child, job);
-                set.remove(job);
-                let open = match step(instance, value, place, &child, &set, below, bytes[at]) {
-                    Ok(open) => open,
-                    Err(fault) => return Err(fault),
-                };
-                if open {
-                    stack.push(Frame { front, job })?;
-                    front = child;
-                    below -= 1;
-                    next = 1;
-                    at += 1;
-                    continue 'children;
-                }
-                set.insert(job);
-                next = job + 1;
-                at += 1;
-                continue 'children;
-            }
-            None => match stack.pop() {
+        let job = links[last as usize];
+        if job == 0 {
+            match stack.pop() {
                 Some(frame) => {
-                    set.insert(frame.job);
-                    front = frame.front;
-                    next = frame.job + 1;
+                    links[frame.last as usize] = frame.job;
+                    node = frame.node;
+                    last = frame.job;
                     below += 1;
                     continue 'children;
                 }
                 None => return Ok(at),
-            },
+            }
         }
+        if at >= claim.bytes.len() {
+            return Err(CheckFault::Tree(place));
+        }
+        let open = match step(
+            claim,
+            place,
+            &node,
+            links,
+            Some(job),
+            below,
+            claim.bytes[at],
+        ) {
+            Ok(open) => open,
+            Err(fault) => return Err(fault),
+        };
+        at += 1;
+        if open {
+            let child = node.child(claim, job);
+            links[last as usize] = links[job as usize];
+            stack.push(Frame { node, job, last })?;
+            node = child;
+            below -= 1;
+            last = 0;
+            continue 'children;
+        }
+        last = job;
     }
 }

@@ -1,15 +1,33 @@
 //! Reading the trees of a certificate.
 
-ghost use Rattle.std.specs.Prelude.{◌≤◌, length};
+ghost use Rattle.std.specs.Prelude.{◌≡◌, ◌+◌, ◌≤◌, [], length, IfOk};
+ghost use Rattle.flow_core.specs.declared.limits.TheConstants.{MAX_JOBS};
+ghost use Rattle.flow_cert.specs.Stack.{AreLinks};
 ghost use Rattle.flow_cert.specs.Trees.{TreesGive};
 
+use crate::claim::Claim;
 use crate::fault::CheckFault;
 use crate::lines::lines_end;
-use flow_core::{Front, Instance, JobSet};
-use std::alloc::Global;
+use crate::node::Node;
+use crate::rows::rows;
+use flow_core::Instance;
+use std::alloc::{AllocError, Global};
 
 /// The line of the first tree, counted from 1.
 const FIRST_TREE: usize = 5;
+
+/// The links of the empty list: each job leads to the next.
+fn all_links(alloc: Global, jobs: u16) -> Result<Vec<u16>, AllocError>
+    requires { jobs ≤ MAX_JOBS }
+    ensures { IfOk result (λ links. AreLinks jobs [] links.items) }
+{
+    let mut links = Vec::with_capacity(alloc, jobs as usize + 1)?;
+    for job in 1..jobs + 1 {
+        links.push(job)?;
+    }
+    links.push(0)?;
+    Ok(links)
+}
 
 /// Reads the trees of the cut at a depth, from the beginning of the fifth line on, and answers where the last line begins.
 pub(crate) fn trees_end(
@@ -25,11 +43,25 @@ pub(crate) fn trees_end(
     ensures { TreesGive instance.now depth value from bytes.now result }
 {
     let jobs = instance.jobs();
+    let rows = rows(alloc, instance)?;
+    let mut links = all_links(alloc, jobs)?;
     let mut stack = Vec::with_capacity(alloc, (jobs - depth) as usize)?;
-    let front = Front::empty();
-    let set = JobSet::all(instance);
+    let claim = Claim {
+        instance,
+        rows: rows.as_slice(),
+        value,
+        bytes,
+    };
+    let node = Node::root(instance);
     match lines_end(
-        instance, value, depth, jobs, FIRST_TREE, &front, &set, bytes, from, &mut stack,
+        &claim,
+        depth,
+        node,
+        jobs,
+        links.as_mut_slice(),
+        FIRST_TREE,
+        from,
+        &mut stack,
     ) {
         Ok(spot) => Ok(spot.at),
         Err(fault) => Err(fault),

@@ -13,7 +13,10 @@ use std::test::Fail;
 fn put_all_stops_at_a_full_sink(rt: HostRuntime) -> Result<(), Fail> {
     let mut sink = MemorySink::new(rt.alloc(), 10);
     assert!(rt; !sink.failed());
-    assert_eq!(rt; put_all(&mut sink, TWO_MACHINES_TEXT), Err(WriteFault::Device));
+    assert_eq!(rt;
+        put_all(&mut sink, TWO_MACHINES_TEXT),
+        Err(WriteFault::Device)
+    );
     assert_eq!(rt; sink.bytes(), b"number of ".as_slice());
     assert!(rt; sink.failed());
     Ok(())
@@ -33,7 +36,10 @@ fn read_all_reads_to_the_end_or_names_its_fault(rt: HostRuntime) -> Result<(), F
     let alloc = rt.alloc();
     let mut source = MemorySource::new(b"abcde", 2, None);
     assert!(rt; !source.failed());
-    assert_eq!(rt; read_all(alloc, &mut source, 5)?.as_slice(), b"abcde".as_slice());
+    assert_eq!(rt;
+        read_all(alloc, &mut source, 5)?.as_slice(),
+        b"abcde".as_slice()
+    );
     let mut source = MemorySource::new(b"abcde", 2, None);
     assert!(rt; !source.failed());
     match read_all(alloc, &mut source, 4) {
@@ -90,7 +96,10 @@ fn library_readers_and_writers_are_sources_and_sinks(rt: HostRuntime) -> Result<
     let alloc = rt.alloc();
     let mut source = StdSource::new(b"flow shop".as_slice());
     assert!(rt; !source.failed());
-    assert_eq!(rt; read_all(alloc, &mut source, 100)?.as_slice(), b"flow shop".as_slice());
+    assert_eq!(rt;
+        read_all(alloc, &mut source, 100)?.as_slice(),
+        b"flow shop".as_slice()
+    );
     let mut kept: Vec<u8> = Vec::new(alloc);
     let mut sink = StdSink::new(&mut kept);
     assert!(rt; !sink.failed());

@@ -20,4 +20,5 @@ pub(crate) fn two_machines(alloc: Global) -> Result<Instance, InstanceFault>
 }
 
 /// The text of the second of them.
-pub(crate) const TWO_MACHINES_TEXT: &[u8] = b"number of jobs, number of machines, initial seed, upper bound and lower bound :\n3 2 0 0 0\nprocessing times :\n3 1 2\n2 4 2\n";
+pub(crate) const TWO_MACHINES_TEXT: &[u8] =
+    b"number of jobs, number of machines, initial seed, upper bound and lower bound :\n3 2 0 0 0\nprocessing times :\n3 1 2\n2 4 2\n";

@@ -2,10 +2,16 @@
 #![tactic(auto)]
 
 #[cfg(test)]
+mod bounds;
+#[cfg(test)]
 mod bytes;
+#[cfg(test)]
+mod certificates;
 #[cfg(test)]
 mod instances;
 #[cfg(test)]
 mod text;
 #[cfg(test)]
 mod values;
+#[cfg(test)]
+mod written;

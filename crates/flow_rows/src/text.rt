@@ -84,7 +84,10 @@ fn wild_numbers_are_named(rt: HostRuntime) -> Result<(), Fail> {
     let limits = b"a\n4294967295 4294967295 1 1 1\n";
     assert_eq!(rt; fault_of(alloc, limits)?, TextFault::Limits(2));
     let block = only_block(alloc, b"a\n1 1 4294967295 4294967295 4294967295\nb\n5\n")?;
-    assert_eq!(rt; (block.seed, block.upper, block.lower), (u32::MAX, u32::MAX, u32::MAX));
+    assert_eq!(rt;
+        (block.seed, block.upper, block.lower),
+        (u32::MAX, u32::MAX, u32::MAX)
+    );
     assert!(rt; is_same(&block.instance, &Instance::new(alloc, 1, 1, &[5])?));
     Ok(())
 }
@@ -165,7 +168,11 @@ fn prefixes_of_a_text_miss_what_is_behind_them(rt: HostRuntime) -> Result<(), Fa
         if length > 0 && (length == 1 || whole[length - 2] == b'\n') {
             line = line.wrapping_add(1);
         }
-        assert_eq!(rt; fault_of(alloc, prefix)?, missing(length, line), "at {length}");
+        assert_eq!(rt;
+            fault_of(alloc, prefix)?,
+            missing(length, line),
+            "at {length}"
+        );
     }
     let block = only_block(alloc, &whole[..120])?;
     assert_eq!(rt; (block.seed, block.upper, block.lower), (0, 0, 0));

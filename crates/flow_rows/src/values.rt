@@ -98,21 +98,38 @@ fn job_set_is_a_set(rt: HostRuntime) -> Result<(), Fail> {
     let mut set = JobSet::all(&instance);
     assert_eq!(rt; set.count(), 3);
     set.remove(2);
-    assert_eq!(rt; (set.contains(1), set.contains(2), set.contains(3)), (true, false, true));
+    assert_eq!(rt;
+        (set.contains(1), set.contains(2), set.contains(3)),
+        (true, false, true)
+    );
     assert_eq!(rt; set.contains(4), false);
     assert_eq!(rt; set.count(), 2);
     let mut other = JobSet::none();
     assert_eq!(rt; other.count(), 0);
     other.insert(500);
-    assert_eq!(rt; (other.contains(500), other.contains(499), other.count()), (true, false, 1));
+    assert_eq!(rt;
+        (other.contains(500), other.contains(499), other.count()),
+        (true, false, 1)
+    );
     Ok(())
 }
 
 #[test]
 fn generator_follows_its_vectors(rt: HostRuntime) -> Result<(), Fail> {
     let rows: [(u32, &[(u32, u32)]); 3] = [
-        (1, &[(16_807, 1), (282_475_249, 14), (1_622_650_073, 75), (984_943_658, 46)]),
-        (873_654_221, &[(1_160_797_808, 54), (1_787_309_708, 83), (313_008_120, 15)]),
+        (
+            1,
+            &[
+                (16_807, 1),
+                (282_475_249, 14),
+                (1_622_650_073, 75),
+                (984_943_658, 46),
+            ],
+        ),
+        (
+            873_654_221,
+            &[(1_160_797_808, 54), (1_787_309_708, 83), (313_008_120, 15)],
+        ),
         (2_147_483_646, &[(2_147_466_840, 99)]),
     ];
     for (seed, steps) in rows {
@@ -142,7 +159,14 @@ fn generated_instances_begin_as_published(rt: HostRuntime) -> Result<(), Fail> {
     let instance = generate(alloc, 20, 5, 873_654_221)?;
     assert_eq!(rt; (instance.jobs(), instance.machines()), (20, 5));
     assert!(rt; instance.jobs() >= 3 && instance.machines() >= 1);
-    assert_eq!(rt; (instance.time(1, 1), instance.time(2, 1), instance.time(3, 1)), (54, 83, 15));
+    assert_eq!(rt;
+        (
+            instance.time(1, 1),
+            instance.time(2, 1),
+            instance.time(3, 1)
+        ),
+        (54, 83, 15)
+    );
     let rows = [
         (0, 2, 1, InstanceFault::Jobs),
         (2, 0, 1, InstanceFault::Machines),

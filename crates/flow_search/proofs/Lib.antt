@@ -7,3 +7,4 @@ pub mod Nodes
 pub mod Prefixes
 pub mod CutLemmas
 pub mod Tallies
+pub mod CutOrder

@@ -5,3 +5,4 @@ pub mod Plans
 pub mod Outcomes
 pub mod Verdicts
 pub mod Nodes
+pub mod Cuts

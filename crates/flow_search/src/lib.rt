@@ -10,7 +10,7 @@ mod subtree;
 mod tally;
 mod verdict;
 
-pub use laws::{verdict_is_least, walk_is_tree};
+pub use laws::{cut_is_ordered, cut_parts, verdict_is_least, walk_is_tree};
 pub use options::{OptionFault, Options};
 pub use outcome::{Best, Outcome, answer};
 pub use plan::{Plan, PlanFault, prepare};

@@ -3,7 +3,7 @@ use Rattle.std.specs.List.{filter, sum_by}
 use Rattle.flow_core.specs.declared.limits.TheConstants.{MAX_TIME}
 use Rattle.flow_core.specs.Shop.{numbers, time, time_between}
 use Rattle.flow_core.specs.JobSet.{contains}
-use Rattle.flow_bound.specs.Capped.{capped}
+use Rattle.flow_bound.proofs.Steps.{capped}
 use Rattle.flow_bound.proofs.machine_bound.bound.Given as goal
 
 -- the sum and the least tail are those of the jobs so far that the set has

@@ -5,7 +5,7 @@ use Rattle.std.proofs.lemmas.List.{get_or-set_same}
 use Rattle.flow_core.specs.declared.limits.TheConstants.{MAX_MACHINES, MAX_TIME}
 use Rattle.flow_core.specs.Shop.{numbers, time, time_between}
 use Rattle.flow_core.specs.Least.{least}
-use Rattle.flow_bound.specs.Capped.{capped}
+use Rattle.flow_bound.proofs.Steps.{capped}
 use Rattle.flow_bound.proofs.Running.{done-more, others-stay, head-step, head-small, tail-small, time_between-split, sum-step, least-step, least-of-jobs}
 use Rattle.flow_bound.proofs.machine_load.load_of.Goals as goal
 

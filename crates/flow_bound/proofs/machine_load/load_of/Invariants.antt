@@ -2,7 +2,7 @@ use Rattle.std.proofs.Common.{◌≡◌, ℕ, ◌+◌, ◌-◌, ◌*◌, ◌<◌
 use Rattle.std.specs.List.{sum_by}
 use Rattle.flow_core.specs.declared.limits.TheConstants.{MAX_JOBS, MAX_TIME}
 use Rattle.flow_core.specs.Shop.{numbers, time, time_between}
-use Rattle.flow_bound.specs.Capped.{capped}
+use Rattle.flow_bound.proofs.Steps.{capped}
 use Rattle.flow_bound.proofs.machine_load.load_of.Given as goal
 
 -- the heads so far are those of the next machine; the least head, the sum and the least tail are those of the jobs so far

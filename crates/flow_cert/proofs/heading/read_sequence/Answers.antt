@@ -88,3 +88,16 @@ returns-clause-found c =
       all-done c.args.instance.now c.args.text.now c.loop-place.place c.loop-place.scheduled c.loop-place.front c.loop-place.rest.now done is last limits.some_job,
       sym (c.at.ensures ∙ ap (λ m. slice_index c.loop-place.front (m - 1)) machines ∙ is.times c.args.instance.now.machines limits.some_machine (omega arith)),
     )
+
+pub returns-clause-only : goal.returns-clause-only
+returns-clause-only c jobs rest h =
+    let n : ℕ = c.args.instance.now.jobs in
+    let done = c.loop-place.invariant.0 in
+    let is = c.loop-place.invariant.1 in
+    let last : c.loop-place.place ≡ n + 1 = omega (arith, c.loop-place-test.false, c.loop-place.auto.place-end, c.jobs-jobs.ensures.value) in
+    let machines = c.machines-machines.ensures.value in
+    let limits = c.jobs-jobs.ensures.limits in
+    let same = only-done c.args.instance.now c.args.text.now c.loop-place.place c.loop-place.scheduled c.loop-place.front c.loop-place.rest.now done is last jobs rest h in (
+      c.at.ensures ∙ ap (λ m. slice_index c.loop-place.front (m - 1)) machines ∙ is.times c.args.instance.now.machines limits.some_machine (omega arith) ∙ ap (span c.args.instance.now) same.0,
+      same.1,
+    )

@@ -1,31 +1,39 @@
+use Rattle.std.proofs.Common.{◌≡◌, suc, ◌+◌, ◌-◌, ap, subst, ◌∙◌, arith}
 use Rattle.flow_core.specs.Bound.{bound_at}
-use Rattle.std.proofs.Common.{◌-◌, ◌≤◌, arith}
-use Rattle.flow_core.proofs.Fronts.{front-within}
+use Rattle.flow_cert.specs.Stack.{IsAt, grown, left_before}
 use Rattle.flow_cert.proofs.TreeBytes.{cut-before, cut-past, cut-weak, cut-strong}
-use Rattle.flow_cert.proofs.Stacks.{cut-is}
 use Rattle.flow_cert.proofs.tree.step.Goals as goal
 
-pub returns-then-byte-le64 : goal.returns-then-byte-le64
-returns-then-byte-le64 c node at = cut-before c.args.instance.now bound_at c.args.value c.args.place c.args.left node c.args.byte c.if-left-eq0.false c.if-byte-eq43.false c.if-byte-le64.true
+pub returns-then-byte-lt65 : goal.returns-then-byte-lt65
+returns-then-byte-lt65 c list at kid =
+    cut-before c.args.claim.now.instance.now bound_at c.args.claim.now.value c.args.place c.args.left (grown list c.args.child) c.args.byte c.if-left-eq0.false c.if-byte-eq43.false (omega (arith, c.if-byte-lt65.true))
 
 pub returns-then-machine-machines : goal.returns-then-machine-machines
-returns-then-machine-machines c node at = cut-past c.args.instance.now bound_at c.args.value c.args.place c.args.left node c.args.byte c.if-left-eq0.false c.if-byte-eq43.false c.if-byte-le64.false
-    (omega (arith, c.if-machine-machines.true, c.from-machine.ensures, c.machines-machines.ensures.value))
+returns-then-machine-machines c list at kid =
+    cut-past c.args.claim.now.instance.now bound_at c.args.claim.now.value c.args.place c.args.left (grown list c.args.child) c.args.byte c.if-left-eq0.false c.if-byte-eq43.false (omega (arith, c.if-byte-lt65.false))
+    (omega (arith, c.if-machine-machines.true, c.from-machine.ensures, c.machines-machines.ensures.value, c.if-byte-lt65.false))
 
-pub bound-requires-clause-within : goal.bound-requires-clause-within
-bound-requires-clause-within c =
-    front-within c.args.instance.now c.requires.0 c.args.front.now c.machines-machines.ensures.limits (omega (arith, c.requires.1.count)) c.requires.1.times
+pub bound-requires-clause-at : goal.bound-requires-clause-at
+bound-requires-clause-at c =
+    let more : c.args.left ≡ suc (c.args.left - 1) = omega (arith, c.if-left-eq0.false) in
+    (c.requires.at.0, c.args.left - 1, subst (λ n. IsAt c.args.claim.now.instance.now c.requires.at.0 c.args.node.now c.args.links.now (left_before c.args.child n)) more c.requires.at.1, c.requires.at.2)
 
-pub returns-then-bound-value : goal.returns-then-bound-value
-returns-then-bound-value c node at =
-    let within : c.args.byte - 64 ≤ c.args.instance.now.machines = omega (arith, c.if-machine-machines.false, c.from-machine.ensures, c.machines-machines.ensures.value) in
-    cut-weak c.args.instance.now bound_at c.args.value c.args.place c.args.left node c.args.byte c.bound.result c.if-left-eq0.false c.if-byte-eq43.false c.if-byte-le64.false within
-    (cut-is c.args.instance.now node c.args.front.now c.args.set.now c.args.left c.from-machine.result c.args.byte c.bound.result at c.from-machine.ensures c.if-byte-le64.false within c.bound.ensures)
-    c.if-bound-value.true
+pub returns-then-bound-claim : goal.returns-then-bound-claim
+returns-then-bound-claim c list at kid =
+    let more : c.args.left ≡ suc (c.args.left - 1) = omega (arith, c.if-left-eq0.false) in
+    let here : IsAt c.args.claim.now.instance.now list c.args.node.now c.args.links.now (left_before c.args.child (suc (c.args.left - 1))) = subst (λ n. IsAt c.args.claim.now.instance.now list c.args.node.now c.args.links.now (left_before c.args.child n)) more at in
+    let letter : c.from-machine.result + 1 ≡ c.args.byte - 64 = omega (arith, c.from-machine.ensures, c.if-byte-lt65.false) in
+    cut-weak c.args.claim.now.instance.now bound_at c.args.claim.now.value c.args.place c.args.left (grown list c.args.child) c.args.byte c.bound.result c.if-left-eq0.false c.if-byte-eq43.false (omega (arith, c.if-byte-lt65.false))
+    (omega (arith, c.if-machine-machines.false, letter, c.machines-machines.ensures.value))
+    (c.bound.ensures list (c.args.left - 1) here kid ∙ ap (bound_at c.args.claim.now.instance.now (grown list c.args.child)) letter)
+    c.if-bound-claim.true
 
 pub returns : goal.returns
-returns c node at =
-    let within : c.args.byte - 64 ≤ c.args.instance.now.machines = omega (arith, c.if-machine-machines.false, c.from-machine.ensures, c.machines-machines.ensures.value) in
-    cut-strong c.args.instance.now bound_at c.args.value c.args.place c.args.left node c.args.byte c.bound.result c.if-left-eq0.false c.if-byte-eq43.false c.if-byte-le64.false within
-    (cut-is c.args.instance.now node c.args.front.now c.args.set.now c.args.left c.from-machine.result c.args.byte c.bound.result at c.from-machine.ensures c.if-byte-le64.false within c.bound.ensures)
-    c.if-bound-value.false
+returns c list at kid =
+    let more : c.args.left ≡ suc (c.args.left - 1) = omega (arith, c.if-left-eq0.false) in
+    let here : IsAt c.args.claim.now.instance.now list c.args.node.now c.args.links.now (left_before c.args.child (suc (c.args.left - 1))) = subst (λ n. IsAt c.args.claim.now.instance.now list c.args.node.now c.args.links.now (left_before c.args.child n)) more at in
+    let letter : c.from-machine.result + 1 ≡ c.args.byte - 64 = omega (arith, c.from-machine.ensures, c.if-byte-lt65.false) in
+    cut-strong c.args.claim.now.instance.now bound_at c.args.claim.now.value c.args.place c.args.left (grown list c.args.child) c.args.byte c.bound.result c.if-left-eq0.false c.if-byte-eq43.false (omega (arith, c.if-byte-lt65.false))
+    (omega (arith, c.if-machine-machines.false, letter, c.machines-machines.ensures.value))
+    (c.bound.ensures list (c.args.left - 1) here kid ∙ ap (bound_at c.args.claim.now.instance.now (grown list c.args.child)) letter)
+    c.if-bound-claim.false

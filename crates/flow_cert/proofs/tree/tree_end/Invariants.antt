@@ -1,18 +1,17 @@
+use Rattle.std.proofs.Common.{◌≡◌, ℕ, ◌+◌, ◌-◌, ◌*◌, ◌≤◌, List, length, drop, reverse}
 use Rattle.flow_core.specs.Bound.{bound_at}
-use Rattle.std.proofs.Common.{◌≡◌, ℕ, ◌≤◌, ◌+◌, ◌-◌, ◌*◌, length, drop, reverse, List}
 use Rattle.flow_cert.specs.Faults.{read_tree}
-use Rattle.flow_cert.specs.Stack.{IsReading, IsAt}
+use Rattle.flow_cert.specs.Stack.{IsReading, IsAt, put_back}
 use Rattle.flow_cert.proofs.tree.tree_end.Given as goal
 
 abbrev pub invariant-children : goal.invariant-children
 invariant-children l = record {
   from : l.from ≤ l.at;
-  within : l.at ≤ length l.bytes;
-  next_from : 1 ≤ l.next;
-  next_to : l.next ≤ 501;
-  jobs : l.jobs ≡ l.instance.jobs;
-  reading : (root : List ℕ) → IsAt l.instance root l.fn.front l.fn.set l.fn.left → IsReading l.instance l.value l.place root (read_tree l.instance bound_at l.value l.place l.fn.left root (drop l.from l.bytes)) l.front l.set l.below l.next l.at l.bytes (reverse l.stack.items);
+  within : l.at ≤ length l.claim.bytes.now;
+  back : put_back l.links (reverse l.stack.items) ≡ l.fn.links;
+  reading : (root : List ℕ) → IsAt l.claim.instance.now root l.fn.node l.fn.links l.left →
+      IsReading l.claim.instance.now l.claim.value l.place root (read_tree l.claim.instance.now bound_at l.claim.value l.place l.left root (drop l.from l.claim.bytes.now)) l.node l.links l.below l.last l.at l.claim.bytes.now (reverse l.stack.items);
 }
 
 abbrev pub decreases-children : goal.decreases-children
-decreases-children l = 2 * (length l.bytes - l.at) + length l.stack.items
+decreases-children l = 2 * (length l.claim.bytes.now - l.at) + length l.stack.items

@@ -1,0 +1,145 @@
+-- The fronts, the times owed and the bounds of lists.
+use Rattle.std.proofs.Common.{◌≡◌, ◌≢◌, ℕ, zero, suc, ◌+◌, ◌-◌, ◌*◌, ◌<◌, ◌≤◌, Bool, true, false, cond, not, List, [], ◌∷◌, ◌++◌, length, slice_index, refl, ap, sym, ◌∙◌, subst, inl, inr, arith, set, length-append}
+use Rattle.std.specs.List.{filter, sum_by}
+use Rattle.std.proofs.lemmas.List.{get_or-set_same, get_or-set_other}
+use Rattle.std.proofs.lemmas.Bool.{cases_lt}
+use Rattle.flow_core.specs.declared.limits.TheConstants.{MAX_JOBS, MAX_MACHINES, MAX_TIME}
+use Rattle.flow_core.specs.Shop.{Shop, numbers, time, time_between, IsWithinLimits}
+use Rattle.flow_core.specs.Paths.{completion}
+use Rattle.flow_core.specs.Front.{IsFrontOf, IsWithinFront}
+use Rattle.flow_core.specs.Sequences.{has, jobs_left}
+use Rattle.flow_core.specs.Bound.{bound_at, front_of}
+use Rattle.flow_core.proofs.Recurrence.{after, completed, completion-is, completion-after, after-same}
+use Rattle.flow_core.proofs.Fronts.{free_at, front-within, time-small}
+use Rattle.flow_core.proofs.Admissible.{front_of-is}
+use Rattle.flow_core.proofs.JobsLeft.{kept, kept-more, filter-more}
+use Rattle.std.proofs.lemmas.Bool.Decides.{eqb_tells}
+use Rattle.flow_cert.specs.Stack.{IsNode, AreLows, tails, least_below, second_below, children}
+use Rattle.flow_cert.specs.declared.node.Node.{Node}
+use Rattle.flow_cert.specs.declared.node.Lows.{Lows}
+use Rattle.flow_cert.proofs.Links.{left-sum, left-count, left-split, left-without, left_under}
+use Rattle.flow_cert.proofs.LeastSteps.{Without, without-one, least-below-cap}
+use Rattle.flow_cert.proofs.RowSteps.{tail-small}
+
+-- one more job, which is kept or not
+pub kept-step : (f : ℕ → ℕ) (p : ℕ → Bool) (k : ℕ) → 1 ≤ k → kept f p (k + 1 - 1) ≡ kept f p (k - 1) + cond (p k) (f k) 0
+kept-step f p zero low = absurd (omega arith)
+kept-step f p (suc n) low =
+    let a : suc n + 1 - 1 ≡ suc n = omega arith in
+    let b : n ≡ suc n - 1 = omega arith in
+    ap (kept f p) a ∙ kept-more f p n ∙ ap (λ m. kept f p m + cond (p (suc n)) (f (suc n)) 0) b
+
+kept-small : (f : ℕ → ℕ) (p : ℕ → Bool) (most n : ℕ) → ((k : ℕ) → f k ≤ most) → kept f p n ≤ n * most
+kept-small f p most zero small = omega arith
+kept-small f p most (suc n) small = omega (arith, kept-more f p n, kept-small f p most n small, one (p (suc n)) (f (suc n)), small (suc n))
+  where
+    one : (b : Bool) (v : ℕ) → cond b v 0 ≤ v
+    one true v = omega arith
+    one false v = omega arith
+
+-- the time owed to the jobs left fits
+pub owed-small : (shop : Shop) (list : List ℕ) (machine : ℕ) → IsWithinLimits shop → sum_by (λ job. time shop job machine) (jobs_left shop.jobs list) ≤ shop.jobs * MAX_TIME
+owed-small shop list machine limits = kept-small (λ job. time shop job machine) (λ job. not (has list job)) MAX_TIME shop.jobs (λ k. time-small shop k machine limits)
+
+none-has : (n : ℕ) → length (jobs_left n []) ≡ n
+none-has zero = refl
+none-has (suc n) = omega (arith, ap length (filter-more (λ job. true) n), length-append (filter (λ job. true) (numbers 1 n)) (suc n ∷ []), none-has n)
+
+-- the empty list
+pub root-node : (shop : Shop) (node : Node) → IsFrontOf shop [] node.front →
+    ((machine : ℕ) → 1 ≤ machine → machine ≤ shop.machines → slice_index node.owed (machine - 1) ≡ sum_by (λ job. time shop job machine) (jobs_left shop.jobs [])) →
+    length node.owed ≡ MAX_MACHINES → IsNode shop [] node shop.jobs
+root-node shop node times owed size = record { times = times; owed = owed; size = size; count = omega arith; some = none-has shop.jobs }
+
+-- a list's child
+pub child-node : (shop : Shop) (list : List ℕ) (node child : Node) (left job : ℕ) → IsNode shop list node (suc left) → 1 ≤ job → job ≤ shop.jobs → has list job ≡ false →
+    IsFrontOf shop (list ++ job ∷ []) child.front → length child.owed ≡ MAX_MACHINES →
+    ((machine : ℕ) → 1 ≤ machine → machine ≤ shop.machines → slice_index child.owed (machine - 1) + time shop job machine ≡ slice_index node.owed (machine - 1)) →
+    IsNode shop (list ++ job ∷ []) child left
+child-node shop list node child left job is low high fresh times size less = record {
+  times = times;
+  owed = λ machine from to. omega (arith, less machine from to, is.owed machine from to, left-sum (λ j. time shop j machine) shop.jobs list job low high fresh);
+  size = size;
+  count = omega (arith, is.count, length-append list (job ∷ []));
+  some = omega (arith, is.some, left-count shop.jobs list job low high fresh);
+}
+
+-- what is owed to a job that is left is no more than what is owed to all
+pub owed-covers : (shop : Shop) (list : List ℕ) (node : Node) (left job machine : ℕ) → IsNode shop list node left → 1 ≤ job → job ≤ shop.jobs → has list job ≡ false → 1 ≤ machine → machine ≤ shop.machines →
+    time shop job machine ≤ slice_index node.owed (machine - 1)
+owed-covers shop list node left job machine is low high fresh from to =
+    omega (arith, is.owed machine from to, left-sum (λ j. time shop j machine) shop.jobs list job low high fresh)
+
+pub node-within : (shop : Shop) (list : List ℕ) (node : Node) (left : ℕ) → IsWithinLimits shop → IsNode shop list node left → IsWithinFront shop node.front
+node-within shop list node left limits is = front-within shop list node.front limits (omega (arith, is.count)) is.times
+
+-- the completion time of a child
+pub child-completion : (shop : Shop) (list front : List ℕ) (job machine : ℕ) → machine ≤ shop.machines → IsFrontOf shop list front → after shop (free_at front) job machine ≡ completion shop (list ++ job ∷ []) machine
+child-completion shop list front job machine to is =
+    after-same shop job (free_at front) (completed shop (λ _. 0) list) machine (λ k low high. is k low (omega (arith, high, to)) ∙ completion-is shop list k)
+    ∙ sym (completion-after shop list job machine)
+
+tails-append : (shop : Shop) (machine : ℕ) (us vs : List ℕ) → tails shop machine (us ++ vs) ≡ tails shop machine us ++ tails shop machine vs
+tails-append shop machine [] vs = refl
+tails-append shop machine (u ∷ us) vs = ap (λ xs. time_between shop u (machine + 1) shop.machines ∷ xs) (tails-append shop machine us vs)
+
+-- the bound of a list with jobs left
+pub own-bound : (shop : Shop) (list : List ℕ) (node : Node) (left machine : ℕ) (lows : Lows) → IsWithinLimits shop → IsNode shop list node (suc left) → 1 ≤ machine → machine ≤ shop.machines → AreLows shop list machine lows →
+    (slice_index node.front (machine - 1) + slice_index node.owed (machine - 1) + lows.least ≡ bound_at shop list machine) × (lows.least ≤ MAX_MACHINES * MAX_TIME)
+own-bound shop list node left machine lows limits is from to low =
+    let most : shop.machines ≤ MAX_MACHINES = limits.machines in
+    let cap = least-below-cap 4294967295 (MAX_MACHINES * MAX_TIME) (λ job. time_between shop job (machine + 1) shop.machines) (jobs_left shop.jobs list) (omega (arith, is.some))
+    (λ job. omega (arith, tail-small shop job (shop.machines - machine) machine limits (omega (arith, to)), most)) (omega arith) in
+    let front : slice_index node.front (machine - 1) ≡ slice_index (front_of shop list) (machine - 1) = is.times machine from to ∙ sym (front_of-is shop list machine from to) in
+    (omega (arith, front, is.owed machine from to, low.0, cap.0), omega (arith, low.0, cap.0, cap.1))
+
+-- the bound of a child with jobs left
+pub child-bound : (shop : Shop) (list : List ℕ) (node : Node) (left job machine free t tail behind : ℕ) (lows : Lows) → IsWithinLimits shop → IsNode shop list node (suc (suc left)) → 1 ≤ machine → machine ≤ shop.machines →
+    1 ≤ job → job ≤ shop.jobs → has list job ≡ false → AreLows shop list machine lows →
+    free ≡ completion shop (list ++ job ∷ []) machine → t ≡ time shop job machine → tail ≡ time_between shop job (machine + 1) shop.machines → Without tail lows.least lows.second behind →
+    (free + (slice_index node.owed (machine - 1) - t) + behind ≡ bound_at shop (list ++ job ∷ []) machine) × (behind ≤ MAX_MACHINES * MAX_TIME)
+child-bound shop list node left job machine free t tail behind lows limits is from to low high fresh are is_free is_t is_tail picked =
+    let most : shop.machines ≤ MAX_MACHINES = limits.machines in
+    let f : ℕ → ℕ = λ j. time_between shop j (machine + 1) shop.machines in
+    let us : List ℕ = left_under list job in
+    let vs : List ℕ = children shop.jobs list (job + 1) in
+    let whole : tails shop machine (jobs_left shop.jobs list) ≡ tails shop machine us ++ f job ∷ tails shop machine vs =
+    ap (tails shop machine) (left-split shop.jobs list job low high fresh) ∙ tails-append shop machine us (job ∷ vs) in
+    let rest : tails shop machine (jobs_left shop.jobs (list ++ job ∷ [])) ≡ tails shop machine us ++ tails shop machine vs =
+    ap (tails shop machine) (left-without shop.jobs list job low high) ∙ tails-append shop machine us vs in
+    let one : Without (f job) (least_below 4294967295 (tails shop machine us ++ f job ∷ tails shop machine vs)) (second_below 4294967295 4294967295 (tails shop machine us ++ f job ∷ tails shop machine vs)) (least_below 4294967295 (tails shop machine us ++ tails shop machine vs)) =
+    without-one (f job) 4294967295 4294967295 (tails shop machine us) (tails shop machine vs) (omega arith) in
+    let least_is : lows.least ≡ least_below 4294967295 (tails shop machine us ++ f job ∷ tails shop machine vs) = are.0 ∙ ap (least_below 4294967295) whole in
+    let second_is : lows.second ≡ second_below 4294967295 4294967295 (tails shop machine us ++ f job ∷ tails shop machine vs) = are.1 ∙ ap (second_below 4294967295 4294967295) whole in
+    let rest_is : least_below 4294967295 (tails shop machine (jobs_left shop.jobs (list ++ job ∷ []))) ≡ least_below 4294967295 (tails shop machine us ++ tails shop machine vs) = ap (least_below 4294967295) rest in
+    let behind_is : behind ≡ least_below 4294967295 (tails shop machine (jobs_left shop.jobs (list ++ job ∷ []))) =
+    same-without tail (f job) lows.least (least_below 4294967295 (tails shop machine us ++ f job ∷ tails shop machine vs)) lows.second (second_below 4294967295 4294967295 (tails shop machine us ++ f job ∷ tails shop machine vs)) behind (least_below 4294967295 (tails shop machine us ++ tails shop machine vs)) is_tail least_is second_is picked one ∙ sym rest_is in
+    let count = left-count shop.jobs list job low high fresh in
+    let cap = least-below-cap 4294967295 (MAX_MACHINES * MAX_TIME) f (jobs_left shop.jobs (list ++ job ∷ [])) (omega (arith, is.some, count))
+    (λ j. omega (arith, tail-small shop j (shop.machines - machine) machine limits (omega (arith, to)), most)) (omega arith) in
+    let front : free ≡ slice_index (front_of shop (list ++ job ∷ [])) (machine - 1) = is_free ∙ sym (front_of-is shop (list ++ job ∷ []) machine from to) in
+    let sum = left-sum (λ j. time shop j machine) shop.jobs list job low high fresh in
+    (omega (arith, front, is.owed machine from to, sum, is_t, behind_is, cap.0), omega (arith, behind_is, cap.0, cap.1))
+  where
+    same-without : (y z p q r s m n : ℕ) → y ≡ z → p ≡ q → r ≡ s → Without y p r m → Without z q s n → m ≡ n
+    same-without y z p q r s m n yz pq rs a b = elim (eqb_tells y p) [
+      | inl same ↦ omega (arith, a.0 same.1, b.0 (sym yz ∙ same.1 ∙ pq), rs)
+      | inr other ↦ omega (arith, a.1 other.1, b.1 (λ e. other.1 (yz ∙ e ∙ sym pq)), pq)
+    ]
+
+-- one more machine of a row
+pub filled-more : (P : ℕ → ℕ → Type 0) (xs : List ℕ) (machine v : ℕ) → 1 ≤ machine → machine - 1 < length xs → P machine v → ((k : ℕ) → 1 ≤ k → k < machine → P k (slice_index xs (k - 1))) →
+    (k : ℕ) → 1 ≤ k → k < machine + 1 → P k (slice_index (set xs (machine - 1) v) (k - 1))
+filled-more P xs machine v from within here done k low high = elim (cases_lt k machine) [
+  | inl earlier ↦
+      let other : k - 1 ≢ machine - 1 = omega (arith, earlier, low) in
+      subst (P k) (sym (get_or-set_other xs (machine - 1) (k - 1) v 0 other)) (done k low earlier)
+  | inr last ↦
+      let e : machine ≡ k = omega (arith, last, high) in
+      subst (λ i. P i (slice_index (set xs (machine - 1) v) (i - 1))) e (subst (P machine) (sym (get_or-set_same xs (machine - 1) v 0 within)) here)
+]
+
+pub owed-fits : (shop : Shop) (list : List ℕ) (node : Node) (left machine : ℕ) → IsWithinLimits shop → IsNode shop list node left → 1 ≤ machine → machine ≤ shop.machines → slice_index node.owed (machine - 1) ≤ MAX_JOBS * MAX_TIME
+owed-fits shop list node left machine limits is from to =
+    let most : shop.jobs ≤ MAX_JOBS = limits.jobs in
+    omega (arith, is.owed machine from to, owed-small shop list machine limits, most)

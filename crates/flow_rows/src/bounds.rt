@@ -1,0 +1,150 @@
+//! Bounds, and the starting sequence.
+
+ghost use Rattle.std.specs.Prelude.{◌≡◌, ℕ, ◌<◌, false, length, IfOk};
+ghost use Rattle.flow_core.specs.Front.{IsWithinFront};
+ghost use Rattle.flow_core.specs.JobSet.{contains, members};
+
+use crate::instances::{three_machines, two_machines};
+use flow_bound::{bound, neh, taillard_bound};
+use flow_core::{Front, Instance, JobSet, front_push, generate};
+use std::alloc::{AllocError, Global};
+use std::test::Fail;
+
+/// The front of a list, and the jobs that it leaves.
+fn node(instance: &Instance, jobs: &[u16]) -> Result<(Front, JobSet), Fail>
+    ensures within { IfOk result (λ node. IsWithinFront instance.now node.0) }
+    ensures left { IfOk result (λ node. (job : ℕ) → instance.now.jobs < job → contains node.1 job ≡ false) }
+    ensures some { IfOk result (λ node. 0 < length (members node.1)) }
+{
+    let most = instance.jobs();
+    if jobs.len() > most as usize {
+        return Err(Fail::from("more jobs than the instance has"));
+    }
+    let mut front = Front::empty();
+    let mut left = JobSet::all(instance);
+    for job in jobs {
+        if *job < 1 || *job > most {
+            return Err(Fail::from("no job of the instance"));
+        }
+        front_push(instance, &mut front, *job);
+        left.remove(*job);
+    }
+    if left.count() == 0 {
+        return Err(Fail::from("no job is left"));
+    }
+    Ok((front, left))
+}
+
+/// For each machine, when it is free and its bound.
+fn times_and_bounds(
+    alloc: Global,
+    instance: &Instance,
+    front: &Front,
+    left: &JobSet,
+) -> Result<Vec<(u64, u64)>, AllocError>
+    requires some { 0 < length (members left.now) }
+    requires left { (job : ℕ) → instance.now.jobs < job → contains left.now job ≡ false }
+    requires within { IsWithinFront instance.now front.now }
+{
+    let mut found = Vec::new(alloc);
+    for machine in 1..instance.machines() + 1 {
+        found.push((front.at(machine), bound(instance, front, left, machine)))?;
+    }
+    Ok(found)
+}
+
+/// The same at a list.
+fn table_row(alloc: Global, instance: &Instance, jobs: &[u16]) -> Result<Vec<(u64, u64)>, Fail> {
+    let (front, left) = node(instance, jobs)?;
+    Ok(times_and_bounds(alloc, instance, &front, &left)?)
+}
+
+#[test]
+fn bounds_of_three_machines_are_the_worked_ones(rt: HostRuntime) -> Result<(), Fail> {
+    let alloc = rt.alloc();
+    let instance = three_machines(alloc)?;
+    let rows: [(&[u16], &[(u64, u64)]); 10] = [
+        (&[], &[(0, 7), (0, 10), (0, 5)]),
+        (&[1], &[(4, 7), (4, 14), (8, 9)]),
+        (&[2], &[(0, 7), (8, 11), (8, 13)]),
+        (&[3], &[(0, 8), (2, 10), (3, 7)]),
+        (&[1, 2], &[(4, 7), (12, 15), (12, 13)]),
+        (&[1, 3], &[(4, 12), (6, 14), (9, 9)]),
+        (&[2, 1], &[(4, 7), (8, 11), (12, 13)]),
+        (&[2, 3], &[(0, 8), (10, 14), (11, 15)]),
+        (&[3, 1], &[(4, 12), (4, 12), (8, 8)]),
+        (&[3, 2], &[(0, 8), (10, 14), (10, 14)]),
+    ];
+    for (jobs, row) in rows {
+        assert_eq!(rt;
+            table_row(alloc, &instance, jobs)?.as_slice(),
+            row,
+            "at {jobs:?}"
+        );
+    }
+    Ok(())
+}
+
+#[test]
+fn bounds_of_two_machines_are_the_worked_ones(rt: HostRuntime) -> Result<(), Fail> {
+    let alloc = rt.alloc();
+    let instance = two_machines(alloc)?;
+    let rows: [(&[u16], &[(u64, u64)]); 4] = [
+        (&[], &[(0, 8), (0, 8)]),
+        (&[1], &[(3, 8), (5, 11)]),
+        (&[2], &[(1, 8), (5, 9)]),
+        (&[3], &[(2, 8), (4, 10)]),
+    ];
+    for (jobs, row) in rows {
+        assert_eq!(rt;
+            table_row(alloc, &instance, jobs)?.as_slice(),
+            row,
+            "at {jobs:?}"
+        );
+    }
+    Ok(())
+}
+
+#[test]
+fn starting_sequences_are_the_worked_ones(rt: HostRuntime) -> Result<(), Fail> {
+    let alloc = rt.alloc();
+    let rows: [(Instance, &[u16], u64); 3] = [
+        (three_machines(alloc)?, &[2, 1, 3], 13),
+        (two_machines(alloc)?, &[2, 3, 1], 9),
+        (generate(alloc, 2, 2, 1)?, &[1, 2], 122),
+    ];
+    for (instance, jobs, value) in &rows {
+        let (sequence, makespan) = neh(alloc, instance)?;
+        assert_eq!(rt; sequence.jobs(), *jobs);
+        assert_eq!(rt; makespan, *value);
+    }
+    Ok(())
+}
+
+#[test]
+fn taillard_bounds_are_the_worked_ones(rt: HostRuntime) -> Result<(), Fail> {
+    let alloc = rt.alloc();
+    assert_eq!(rt; taillard_bound(&three_machines(alloc)?), 10);
+    assert_eq!(rt; taillard_bound(&two_machines(alloc)?), 9);
+    assert_eq!(rt; taillard_bound(&generate(alloc, 2, 2, 1)?), 122);
+    assert_eq!(rt;
+        taillard_bound(&generate(alloc, 20, 5, 873_654_221)?),
+        1_232
+    );
+    Ok(())
+}
+
+#[test]
+fn one_job_on_one_machine_takes_its_time(rt: HostRuntime) -> Result<(), Fail> {
+    let alloc = rt.alloc();
+    let instance = generate(alloc, 1, 1, 2_147_483_646)?;
+    let (sequence, makespan) = neh(alloc, &instance)?;
+    assert_eq!(rt; sequence.jobs(), [1].as_slice());
+    assert_eq!(rt; makespan, 99);
+    assert_eq!(rt; taillard_bound(&instance), 99);
+    assert_eq!(rt;
+        table_row(alloc, &instance, &[])?.as_slice(),
+        [(0, 99)].as_slice()
+    );
+    Ok(())
+}
