@@ -6,4 +6,6 @@ mod bytes;
 #[cfg(test)]
 mod instances;
 #[cfg(test)]
+mod search;
+#[cfg(test)]
 mod values;
