@@ -10,6 +10,8 @@ mod certificates;
 #[cfg(test)]
 mod instances;
 #[cfg(test)]
+mod search;
+#[cfg(test)]
 mod text;
 #[cfg(test)]
 mod values;
