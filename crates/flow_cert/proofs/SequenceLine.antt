@@ -67,8 +67,7 @@ flip a b e = let other : b ≢ a = λ s. false≢true (sym e ∙ eq-eqb a b (sym
 pub distinct-push : (job : ℕ) (jobs : List ℕ) → AreDistinct jobs → has jobs job ≡ false → AreDistinct (jobs ++ job ∷ [])
 distinct-push job [] h new = (refl, tt)
 distinct-push job (j ∷ js) h new =
-    let parts = or-false (nat_eq job j) (has js job) new in
-    (
+    let parts = or-false (nat_eq job j) (has js job) new in (
       list_any-append (nat_eq j) js (job ∷ []) ∙ ap (λ b. b || (nat_eq j job || false)) h.0 ∙ ap (λ b. b || false) (flip job j parts.0),
       distinct-push job js h.1 parts.1,
     )

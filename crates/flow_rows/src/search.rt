@@ -32,7 +32,10 @@ fn options_name_first_fault(rt: HostRuntime) -> Result<(), Fail> {
         }
     }
     let options = Options::new(64, 3, 100_000_000)?;
-    assert_eq!(rt; (options.workers(), options.depth(), options.budget()), (64, 3, 100_000_000));
+    assert_eq!(rt;
+        (options.workers(), options.depth(), options.budget()),
+        (64, 3, 100_000_000)
+    );
     Ok(())
 }
 
@@ -157,7 +160,10 @@ fn solve_plain_gives_the_worked_verdicts(rt: HostRuntime) -> Result<(), Fail> {
     for (depth, trees) in (0..4u32).zip(rows) {
         let plan = prepare(alloc, &three, Options::new(1, depth, AMPLE)?)?;
         let verdict = solve_plain(alloc, &plan)?;
-        assert!(rt; is_verdict(&verdict, 12, &[3, 1, 2], trees), "at depth {depth}");
+        assert!(rt;
+            is_verdict(&verdict, 12, &[3, 1, 2], trees),
+            "at depth {depth}"
+        );
     }
     let two = two_machines(alloc)?;
     let plan = prepare(alloc, &two, Options::new(1, 0, AMPLE)?)?;

@@ -23,14 +23,18 @@ pub(crate) enum Order<'a> {
 /// What is asked for of a block.
 #[derive(Drop)]
 pub(crate) enum OfBlock<'a> {
-    Span { jobs: Vec<u16> },
+    Span {
+        jobs: Vec<u16>,
+    },
     Neh,
     Solve {
         workers: u32,
         depth: u32,
         budget: u32,
     },
-    Check { cert: &'a str },
+    Check {
+        cert: &'a str,
+    },
 }
 
 /// The grammar of the command line.
@@ -53,8 +57,20 @@ pub(crate) fn make_command<'a>(alloc: Global) -> Result<Command<'a>, AllocError>
         .about("Finds the least makespan, and writes a certificate of it")
         .arg(word(alloc, "FILE"))?
         .arg(number(alloc, "INDEX"))?
-        .arg(option(alloc, "workers", "K", "1", "How many workers there are, 1 to 64"))?
-        .arg(option(alloc, "depth", "D", "1", "How many jobs a prefix has, 0 to 3"))?
+        .arg(option(
+            alloc,
+            "workers",
+            "K",
+            "1",
+            "How many workers there are, 1 to 64",
+        ))?
+        .arg(option(
+            alloc,
+            "depth",
+            "D",
+            "1",
+            "How many jobs a prefix has, 0 to 3",
+        ))?
         .arg(option(alloc, "budget", "B", "1000000", "The most bytes of a tree"))?;
     let checked = Command::new(alloc, "check")
         .about("Checks a certificate, and prints the value that it proves least")
@@ -93,7 +109,13 @@ fn jobs<'a>(alloc: Global) -> Arg<'a> {
 }
 
 /// A number behind a long name, with a default.
-fn option<'a>(alloc: Global, name: &'a str, value: &'a str, default: &'a str, help: &'a str) -> Arg<'a> {
+fn option<'a>(
+    alloc: Global,
+    name: &'a str,
+    value: &'a str,
+    default: &'a str,
+    help: &'a str,
+) -> Arg<'a> {
     Arg::new(alloc, name)
         .long(name)
         .value_name(value)

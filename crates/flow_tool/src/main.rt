@@ -68,9 +68,9 @@ fn run<T: Threads + Wait + Sync>(rt: &HostRuntime, threads: &T) -> Result<(), St
         Ok(matches) => matches,
         Err(error) => {
             return match error.kind() {
-                ErrorKind::DisplayHelp => error.print(rt).map_err(|_| {
-                    Stop::Fault(ToolFault::Write(WriteFault::Device))
-                }),
+                ErrorKind::DisplayHelp => error
+                    .print(rt)
+                    .map_err(|_| { Stop::Fault(ToolFault::Write(WriteFault::Device)) }),
                 ErrorKind::OutOfMemory => Err(Stop::Memory),
                 _ => Err(Stop::CommandLine),
             };

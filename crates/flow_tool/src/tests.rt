@@ -30,9 +30,11 @@ const ROOM: usize = 100_000;
 /// How often a held prefix looks whether the others were reached.
 const TURNS: u64 = 1_000_000_000;
 
-const THREE_MACHINES: &[u8] = b"number of jobs, number of machines, initial seed, upper bound and lower bound :\n3 3 0 0 0\nprocessing times :\n4 0 0\n0 8 2\n4 0 1\n";
+const THREE_MACHINES: &[u8] =
+    b"number of jobs, number of machines, initial seed, upper bound and lower bound :\n3 3 0 0 0\nprocessing times :\n4 0 0\n0 8 2\n4 0 1\n";
 
-const TWO_MACHINES: &[u8] = b"number of jobs, number of machines, initial seed, upper bound and lower bound :\n3 2 0 0 0\nprocessing times :\n3 1 2\n2 4 2\n";
+const TWO_MACHINES: &[u8] =
+    b"number of jobs, number of machines, initial seed, upper bound and lower bound :\n3 2 0 0 0\nprocessing times :\n3 1 2\n2 4 2\n";
 
 /// The certificate of the first text at depth 0.
 const DEPTH_0: &[u8] = b"flowshop certificate 1\n3 3 0\n12\n3 1 2\n+BC++.B\nend\n";
@@ -119,7 +121,12 @@ fn span_prints_makespan(rt: HostRuntime) -> Result<(), Fail> {
     let ran = span(alloc, TWO_MACHINES, 1, &[0, 1, 2]);
     assert!(rt; refused(&ran, ToolFault::Sequence(SequenceFault::Job(1))));
     assert!(rt; refused(&span(alloc, TWO_MACHINES, 2, &[2, 3, 1]), ToolFault::Index));
-    assert!(rt; refused(&span(alloc, b"", 1, &[1]), ToolFault::Text(TextFault::NoBlock)));
+    assert!(rt;
+        refused(
+            &span(alloc, b"", 1, &[1]),
+            ToolFault::Text(TextFault::NoBlock)
+        )
+    );
     Ok(())
 }
 
@@ -142,11 +149,13 @@ fn gen_writes_block_with_bounds(rt: HostRuntime) -> Result<(), Fail> {
     let alloc = rt.alloc();
     let mut out = MemorySink::new(alloc, ROOM);
     run_gen(alloc, 2, 2, 1, &mut out)?;
-    let text = b"number of jobs, number of machines, initial seed, upper bound and lower bound :\n2 2 1 122 122\nprocessing times :\n1 14\n75 46\n";
+    let text =
+        b"number of jobs, number of machines, initial seed, upper bound and lower bound :\n2 2 1 122 122\nprocessing times :\n1 14\n75 46\n";
     assert!(rt; out.bytes() == text.as_slice());
     let mut out = MemorySink::new(alloc, ROOM);
     run_gen(alloc, 1, 1, 2_147_483_646, &mut out)?;
-    let text = b"number of jobs, number of machines, initial seed, upper bound and lower bound :\n1 1 2147483646 99 99\nprocessing times :\n99\n";
+    let text =
+        b"number of jobs, number of machines, initial seed, upper bound and lower bound :\n1 1 2147483646 99 99\nprocessing times :\n99\n";
     assert!(rt; out.bytes() == text.as_slice());
     let mut out = MemorySink::new(alloc, ROOM);
     let ran = run_gen(alloc, 0, 1, 1, &mut out);
@@ -162,7 +171,10 @@ fn gen_writes_first_published_instance(rt: HostRuntime) -> Result<(), Fail> {
     let alloc = rt.alloc();
     let mut out = MemorySink::new(alloc, ROOM);
     run_gen(alloc, 20, 5, 873_654_221, &mut out)?;
-    let Some(rest) = out.bytes().strip_prefix(b"number of jobs, number of machines, initial seed, upper bound and lower bound :\n20 5 873654221 ".as_slice()) else {
+    let Some(rest) = out.bytes().strip_prefix(
+        b"number of jobs, number of machines, initial seed, upper bound and lower bound :\n20 5 873654221 ".as_slice(),
+    )
+    else {
         return Err(Fail::from("another head"));
     };
     // The makespan of the starting sequence has four digits.
@@ -196,7 +208,12 @@ fn solve_writes_same_bytes_with_any_workers(rt: HostRuntime) -> Result<(), Fail>
         }
     }
     let ran = solved(&rt, alloc, TWO_MACHINES, 1, 0, AMPLE);
-    assert!(rt; wrote(&ran, b"flowshop certificate 1\n3 2 0\n9\n2 3 1\n+BBB\nend\n"));
+    assert!(rt;
+        wrote(
+            &ran,
+            b"flowshop certificate 1\n3 2 0\n9\n2 3 1\n+BBB\nend\n"
+        )
+    );
     let ran = solved(&rt, alloc, b"a\n1 1 0 0 0\nb\n0\n", 1, 0, AMPLE);
     assert!(rt; wrote(&ran, b"flowshop certificate 1\n1 1 0\n0\n1\nA\nend\n"));
     Ok(())
@@ -412,20 +429,72 @@ fn faults_are_printed_with_their_status(rt: HostRuntime) -> Result<(), Fail> {
     let rows = [
         (ToolFault::Memory, "refused memory", 1),
         (ToolFault::Read(ReadFault::Device), "failed read Device", 3),
-        (ToolFault::Read(ReadFault::TooLong), "failed read TooLong", 3),
-        (ToolFault::Text(TextFault::NoBlock), "refused text NoBlock", 1),
-        (ToolFault::Text(TextFault::Times(9)), "refused text Times 9", 1),
+        (
+            ToolFault::Read(ReadFault::TooLong),
+            "failed read TooLong",
+            3,
+        ),
+        (
+            ToolFault::Text(TextFault::NoBlock),
+            "refused text NoBlock",
+            1,
+        ),
+        (
+            ToolFault::Text(TextFault::Times(9)),
+            "refused text Times 9",
+            1,
+        ),
         (ToolFault::Index, "refused index", 1),
-        (ToolFault::Sequence(SequenceFault::Length), "refused sequence Length", 1),
-        (ToolFault::Sequence(SequenceFault::Twice(2)), "refused sequence Twice 2", 1),
-        (ToolFault::Instance(InstanceFault::Seed), "refused instance Seed", 1),
-        (ToolFault::Choice(OptionFault::Workers), "refused option Workers", 1),
-        (ToolFault::Plan(PlanFault::Prefixes), "refused plan Prefixes", 1),
-        (ToolFault::Run(SolveFault::Threads), "refused run Threads", 1),
-        (ToolFault::Run(SolveFault::OverBudget(2)), "refused run OverBudget 2", 1),
-        (ToolFault::Certificate(CheckFault::NotAttained), "refused certificate NotAttained", 1),
-        (ToolFault::Certificate(CheckFault::Weak(7)), "refused certificate Weak 7", 1),
-        (ToolFault::Write(WriteFault::Device), "failed write Device", 3),
+        (
+            ToolFault::Sequence(SequenceFault::Length),
+            "refused sequence Length",
+            1,
+        ),
+        (
+            ToolFault::Sequence(SequenceFault::Twice(2)),
+            "refused sequence Twice 2",
+            1,
+        ),
+        (
+            ToolFault::Instance(InstanceFault::Seed),
+            "refused instance Seed",
+            1,
+        ),
+        (
+            ToolFault::Choice(OptionFault::Workers),
+            "refused option Workers",
+            1,
+        ),
+        (
+            ToolFault::Plan(PlanFault::Prefixes),
+            "refused plan Prefixes",
+            1,
+        ),
+        (
+            ToolFault::Run(SolveFault::Threads),
+            "refused run Threads",
+            1,
+        ),
+        (
+            ToolFault::Run(SolveFault::OverBudget(2)),
+            "refused run OverBudget 2",
+            1,
+        ),
+        (
+            ToolFault::Certificate(CheckFault::NotAttained),
+            "refused certificate NotAttained",
+            1,
+        ),
+        (
+            ToolFault::Certificate(CheckFault::Weak(7)),
+            "refused certificate Weak 7",
+            1,
+        ),
+        (
+            ToolFault::Write(WriteFault::Device),
+            "failed write Device",
+            3,
+        ),
     ];
     for (fault, line, status) in rows {
         let printed = format!(in alloc; "{}", fault)?;

@@ -8,6 +8,6 @@ pub returns-clause-ended : goal.returns-clause-ended
 returns-clause-ended g c =
     let line = c.in-Ok-generated_text.text.items in
     let text : IsGeneratedText c.args.seed (generated c.args.jobs c.args.machines c.args.seed) line =
-        subst (λ shop. IsGeneratedText c.args.seed shop line) c.in-Ok.ensures.value c.in-Ok-generated_text.ensures in
+    subst (λ shop. IsGeneratedText c.args.seed shop line) c.in-Ok.ensures.value c.in-Ok-generated_text.ensures in
     ends-alone-in-writing (AnswersGen c.args.jobs c.args.machines c.args.seed) _ _ _ line (c.in-Ok.ensures.accepted, text)
     (rw c.as_slice.ensures.value at c.in-Err-put_all.ensures.err)
