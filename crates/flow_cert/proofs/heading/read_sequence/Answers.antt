@@ -1,12 +1,10 @@
-use Rattle.std.proofs.Common.{◌≡◌, ℕ, ◌+◌, ◌-◌, ◌≤◌, ◌<◌, Bool, true, false, List, [], ◌∷◌, ◌++◌, length, ap, sym, slice_index, ◌∙◌, inl, inr, arith}
+use Rattle.std.proofs.Common.{◌≡◌, ℕ, ◌+◌, ◌-◌, ◌≤◌, List, [], ◌∷◌, ◌++◌, length, ap, sym, slice_index, ◌∙◌, inl, inr, arith}
 use Rattle.std.proofs.lemmas.Bool.{false≢true}
 use Rattle.flow_core.specs.declared.limits.TheConstants.{MAX_JOBS}
-use Rattle.flow_core.specs.JobSet.{contains}
 use Rattle.flow_core.specs.Sequences.{has}
 use Rattle.flow_core.specs.Paths.{span}
 use Rattle.flow_core.proofs.Fronts.{front-within}
-use Rattle.flow_cert.specs.Heading.{BeginsWithJob}
-use Rattle.flow_cert.proofs.SequenceLine.{IsDone, begins, next-job, end_of, ended, end-byte, as-read, done-more, all-done, only-done}
+use Rattle.flow_cert.proofs.SequenceLine.{begins, next-job, end_of, ended, end-byte, as-read, done-more, all-done, only-done}
 use Rattle.flow_cert.proofs.heading.read_sequence.Goals as goal
 use Rattle.flow_cert.proofs.heading.read_sequence.Goals.{then-place-jobs, else-place-jobs}
 

@@ -1,4 +1,4 @@
-use Rattle.std.proofs.Common.{◌≡◌, ◌<◌, ◌+◌, ◌++◌, List, ℕ, [], ◌∷◌, suc, length, map, take, drop, get_or, arith, append_assoc, sym, ap, subst, ◌∙◌, Vec, Global}
+use Rattle.std.proofs.Common.{◌≡◌, ◌<◌, ◌++◌, List, ℕ, [], ◌∷◌, suc, length, map, take, drop, arith, append_assoc, sym, ap, subst, ◌∙◌, Vec, Global}
 use Rattle.std.specs.List.{flat_map}
 use Rattle.flow_cert.specs.Certificate.{line}
 use Rattle.flow_cert.specs.Gathered.{HandsOn}
