@@ -1,7 +1,7 @@
 -- The fronts, the times owed and the bounds of lists.
-use Rattle.std.proofs.Common.{◌≡◌, ◌≢◌, ℕ, zero, suc, ◌+◌, ◌-◌, ◌*◌, ◌<◌, ◌≤◌, Bool, true, false, cond, not, List, [], ◌∷◌, ◌++◌, length, slice_index, refl, ap, sym, ◌∙◌, subst, inl, inr, arith, set, length-append}
+use Rattle.std.proofs.Common.{◌≡◌, ◌≢◌, ℕ, zero, suc, ◌+◌, ◌-◌, ◌*◌, ◌<◌, ◌≤◌, Bool, true, false, cond, not, List, [], ◌∷◌, ◌++◌, length, slice_index, replicate, refl, ap, sym, ◌∙◌, subst, inl, inr, arith, set, length-append}
 use Rattle.std.specs.List.{filter, sum_by}
-use Rattle.std.proofs.lemmas.List.{get_or-set_same, get_or-set_other}
+use Rattle.std.proofs.lemmas.List.{get_or-set_same, get_or-set_other, length-set}
 use Rattle.std.proofs.lemmas.Bool.{cases_lt}
 use Rattle.flow_core.specs.declared.limits.TheConstants.{MAX_JOBS, MAX_MACHINES, MAX_TIME}
 use Rattle.flow_core.specs.Shop.{Shop, numbers, time, time_between, IsWithinLimits}
@@ -14,7 +14,7 @@ use Rattle.flow_core.proofs.Fronts.{free_at, front-within, time-small}
 use Rattle.flow_core.proofs.Admissible.{front_of-is}
 use Rattle.flow_core.proofs.JobsLeft.{kept, kept-more, filter-more}
 use Rattle.std.proofs.lemmas.Bool.Decides.{eqb_tells}
-use Rattle.flow_cert.specs.Stack.{IsNode, AreLows, tails, least_below, second_below, children}
+use Rattle.flow_cert.specs.Stack.{IsNode, AreKnown, AreLows, tails, least_below, second_below, children}
 use Rattle.flow_cert.specs.declared.node.Node.{Node}
 use Rattle.flow_cert.specs.declared.node.Lows.{Lows}
 use Rattle.flow_cert.proofs.Links.{left-sum, left-count, left-split, left-without, left_under}
@@ -45,21 +45,76 @@ none-has : (n : ℕ) → length (jobs_left n []) ≡ n
 none-has zero = refl
 none-has (suc n) = omega (arith, ap length (filter-more (λ job. true) n), length-append (filter (λ job. true) (numbers 1 n)) (suc n ∷ []), none-has n)
 
+-- before any machine is asked for
+all-same : (n v i : ℕ) → i < n → slice_index (replicate n v) i ≡ v
+all-same zero v i h = absurd (omega (arith, h))
+all-same (suc n) v zero h = refl
+all-same (suc n) v (suc i) h = all-same n v i (omega (arith, h))
+
+none-known : (shop : Shop) (list least second : List ℕ) → IsWithinLimits shop → least ≡ replicate MAX_MACHINES 4294967295 → second ≡ replicate MAX_MACHINES 4294967295 → AreKnown shop list least second
+none-known shop list least second limits a b = record {
+  each = λ machine from to.
+      let most : shop.machines ≤ MAX_MACHINES = limits.machines in
+      inl (ap (λ l. slice_index l (machine - 1)) a ∙ all-same MAX_MACHINES 4294967295 (machine - 1) (omega (arith, from, to, most)));
+  least_size = ap length a;
+  second_size = ap length b;
+}
+
+-- once a machine is asked for
+pub known-more : (shop : Shop) (list : List ℕ) (node : Node) (left machine : ℕ) (lows : Lows) → IsWithinLimits shop → IsNode shop list node left → 1 ≤ machine → machine ≤ shop.machines → AreLows shop list machine lows →
+    IsNode shop list (record { front = node.front; owed = node.owed; least = set node.least (machine - 1) lows.least; second = set node.second (machine - 1) lows.second }) left
+known-more shop list node left machine lows limits is from to low = record {
+  times = is.times;
+  owed = is.owed;
+  size = is.size;
+  known = record {
+    each = λ k low_k high_k. elim (eqb_tells k machine) [
+      | inl same ↦
+          let most : shop.machines ≤ MAX_MACHINES = limits.machines in
+          let a : lows.least ≡ slice_index (set node.least (machine - 1) lows.least) (k - 1) = sym (ap (λ i. slice_index (set node.least (machine - 1) lows.least) (i - 1)) same.1 ∙ get_or-set_same node.least (machine - 1) lows.least 0 (omega (arith, is.known.least_size, from, to, most))) in
+          let b : lows.second ≡ slice_index (set node.second (machine - 1) lows.second) (k - 1) = sym (ap (λ i. slice_index (set node.second (machine - 1) lows.second) (i - 1)) same.1 ∙ get_or-set_same node.second (machine - 1) lows.second 0 (omega (arith, is.known.second_size, from, to, most))) in
+          let here : AreLows shop list k lows = subst (λ i. AreLows shop list i lows) (sym same.1) low in
+          inr (sym a ∙ here.0, sym b ∙ here.1)
+      | inr other ↦
+          let apart : k - 1 ≢ machine - 1 = omega (arith, other.1, low_k, from) in
+          let a : slice_index (set node.least (machine - 1) lows.least) (k - 1) ≡ slice_index node.least (k - 1) = get_or-set_other node.least (machine - 1) (k - 1) lows.least 0 apart in
+          let b : slice_index (set node.second (machine - 1) lows.second) (k - 1) ≡ slice_index node.second (k - 1) = get_or-set_other node.second (machine - 1) (k - 1) lows.second 0 apart in
+          elim (is.known.each k low_k high_k) [
+            | inl none ↦ inl (a ∙ none)
+            | inr was ↦ inr (a ∙ was.0, b ∙ was.1)
+          ]
+    ];
+    least_size = length-set node.least (machine - 1) lows.least ∙ is.known.least_size;
+    second_size = length-set node.second (machine - 1) lows.second ∙ is.known.second_size;
+  };
+  count = is.count;
+  some = is.some;
+}
+
 -- the empty list
-pub root-node : (shop : Shop) (node : Node) → IsFrontOf shop [] node.front →
+pub root-node : (shop : Shop) (node : Node) → IsWithinLimits shop → IsFrontOf shop [] node.front →
     ((machine : ℕ) → 1 ≤ machine → machine ≤ shop.machines → slice_index node.owed (machine - 1) ≡ sum_by (λ job. time shop job machine) (jobs_left shop.jobs [])) →
-    length node.owed ≡ MAX_MACHINES → IsNode shop [] node shop.jobs
-root-node shop node times owed size = record { times = times; owed = owed; size = size; count = omega arith; some = none-has shop.jobs }
+    length node.owed ≡ MAX_MACHINES → node.least ≡ replicate MAX_MACHINES 4294967295 → node.second ≡ replicate MAX_MACHINES 4294967295 → IsNode shop [] node shop.jobs
+root-node shop node limits times owed size least second = record {
+  times = times;
+  owed = owed;
+  size = size;
+  known = none-known shop [] node.least node.second limits least second;
+  count = omega arith;
+  some = none-has shop.jobs;
+}
 
 -- a list's child
-pub child-node : (shop : Shop) (list : List ℕ) (node child : Node) (left job : ℕ) → IsNode shop list node (suc left) → 1 ≤ job → job ≤ shop.jobs → has list job ≡ false →
+pub child-node : (shop : Shop) (list : List ℕ) (node child : Node) (left job : ℕ) → IsWithinLimits shop → IsNode shop list node (suc left) → 1 ≤ job → job ≤ shop.jobs → has list job ≡ false →
     IsFrontOf shop (list ++ job ∷ []) child.front → length child.owed ≡ MAX_MACHINES →
     ((machine : ℕ) → 1 ≤ machine → machine ≤ shop.machines → slice_index child.owed (machine - 1) + time shop job machine ≡ slice_index node.owed (machine - 1)) →
+    child.least ≡ replicate MAX_MACHINES 4294967295 → child.second ≡ replicate MAX_MACHINES 4294967295 →
     IsNode shop (list ++ job ∷ []) child left
-child-node shop list node child left job is low high fresh times size less = record {
+child-node shop list node child left job limits is low high fresh times size less least second = record {
   times = times;
   owed = λ machine from to. omega (arith, less machine from to, is.owed machine from to, left-sum (λ j. time shop j machine) shop.jobs list job low high fresh);
   size = size;
+  known = none-known shop (list ++ job ∷ []) child.least child.second limits least second;
   count = omega (arith, is.count, length-append list (job ∷ []));
   some = omega (arith, is.some, left-count shop.jobs list job low high fresh);
 }

@@ -43,6 +43,11 @@ pub reading-next : (shop : Shop) (value place : ℕ) (root : List ℕ) (whole : 
     IsReading shop value place root whole node links below last at bytes frames → IsNext shop.jobs (path root frames) last (slice_index links last)
 reading-next shop value place root whole node links below last at bytes frames i = i.here.are_links.each last i.behind
 
+-- what a list knows of its jobs left may grow
+pub reading-kept : (shop : Shop) (value place : ℕ) (root : List ℕ) (whole : Result (List ℕ) CheckFault) (node more : Node) (links : List ℕ) (below last at : ℕ) (bytes : List ℕ) (frames : List Frame) →
+    IsReading shop value place root whole node links below last at bytes frames → IsAt shop (path root frames) more links (suc below) → IsReading shop value place root whole more links below last at bytes frames
+reading-kept shop value place root whole node more links below last at bytes frames i here = record { here = here; behind = i.behind; stack = i.stack; answer = i.answer }
+
 -- the next child is read
 reading-child : (shop : Shop) (value place : ℕ) (root : List ℕ) (whole : Result (List ℕ) CheckFault) (node : Node) (links : List ℕ) (below last at : ℕ) (bytes : List ℕ) (frames : List Frame) (bs : List ℕ) →
     IsReading shop value place root whole node links below last at bytes frames → slice_index links last ≢ 0 → drop at bytes ≡ bs →

@@ -1,5 +1,5 @@
 -- The lists of jobs at which the trees are read. A list's jobs left are linked: each leads to the next one.
-use Rattle.std.specs.Prelude.{ℕ, zero, suc, ◌≡◌, ◌+◌, ◌-◌, ◌≤◌, ◌<◌, Bool, true, false, not, List, [], ◌∷◌, ◌++◌, length, filter, map, min, max, sum_by, drop, slice_index, slice_set, Option, Some, None, Result, Ok, Err}
+use Rattle.std.specs.Prelude.{ℕ, zero, suc, ◌≡◌, ◌+◌, ◌-◌, ◌≤◌, ◌<◌, ◌⊎◌, Bool, true, false, not, List, [], ◌∷◌, ◌++◌, length, filter, map, min, max, sum_by, drop, slice_index, slice_set, Option, Some, None, Result, Ok, Err}
 use Rattle.std.specs.List.{flat_map}
 use Rattle.flow_core.specs.declared.limits.TheConstants.{MAX_MACHINES}
 use Rattle.flow_core.specs.Shop.{Shop, numbers, time, time_between}
@@ -33,20 +33,6 @@ pub record AreLinks (n : ℕ) (list links : List ℕ) : Type 0 where
   pub each : (job : ℕ) → IsPlace n list job → IsNext n list job (slice_index links job)
   pub size : length links ≡ n + 1
 
--- a front and the times owed are those of a list with so many jobs left
-pub record IsNode (shop : Shop) (list : List ℕ) (node : Node) (left : ℕ) : Type 0 where
-  pub times : IsFrontOf shop list node.front
-  pub owed : (machine : ℕ) → 1 ≤ machine → machine ≤ shop.machines →
-      slice_index node.owed (machine - 1) ≡ sum_by (λ job. time shop job machine) (jobs_left shop.jobs list)
-  pub size : length node.owed ≡ MAX_MACHINES
-  pub count : length list + left ≡ shop.jobs
-  pub some : length (jobs_left shop.jobs list) ≡ left
-
--- a list is reached
-pub record IsAt (shop : Shop) (list : List ℕ) (node : Node) (links : List ℕ) (left : ℕ) : Type 0 where
-  pub is_node : IsNode shop list node left
-  pub are_links : AreLinks shop.jobs list links
-
 -- the least of numbers below one, and the second least below two
 abbrev pub least_below : ℕ → List ℕ → ℕ
 least_below a [] = a
@@ -65,6 +51,29 @@ abbrev pub AreLows : Shop → List ℕ → ℕ → Lows → Type 0
 AreLows shop list machine lows =
     (lows.least ≡ least_below 4294967295 (tails shop machine (jobs_left shop.jobs list)))
     × (lows.second ≡ second_below 4294967295 4294967295 (tails shop machine (jobs_left shop.jobs list)))
+
+-- the two least times behind each machine, where the least is known
+pub record AreKnown (shop : Shop) (list least second : List ℕ) : Type 0 where
+  pub each : (machine : ℕ) → 1 ≤ machine → machine ≤ shop.machines →
+      (slice_index least (machine - 1) ≡ 4294967295)
+      ⊎ AreLows shop list machine (record { least = slice_index least (machine - 1); second = slice_index second (machine - 1) })
+  pub least_size : length least ≡ MAX_MACHINES
+  pub second_size : length second ≡ MAX_MACHINES
+
+-- a front and the times owed are those of a list with so many jobs left
+pub record IsNode (shop : Shop) (list : List ℕ) (node : Node) (left : ℕ) : Type 0 where
+  pub times : IsFrontOf shop list node.front
+  pub owed : (machine : ℕ) → 1 ≤ machine → machine ≤ shop.machines →
+      slice_index node.owed (machine - 1) ≡ sum_by (λ job. time shop job machine) (jobs_left shop.jobs list)
+  pub size : length node.owed ≡ MAX_MACHINES
+  pub known : AreKnown shop list node.least node.second
+  pub count : length list + left ≡ shop.jobs
+  pub some : length (jobs_left shop.jobs list) ≡ left
+
+-- a list is reached
+pub record IsAt (shop : Shop) (list : List ℕ) (node : Node) (links : List ℕ) (left : ℕ) : Type 0 where
+  pub is_node : IsNode shop list node left
+  pub are_links : AreLinks shop.jobs list links
 
 -- a list, or its child
 abbrev pub grown : List ℕ → Option ℕ → List ℕ

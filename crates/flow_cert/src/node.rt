@@ -13,11 +13,14 @@ ghost use Rattle.flow_cert.specs.Stack.{AreLinks, IsNode, IsAt, AreLows, IsChild
 use crate::claim::Claim;
 use flow_core::{Front, Instance, MAX_MACHINES, front_push};
 
-/// A list of jobs: its front, and the time that each machine owes the jobs that are left.
+/// A list of jobs: its front, the time that each machine owes the jobs that are left, and for each machine the two least
+/// times that these jobs need behind it, once they were asked for. Until then the least is the greatest number.
 #[derive(Drop)]
 pub(crate) struct Node {
     front: Front,
     owed: [u64; MAX_MACHINES],
+    least: [u32; MAX_MACHINES],
+    second: [u32; MAX_MACHINES],
 }
 
 /// The two least times that jobs which are left need behind a machine; the greatest number where there is none.
@@ -52,7 +55,12 @@ impl Node {
             owed[machine as usize - 1] = time_of_all(instance, machine);
         }
         let front = Front::empty();
-        Node { front, owed }
+        Node {
+            front,
+            owed,
+            least: [u32::MAX; MAX_MACHINES],
+            second: [u32::MAX; MAX_MACHINES],
+        }
     }
 
     /// The list with a job at its end.
@@ -73,7 +81,12 @@ impl Node {
             let place = machine as usize - 1;
             owed[place] -= u64::from(row.times[place]);
         }
-        Node { front, owed }
+        Node {
+            front,
+            owed,
+            least: [u32::MAX; MAX_MACHINES],
+            second: [u32::MAX; MAX_MACHINES],
+        }
     }
 }
 
@@ -122,6 +135,29 @@ fn least_behind(claim: &Claim, links: &[u16], machine: u16) -> Lows
     }
 }
 
+/// The two least times behind a machine, which the list keeps.
+fn lows_of(claim: &Claim, node: &mut Node, links: &[u16], machine: u16) -> Lows
+    requires rows { AreRows claim.now.instance.now claim.now.rows.now }
+    requires at { (list : List ℕ) × (left : ℕ) × IsAt claim.now.instance.now list node.old links.now left }
+    requires from { 1 ≤ machine }
+    requires to { machine ≤ claim.now.instance.now.machines }
+    ensures lows { (list : List ℕ) (left : ℕ) → IsAt claim.now.instance.now list node.old links.now left → AreLows claim.now.instance.now list machine result }
+    ensures kept { (list : List ℕ) (left : ℕ) → IsAt claim.now.instance.now list node.old links.now left → IsAt claim.now.instance.now list node.new links.now left }
+{
+    let place = machine as usize - 1;
+    let known = node.least[place];
+    if known != u32::MAX {
+        return Lows {
+            least: known,
+            second: node.second[place],
+        };
+    }
+    let lows = least_behind(claim, links, machine);
+    node.least[place] = lows.least;
+    node.second[place] = lows.second;
+    lows
+}
+
 /// The completion time of a list, or of its child, on the last machine.
 pub(crate) fn makespan_at(claim: &Claim, node: &Node, child: Option<u16>) -> u64
     requires rows { AreRows claim.now.instance.now claim.now.rows.now }
@@ -139,19 +175,20 @@ pub(crate) fn makespan_at(claim: &Claim, node: &Node, child: Option<u16>) -> u64
 /// The machine bound of a list, or of its child, that has jobs left.
 pub(crate) fn bound(
     claim: &Claim,
-    node: &Node,
+    node: &mut Node,
     links: &[u16],
     child: Option<u16>,
     machine: u16,
 ) -> u64
     requires rows { AreRows claim.now.instance.now claim.now.rows.now }
-    requires at { (list : List ℕ) × (left : ℕ) × IsAt claim.now.instance.now list node.now links.now (left_before child (suc left)) × IsChild claim.now.instance.now.jobs list child }
+    requires at { (list : List ℕ) × (left : ℕ) × IsAt claim.now.instance.now list node.old links.now (left_before child (suc left)) × IsChild claim.now.instance.now.jobs list child }
     requires from { 1 ≤ machine }
     requires to { machine ≤ claim.now.instance.now.machines }
-    ensures { (list : List ℕ) (left : ℕ) → IsAt claim.now.instance.now list node.now links.now (left_before child (suc left)) → IsChild claim.now.instance.now.jobs list child →
+    ensures kept { (list : List ℕ) (left : ℕ) → IsAt claim.now.instance.now list node.old links.now left → IsAt claim.now.instance.now list node.new links.now left }
+    ensures value { (list : List ℕ) (left : ℕ) → IsAt claim.now.instance.now list node.old links.now (left_before child (suc left)) → IsChild claim.now.instance.now.jobs list child →
         result ≡ bound_at claim.now.instance.now (grown list child) machine }
 {
-    let lows = least_behind(claim, links, machine);
+    let lows = lows_of(claim, node, links, machine);
     let place = machine as usize - 1;
     match child {
         None => node.front.at(machine) + node.owed[place] + u64::from(lows.least),

@@ -22,15 +22,16 @@ pub(crate) struct Frame {
 fn step(
     claim: &Claim,
     place: usize,
-    node: &Node,
+    node: &mut Node,
     links: &[u16],
     child: Option<u16>,
     left: u16,
     byte: u8,
 ) -> Result<bool, CheckFault>
     requires rows { AreRows claim.now.instance.now claim.now.rows.now }
-    requires at { (list : List ℕ) × IsAt claim.now.instance.now list node.now links.now (left_before child left) × IsChild claim.now.instance.now.jobs list child }
-    ensures { (list : List ℕ) → IsAt claim.now.instance.now list node.now links.now (left_before child left) → IsChild claim.now.instance.now.jobs list child →
+    requires at { (list : List ℕ) × IsAt claim.now.instance.now list node.old links.now (left_before child left) × IsChild claim.now.instance.now.jobs list child }
+    ensures kept { (list : List ℕ) (left_here : ℕ) → IsAt claim.now.instance.now list node.old links.now left_here → IsAt claim.now.instance.now list node.new links.now left_here }
+    ensures gives { (list : List ℕ) → IsAt claim.now.instance.now list node.old links.now (left_before child left) → IsChild claim.now.instance.now.jobs list child →
         StepGives claim.now.instance.now claim.now.value place left (grown list child) byte result }
 {
     let machines = claim.instance.machines();
@@ -79,7 +80,15 @@ pub(crate) fn tree_end(
     if from >= claim.bytes.len() {
         return Err(CheckFault::Tree(place));
     }
-    let open = match step(claim, place, &node, links, None, left, claim.bytes[from]) {
+    let open = match step(
+        claim,
+        place,
+        &mut node,
+        links,
+        None,
+        left,
+        claim.bytes[from],
+    ) {
         Ok(open) => open,
         Err(fault) => return Err(fault),
     };
@@ -110,7 +119,7 @@ pub(crate) fn tree_end(
         let open = match step(
             claim,
             place,
-            &node,
+            &mut node,
             links,
             Some(job),
             below,

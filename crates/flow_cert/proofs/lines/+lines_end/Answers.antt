@@ -3,9 +3,19 @@ use Rattle.flow_core.specs.Bound.{bound_at}
 use Rattle.flow_core.specs.Sequences.{extensions}
 use Rattle.flow_cert.specs.Faults.{trees_value}
 use Rattle.flow_cert.specs.Stack.{IsAt, IsNode, awaited}
-use Rattle.flow_cert.proofs.Links.{next-some, next-place, links-out, links-back}
-use Rattle.flow_cert.proofs.LineSteps.{awaited-none, awaited-next, lines-err}
+use Rattle.flow_cert.proofs.Links.{start-place, next-some, next-place, links-out, links-back}
+use Rattle.flow_cert.proofs.LineSteps.{awaited-start, awaited-none, awaited-next, lines-err}
 use Rattle.flow_cert.proofs.lines.+lines_end.Goals as goal
+
+pub children-init : goal.children-init
+children-init t c = record {
+  within = c.requires.from;
+  place = c.requires.line;
+  links = refl;
+  behind = λ list at. start-place c.args.claim.now.instance.now.jobs list;
+  fault = λ list at rest.
+      ap (λ ps. trees_value c.args.claim.now.instance.now bound_at c.args.claim.now.value (c.args.left - c.args.more) (ps ++ rest) c.args.line (drop c.args.from c.args.claim.now.bytes.now)) (awaited-start c.args.claim.now.instance.now.jobs c.args.more list c.if-more-eq0.false);
+}
 
 pub returns-then-job-eq0-clause-lines : goal.returns-then-job-eq0-clause-lines
 returns-then-job-eq0-clause-lines t c list at rest =
