@@ -95,7 +95,7 @@ tail-small shop job machine limits =
     let most : shop.machines ≤ MAX_MACHINES = limits.machines in
     omega (arith, time_between-small shop job (machine + 1) shop.machines (omega arith) limits, most)
 
-zeros : (n i : ℕ) → slice_index (replicate n 0) i ≡ 0
+pub zeros : (n i : ℕ) → slice_index (replicate n 0) i ≡ 0
 zeros zero i = refl
 zeros (suc n) zero = refl
 zeros (suc n) (suc i) = zeros n i

@@ -7,8 +7,8 @@ ghost use Rattle.flow_core.specs.JobSet.{contains, members};
 ghost use Rattle.flow_core.specs.Sequences.{jobs_left, IsSequence, Extends};
 ghost use Rattle.flow_core.specs.Bound.{machine_bound};
 
-use crate::sums::times_from;
-use flow_core::{Front, Instance, JobSet};
+use crate::sums::sum_times;
+use flow_core::{Front, Instance, JobSet, MAX_JOBS};
 
 /// The machine bound: when a machine is free, the time that it still owes the jobs of a set, and the least time that one of them
 /// needs behind it. Where the front is that of a list, and the set has the jobs that the list leaves, no sequence that extends the
@@ -25,7 +25,8 @@ pub fn bound(instance: &Instance, front: &Front, unscheduled: &JobSet, machine: 
         Extends sequence scheduled → result ≤ span instance.now sequence }
 {
     let end = instance.jobs() + 1;
-    let tails = times_from(instance, machine + 1);
+    let mut tails = [0; MAX_JOBS];
+    sum_times(instance, &mut tails, machine + 1);
     let mut owed: u32 = 0;
     let mut least_tail = u32::MAX;
     for job in 1..end {

@@ -8,7 +8,7 @@ ghost use Rattle.flow_core.specs.Sequences.{IsSequence};
 ghost use Rattle.flow_bound.specs.Totals.{AreTimes, total};
 ghost use Rattle.flow_bound.specs.Taillard.{machine_load, taillard_bound};
 
-use crate::sums::times_from;
+use crate::sums::sum_times;
 use flow_core::{Instance, MAX_JOBS};
 
 /// The greatest total of a job.
@@ -56,7 +56,8 @@ pub fn taillard_bound(instance: &Instance) -> u64
     ensures value { result ≡ taillard_bound instance.now }
     ensures admissible { (sequence : List ℕ) → IsSequence instance.now.jobs sequence → result ≤ span instance.now sequence }
 {
-    let totals = times_from(instance, 1);
+    let mut totals = [0; MAX_JOBS];
+    sum_times(instance, &mut totals, 1);
     let mut most = u64::from(greatest_total(instance, &totals));
     let mut heads = [0; MAX_JOBS];
     for machine in 1..instance.machines() + 1 {

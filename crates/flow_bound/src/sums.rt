@@ -19,16 +19,15 @@ fn add_times(instance: &Instance, sums: &mut [u32; MAX_JOBS], machine: u16)
     }
 }
 
-/// The time of each job on the machines from one on, that of job 1 first.
-pub(crate) fn times_from(instance: &Instance, first: u16) -> [u32; MAX_JOBS]
+/// Sums each job's time on the machines from one on, that of job 1 first, in an array of zeros.
+pub(crate) fn sum_times(instance: &Instance, sums: &mut [u32; MAX_JOBS], first: u16)
     requires from { 1 ≤ first }
     requires to { first ≤ instance.now.machines + 1 }
-    ensures { AreTimes instance.now result first instance.now.machines }
+    requires zeros { (job : ℕ) → 1 ≤ job → job ≤ instance.now.jobs → slice_index sums.old (job - 1) ≡ 0 }
+    ensures { AreTimes instance.now sums.new first instance.now.machines }
 {
-    let mut sums = [0; MAX_JOBS];
     let end = instance.machines() + 1;
     for machine in first..end {
-        add_times(instance, &mut sums, machine);
+        add_times(instance, sums, machine);
     }
-    sums
 }

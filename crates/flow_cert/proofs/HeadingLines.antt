@@ -1,5 +1,5 @@
 -- What each line before the trees makes of the value of a text, and what its absence makes of it.
-use Rattle.std.proofs.Common.{◌≡◌, ◌^◌, ℕ, ◌<◌, ◌≤◌, Bool, true, false, cond, ◌&&◌, nat_eq, nat_lt, nat_le, List, [], ◌∷◌, ◌++◌, length, Option, Some, None, Result, Err, refl, ap, sym, subst, ◌∙◌, inl, inr, arith, append_assoc}
+use Rattle.std.proofs.Common.{◌≡◌, ◌^◌, ℕ, ◌<◌, ◌≤◌, cond, ◌&&◌, nat_eq, nat_lt, nat_le, List, [], ◌∷◌, ◌++◌, length, Option, Some, None, Result, Err, refl, ap, sym, subst, ◌∙◌, inl, inr, arith, append_assoc}
 use Rattle.std.specs.Option.{option_map_or}
 use Rattle.std.specs.Str.{bytes_eq}
 use Rattle.std.specs.Cmp.Lexicographic.{bytes_decides}
@@ -78,8 +78,12 @@ size-other shop rest (Some (a ∷ b ∷ d ∷ [])) none =
 pub size-refused : (shop : Shop) (bytes : List ℕ) → IsWithinLimits shop → ((depth : ℕ) (rest : List ℕ) → BeginsWithSize shop.jobs shop.machines bytes depth rest → ⊥) → on_line Size (after_header shop) bytes ≡ Err Size
 size-refused shop bytes limits none = line-refused Size (after_header shop) bytes (λ text rest e.
     size-other shop rest (numbers_in text) (λ depth short shallow is.
-        none depth rest (short, shallow, as-line bytes text (spaced (shop.jobs ∷ shop.machines ∷ depth ∷ [])) rest e
-            (numbers-sound text (shop.jobs ∷ shop.machines ∷ depth ∷ []) is (size-fit shop depth limits shallow)))))
+    none depth rest (
+      short,
+      shallow,
+      as-line bytes text (spaced (shop.jobs ∷ shop.machines ∷ depth ∷ [])) rest e
+          (numbers-sound text (shop.jobs ∷ shop.machines ∷ depth ∷ []) is (size-fit shop depth limits shallow)),
+    )))
 
 -- the line of the value
 
@@ -103,7 +107,7 @@ value-other shop depth rest (Some (value ∷ [])) none =
 pub value-refused : (shop : Shop) (bytes : List ℕ) (depth : ℕ) → ((value : ℕ) (rest : List ℕ) → BeginsWithNumber bytes 10 value rest → ⊥) → on_line Value (after_size shop depth) bytes ≡ Err Value
 value-refused shop bytes depth none = line-refused Value (after_size shop depth) bytes (λ text rest e.
     value-other shop depth rest (numbers_in text) (λ value fits is.
-        none value rest (fits, e ∙ ap (λ xs. xs ++ 10 ∷ rest) (numbers-sound text (value ∷ []) is (fits, tt)))))
+    none value rest (fits, e ∙ ap (λ xs. xs ++ 10 ∷ rest) (numbers-sound text (value ∷ []) is (fits, tt)))))
 
 -- the line of the sequence
 
@@ -130,7 +134,7 @@ sequence-other shop depth value rest (Some jobs) none =
 pub sequence-refused : (shop : Shop) (bytes : List ℕ) (depth value : ℕ) → IsWithinLimits shop → ((jobs rest : List ℕ) → BeginsWithSequence shop.jobs bytes jobs rest → ⊥) → on_line Sequence (after_value shop depth value) bytes ≡ Err Sequence
 sequence-refused shop bytes depth value limits none = line-refused Sequence (after_value shop depth value) bytes (λ text rest e.
     sequence-other shop depth value rest (numbers_in text) (λ jobs is found.
-        none jobs rest (is, as-line bytes text (spaced jobs) rest e (numbers-sound text jobs found (sequence-fit shop.jobs jobs limits.jobs is)))))
+    none jobs rest (is, as-line bytes text (spaced jobs) rest e (numbers-sound text jobs found (sequence-fit shop.jobs jobs limits.jobs is)))))
 
 -- the size as the reader takes it
 

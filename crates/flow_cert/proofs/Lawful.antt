@@ -3,7 +3,6 @@ use Rattle.std.proofs.Common.{◌≡◌, ℕ, zero, suc, ◌+◌, ◌-◌, ◌*�
 use Rattle.std.proofs.lemmas.List.{length-map}
 use Rattle.std.specs.List.{AllZip, AllByRecursion, flat_map, filter, find, concat}
 use Rattle.std.specs.Option.{option_map_or}
-use Rattle.std.proofs.Math.Nat.{mul-le-mul_right}
 use Rattle.std.proofs.lemmas.List.Elements.{All-from_recursion}
 use Rattle.std.proofs.lemmas.Bool.{leb-true, cases_Bool, cond-true, cond-false}
 use Rattle.flow_core.specs.declared.limits.TheConstants.{MAX_TIME, MAX_MACHINES, MAX_JOBS}
@@ -14,7 +13,7 @@ use Rattle.flow_core.specs.Sequences.{jobs_left, cut, IsSequence, IsLeastMakespa
 use Rattle.flow_core.specs.Bound.{bound_at}
 use Rattle.flow_core.proofs.Fronts.{completion-small}
 use Rattle.flow_search.specs.Search.{comes_before, in_force, tree_at, tree, letter, sequences_from}
-use Rattle.flow_search.specs.Plans.{Planned, IsPlan, prefixes_of, trees_of, verdict_of}
+use Rattle.flow_search.specs.Plans.{Planned, prefixes_of, trees_of, verdict_of}
 use Rattle.flow_search.specs.Verdicts.{IsVerdict}
 use Rattle.flow_search.specs.declared.verdict.Verdict.{Verdict}
 use Rattle.flow_search.proofs.Lists.{all-weaken, find-some}

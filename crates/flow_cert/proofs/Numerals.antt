@@ -1,5 +1,5 @@
 -- The number with which a text begins.
-use Rattle.std.proofs.Common.{◌≡◌, ◌≢◌, ◌&&◌, nat_eq, nat_lt, nat_le, ◌^◌, ◌*◌, ◌/◌, ◌%◌, ℕ, zero, suc, ◌+◌, ◌-◌, ◌<◌, ◌≤◌, Bool, true, false, cond, not, List, [], ◌∷◌, ◌++◌, Option, Some, None, length, take, drop, get_or, refl, ap, sym, subst, ◌∙◌, ◌⊎◌, inl, inr, arith, append_assoc}
+use Rattle.std.proofs.Common.{◌≡◌, ◌≢◌, ◌&&◌, nat_eq, nat_lt, nat_le, ◌^◌, ◌*◌, ◌/◌, ◌%◌, ℕ, ◌+◌, ◌-◌, ◌<◌, ◌≤◌, Bool, true, false, cond, not, List, [], ◌∷◌, ◌++◌, Option, Some, None, length, take, drop, get_or, refl, ap, sym, subst, ◌∙◌, ◌⊎◌, inl, inr, arith, append_assoc}
 use Rattle.std.specs.Fmt.{decimal}
 use Rattle.std.proofs.lemmas.List.{append-nil, drop_more, take_rest, drop_all}
 use Rattle.std.proofs.lemmas.Fmt.{decimal_digit, decimal_step, decimal_by_steps}
@@ -90,13 +90,13 @@ behind end value (byte ∷ bytes) small = elim (cases_Bool (nat_eq byte end)) [
       subst (Behind end value (byte ∷ bytes)) (sym (scan-end end value true byte bytes refl (eqb-true byte end same)))
       ([], ap (λ b. b ∷ bytes) (eqb-true byte end same), sym (append-nil (decimal value)), small)
   | inr other ↦ elim (cases_Bool (is_further value true byte)) [
-      | inl goes_on ↦
-          let is : Further value true byte = further-is value true byte goes_on in
-          let some : value ≢ 0 = λ z. false-eq value is.first z in
-          subst (Behind end value (byte ∷ bytes)) (sym (scan-further end value true byte bytes other goes_on))
-          (behind-more end value (value * 10 + (byte - 48)) byte bytes (scan end (value * 10 + (byte - 48)) true bytes) (decimal-more value byte some is.low is.high is.fits) (behind end (value * 10 + (byte - 48)) bytes is.fits))
-      | inr stops ↦ subst (Behind end value (byte ∷ bytes)) (sym (scan-other end value true byte bytes other stops)) tt
-    ]
+    | inl goes_on ↦
+        let is : Further value true byte = further-is value true byte goes_on in
+        let some : value ≢ 0 = λ z. false-eq value is.first z in
+        subst (Behind end value (byte ∷ bytes)) (sym (scan-further end value true byte bytes other goes_on))
+        (behind-more end value (value * 10 + (byte - 48)) byte bytes (scan end (value * 10 + (byte - 48)) true bytes) (decimal-more value byte some is.low is.high is.fits) (behind end (value * 10 + (byte - 48)) bytes is.fits))
+    | inr stops ↦ subst (Behind end value (byte ∷ bytes)) (sym (scan-other end value true byte bytes other stops)) tt
+  ]
 ]
   where
     false-eq : (n : ℕ) → nat_eq n 0 ≡ false → n ≡ 0 → ⊥

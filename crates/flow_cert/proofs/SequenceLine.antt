@@ -1,8 +1,7 @@
 -- The line of a sequence.
-use Rattle.std.proofs.Common.{◌≡◌, ◌≢◌, ℕ, zero, suc, ◌+◌, ◌-◌, ◌≤◌, ◌<◌, ◌^◌, Bool, true, false, cond, ◌||◌, nat_eq, List, [], ◌∷◌, ◌++◌, length, refl, ap, sym, subst, ◌∙◌, ◌⊎◌, inl, inr, append_assoc, arith, All}
+use Rattle.std.proofs.Common.{◌≡◌, ◌≢◌, ℕ, suc, ◌+◌, ◌-◌, ◌≤◌, ◌<◌, Bool, true, false, cond, ◌||◌, nat_eq, List, [], ◌∷◌, ◌++◌, length, refl, ap, sym, subst, ◌∙◌, ◌⊎◌, inl, inr, append_assoc, arith}
 use Rattle.std.proofs.Common.{set as set_at}
 use Rattle.std.specs.Fmt.{decimal}
-use Rattle.std.specs.List.{AllByRecursion}
 use Rattle.std.proofs.lemmas.List.{append-nil, length_push, length-append, get_or-set_same, get_or-set_other}
 use Rattle.std.proofs.lemmas.List.Folds.{list_any-append}
 use Rattle.std.proofs.lemmas.List.Elements.{All-from_recursion, recursion_from_All}
@@ -11,7 +10,7 @@ use Rattle.flow_core.specs.declared.limits.TheConstants.{MAX_JOBS}
 use Rattle.flow_core.specs.Shop.{Shop}
 use Rattle.flow_core.specs.Front.{IsFrontOf}
 use Rattle.flow_core.specs.JobSet.{contains}
-use Rattle.flow_core.specs.Sequences.{has, AreDistinct, AreJobs, IsSequence}
+use Rattle.flow_core.specs.Sequences.{has, AreDistinct}
 use Rattle.flow_core.proofs.JobsLeft.{InRange, apart}
 use Rattle.flow_cert.specs.Certificate.{line, spaced}
 use Rattle.flow_cert.specs.Heading.{BeginsWithJob, BeginsWithSequence}
@@ -67,8 +66,7 @@ flip a b e = let other : b ≢ a = λ s. false≢true (sym e ∙ eq-eqb a b (sym
 pub distinct-push : (job : ℕ) (jobs : List ℕ) → AreDistinct jobs → has jobs job ≡ false → AreDistinct (jobs ++ job ∷ [])
 distinct-push job [] h new = (refl, tt)
 distinct-push job (j ∷ js) h new =
-    let parts = or-false (nat_eq job j) (has js job) new in
-    (
+    let parts = or-false (nat_eq job j) (has js job) new in (
       list_any-append (nat_eq j) js (job ∷ []) ∙ ap (λ b. b || (nat_eq j job || false)) h.0 ∙ ap (λ b. b || false) (flip job j parts.0),
       distinct-push job js h.1 parts.1,
     )

@@ -10,7 +10,7 @@ ghost use Rattle.flow_cert.specs.Heading.{BeginsWithJob, BeginsWithSize, BeginsW
 
 use crate::fault::CheckFault;
 use crate::number::read_number;
-use flow_core::{front_push, Front, Instance, JobSet, MAX_DEPTH};
+use flow_core::{Front, Instance, JobSet, MAX_DEPTH, front_push};
 
 /// The first line, with its end.
 const TITLE: &[u8] = b"flowshop certificate 1\n";

@@ -15,11 +15,7 @@ use flow_core::{Sink, WriteFault};
 use flow_search::{Plan, Verdict};
 
 /// Hands the line of the sizes on.
-fn add_sizes<S: Sink>(
-    gathered: &mut Gathered,
-    out: &mut S,
-    plan: &Plan,
-) -> Result<(), WriteFault>
+fn add_sizes<S: Sink>(gathered: &mut Gathered, out: &mut S, plan: &Plan) -> Result<(), WriteFault>
     requires { S.has_failed out.old ≡ false }
     ensures failed { S.has_failed out.new ≡ is_err result }
     ensures ok { OnOk result (HandsOn (S.taken out.old) (S.taken out.new) gathered.old (size_line plan.now) gathered.new) }
@@ -49,7 +45,8 @@ fn add_trees<S: Sink>(
     Ok(())
 }
 
-/// Writes the certificate of a plan with a verdict. `Device` where the sink refused: then a proper prefix of the text was taken.
+/// Writes the certificate of a plan with a verdict, which has a tree for each prefix, into a sink that did not refuse yet.
+/// `Device` where the sink refused: then a proper prefix of the text was taken.
 pub fn write_certificate<S: Sink>(
     plan: &Plan,
     verdict: &Verdict,

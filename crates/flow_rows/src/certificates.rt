@@ -14,10 +14,22 @@ fn checker_accepts_lawful_certificates(rt: HostRuntime) -> Result<(), Fail> {
     let three = three_machines(alloc)?;
     let rows: [(&[u8], u64); 5] = [
         (&AT_DEPTH_0, 12),
-        (b"flowshop certificate 1\n3 3 1\n12\n3 1 2\nB\nC\n++.B\nend\n", 12),
-        (b"flowshop certificate 1\n3 3 2\n12\n3 1 2\nB\nB\nC\nB\n+.\nB\nend\n", 12),
-        (b"flowshop certificate 1\n3 3 3\n12\n3 1 2\n.\n.\n.\n.\n.\n.\nend\n", 12),
-        (b"flowshop certificate 1\n3 3 0\n12\n3 1 2\n+B+CB+AB\nend\n", 12),
+        (
+            b"flowshop certificate 1\n3 3 1\n12\n3 1 2\nB\nC\n++.B\nend\n",
+            12,
+        ),
+        (
+            b"flowshop certificate 1\n3 3 2\n12\n3 1 2\nB\nB\nC\nB\n+.\nB\nend\n",
+            12,
+        ),
+        (
+            b"flowshop certificate 1\n3 3 3\n12\n3 1 2\n.\n.\n.\n.\n.\n.\nend\n",
+            12,
+        ),
+        (
+            b"flowshop certificate 1\n3 3 0\n12\n3 1 2\n+B+CB+AB\nend\n",
+            12,
+        ),
     ];
     for (text, value) in rows {
         assert_eq!(rt; check(alloc, &three, text), Ok(value));
@@ -36,14 +48,38 @@ fn checker_names_first_fault(rt: HostRuntime) -> Result<(), Fail> {
     let alloc = rt.alloc();
     let instance = three_machines(alloc)?;
     let rows: [(&[u8], CheckFault); 10] = [
-        (b"flowshop certificate 1\n3 3 0\n13\n2 1 3\n+BC++.B\nend\n", CheckFault::Low(5)),
-        (b"flowshop certificate 1\n3 3 0\n12\n1 2 3\n+BC++.B\nend\n", CheckFault::NotAttained),
-        (b"flowshop certificate 1\n3 3 0\n012\n3 1 2\n+BC++.B\nend\n", CheckFault::Value),
-        (b"flowshop certificate 1\n3 3 1\n12\n3 1 2\nB\nC\n++.A\nend\n", CheckFault::Weak(7)),
-        (b"flowshop certificate 1\n3 3 1\n12\n3 1 2\nB\nC\nend\n", CheckFault::Tree(7)),
-        (b"flowshop certificate 1\n3 3 1\n12\n3 1 2\nB\nC\n++.B\n++.B\nend\n", CheckFault::End),
-        (b"flowshop certificate 1\n3 3 1\n12\n3 1 2\nB\nC\n++.B\nend\nx", CheckFault::End),
-        (b"flowshop certificate 1\n3 3 1\n12\n3 1 2\n+BC++.B\nend\n", CheckFault::Weak(5)),
+        (
+            b"flowshop certificate 1\n3 3 0\n13\n2 1 3\n+BC++.B\nend\n",
+            CheckFault::Low(5),
+        ),
+        (
+            b"flowshop certificate 1\n3 3 0\n12\n1 2 3\n+BC++.B\nend\n",
+            CheckFault::NotAttained,
+        ),
+        (
+            b"flowshop certificate 1\n3 3 0\n012\n3 1 2\n+BC++.B\nend\n",
+            CheckFault::Value,
+        ),
+        (
+            b"flowshop certificate 1\n3 3 1\n12\n3 1 2\nB\nC\n++.A\nend\n",
+            CheckFault::Weak(7),
+        ),
+        (
+            b"flowshop certificate 1\n3 3 1\n12\n3 1 2\nB\nC\nend\n",
+            CheckFault::Tree(7),
+        ),
+        (
+            b"flowshop certificate 1\n3 3 1\n12\n3 1 2\nB\nC\n++.B\n++.B\nend\n",
+            CheckFault::End,
+        ),
+        (
+            b"flowshop certificate 1\n3 3 1\n12\n3 1 2\nB\nC\n++.B\nend\nx",
+            CheckFault::End,
+        ),
+        (
+            b"flowshop certificate 1\n3 3 1\n12\n3 1 2\n+BC++.B\nend\n",
+            CheckFault::Weak(5),
+        ),
         (
             b"flowshop certificate 1\n3 3 0\n18446744073709551615\n3 1 2\n+BC++.B\nend\n",
             CheckFault::NotAttained,

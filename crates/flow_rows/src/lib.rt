@@ -10,6 +10,10 @@ mod certificates;
 #[cfg(test)]
 mod instances;
 #[cfg(test)]
+mod search;
+#[cfg(test)]
 mod text;
 #[cfg(test)]
 mod values;
+#[cfg(test)]
+mod written;

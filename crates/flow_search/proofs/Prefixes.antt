@@ -1,23 +1,23 @@
 -- From the empty list to a prefix, and what the walk from there comes to.
-use Rattle.std.proofs.Common.{◌≡◌, ℕ, zero, suc, ◌+◌, ◌-◌, ◌*◌, ◌<◌, ◌≤◌, Bool, true, false, not, ◌||◌, nat_eq, List, [], ◌∷◌, ◌++◌, None, length, take, drop, get_or, slice_set, slice_index_or, refl, ap, sym, subst, ◌∙◌, inl, inr, arith}
+use Rattle.std.proofs.Common.{◌≡◌, ℕ, zero, suc, ◌+◌, ◌-◌, ◌*◌, ◌<◌, ◌≤◌, Bool, true, false, not, ◌||◌, nat_eq, List, [], ◌∷◌, ◌++◌, None, length, Some, take, drop, get_or, slice_set, slice_index_or, refl, ap, sym, subst, ◌∙◌, inl, inr, arith}
 use Rattle.std.proofs.lemmas.List.{take_more}
-use Rattle.std.proofs.lemmas.Bool.{or_left, or_right, eq-eqb, false≢true}
+use Rattle.std.proofs.lemmas.Bool.{cond-true, or_left, or_right, eq-eqb, false≢true}
 use Rattle.std.proofs.lemmas.Bool.Decides.{eqb_tells}
-use Rattle.std.proofs.lemmas.List.Elements.{All-from_recursion}
+use Rattle.std.proofs.lemmas.List.Elements.{All-from_recursion, recursion_from_All}
 use Rattle.flow_core.specs.declared.limits.TheConstants.{MAX_JOBS}
 use Rattle.flow_core.specs.Shop.{Shop, IsWithinLimits}
 use Rattle.flow_core.specs.Front.{IsFrontOf}
 use Rattle.flow_core.specs.JobSet.{contains}
-use Rattle.flow_core.specs.Sequences.{has, AreJobs, AreDistinct, cut}
+use Rattle.flow_core.specs.Sequences.{has, AreJobs, AreDistinct, IsSequence, cut}
 use Rattle.flow_core.specs.Bound.{bound_at}
 use Rattle.flow_core.proofs.Admissible.{bound_is_admissible}
-use Rattle.flow_search.specs.Search.{tree, best}
+use Rattle.flow_search.specs.Search.{Found, tree, best}
 use Rattle.flow_search.specs.Walk.{walk}
 use Rattle.flow_search.specs.Plans.{Planned, IsPlan, IsStored, prefixes_of, prefix_of, tree_of, best_of}
 use Rattle.flow_search.specs.Nodes.{IsAt, IsFresh, Entered, Walked, walked, found_if, incumbent_of}
 use Rattle.flow_search.specs.declared.subtree.Search.{Search}
 use Rattle.flow_search.proofs.Walk.{Fresh, walk_is_tree}
-use Rattle.flow_search.proofs.LeastVerdict.{cut-fresh}
+use Rattle.flow_search.proofs.LeastVerdict.{cut-fresh, best-is}
 use Rattle.flow_search.proofs.Lists.{all-weaken}
 use Rattle.flow_search.proofs.Nodes.{at-child}
 use Rattle.flow_search.proofs.CutLemmas.{joined-size, joined-at}
@@ -159,3 +159,15 @@ stored-prefix plan count lists number s h =
     ∙ joined-at depth (prefixes_of plan) number
     (all-weaken (λ p. Fresh plan.shop.jobs p × (length p ≡ 0 + depth)) (λ p. length p ≡ depth) (prefixes_of plan) (λ p h. omega (arith, h.1)) (cut-fresh plan.shop.jobs depth [] (tt, tt)))
     h
+
+-- the best of a prefix is a sequence
+pub best-sequence : (plan : Planned) (number : ℕ) (search : Search) → IsPlan plan → number < length (prefixes_of plan) → found_if search ≡ best_of plan number →
+    search.improved ≡ true → IsSequence plan.shop.jobs search.best.items
+best-sequence plan number search is h e improved =
+    let prefix : IsPrefix plan.shop.jobs plan.options.depth (prefix_of plan number) = prefix-is plan number h in
+    let range = recursion_from_All (λ job. (1 ≤ job) × (job ≤ plan.shop.jobs)) (prefix_of plan number) prefix.jobs.range in
+    let deep : plan.options.depth ≤ plan.shop.jobs = is.deep in
+    let short : length (prefix_of plan number) ≤ plan.shop.jobs = omega (arith, prefix.size, deep) in
+    let found : Found = record { value = search.value; sequence = search.best.items } in
+    let some : best_of plan number ≡ Some found = sym e ∙ cond-true search.improved (Some found) None improved in
+    (best-is plan.shop plan.start.value (prefix_of plan number) (Some found) (range, prefix.jobs.distinct) short some).0.0.0

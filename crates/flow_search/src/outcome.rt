@@ -1,15 +1,16 @@
 //! The outcome of a prefix.
 
-ghost use Rattle.std.specs.Prelude.{◌≡◌, ℕ, ◌<◌, ◌≤◌, length, IfOk};
+ghost use Rattle.std.specs.Prelude.{◌≡◌, ℕ, ◌<◌, ◌≤◌, length, true, IfOk};
 ghost use Rattle.std.specs.Option.{option_map};
+ghost use Rattle.flow_core.specs.Sequences.{IsSequence};
 ghost use Rattle.flow_search.specs.Plans.{prefixes_of, tree_of, best_of};
 ghost use Rattle.flow_search.specs.Nodes.{found_if};
 ghost use Rattle.flow_search.specs.Outcomes.{IsLawful, found_of};
 
 use crate::plan::Plan;
 use crate::subtree::{Search, Stop, explore};
-use flow_core::{Front, Instance, Sequence, SequenceFault, front_push};
-use std::alloc::Global;
+use flow_core::{Front, Instance, Sequence, front_push};
+use std::alloc::{AllocError, Global};
 
 /// A sequence below the starting makespan, with its own.
 #[derive(Debug, Drop)]
@@ -37,6 +38,7 @@ fn search_below(alloc: Global, plan: &Plan, number: u32) -> Result<Search, Stop>
     ensures best { IfOk result (λ search. found_if search ≡ best_of plan.now number) }
     ensures tree { IfOk result (λ search. search.tree.items ≡ tree_of plan.now number) }
     ensures within { IfOk result (λ search. length search.tree.items ≤ plan.now.options.budget) }
+    ensures sequence { IfOk result (λ search. search.improved ≡ true → IsSequence plan.now.shop.jobs search.best.items) }
     ensures over { result ≡ Err Stop.OverBudget → plan.now.options.budget < length (tree_of plan.now number) }
 {
     let instance = plan.instance();
@@ -54,18 +56,31 @@ fn search_below(alloc: Global, plan: &Plan, number: u32) -> Result<Search, Stop>
     Ok(search)
 }
 
+/// The sequence of these jobs, which are known to be one.
+pub fn sequence_of(alloc: Global, instance: &Instance, jobs: &[u16]) -> Result<Sequence, AllocError>
+    requires { IsSequence instance.now.jobs jobs.now }
+    ensures { IfOk result (λ sequence. sequence ≡ jobs.now) }
+{
+    match Sequence::new(alloc, instance, jobs) {
+        Ok(sequence) => Ok(sequence),
+        // Jobs that are a sequence have no fault but want of memory.
+        Err(_) => Err(AllocError),
+    }
+}
+
 /// The best that a search found.
 fn best_found(
     alloc: Global,
     instance: &Instance,
     search: &Search,
-) -> Result<Option<Best>, SequenceFault>
+) -> Result<Option<Best>, AllocError>
+    requires { search.now.improved ≡ true → IsSequence instance.now.jobs search.now.best.items }
     ensures { IfOk result (λ best. option_map found_of best ≡ found_if search.now) }
 {
     if !search.improved {
         return Ok(None);
     }
-    let sequence = Sequence::new(alloc, instance, &search.best)?;
+    let sequence = sequence_of(alloc, instance, &search.best)?;
     Ok(Some(Best {
         value: search.value,
         sequence,
@@ -82,7 +97,6 @@ pub fn answer(alloc: Global, plan: &Plan, number: u32) -> Outcome
         Err(Stop::OverBudget) => return Outcome::OverBudget,
         Err(Stop::Memory) => return Outcome::NoMemory,
     };
-    // The best is a sequence of the instance, so that nothing but a growth can be refused.
     match best_found(alloc, plan.instance(), &search) {
         Ok(best) => Outcome::Done {
             best,

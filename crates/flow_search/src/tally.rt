@@ -8,10 +8,9 @@ ghost use Rattle.flow_search.specs.Outcomes.{IsLawful, first_over_budget};
 ghost use Rattle.flow_search.specs.Verdicts.{IsTally, IsVerdict, undercuts};
 ghost use Rattle.flow_search.specs.declared.outcome.Outcome.TheVariants.{Done};
 
-use crate::outcome::Best;
+use crate::outcome::{Best, sequence_of};
 use crate::plan::Plan;
 use crate::verdict::Verdict;
-use flow_core::Sequence;
 use std::alloc::{AllocError, Global};
 
 /// The trees of the first prefixes, and the first least of their bests.
@@ -72,13 +71,9 @@ impl Tally {
                 trees,
             });
         }
-        // The start is a sequence of the instance, so that nothing but a growth can be refused.
-        let Ok(sequence) = Sequence::new(alloc, plan.instance(), start.jobs()) else {
-            return Err(AllocError);
-        };
         Ok(Verdict {
             value: plan.start_value(),
-            sequence,
+            sequence: sequence_of(alloc, plan.instance(), start.jobs())?,
             trees,
         })
     }

@@ -1,4 +1,5 @@
 use Rattle.std.proofs.Common.{min, true, false, slice_index, slice_index_or, ◌≡◌, ℕ, ◌+◌, ◌-◌, ◌*◌, ◌≤◌, map, filter, cond, ap, sym, ◌∙◌, arith}
+use Rattle.flow_core.specs.declared.limits.TheConstants.{MAX_JOBS}
 use Rattle.std.specs.List.{sum_by}
 use Rattle.flow_core.specs.declared.limits.TheConstants.{MAX_MACHINES, MAX_TIME, MAX_COMPLETION}
 use Rattle.flow_core.specs.Shop.{numbers, time, time_between}
@@ -6,9 +7,12 @@ use Rattle.flow_core.specs.Least.{least}
 use Rattle.flow_core.specs.JobSet.{contains, members}
 use Rattle.flow_core.proofs.JobsLeft.{kept}
 use Rattle.flow_bound.proofs.Steps.{capped, kept-step, capped-step, members-is, admissible-members}
-use Rattle.flow_bound.proofs.Running.{capped-least-all, tail-small}
+use Rattle.flow_bound.proofs.Running.{zeros, capped-least-all, tail-small}
 use Rattle.flow_bound.proofs.machine_bound.bound.Goals as goal
 use Rattle.flow_bound.proofs.machine_bound.bound.Goals.{After-from-2, then-contains, else-contains}
+
+pub sum_times-requires-clause-zeros : goal.sum_times-requires-clause-zeros
+sum_times-requires-clause-zeros c job from to = zeros MAX_JOBS (job - 1)
 
 pub loop-job-preserved : goal.loop-job-preserved
 loop-job-preserved c =
@@ -29,10 +33,10 @@ loop-job-preserved c =
           let more : cond {A = ℕ} (contains set job) (f job) 0 ≡ f job = ap (λ b. cond b (f job) 0) there in
           let lower : cond {A = ℕ} (contains set job) (min (least_to (job - 1)) (tail job)) (least_to (job - 1)) ≡ min (least_to (job - 1)) (tail job) =
           ap (λ b. cond b (min (least_to (job - 1)) (tail job)) (least_to (job - 1))) there in
-          let value : slice_index_or c.times_from-tails.result (job - 1) 0 ≡ tail job = c.times_from-tails.ensures job (omega arith) (omega arith) in
+          let value : slice_index_or c.sum_times.new.sums (job - 1) 0 ≡ tail job = c.sum_times.ensures job (omega arith) (omega arith) in
           let new_owed : c.if-contains.owed ≡ kept f (contains set) (job + 1 - 1) = omega (arith, sum, owed, more, w.owed-is, c.time-time.ensures.value) in
           let new_tail : c.if-contains.least_tail ≡ least_to (job + 1 - 1) =
-          w.least_tail-is ∙ w.min-least_tail.ensures ∙ ap (λ n. min n (slice_index_or c.times_from-tails.result (job - 1) 0)) least_tail
+          w.least_tail-is ∙ w.min-least_tail.ensures ∙ ap (λ n. min n (slice_index_or c.sum_times.new.sums (job - 1) 0)) least_tail
           ∙ ap (λ n. min (least_to (job - 1)) n) value ∙ sym lower ∙ sym least in
           record {
             end = c.loop-job.invariant.end;

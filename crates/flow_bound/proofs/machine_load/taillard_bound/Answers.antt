@@ -4,9 +4,12 @@ use Rattle.flow_core.specs.Shop.{numbers, time_between}
 use Rattle.flow_core.specs.Least.{greatest}
 use Rattle.flow_bound.specs.Totals.{total}
 use Rattle.flow_bound.specs.Taillard.{machine_load, taillard_bound}
-use Rattle.flow_bound.proofs.Running.{times-none, greatest-step}
+use Rattle.flow_bound.proofs.Running.{zeros, times-none, greatest-step}
 use Rattle.flow_bound.proofs.Loads.{taillard-below}
 use Rattle.flow_bound.proofs.machine_load.taillard_bound.Goals as goal
+
+pub sum_times-requires-clause-zeros : goal.sum_times-requires-clause-zeros
+sum_times-requires-clause-zeros c job from to = zeros MAX_JOBS (job - 1)
 
 pub loop-machine-init : goal.loop-machine-init
 loop-machine-init c =

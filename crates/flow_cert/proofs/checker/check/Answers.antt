@@ -51,13 +51,13 @@ pub returns-clause-value : goal.returns-clause-value
 returns-clause-value c =
     let heading = c.in_ok-heading.heading in
     (value-least c.args.instance.now c.args.bytes.now heading.value c.read_heading.ensures.limits
-        (checked-value c.args.instance.now heading.depth heading.value c.in_ok-end.end c.args.bytes.now heading.trees.now c.is_ending.result c.in_ok-heading.ensures.found c.in_ok-end.ensures c.is_ending.ensures c.if-not-is_ending.false)).0
+    (checked-value c.args.instance.now heading.depth heading.value c.in_ok-end.end c.args.bytes.now heading.trees.now c.is_ending.result c.in_ok-heading.ensures.found c.in_ok-end.ensures c.is_ending.ensures c.if-not-is_ending.false)).0
 
 pub returns-clause-least : goal.returns-clause-least
 returns-clause-least c =
     let heading = c.in_ok-heading.heading in
     (value-least c.args.instance.now c.args.bytes.now heading.value c.read_heading.ensures.limits
-        (checked-value c.args.instance.now heading.depth heading.value c.in_ok-end.end c.args.bytes.now heading.trees.now c.is_ending.result c.in_ok-heading.ensures.found c.in_ok-end.ensures c.is_ending.ensures c.if-not-is_ending.false)).1
+    (checked-value c.args.instance.now heading.depth heading.value c.in_ok-end.end c.args.bytes.now heading.trees.now c.is_ending.result c.in_ok-heading.ensures.found c.in_ok-end.ensures c.is_ending.ensures c.if-not-is_ending.false)).1
 
 pub returns-clause-lawful : goal.returns-clause-lawful
 returns-clause-lawful c value is =

@@ -1,8 +1,7 @@
-use Rattle.std.proofs.Common.{◌≡◌, ◌≢◌, ℕ, List, ap, subst, cond, nat_eq, sym, ◌∙◌, Err}
+use Rattle.std.proofs.Common.{◌≡◌, ◌≢◌, ap, cond, sym, ◌∙◌, Err}
 use Rattle.std.proofs.lemmas.Bool.{eq-eqb, ne_eqb}
 use Rattle.flow_core.specs.Paths.{span}
 use Rattle.flow_cert.specs.Faults.{certificate_value, cut_value}
-use Rattle.flow_cert.specs.Heading.{BeginsWithSize}
 use Rattle.flow_cert.specs.declared.fault.CheckFault.TheVariants.{NotAttained}
 use Rattle.flow_cert.proofs.HeadingLines.{title-read, title-refused, size-is, is-size, size-read, size-refused, value-read, value-refused, sequence-read, sequence-refused}
 use Rattle.flow_cert.proofs.heading.read_heading.Goals as goal

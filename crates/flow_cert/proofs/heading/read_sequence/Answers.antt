@@ -1,12 +1,10 @@
-use Rattle.std.proofs.Common.{◌≡◌, ℕ, ◌+◌, ◌-◌, ◌≤◌, ◌<◌, Bool, true, false, List, [], ◌∷◌, ◌++◌, length, ap, sym, slice_index, ◌∙◌, inl, inr, arith}
+use Rattle.std.proofs.Common.{◌≡◌, ℕ, ◌+◌, ◌-◌, ◌≤◌, List, [], ◌∷◌, ◌++◌, length, ap, sym, slice_index, ◌∙◌, inl, inr, arith}
 use Rattle.std.proofs.lemmas.Bool.{false≢true}
 use Rattle.flow_core.specs.declared.limits.TheConstants.{MAX_JOBS}
-use Rattle.flow_core.specs.JobSet.{contains}
 use Rattle.flow_core.specs.Sequences.{has}
 use Rattle.flow_core.specs.Paths.{span}
 use Rattle.flow_core.proofs.Fronts.{front-within}
-use Rattle.flow_cert.specs.Heading.{BeginsWithJob}
-use Rattle.flow_cert.proofs.SequenceLine.{IsDone, begins, next-job, end_of, ended, end-byte, as-read, done-more, all-done, only-done}
+use Rattle.flow_cert.proofs.SequenceLine.{begins, next-job, end_of, ended, end-byte, as-read, done-more, all-done, only-done}
 use Rattle.flow_cert.proofs.heading.read_sequence.Goals as goal
 use Rattle.flow_cert.proofs.heading.read_sequence.Goals.{then-place-jobs, else-place-jobs}
 
@@ -22,11 +20,11 @@ returns-in_err-job-clause-only c jobs rest h =
     let is = c.loop-place.invariant.1 in
     let within : c.loop-place.place ≤ n = omega (arith, c.loop-place-test.true, c.jobs-jobs.ensures.value) in
     let byte : c.if-place-jobs.end ≡ end_of (n - length done) =
-        end-byte n c.loop-place.place (length done) c.if-place-jobs.end is.count within
-        (elim c.if-place-jobs.branch [
-          | then-place-jobs w ↦ inl (w.if-place-jobs.true ∙ c.jobs-jobs.ensures.value, w.end-is)
-          | else-place-jobs w ↦ inr ((λ e. w.if-place-jobs.false (e ∙ sym c.jobs-jobs.ensures.value)), w.end-is)
-        ]) in
+    end-byte n c.loop-place.place (length done) c.if-place-jobs.end is.count within
+    (elim c.if-place-jobs.branch [
+      | then-place-jobs w ↦ inl (w.if-place-jobs.true ∙ c.jobs-jobs.ensures.value, w.end-is)
+      | else-place-jobs w ↦ inr ((λ e. w.if-place-jobs.false (e ∙ sym c.jobs-jobs.ensures.value)), w.end-is)
+    ]) in
     let next = next-job c.args.instance.now c.args.text.now c.loop-place.place c.loop-place.scheduled c.loop-place.front c.loop-place.rest.now done is within jobs rest h in
     let there : List ℕ = ended (n - length done - 1) next.1 ++ rest in
     absurd (c.in_err-job.ensures.only next.0 there (as-read n c.jobs-jobs.result c.loop-place.rest.now (end_of (n - length done)) c.if-place-jobs.end next.0 there c.jobs-jobs.ensures.value byte next.3))
@@ -38,11 +36,11 @@ returns-then-contains-clause-only c jobs rest h =
     let is = c.loop-place.invariant.1 in
     let within : c.loop-place.place ≤ n = omega (arith, c.loop-place-test.true, c.jobs-jobs.ensures.value) in
     let byte : c.if-place-jobs.end ≡ end_of (n - length done) =
-        end-byte n c.loop-place.place (length done) c.if-place-jobs.end is.count within
-        (elim c.if-place-jobs.branch [
-          | then-place-jobs w ↦ inl (w.if-place-jobs.true ∙ c.jobs-jobs.ensures.value, w.end-is)
-          | else-place-jobs w ↦ inr ((λ e. w.if-place-jobs.false (e ∙ sym c.jobs-jobs.ensures.value)), w.end-is)
-        ]) in
+    end-byte n c.loop-place.place (length done) c.if-place-jobs.end is.count within
+    (elim c.if-place-jobs.branch [
+      | then-place-jobs w ↦ inl (w.if-place-jobs.true ∙ c.jobs-jobs.ensures.value, w.end-is)
+      | else-place-jobs w ↦ inr ((λ e. w.if-place-jobs.false (e ∙ sym c.jobs-jobs.ensures.value)), w.end-is)
+    ]) in
     let next = next-job c.args.instance.now c.args.text.now c.loop-place.place c.loop-place.scheduled c.loop-place.front c.loop-place.rest.now done is within jobs rest h in
     let there : List ℕ = ended (n - length done - 1) next.1 ++ rest in
     let same = c.in_ok-job.ensures.only next.0 there (as-read n c.jobs-jobs.result c.loop-place.rest.now (end_of (n - length done)) c.if-place-jobs.end next.0 there c.jobs-jobs.ensures.value byte next.3) in
@@ -62,12 +60,11 @@ loop-place-preserved c =
     let is = c.loop-place.invariant.1 in
     let within : c.loop-place.place ≤ n = omega (arith, c.loop-place-test.true, c.jobs-jobs.ensures.value) in
     let byte : c.if-place-jobs.end ≡ end_of (n - length done) =
-        end-byte n c.loop-place.place (length done) c.if-place-jobs.end is.count within
-        (elim c.if-place-jobs.branch [
-          | then-place-jobs w ↦ inl (w.if-place-jobs.true ∙ c.jobs-jobs.ensures.value, w.end-is)
-          | else-place-jobs w ↦ inr ((λ e. w.if-place-jobs.false (e ∙ sym c.jobs-jobs.ensures.value)), w.end-is)
-        ]) in
-    (
+    end-byte n c.loop-place.place (length done) c.if-place-jobs.end is.count within
+    (elim c.if-place-jobs.branch [
+      | then-place-jobs w ↦ inl (w.if-place-jobs.true ∙ c.jobs-jobs.ensures.value, w.end-is)
+      | else-place-jobs w ↦ inr ((λ e. w.if-place-jobs.false (e ∙ sym c.jobs-jobs.ensures.value)), w.end-is)
+    ]) in (
       done ++ c.in_ok-job.job ∷ [],
       done-more c.args.instance.now c.args.text.now c.loop-place.place c.loop-place.scheduled c.loop-place.front c.loop-place.rest.now c.insert.new.self c.front_push.new.front c.in_ok-job.after.now c.in_ok-job.job done
           is within c.jobs-jobs.ensures.limits.jobs

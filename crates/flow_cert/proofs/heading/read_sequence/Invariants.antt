@@ -1,4 +1,3 @@
-use Rattle.std.proofs.Common.{◌≡◌}
 use Rattle.flow_cert.proofs.SequenceLine.{IsReadTo}
 use Rattle.flow_cert.proofs.heading.read_sequence.Given as goal
 

@@ -1,4 +1,4 @@
-use Rattle.std.proofs.Common.{◌≡◌, ℕ, ◌<◌, ◌≤◌, ◌^◌, List, ◌∷◌, ◌++◌, sym, subst, ◌∙◌, arith}
+use Rattle.std.proofs.Common.{◌<◌, ◌^◌, ◌∷◌, ◌++◌, arith}
 use Rattle.std.specs.Fmt.{decimal}
 use Rattle.flow_cert.proofs.SizeLine.{first-number, depth-fits}
 use Rattle.flow_cert.proofs.heading.read_size.Goals as goal

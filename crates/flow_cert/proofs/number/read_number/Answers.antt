@@ -1,5 +1,3 @@
-use Rattle.std.proofs.Common.{arith, ◌<◌, ◌≤◌, length, get_or, ◌≡◌, false, nat_lt, nat_eq, ◌&&◌}
-use Rattle.flow_cert.specs.Heading.{BeginsWithNumber, is_further}
 use Rattle.flow_cert.proofs.Numerals.{found-at, only-at, none-past, none-other}
 use Rattle.flow_cert.proofs.number.read_number.Goals as goal
 

@@ -1,4 +1,4 @@
-use Rattle.std.proofs.Common.{◌≡◌, ◌<◌, ◌+◌, ◌++◌, List, ℕ, [], ◌∷◌, suc, length, map, take, drop, get_or, arith, append_assoc, sym, ap, subst, ◌∙◌, Vec, Global}
+use Rattle.std.proofs.Common.{◌≡◌, ◌<◌, ◌++◌, List, ℕ, [], ◌∷◌, suc, length, map, take, drop, arith, append_assoc, sym, ap, subst, ◌∙◌, Vec, Global}
 use Rattle.std.specs.List.{flat_map}
 use Rattle.flow_cert.specs.Certificate.{line}
 use Rattle.flow_cert.specs.Gathered.{HandsOn}
@@ -21,10 +21,10 @@ returns-in_err-add-clause-err g c =
     let more : List ℕ = lines_of (drop (suc i) trees) in
     let below : i < length trees = omega arith in
     let text : lines_of trees ≡ (done ++ bytes) ++ (10 ∷ [] ++ more) =
-        at-line bytes_of trees i c.tree-item.result bytes below c.tree-item.is c.as_slice.ensures.value
-        ∙ append_assoc done (line bytes) more
-        ∙ ap (λ t. done ++ t) (append_assoc bytes (10 ∷ []) more)
-        ∙ sym (append_assoc done bytes (10 ∷ [] ++ more)) in
+    at-line bytes_of trees i c.tree-item.result bytes below c.tree-item.is c.as_slice.ensures.value
+    ∙ append_assoc done (line bytes) more
+    ∙ ap (λ t. done ++ t) (append_assoc bytes (10 ∷ []) more)
+    ∙ sym (append_assoc done bytes (10 ∷ [] ++ more)) in
     on-err c.from_residual.result
     (stops-within _ _ c.args.gathered.now (done ++ bytes) (10 ∷ [] ++ more) (lines_of trees) text
     (then-stops _ _ _ c.args.gathered.now c.loop-tree.gathered done bytes c.loop-tree.invariant.handed c.in_err-add.ensures.err))

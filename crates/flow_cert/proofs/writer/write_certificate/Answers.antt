@@ -1,13 +1,11 @@
-use Rattle.std.proofs.Common.{◌≡◌, ◌++◌, List, ℕ, [], ◌∷◌, map, decimal, refl, Vec, Global}
+use Rattle.std.proofs.Common.{◌++◌, List, ℕ, [], ◌∷◌, map, decimal, refl}
 use Rattle.std.proofs.lemmas.Result.{on_ok_weaker, on_err_weaker}
 use Rattle.std.specs.List.{flat_map}
 use Rattle.flow_search.specs.Plans.{Planned}
 use Rattle.flow_search.specs.declared.verdict.Verdict.{Verdict}
 use Rattle.flow_cert.specs.Certificate.{line, spaced, title, ending}
-use Rattle.flow_cert.specs.Gathered.{HandsOn}
 use Rattle.flow_cert.specs.Written.{size_line}
 use Rattle.flow_cert.proofs.HandedOn.{on-err, then-hands, then-stops, then-puts, then-stops_putting, stops-within, stops-early}
-use Rattle.flow_cert.proofs.Lawful.{text-of-plan}
 use Rattle.flow_cert.proofs.writer.write_certificate.Goals as goal
 
 -- the text up to each of its lines

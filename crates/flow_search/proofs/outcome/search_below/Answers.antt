@@ -9,7 +9,7 @@ use Rattle.flow_search.specs.declared.subtree.Search.{Search}
 use Rattle.flow_search.specs.declared.subtree.Stop.{Stop}
 use Rattle.flow_search.specs.declared.subtree.Stop.TheVariants.{OverBudget}
 use Rattle.flow_search.proofs.Nodes.{within-front}
-use Rattle.flow_search.proofs.Prefixes.{way-goes-on, prefix-done, prefix-over}
+use Rattle.flow_search.proofs.Prefixes.{way-goes-on, prefix-done, prefix-over, best-sequence}
 use Rattle.flow_search.proofs.outcome.search_below.Goals as goal
 
 pub front_push-requires-clause-within : goal.front_push-requires-clause-within
@@ -81,3 +81,6 @@ returns-clause-tree c =
     let is = prefix-done plan prefix c.loop-job.front c.loop-job.job-index c.budget-budget.result (c.jobs-jobs.result - length prefix) c.loop-job.search c.explore.new.search
     c.prefix-prefix.ensures.jobs short (ap (λ n. n - length prefix) jobs) (omega arith) (omega arith) c.loop-job.invariant walk_done in
     is.1 ∙ ap (tree plan.shop bound_at plan.start.value) c.prefix-prefix.ensures.value
+
+pub returns-clause-sequence : goal.returns-clause-sequence
+returns-clause-sequence c improved = best-sequence c.args.plan.now c.args.number c.explore.new.search c.prefix-prefix.ensures.plan c.requires (returns-clause-best c) improved

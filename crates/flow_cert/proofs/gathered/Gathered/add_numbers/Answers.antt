@@ -1,4 +1,4 @@
-use Rattle.std.proofs.Common.{◌≡◌, ◌<◌, ◌≤◌, ◌+◌, ◌++◌, List, ℕ, [], ◌∷◌, suc, length, take, drop, decimal, get_or, arith, append_assoc, refl, sym, subst, ◌∙◌}
+use Rattle.std.proofs.Common.{◌≡◌, ◌<◌, ◌++◌, List, ℕ, [], ◌∷◌, suc, length, take, drop, decimal, get_or, arith, append_assoc, refl, sym, subst, ◌∙◌}
 use Rattle.std.proofs.lemmas.List.{take_all}
 use Rattle.std.proofs.lemmas.Result.{on_ok_weaker, on_err_weaker}
 use Rattle.flow_cert.specs.Certificate.{line, spaced}
@@ -17,7 +17,7 @@ returns-in_err-add-clause-err g c =
     let rest : List ℕ = rest_behind (drop (suc i) ns) ++ 10 ∷ [] in
     let below : i < length ns = omega arith in
     let text : line (spaced ns) ≡ done ++ (decimal n ++ rest) =
-        at-number ns i n gap below refl c.loop-number.invariant.gap ∙ append_assoc done (decimal n) rest in
+    at-number ns i n gap below refl c.loop-number.invariant.gap ∙ append_assoc done (decimal n) rest in
     on-err c.from_residual.result
     (stops-within _ _ c.args.self.now done (decimal n ++ rest) (line (spaced ns)) text
     (then-stops _ _ _ c.args.self.now c.loop-number.self (spaced (take i ns)) gap c.loop-number.invariant.handed c.in_err-add.ensures.err))

@@ -1,6 +1,6 @@
 use Rattle.std.proofs.Common.{◌≡◌, ◌+◌, ◌-◌}
 use Rattle.flow_bound.specs.Totals.{AreTimes}
-use Rattle.flow_bound.proofs.sums.times_from.Given as goal
+use Rattle.flow_bound.proofs.sums.sum_times.Given as goal
 
 abbrev pub invariant-loop-machine : goal.invariant-loop-machine
 invariant-loop-machine l = record {

@@ -1,13 +1,12 @@
-use Rattle.std.proofs.Common.{◌+◌, ◌-◌, ap, arith}
-use Rattle.flow_core.specs.declared.limits.TheConstants.{MAX_JOBS}
+use Rattle.std.proofs.Common.{◌+◌, ◌-◌, ap, sym, ◌∙◌, arith}
+use Rattle.flow_core.proofs.Recurrence.{time_between-none}
 use Rattle.flow_bound.proofs.Steps.{time_between-step, time_between-small}
-use Rattle.flow_bound.proofs.Running.{times-none}
-use Rattle.flow_bound.proofs.sums.times_from.Goals as goal
+use Rattle.flow_bound.proofs.sums.sum_times.Goals as goal
 
 pub loop-machine-init : goal.loop-machine-init
 loop-machine-init c = record {
   end = ap (λ n. n + 1) c.machines-end.ensures.value;
-  sums = λ job from to. times-none c.args.instance.now MAX_JOBS job c.args.first c.requires.from;
+  sums = λ job from to. c.requires.zeros job from to ∙ sym (time_between-none c.args.instance.now job c.args.first (c.args.first - 1) (omega arith));
 }
 
 pub add_times-requires-clause-small : goal.add_times-requires-clause-small

@@ -1,0 +1,192 @@
+//! Options, plans, outcomes and verdicts.
+
+ghost use Rattle.std.specs.Prelude.{◌≡◌, ℕ, length, vec_len, IfOk};
+ghost use Rattle.flow_search.specs.Plans.{prefixes_of};
+ghost use Rattle.flow_search.specs.Outcomes.{AreLawful};
+
+use crate::instances::{three_machines, two_machines};
+use flow_core::Instance;
+use flow_search::{
+    OptionFault, Options, Outcome, Plan, PlanFault, RunFault, Verdict, answer, conclude, prepare,
+    solve_plain,
+};
+use std::alloc::{AllocError, Global};
+use std::test::Fail;
+
+/// The budget of a tree where none is to be refused.
+const AMPLE: u32 = 1_000_000;
+
+#[test]
+fn options_name_first_fault(rt: HostRuntime) -> Result<(), Fail> {
+    let rows = [
+        (0, 0, 1, OptionFault::Workers),
+        (65, 4, 0, OptionFault::Workers),
+        (1, 4, 0, OptionFault::Depth),
+        (1, 0, 0, OptionFault::Budget),
+        (1, 0, 100_000_001, OptionFault::Budget),
+    ];
+    for (workers, depth, budget, fault) in rows {
+        match Options::new(workers, depth, budget) {
+            Ok(_) => return Err(Fail::from("options were made")),
+            Err(found) => assert_eq!(rt; found, fault),
+        }
+    }
+    let options = Options::new(64, 3, 100_000_000)?;
+    assert_eq!(rt;
+        (options.workers(), options.depth(), options.budget()),
+        (64, 3, 100_000_000)
+    );
+    Ok(())
+}
+
+#[test]
+fn prepare_names_first_fault(rt: HostRuntime) -> Result<(), Fail> {
+    let alloc = rt.alloc();
+    let options = Options::new(1, 3, AMPLE)?;
+    let many = Instance::new(alloc, 48, 1, &[0; 48])?;
+    match prepare(alloc, &many, options) {
+        Ok(_) => return Err(Fail::from("a plan was made")),
+        Err(fault) => assert_eq!(rt; fault, PlanFault::Prefixes),
+    }
+    let few = Instance::new(alloc, 2, 1, &[0; 2])?;
+    match prepare(alloc, &few, options) {
+        Ok(_) => return Err(Fail::from("a plan was made")),
+        Err(fault) => assert_eq!(rt; fault, PlanFault::Depth),
+    }
+    Ok(())
+}
+
+#[test]
+fn prepare_numbers_the_largest_cut(rt: HostRuntime) -> Result<(), Fail> {
+    let alloc = rt.alloc();
+    let instance = Instance::new(alloc, 47, 1, &[0; 47])?;
+    let plan = prepare(alloc, &instance, Options::new(1, 3, AMPLE)?)?;
+    let count = plan.prefixes();
+    assert!(rt; count == 97_290);
+    assert_eq!(rt; plan.prefix(0), [1, 2, 3].as_slice());
+    assert_eq!(rt; plan.prefix(97_289), [47, 46, 45].as_slice());
+    Ok(())
+}
+
+#[test]
+fn plan_gives_its_parts(rt: HostRuntime) -> Result<(), Fail> {
+    let alloc = rt.alloc();
+    let instance = three_machines(alloc)?;
+    let plan = prepare(alloc, &instance, Options::new(2, 2, AMPLE)?)?;
+    assert_eq!(rt; plan.instance().machines(), 3);
+    assert_eq!(rt; plan.options().workers(), 2);
+    assert_eq!(rt; plan.start().jobs(), [2, 1, 3].as_slice());
+    assert_eq!(rt; plan.start_value(), 13);
+    let prefixes: [&[u16]; 6] = [&[1, 2], &[1, 3], &[2, 1], &[2, 3], &[3, 1], &[3, 2]];
+    assert!(rt; plan.prefixes() == 6);
+    for number in 0..6u32 {
+        assert_eq!(rt; plan.prefix(number), prefixes[number as usize]);
+    }
+    Ok(())
+}
+
+#[test]
+fn answer_succeeds(rt: HostRuntime) -> Result<(), Fail> {
+    let alloc = rt.alloc();
+    let instance = three_machines(alloc)?;
+    let plan = prepare(alloc, &instance, Options::new(1, 1, AMPLE)?)?;
+    assert!(rt; plan.prefixes() == 3);
+    let trees: [&[u8]; 2] = [b"B", b"C"];
+    for number in 0..2u32 {
+        let Outcome::Done { best, tree } = answer(alloc, &plan, number) else {
+            return Err(Fail::from("a prefix was not answered"));
+        };
+        assert!(rt; best.is_none());
+        assert_eq!(rt; tree.as_slice(), trees[number as usize]);
+    }
+    let Outcome::Done { best, tree } = answer(alloc, &plan, 2) else {
+        return Err(Fail::from("the last prefix was not answered"));
+    };
+    let best = best.ok_or("no best")?;
+    assert_eq!(rt; best.value, 12);
+    assert_eq!(rt; best.sequence.jobs(), [3, 1, 2].as_slice());
+    assert_eq!(rt; tree.as_slice(), b"++.B".as_slice());
+    Ok(())
+}
+
+/// The outcomes of all prefixes in order.
+fn all_outcomes(alloc: Global, plan: &Plan) -> Result<Vec<Outcome>, AllocError>
+    ensures count { IfOk result (λ outcomes. vec_len outcomes ≡ length (prefixes_of plan.now)) }
+    ensures lawful { IfOk result (λ outcomes. AreLawful plan.now outcomes.items) }
+{
+    let mut outcomes = Vec::new(alloc);
+    for number in 0..plan.prefixes() {
+        outcomes.push(answer(alloc, plan, number))?;
+    }
+    Ok(outcomes)
+}
+
+/// Whether a verdict has this value, this sequence and these trees.
+fn is_verdict(verdict: &Verdict, value: u64, sequence: &[u16], trees: &[&[u8]]) -> bool {
+    let mut same = verdict.value == value
+        && verdict.sequence.jobs() == sequence
+        && verdict.trees.len() == trees.len();
+    for (tree, expected) in verdict.trees.iter().zip(trees) {
+        same = same && tree.as_slice() == *expected;
+    }
+    same
+}
+
+#[test]
+fn conclude_takes_the_outcomes_of_all_prefixes(rt: HostRuntime) -> Result<(), Fail> {
+    let alloc = rt.alloc();
+    let instance = three_machines(alloc)?;
+    let plan = prepare(alloc, &instance, Options::new(1, 1, AMPLE)?)?;
+    let verdict = conclude(alloc, &plan, all_outcomes(alloc, &plan)?)?;
+    assert!(rt; is_verdict(&verdict, 12, &[3, 1, 2], &[b"B", b"C", b"++.B"]));
+    let tight = prepare(alloc, &instance, Options::new(1, 1, 3)?)?;
+    match conclude(alloc, &tight, all_outcomes(alloc, &tight)?) {
+        Ok(_) => return Err(Fail::from("a verdict beyond the budget")),
+        Err(fault) => assert_eq!(rt; fault, RunFault::OverBudget(2)),
+    }
+    Ok(())
+}
+
+#[test]
+fn solve_plain_gives_the_worked_verdicts(rt: HostRuntime) -> Result<(), Fail> {
+    let alloc = rt.alloc();
+    let three = three_machines(alloc)?;
+    let rows: [&[&[u8]]; 4] = [
+        &[b"+BC++.B"],
+        &[b"B", b"C", b"++.B"],
+        &[b"B", b"B", b"C", b"B", b"+.", b"B"],
+        &[b".", b".", b".", b".", b".", b"."],
+    ];
+    for (depth, trees) in (0..4u32).zip(rows) {
+        let plan = prepare(alloc, &three, Options::new(1, depth, AMPLE)?)?;
+        let verdict = solve_plain(alloc, &plan)?;
+        assert!(rt;
+            is_verdict(&verdict, 12, &[3, 1, 2], trees),
+            "at depth {depth}"
+        );
+    }
+    let two = two_machines(alloc)?;
+    let plan = prepare(alloc, &two, Options::new(1, 0, AMPLE)?)?;
+    let verdict = solve_plain(alloc, &plan)?;
+    assert!(rt; is_verdict(&verdict, 9, &[2, 3, 1], &[b"+BBB"]));
+    let one = Instance::new(alloc, 1, 1, &[0])?;
+    let plan = prepare(alloc, &one, Options::new(1, 0, AMPLE)?)?;
+    let verdict = solve_plain(alloc, &plan)?;
+    assert!(rt; is_verdict(&verdict, 0, &[1], &[b"A"]));
+    Ok(())
+}
+
+#[test]
+fn solve_plain_keeps_to_the_budget(rt: HostRuntime) -> Result<(), Fail> {
+    let alloc = rt.alloc();
+    let instance = three_machines(alloc)?;
+    let tight = prepare(alloc, &instance, Options::new(1, 1, 3)?)?;
+    match solve_plain(alloc, &tight) {
+        Ok(_) => return Err(Fail::from("a verdict beyond the budget")),
+        Err(fault) => assert_eq!(rt; fault, RunFault::OverBudget(2)),
+    }
+    let enough = prepare(alloc, &instance, Options::new(1, 1, 4)?)?;
+    let verdict = solve_plain(alloc, &enough)?;
+    assert!(rt; is_verdict(&verdict, 12, &[3, 1, 2], &[b"B", b"C", b"++.B"]));
+    Ok(())
+}

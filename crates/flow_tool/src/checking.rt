@@ -1,0 +1,91 @@
+//! The command `check`.
+
+ghost use Rattle.std.specs.Prelude.{◌≡◌, ◌↔◌, ◌⊎◌, false, true, Ok, Err, IfOk, OnOk, IfErr, IsErrOf, List, ℕ};
+ghost use Rattle.flow_core.specs.Bytes.{Grows};
+ghost use Rattle.flow_core.specs.declared.bytes.fault.ReadFault.TheVariants as read;
+ghost use Rattle.flow_core.specs.declared.bytes.fault.WriteFault.TheVariants as write;
+ghost use Rattle.flow_core.specs.declared.text.block.Block.{Block};
+ghost use Rattle.flow_tool.specs.Answers.{AnswersCheck, Picks};
+ghost use Rattle.flow_tool.specs.Runs.{Came, Ends, StopsAt, Wrote};
+ghost use Rattle.flow_tool.specs.declared.picked.TheConstants.{MAX_TEXT};
+ghost use Rattle.flow_cert.specs.Check.{IsFirstFault};
+
+use crate::fault::{ToolFault, of_check, of_read};
+use crate::lines::optimal_line;
+use crate::picked::read_block;
+use flow_cert::{CheckFault, check};
+use flow_core::{Instance, Sink, Source, put_all, read_all};
+use std::alloc::Global;
+
+/// The most bytes of a certificate.
+pub(crate) const MAX_CERTIFICATE: usize = 1_000_000_000;
+
+/// The line of the value that a certificate proves least.
+fn checked_line(alloc: Global, instance: &Instance, bytes: &[u8]) -> Result<Vec<u8>, CheckFault>
+    ensures line { IfOk result (λ line. AnswersCheck instance.now bytes.now (Ok line.items)) }
+    ensures refused { IfErr result (λ fault. IsFirstFault instance.now bytes.now fault) }
+{
+    let value = match check(alloc, instance, bytes) {
+        Ok(value) => value,
+        Err(fault) => return Err(fault),
+    };
+    Ok(optimal_line(alloc, value)?)
+}
+
+/// Reads a certificate of an instance, and writes the value that it proves least.
+fn check_certificate<C: Source, K: Sink>(
+    alloc: Global,
+    instance: &Instance,
+    cert: &mut C,
+    out: &mut K,
+) -> Result<(), ToolFault>
+    requires cert_works { C.has_failed cert.old ≡ false }
+    requires out_works { K.has_failed out.old ≡ false }
+    ensures written { OnOk result (Came MAX_CERTIFICATE (λ bytes. Wrote (AnswersCheck instance.now bytes) (K.taken out.old) (K.taken out.new)) (C.given cert.old) (C.given cert.new)) }
+    ensures whole { OnOk result (C.has_ended cert.new ≡ true) }
+    ensures ended { IfErr result (Ends (out.new ≡ out.old) MAX_CERTIFICATE (AnswersCheck instance.now) (C.given cert.old) (C.given cert.new) (K.taken out.old) (K.taken out.new)) }
+    ensures read_device { IsErrOf result (ToolFault.Read read.Device) ↔ (C.has_failed cert.new ≡ true) }
+    ensures write_device { IsErrOf result (ToolFault.Write write.Device) ↔ (K.has_failed out.new ≡ true) }
+    ensures stands { Grows (C.given cert.old) (C.given cert.new) }
+{
+    let bytes = match read_all(alloc, cert, MAX_CERTIFICATE) {
+        Ok(bytes) => bytes,
+        Err(fault) => return Err(of_read(fault)),
+    };
+    let line = match checked_line(alloc, instance, bytes.as_slice()) {
+        Ok(line) => line,
+        Err(fault) => return Err(of_check(fault)),
+    };
+    match put_all(out, line.as_slice()) {
+        Ok(()) => Ok(()),
+        Err(fault) => Err(ToolFault::Write(fault)),
+    }
+}
+
+/// Writes the value that a certificate proves least for the block that an index names.
+pub(crate) fn run_check<S: Source, C: Source, K: Sink>(
+    alloc: Global,
+    file: &mut S,
+    index: u32,
+    cert: &mut C,
+    out: &mut K,
+) -> Result<(), ToolFault>
+    requires file_works { S.has_failed file.old ≡ false }
+    requires cert_works { C.has_failed cert.old ≡ false }
+    requires out_works { K.has_failed out.old ≡ false }
+    ensures written { OnOk result (Came MAX_TEXT (λ text. (block : Block) × Picks text index (Ok block) × Came MAX_CERTIFICATE (λ bytes. Wrote (AnswersCheck block.instance bytes) (K.taken out.old) (K.taken out.new)) (C.given cert.old) (C.given cert.new)) (S.given file.old) (S.given file.new)) }
+    ensures whole { OnOk result ((S.has_ended file.new ≡ true) × (C.has_ended cert.new ≡ true)) }
+    ensures ended { IfErr result (λ fault.
+        ((out.new ≡ out.old) × (cert.new ≡ cert.old) × StopsAt MAX_TEXT (λ text refusal. Picks text index (Err refusal)) (S.given file.old) (S.given file.new) fault)
+        ⊎ Came MAX_TEXT (λ text. (block : Block) × Picks text index (Ok block) × Ends (out.new ≡ out.old) MAX_CERTIFICATE (AnswersCheck block.instance) (C.given cert.old) (C.given cert.new) (K.taken out.old) (K.taken out.new) fault) (S.given file.old) (S.given file.new)) }
+    ensures read_device { IsErrOf result (ToolFault.Read read.Device) ↔ ((S.has_failed file.new ≡ true) ⊎ (C.has_failed cert.new ≡ true)) }
+    ensures write_device { IsErrOf result (ToolFault.Write write.Device) ↔ (K.has_failed out.new ≡ true) }
+    ensures stands { Grows (S.given file.old) (S.given file.new) }
+    ensures cert_stands { Grows (C.given cert.old) (C.given cert.new) }
+{
+    let block = match read_block(alloc, file, index) {
+        Ok(block) => block,
+        Err(fault) => return Err(fault),
+    };
+    check_certificate(alloc, &block.instance, cert, out)
+}

@@ -1,0 +1,200 @@
+//! The command line.
+
+use clap::{Arg, ArgAction, ArgMatches, Command, value_parser};
+use std::alloc::{AllocError, Global};
+
+/// What the command line asks for.
+#[derive(Drop)]
+pub(crate) enum Order<'a> {
+    /// The instance of a seed.
+    Gen {
+        jobs: u32,
+        machines: u32,
+        seed: u32,
+    },
+    /// Something of the block that an index names, of a text.
+    OfBlock {
+        file: &'a str,
+        index: u32,
+        what: OfBlock<'a>,
+    },
+}
+
+/// What is asked for of a block.
+#[derive(Drop)]
+pub(crate) enum OfBlock<'a> {
+    Span {
+        jobs: Vec<u16>,
+    },
+    Neh,
+    Solve {
+        workers: u32,
+        depth: u32,
+        budget: u32,
+    },
+    Check {
+        cert: &'a str,
+    },
+}
+
+/// The grammar of the command line.
+pub(crate) fn make_command<'a>(alloc: Global) -> Result<Command<'a>, AllocError> {
+    let span = Command::new(alloc, "span")
+        .about("Prints the makespan of jobs in the given order")
+        .arg(word(alloc, "FILE"))?
+        .arg(number(alloc, "INDEX"))?
+        .arg(jobs(alloc))?;
+    let made = Command::new(alloc, "gen")
+        .about("Writes the instance of a seed, with its bounds")
+        .arg(number(alloc, "JOBS"))?
+        .arg(number(alloc, "MACHINES"))?
+        .arg(number(alloc, "SEED"))?;
+    let start = Command::new(alloc, "neh")
+        .about("Prints the starting sequence and its makespan")
+        .arg(word(alloc, "FILE"))?
+        .arg(number(alloc, "INDEX"))?;
+    let solved = Command::new(alloc, "solve")
+        .about("Finds the least makespan, and writes a certificate of it")
+        .arg(word(alloc, "FILE"))?
+        .arg(number(alloc, "INDEX"))?
+        .arg(option(
+            alloc,
+            "workers",
+            "K",
+            "1",
+            "How many workers there are, 1 to 64",
+        ))?
+        .arg(option(
+            alloc,
+            "depth",
+            "D",
+            "1",
+            "How many jobs a prefix has, 0 to 3",
+        ))?
+        .arg(option(alloc, "budget", "B", "1000000", "The most bytes of a tree"))?;
+    let checked = Command::new(alloc, "check")
+        .about("Checks a certificate, and prints the value that it proves least")
+        .arg(word(alloc, "FILE"))?
+        .arg(number(alloc, "INDEX"))?
+        .arg(word(alloc, "CERT"))?;
+    Command::new(alloc, "flowshop")
+        .about("Least makespans of permutation flow shops, with certificates")
+        .subcommand_required(true)
+        .subcommand(span)?
+        .subcommand(made)?
+        .subcommand(start)?
+        .subcommand(solved)?
+        .subcommand(checked)
+}
+
+/// A required word.
+fn word<'a>(alloc: Global, id: &'a str) -> Arg<'a> {
+    Arg::new(alloc, id).required(true).action(ArgAction::Set)
+}
+
+/// A required number.
+fn number<'a>(alloc: Global, id: &'a str) -> Arg<'a> {
+    Arg::new(alloc, id)
+        .required(true)
+        .value_parser(value_parser!(u32))
+}
+
+/// The jobs of a sequence, one at least.
+fn jobs<'a>(alloc: Global) -> Arg<'a> {
+    Arg::new(alloc, "JOB")
+        .required(true)
+        .num_args(1..)
+        .action(ArgAction::Append)
+        .value_parser(value_parser!(u16))
+}
+
+/// A number behind a long name, with a default.
+fn option<'a>(
+    alloc: Global,
+    name: &'a str,
+    value: &'a str,
+    default: &'a str,
+    help: &'a str,
+) -> Arg<'a> {
+    Arg::new(alloc, name)
+        .long(name)
+        .value_name(value)
+        .default_value(default)
+        .help(help)
+        .value_parser(value_parser!(u32))
+}
+
+/// The order, where each value is there and reads as its type.
+pub(crate) fn order_of<'a>(
+    alloc: Global,
+    matches: &ArgMatches<'a>,
+) -> Result<Option<Order<'a>>, AllocError> {
+    if let Some(given) = matches.subcommand_matches("gen") {
+        return Ok(gen_order(given));
+    }
+    if let Some(given) = matches.subcommand_matches("span") {
+        return Ok(match jobs_of(alloc, given)? {
+            Some(jobs) => block_order(given, OfBlock::Span { jobs }),
+            None => None,
+        });
+    }
+    if let Some(given) = matches.subcommand_matches("neh") {
+        return Ok(block_order(given, OfBlock::Neh));
+    }
+    if let Some(given) = matches.subcommand_matches("solve") {
+        return Ok(solve_order(given));
+    }
+    if let Some(given) = matches.subcommand_matches("check") {
+        return Ok(check_order(given));
+    }
+    Ok(None)
+}
+
+fn gen_order<'a>(given: &ArgMatches<'a>) -> Option<Order<'a>> {
+    Some(Order::Gen {
+        jobs: given.get_one::<u32>("JOBS")?,
+        machines: given.get_one::<u32>("MACHINES")?,
+        seed: given.get_one::<u32>("SEED")?,
+    })
+}
+
+fn block_order<'a>(given: &ArgMatches<'a>, what: OfBlock<'a>) -> Option<Order<'a>> {
+    Some(Order::OfBlock {
+        file: given.get_str("FILE")?,
+        index: given.get_one::<u32>("INDEX")?,
+        what,
+    })
+}
+
+fn solve_order<'a>(given: &ArgMatches<'a>) -> Option<Order<'a>> {
+    let workers = given.get_one::<u32>("workers")?;
+    let depth = given.get_one::<u32>("depth")?;
+    let budget = given.get_one::<u32>("budget")?;
+    block_order(
+        given,
+        OfBlock::Solve {
+            workers,
+            depth,
+            budget,
+        },
+    )
+}
+
+fn check_order<'a>(given: &ArgMatches<'a>) -> Option<Order<'a>> {
+    let cert = given.get_str("CERT")?;
+    block_order(given, OfBlock::Check { cert })
+}
+
+fn jobs_of(alloc: Global, given: &ArgMatches) -> Result<Option<Vec<u16>>, AllocError> {
+    let Some(words) = given.get_strs("JOB") else {
+        return Ok(None);
+    };
+    let mut jobs = Vec::new(alloc);
+    for word in words {
+        match word.parse::<u16>() {
+            Ok(job) => jobs.push(job)?,
+            Err(_) => return Ok(None),
+        }
+    }
+    Ok(Some(jobs))
+}

@@ -1,0 +1,41 @@
+//! The block of a benchmark text that an index names.
+
+ghost use Rattle.std.specs.Prelude.{◌≡◌, ◌↔◌, false, true, IfOk, OnOk, IfErr, IsErrOf, Ok, Err};
+ghost use Rattle.flow_core.specs.Bytes.{Grows};
+ghost use Rattle.flow_core.specs.declared.bytes.fault.ReadFault.TheVariants.{Device};
+ghost use Rattle.flow_tool.specs.Answers.{Picks};
+ghost use Rattle.flow_tool.specs.Runs.{Came, StopsAt};
+
+use crate::fault::{ToolFault, of_read, of_text};
+use flow_core::{Block, Source, read_all, read_blocks};
+use std::alloc::Global;
+
+/// The most bytes of a benchmark text.
+pub(crate) const MAX_TEXT: usize = 16_777_216;
+
+/// Reads a whole text, and answers the block that the index names, from 1.
+pub(crate) fn read_block<S: Source>(
+    alloc: Global,
+    file: &mut S,
+    index: u32,
+) -> Result<Block, ToolFault>
+    requires { S.has_failed file.old ≡ false }
+    ensures picked { IfOk result (λ block. Came MAX_TEXT (λ text. Picks text index (Ok block)) (S.given file.old) (S.given file.new)) }
+    ensures ended { OnOk result (S.has_ended file.new ≡ true) }
+    ensures refused { IfErr result (λ fault. StopsAt MAX_TEXT (λ text refusal. Picks text index (Err refusal)) (S.given file.old) (S.given file.new) fault) }
+    ensures device { IsErrOf result (ToolFault.Read Device) ↔ (S.has_failed file.new ≡ true) }
+    ensures stands { Grows (S.given file.old) (S.given file.new) }
+{
+    let text = match read_all(alloc, file, MAX_TEXT) {
+        Ok(text) => text,
+        Err(fault) => return Err(of_read(fault)),
+    };
+    let mut blocks = match read_blocks(alloc, text.as_slice()) {
+        Ok(found) => found,
+        Err(fault) => return Err(of_text(fault)),
+    };
+    if index == 0 || index as usize > blocks.len() {
+        return Err(ToolFault::Index);
+    }
+    Ok(blocks.swap_remove(index as usize - 1))
+}

@@ -1,0 +1,82 @@
+//! The command `solve`.
+
+ghost use Rattle.std.specs.Prelude.{◌≡◌, ◌↔◌, false, true, Ok, IfOk, OnOk, IfErr, IsErrOf};
+ghost use Rattle.flow_core.specs.Bytes.{Grows};
+ghost use Rattle.flow_core.specs.declared.bytes.fault.ReadFault.TheVariants as read;
+ghost use Rattle.flow_core.specs.declared.bytes.fault.WriteFault.TheVariants as write;
+ghost use Rattle.flow_core.specs.declared.text.block.Block.{Block};
+ghost use Rattle.flow_tool.specs.Answers.{AnswersPlan, AnswersSolve, Picks};
+ghost use Rattle.flow_tool.specs.Runs.{Came, Ends, EndsAlone, Wrote, WroteCertificate};
+ghost use Rattle.flow_tool.specs.declared.picked.TheConstants.{MAX_TEXT};
+
+use crate::fault::{ToolFault, of_plan, of_solve};
+use crate::picked::read_block;
+use flow_cert::write_certificate;
+use flow_core::{Instance, Sink, Source};
+use flow_pool::{Gate, solve};
+use flow_search::{Options, prepare};
+use std::alloc::Global;
+use std::sync::Wait;
+use std::thread::Threads;
+
+/// Solves an instance, and writes the certificate of its plan.
+fn solve_instance<R: Threads + Wait + Sync, G: Gate + Sync, K: Sink>(
+    rt: &R,
+    alloc: Global,
+    instance: &Instance,
+    options: Options,
+    gate: &G,
+    out: &mut K,
+) -> Result<(), ToolFault>
+    requires { K.has_failed out.old ≡ false }
+    ensures written { OnOk result (Wrote (AnswersPlan instance.now options) (K.taken out.old) (K.taken out.new)) }
+    ensures lawful { OnOk result (WroteCertificate instance.now (K.taken out.old) (K.taken out.new)) }
+    ensures ended { IfErr result (EndsAlone (out.new ≡ out.old) (AnswersPlan instance.now options) (K.taken out.old) (K.taken out.new)) }
+    ensures write_device { IsErrOf result (ToolFault.Write write.Device) ↔ (K.has_failed out.new ≡ true) }
+{
+    let plan = match prepare(alloc, instance, options) {
+        Ok(plan) => plan,
+        Err(fault) => return Err(of_plan(fault)),
+    };
+    let report = match solve(rt, alloc, &plan, gate) {
+        Ok(report) => report,
+        Err(fault) => return Err(of_solve(fault)),
+    };
+    match write_certificate(&plan, &report.verdict, out) {
+        Ok(()) => Ok(()),
+        Err(fault) => Err(ToolFault::Write(fault)),
+    }
+}
+
+/// Solves the block that an index names with so many workers, and writes the certificate of its plan.
+pub(crate) fn run_solve<R: Threads + Wait + Sync, S: Source, G: Gate + Sync, K: Sink>(
+    rt: &R,
+    alloc: Global,
+    file: &mut S,
+    index: u32,
+    workers: u32,
+    depth: u32,
+    budget: u32,
+    gate: &G,
+    out: &mut K,
+) -> Result<(), ToolFault>
+    requires file_works { S.has_failed file.old ≡ false }
+    requires out_works { K.has_failed out.old ≡ false }
+    ensures written { OnOk result (Came MAX_TEXT (λ text. Wrote (AnswersSolve index workers depth budget text) (K.taken out.old) (K.taken out.new)) (S.given file.old) (S.given file.new)) }
+    ensures lawful { OnOk result (Came MAX_TEXT (λ text. (block : Block) × Picks text index (Ok block) × WroteCertificate block.instance (K.taken out.old) (K.taken out.new)) (S.given file.old) (S.given file.new)) }
+    ensures whole { OnOk result (S.has_ended file.new ≡ true) }
+    ensures ended { IfErr result (Ends (out.new ≡ out.old) MAX_TEXT (AnswersSolve index workers depth budget) (S.given file.old) (S.given file.new) (K.taken out.old) (K.taken out.new)) }
+    ensures read_device { IsErrOf result (ToolFault.Read read.Device) ↔ (S.has_failed file.new ≡ true) }
+    ensures write_device { IsErrOf result (ToolFault.Write write.Device) ↔ (K.has_failed out.new ≡ true) }
+    ensures stands { Grows (S.given file.old) (S.given file.new) }
+{
+    let block = match read_block(alloc, file, index) {
+        Ok(block) => block,
+        Err(fault) => return Err(fault),
+    };
+    let options = match Options::new(workers, depth, budget) {
+        Ok(options) => options,
+        Err(fault) => return Err(ToolFault::Choice(fault)),
+    };
+    solve_instance(rt, alloc, &block.instance, options, gate, out)
+}

@@ -1,0 +1,56 @@
+//! The command `span`.
+
+ghost use Rattle.std.specs.Prelude.{◌≡◌, ◌↔◌, false, true, Ok, IfOk, OnOk, IfErr, IsErrOf};
+ghost use Rattle.flow_core.specs.Bytes.{Grows};
+ghost use Rattle.flow_core.specs.SequenceFaults.{sequence_fault, but_memory};
+ghost use Rattle.flow_core.specs.declared.bytes.fault.ReadFault.TheVariants as read;
+ghost use Rattle.flow_core.specs.declared.bytes.fault.WriteFault.TheVariants as write;
+ghost use Rattle.flow_tool.specs.Answers.{AnswersSpan, span_answer};
+ghost use Rattle.flow_tool.specs.Runs.{Came, Ends, Wrote};
+ghost use Rattle.flow_tool.specs.declared.picked.TheConstants.{MAX_TEXT};
+
+use crate::fault::{ToolFault, of_sequence};
+use crate::lines::makespan_line;
+use crate::picked::read_block;
+use flow_core::{Instance, Sequence, SequenceFault, Sink, Source, makespan, put_all};
+use std::alloc::Global;
+
+/// The line of the makespan of jobs in this order.
+fn span_line(alloc: Global, instance: &Instance, jobs: &[u16]) -> Result<Vec<u8>, SequenceFault>
+    ensures line { IfOk result (λ line. span_answer instance.now jobs.now ≡ Ok line.items) }
+    ensures refused { IfErr result (λ fault. (sequence_fault instance.now.jobs jobs.now ≡ but_memory fault)) }
+{
+    let sequence = Sequence::new(alloc, instance, jobs)?;
+    Ok(makespan_line(alloc, makespan(instance, &sequence))?)
+}
+
+/// Writes the makespan of a sequence for the block that an index names.
+pub(crate) fn run_span<S: Source, K: Sink>(
+    alloc: Global,
+    file: &mut S,
+    index: u32,
+    jobs: &[u16],
+    out: &mut K,
+) -> Result<(), ToolFault>
+    requires file_works { S.has_failed file.old ≡ false }
+    requires out_works { K.has_failed out.old ≡ false }
+    ensures written { OnOk result (Came MAX_TEXT (λ text. Wrote (AnswersSpan index jobs.now text) (K.taken out.old) (K.taken out.new)) (S.given file.old) (S.given file.new)) }
+    ensures whole { OnOk result (S.has_ended file.new ≡ true) }
+    ensures ended { IfErr result (Ends (out.new ≡ out.old) MAX_TEXT (AnswersSpan index jobs.now) (S.given file.old) (S.given file.new) (K.taken out.old) (K.taken out.new)) }
+    ensures read_device { IsErrOf result (ToolFault.Read read.Device) ↔ (S.has_failed file.new ≡ true) }
+    ensures write_device { IsErrOf result (ToolFault.Write write.Device) ↔ (K.has_failed out.new ≡ true) }
+    ensures stands { Grows (S.given file.old) (S.given file.new) }
+{
+    let block = match read_block(alloc, file, index) {
+        Ok(block) => block,
+        Err(fault) => return Err(fault),
+    };
+    let line = match span_line(alloc, &block.instance, jobs) {
+        Ok(line) => line,
+        Err(fault) => return Err(of_sequence(fault)),
+    };
+    match put_all(out, line.as_slice()) {
+        Ok(()) => Ok(()),
+        Err(fault) => Err(ToolFault::Write(fault)),
+    }
+}
