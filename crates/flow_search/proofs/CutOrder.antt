@@ -1,13 +1,13 @@
 -- A cut is in lexicographic order, and each sequence extends exactly one of its lists.
-use Rattle.std.proofs.Common.{◌≡◌, ℕ, zero, suc, ◌+◌, ◌-◌, ◌<◌, ◌≤◌, true, false, not, List, [], ◌∷◌, ◌++◌, length, take, slice_index_or, refl, ap, sym, subst, ◌∙◌, inl, inr, arith, append_assoc}
+use Rattle.std.proofs.Common.{◌≡◌, ℕ, zero, suc, ◌+◌, ◌-◌, ◌<◌, true, false, not, List, [], ◌∷◌, ◌++◌, length, take, slice_index_or, refl, ap, sym, ◌∙◌, inl, inr, arith, append_assoc}
 use Rattle.std.specs.List.{flat_map, AllPairs, AllByRecursion}
 use Rattle.std.proofs.lemmas.List.{append-nil}
 use Rattle.std.proofs.lemmas.List.Elements.{All-from_recursion}
 use Rattle.std.proofs.lemmas.List.Kept.{AllPairs-cons}
 use Rattle.std.proofs.lemmas.Bool.{cases_order, false≢true}
-use Rattle.flow_core.specs.Sequences.{has, jobs_left, extensions, cut, IsSequence, Extends}
+use Rattle.flow_core.specs.Sequences.{has, jobs_left, extensions, cut, Extends}
 use Rattle.flow_search.specs.Search.{comes_before}
-use Rattle.flow_search.specs.Cuts.{CutIsOrdered, ExtendsOne, CutParts}
+use Rattle.flow_search.specs.Cuts.{CutIsOrdered, CutParts}
 use Rattle.flow_search.proofs.Lists.{all-append, all-weaken, all-flat_map, Above, above-range}
 use Rattle.flow_search.proofs.Earlier.{before-less, before-self, all-extend}
 use Rattle.flow_search.proofs.LeastVerdict.{at-extension}

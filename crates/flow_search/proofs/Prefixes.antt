@@ -1,11 +1,10 @@
 -- From the empty list to a prefix, and what the walk from there comes to.
-use Rattle.std.proofs.Common.{◌≡◌, ℕ, zero, suc, ◌+◌, ◌-◌, ◌*◌, ◌<◌, ◌≤◌, Bool, true, false, not, ◌||◌, nat_eq, List, [], ◌∷◌, ◌++◌, None, length, Some, take, drop, get_or, slice_set, slice_index_or, refl, ap, sym, subst, ◌∙◌, inl, inr, arith}
+use Rattle.std.proofs.Common.{◌≡◌, ℕ, zero, suc, ◌+◌, ◌-◌, ◌*◌, ◌<◌, ◌≤◌, true, false, not, ◌||◌, nat_eq, List, [], ◌∷◌, ◌++◌, None, length, Some, take, drop, get_or, slice_index_or, refl, ap, sym, subst, ◌∙◌, inl, inr, arith}
 use Rattle.std.proofs.lemmas.List.{take_more}
 use Rattle.std.proofs.lemmas.Bool.{cond-true, or_left, or_right, eq-eqb, false≢true}
 use Rattle.std.proofs.lemmas.Bool.Decides.{eqb_tells}
 use Rattle.std.proofs.lemmas.List.Elements.{All-from_recursion, recursion_from_All}
-use Rattle.flow_core.specs.declared.limits.TheConstants.{MAX_JOBS}
-use Rattle.flow_core.specs.Shop.{Shop, IsWithinLimits}
+use Rattle.flow_core.specs.Shop.{IsWithinLimits}
 use Rattle.flow_core.specs.Front.{IsFrontOf}
 use Rattle.flow_core.specs.JobSet.{contains}
 use Rattle.flow_core.specs.Sequences.{has, AreJobs, AreDistinct, IsSequence, cut}
@@ -13,7 +12,7 @@ use Rattle.flow_core.specs.Bound.{bound_at}
 use Rattle.flow_core.proofs.Admissible.{bound_is_admissible}
 use Rattle.flow_search.specs.Search.{Found, tree, best}
 use Rattle.flow_search.specs.Walk.{walk}
-use Rattle.flow_search.specs.Plans.{Planned, IsPlan, IsStored, prefixes_of, prefix_of, tree_of, best_of}
+use Rattle.flow_search.specs.Plans.{Planned, IsPlan, IsStored, prefixes_of, prefix_of, best_of}
 use Rattle.flow_search.specs.Nodes.{IsAt, IsFresh, Entered, Walked, walked, found_if, incumbent_of}
 use Rattle.flow_search.specs.declared.subtree.Search.{Search}
 use Rattle.flow_search.proofs.Walk.{Fresh, walk_is_tree}

@@ -1,8 +1,8 @@
 -- What becomes of the prefixes of a plan.
-use Rattle.std.specs.Prelude.{ℕ, ◌≡◌, ◌+◌, ◌<◌, ◌≤◌, nat_lt, List, [], ◌∷◌, map, length, position, slice_index_or, Option, Some, None}
-use Rattle.std.specs.Option.{option_map, option_or}
+use Rattle.std.specs.Prelude.{ℕ, ◌≡◌, ◌<◌, ◌≤◌, nat_lt, List, length, position, slice_index_or, Option}
+use Rattle.std.specs.Option.{option_map}
 use Rattle.flow_search.specs.Search.{Found}
-use Rattle.flow_search.specs.Plans.{Planned, prefixes_of, tree_of, best_of, trees_of, verdict_of}
+use Rattle.flow_search.specs.Plans.{Planned, tree_of, best_of, trees_of}
 use Rattle.flow_search.specs.declared.outcome.Best.{Best}
 use Rattle.flow_search.specs.declared.outcome.Outcome.{Outcome}
 use Rattle.flow_search.specs.declared.outcome.Outcome.TheVariants.{Done, OverBudget, NoMemory, NoPrefix}

@@ -1,5 +1,5 @@
 -- A run of `solve` for a block, where the options are read.
-use Rattle.std.proofs.Common.{◌≡◌, ◌⊎◌, inl, inr, sym, subst, ℕ, List, Option, Result, Ok, Err}
+use Rattle.std.proofs.Common.{◌≡◌, inl, inr, subst, ℕ, List, Option, Result, Ok}
 use Rattle.flow_core.specs.Shop.{Shop}
 use Rattle.flow_core.specs.declared.text.block.Block.{Block}
 use Rattle.flow_search.specs.Choices.{Choices, options_or_fault}

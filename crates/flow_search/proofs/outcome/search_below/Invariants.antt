@@ -1,5 +1,3 @@
-use Rattle.std.proofs.Common.{◌≡◌, ◌-◌, [], take}
-use Rattle.flow_search.specs.Nodes.{IsAt, incumbent_of}
 use Rattle.flow_search.proofs.Prefixes.{IsOnTheWay}
 use Rattle.flow_search.proofs.outcome.search_below.Given as goal
 

@@ -1,4 +1,4 @@
-use Rattle.std.proofs.Common.{◌≡◌, ℕ, ◌<◌, length, Some, subst, ap, sym, ◌∙◌, arith}
+use Rattle.std.proofs.Common.{◌≡◌, ◌<◌, length, Some, subst, ap, ◌∙◌, arith}
 use Rattle.flow_search.specs.Plans.{prefixes_of}
 use Rattle.flow_search.proofs.Tallies.{first-over, no-over, AreWithin}
 use Rattle.flow_search.proofs.verdict.solve_plain.Goals as goal

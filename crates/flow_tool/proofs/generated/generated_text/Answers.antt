@@ -1,4 +1,4 @@
-use Rattle.std.proofs.Common.{arith, ◌≡◌}
+use Rattle.std.proofs.Common.{arith}
 use Rattle.flow_core.specs.Shop.{IsWithinLimits}
 use Rattle.flow_tool.proofs.Small.{at-most-span-fits}
 use Rattle.flow_tool.proofs.generated.generated_text.Goals as goal

@@ -1,4 +1,4 @@
-use Rattle.std.proofs.Common.{◌≡◌, subst}
+use Rattle.std.proofs.Common.{subst}
 use Rattle.flow_core.specs.Generator.{generated}
 use Rattle.flow_tool.specs.Answers.{AnswersGen, IsGeneratedText}
 use Rattle.flow_tool.proofs.Endings.{ends-alone-in-writing}

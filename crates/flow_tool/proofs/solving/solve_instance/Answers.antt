@@ -1,5 +1,4 @@
 use Rattle.std.proofs.Common.{inl, refl}
-use Rattle.flow_search.specs.Outcomes.{first_over_budget}
 use Rattle.flow_cert.specs.Written.{certificate_of}
 use Rattle.flow_cert.proofs.Lawful.{text-of-plan}
 use Rattle.flow_tool.specs.Answers.{AnswersPlan}

@@ -1,4 +1,4 @@
-use Rattle.std.proofs.Common.{◌≡◌, ℕ, ◌+◌, ◌-◌, ◌*◌, ◌≤◌, length, take, drop, subst, ap, sym, ◌∙◌, arith}
+use Rattle.std.proofs.Common.{◌≡◌, ◌+◌, ◌-◌, ◌*◌, ◌≤◌, length, take, drop, subst, ap, sym, ◌∙◌, arith}
 use Rattle.flow_core.specs.Sequences.{AreJobs}
 use Rattle.flow_search.specs.Plans.{Planned, IsStored, prefixes_of, prefix_of}
 use Rattle.flow_search.proofs.CutLemmas.{joined-fits}
