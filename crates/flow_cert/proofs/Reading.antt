@@ -6,7 +6,7 @@ use Rattle.flow_core.specs.Shop.{Shop}
 use Rattle.flow_core.specs.Bound.{bound_at}
 use Rattle.flow_core.specs.Sequences.{jobs_left}
 use Rattle.flow_cert.specs.Faults.{read_tree, each_tree, then_read}
-use Rattle.flow_cert.specs.Stack.{StepGives, TreeGives, children, IsNext, AreLinks, IsNode, IsAt, path, resume, IsStack, IsReading}
+use Rattle.flow_cert.specs.Stack.{StepGives, TreeGives, children_read, children, IsNext, AreLinks, IsNode, IsAt, path, resume, IsStack, IsReading}
 use Rattle.flow_cert.specs.declared.fault.CheckFault.{CheckFault}
 use Rattle.flow_cert.specs.declared.fault.CheckFault.TheVariants.{Memory, Header, Size, Value, Sequence, NotAttained, Tree, Weak, Low, End}
 use Rattle.flow_cert.specs.declared.node.Node.{Node}
@@ -25,18 +25,40 @@ pub no-byte : (shop : Shop) (value place left : ℕ) (list : List ℕ) → read_
 no-byte shop value place zero list = refl
 no-byte shop value place (suc left) list = refl
 
-pub reading-start : (shop : Shop) (value place : ℕ) (root : List ℕ) (node : Node) (links : List ℕ) (left below from : ℕ) (bytes : List ℕ) (byte : ℕ) → IsAt shop root node links left → left ≡ suc below → byte ≡ 43 →
-    drop from bytes ≡ byte ∷ drop (from + 1) bytes → IsReading shop value place root (read_tree shop bound_at value place left root (drop from bytes)) node links below 0 (from + 1) bytes []
-reading-start shop value place root node links left below from bytes byte at e plus step = record {
-  here = subst (IsAt shop root node links) e at;
+pub reading-start : (shop : Shop) (value place : ℕ) (root : List ℕ) (node : Node) (links : List ℕ) (below from : ℕ) (bytes : List ℕ) → IsAt shop root node links (suc below) →
+    IsReading shop value place root (children_read shop value place below root (drop from bytes)) node links below 0 from bytes []
+reading-start shop value place root node links below from bytes at = record {
+  here = at;
   behind = start-place shop.jobs root;
   stack = tt;
-  answer =
-      ap (λ l. read_tree shop bound_at value place l root (drop from bytes)) e
-      ∙ ap (read_tree shop bound_at value place (suc below) root) step
-      ∙ ap (λ b. read_tree shop bound_at value place (suc below) root (b ∷ drop (from + 1) bytes)) plus
-      ∙ then-done shop value place root (suc below) (each_tree (λ job. read_tree shop bound_at value place below (root ++ job ∷ [])) (jobs_left shop.jobs root) (drop (from + 1) bytes));
+  answer = then-done shop value place root (suc below) (children_read shop value place below root (drop from bytes));
 }
+
+-- a plus, and the trees of the children
+plus-read : (shop : Shop) (value place : ℕ) (root : List ℕ) (left below from : ℕ) (bytes : List ℕ) (byte : ℕ) → left ≡ suc below → byte ≡ 43 → drop from bytes ≡ byte ∷ drop (from + 1) bytes →
+    read_tree shop bound_at value place left root (drop from bytes) ≡ children_read shop value place below root (drop (from + 1) bytes)
+plus-read shop value place root left below from bytes byte e plus step =
+    ap (λ l. read_tree shop bound_at value place l root (drop from bytes)) e
+    ∙ ap (read_tree shop bound_at value place (suc below) root) step
+    ∙ ap (λ b. read_tree shop bound_at value place (suc below) root (b ∷ drop (from + 1) bytes)) plus
+
+gives-before : (from : ℕ) (bytes : List ℕ) (r : Result ℕ CheckFault) (read all : Result (List ℕ) CheckFault) → all ≡ read → TreeGives (from + 1) bytes r read → TreeGives from bytes r all
+gives-before from bytes (Ok end) read all e h = (e ∙ h.0, omega (arith, h.1), h.2)
+gives-before from bytes (Err Memory) read all e h = tt
+gives-before from bytes (Err Header) read all e h = e ∙ h
+gives-before from bytes (Err Size) read all e h = e ∙ h
+gives-before from bytes (Err Value) read all e h = e ∙ h
+gives-before from bytes (Err Sequence) read all e h = e ∙ h
+gives-before from bytes (Err NotAttained) read all e h = e ∙ h
+gives-before from bytes (Err (Tree p)) read all e h = e ∙ h
+gives-before from bytes (Err (Weak p)) read all e h = e ∙ h
+gives-before from bytes (Err (Low p)) read all e h = e ∙ h
+gives-before from bytes (Err End) read all e h = e ∙ h
+
+pub plus-gives : (shop : Shop) (value place : ℕ) (root : List ℕ) (left below from : ℕ) (bytes : List ℕ) (byte : ℕ) (r : Result ℕ CheckFault) → left ≡ suc below → byte ≡ 43 → drop from bytes ≡ byte ∷ drop (from + 1) bytes →
+    TreeGives (from + 1) bytes r (children_read shop value place below root (drop (from + 1) bytes)) → TreeGives from bytes r (read_tree shop bound_at value place left root (drop from bytes))
+plus-gives shop value place root left below from bytes byte r e plus step h =
+    gives-before from bytes r (children_read shop value place below root (drop (from + 1) bytes)) (read_tree shop bound_at value place left root (drop from bytes)) (plus-read shop value place root left below from bytes byte e plus step) h
 
 -- the link behind the child that was read last
 pub reading-next : (shop : Shop) (value place : ℕ) (root : List ℕ) (whole : Result (List ℕ) CheckFault) (node : Node) (links : List ℕ) (below last at : ℕ) (bytes : List ℕ) (frames : List Frame) →

@@ -119,6 +119,11 @@ abbrev pub put_back : List ℕ → List Frame → List ℕ
 put_back links [] = links
 put_back links (f ∷ fs) = put_back (slice_set links f.last f.job) fs
 
+-- what is left behind the trees of a list's children, with so many jobs left behind each; or the first fault
+abbrev pub children_read : Shop → ℕ → ℕ → ℕ → List ℕ → List ℕ → Result (List ℕ) CheckFault
+children_read shop value place below list bytes =
+    each_tree (λ job. read_tree shop bound_at value place below (list ++ job ∷ [])) (jobs_left shop.jobs list) bytes
+
 -- what is still to be read once the tree of a stack's list is whole
 abbrev pub resume : Shop → ℕ → ℕ → List ℕ → ℕ → List Frame → List ℕ → Result (List ℕ) CheckFault
 resume shop value place root left [] bytes = Ok bytes

@@ -1,10 +1,10 @@
 //! Reading one tree.
 
-ghost use Rattle.std.specs.Prelude.{◌≡◌, ℕ, ◌+◌, ◌-◌, ◌<◌, ◌≤◌, List, length, drop, IfOk};
+ghost use Rattle.std.specs.Prelude.{◌≡◌, ℕ, ◌+◌, ◌-◌, ◌<◌, ◌≤◌, List, suc, length, drop, IfOk};
 ghost use Rattle.flow_core.specs.Bound.{bound_at};
 ghost use Rattle.flow_cert.specs.Faults.{read_tree};
 ghost use Rattle.flow_cert.specs.Rows.{AreRows};
-ghost use Rattle.flow_cert.specs.Stack.{IsAt, IsChild, StepGives, TreeGives, grown, left_before};
+ghost use Rattle.flow_cert.specs.Stack.{IsAt, IsChild, StepGives, TreeGives, children_read, grown, left_before};
 
 use crate::claim::Claim;
 use crate::fault::CheckFault;
@@ -60,6 +60,63 @@ fn step(
     Ok(false)
 }
 
+/// Reads the trees of a list's children from a place on, and answers where the text goes on. Behind each child so many
+/// jobs are left.
+fn children_end(
+    claim: &Claim,
+    place: usize,
+    mut node: Node,
+    mut below: u16,
+    links: &mut [u16],
+    from: usize,
+    stack: &mut Vec<Frame>,
+) -> Result<usize, CheckFault>
+    requires rows { AreRows claim.now.instance.now claim.now.rows.now }
+    requires at { (list : List ℕ) × IsAt claim.now.instance.now list node links.old (suc below) }
+    requires from { from ≤ length claim.now.bytes.now }
+    ensures back { IfOk result (λ _. links.new ≡ links.old) }
+    ensures trees { (list : List ℕ) → IsAt claim.now.instance.now list node links.old (suc below) →
+        TreeGives from claim.now.bytes.now result (children_read claim.now.instance.now claim.now.value place below list (drop from claim.now.bytes.now)) }
+{
+    stack.clear();
+    let mut at = from;
+    let mut last = 0;
+    'children: loop {
+        let job = links[last as usize];
+        if job == 0 {
+            match stack.pop() {
+                Some(frame) => {
+                    links[frame.last as usize] = frame.job;
+                    node = frame.node;
+                    last = frame.job;
+                    below += 1;
+                    continue 'children;
+                }
+                None => return Ok(at),
+            }
+        }
+        if at >= claim.bytes.len() {
+            return Err(CheckFault::Tree(place));
+        }
+        let byte = claim.bytes[at];
+        let open = match step(claim, place, &mut node, links, Some(job), below, byte) {
+            Ok(open) => open,
+            Err(fault) => return Err(fault),
+        };
+        at += 1;
+        if open {
+            let child = node.child(claim, job);
+            links[last as usize] = links[job as usize];
+            stack.push(Frame { node, job, last })?;
+            node = child;
+            below -= 1;
+            last = 0;
+            continue 'children;
+        }
+        last = job;
+    }
+}
+
 /// Reads the tree of a list from a place on, and answers where the text goes on.
 pub(crate) fn tree_end(
     claim: &Claim,
@@ -80,64 +137,13 @@ pub(crate) fn tree_end(
     if from >= claim.bytes.len() {
         return Err(CheckFault::Tree(place));
     }
-    let open = match step(
-        claim,
-        place,
-        &mut node,
-        links,
-        None,
-        left,
-        claim.bytes[from],
-    ) {
+    let byte = claim.bytes[from];
+    let open = match step(claim, place, &mut node, links, None, left, byte) {
         Ok(open) => open,
         Err(fault) => return Err(fault),
     };
     if !open {
         return Ok(from + 1);
     }
-    stack.clear();
-    let mut below = left - 1;
-    let mut at = from + 1;
-    let mut last = 0;
-    'children: loop {
-        let job = links[last as usize];
-        if job == 0 {
-            match stack.pop() {
-                Some(frame) => {
-                    links[frame.last as usize] = frame.job;
-                    node = frame.node;
-                    last = frame.job;
-                    below += 1;
-                    continue 'children;
-                }
-                None => return Ok(at),
-            }
-        }
-        if at >= claim.bytes.len() {
-            return Err(CheckFault::Tree(place));
-        }
-        let open = match step(
-            claim,
-            place,
-            &mut node,
-            links,
-            Some(job),
-            below,
-            claim.bytes[at],
-        ) {
-            Ok(open) => open,
-            Err(fault) => return Err(fault),
-        };
-        at += 1;
-        if open {
-            let child = node.child(claim, job);
-            links[last as usize] = links[job as usize];
-            stack.push(Frame { node, job, last })?;
-            node = child;
-            below -= 1;
-            last = 0;
-            continue 'children;
-        }
-        last = job;
-    }
+    children_end(claim, place, node, left - 1, links, from + 1, stack)
 }

@@ -1,10 +1,8 @@
-use Rattle.std.proofs.Common.{◌≡◌, ℕ, suc, ◌+◌, ◌-◌, List, [], ◌∷◌, ◌++◌, drop, reverse, take, get_or, slice_index, slice_set, refl, sym, ap, subst, ◌∙◌, arith}
+use Rattle.std.proofs.Common.{◌≡◌, ℕ, suc, ◌+◌, ◌-◌, List, drop, get_or, ap, subst, ◌∙◌, arith}
 use Rattle.flow_core.specs.Bound.{bound_at}
 use Rattle.flow_cert.specs.Faults.{read_tree}
-use Rattle.flow_cert.specs.Stack.{path, put_back, IsReading, IsStack}
-use Rattle.flow_cert.proofs.Links.{next-some, links-back}
-use Rattle.flow_cert.proofs.Reading.{no-byte, reading-next, reading-kept, reading-start, reading-fault, reading-leaf, reading-dive, reading-done, reading-up, step-open, step-whole, step-bad, tree-fails, drop-step, drop-past, reverse-push}
-use Rattle.flow_cert.specs.declared.fault.CheckFault.TheVariants.{Tree}
+use Rattle.flow_cert.specs.Stack.{IsAt}
+use Rattle.flow_cert.proofs.Reading.{no-byte, step-open, step-bad, plus-gives, tree-fails, drop-step, drop-past}
 use Rattle.flow_cert.proofs.tree.tree_end.Goals as goal
 
 pub returns-then-from-claim-clause-tree : goal.returns-then-from-claim-clause-tree
@@ -17,110 +15,17 @@ returns-in-Err-clause-tree c root at =
     let bad = step-bad c.args.claim.now.instance.now c.args.claim.now.value c.args.place c.args.left root (get_or c.args.claim.now.bytes.now c.args.from 0) c.step.result c.in-Err.fault (c.step.ensures.gives root at tt) c.in-Err.is in
     tree-fails c.args.from c.args.claim.now.bytes.now (read_tree c.args.claim.now.instance.now bound_at c.args.claim.now.value c.args.place c.args.left root (drop c.args.from c.args.claim.now.bytes.now)) c.in-Err.fault (ap (read_tree c.args.claim.now.instance.now bound_at c.args.claim.now.value c.args.place c.args.left root) (drop-step c.args.claim.now.bytes.now c.args.from c.if-from-claim.false) ∙ bad (drop (c.args.from + 1) c.args.claim.now.bytes.now))
 
-pub children-init : goal.children-init
-children-init c = record {
-  from = omega arith;
-  within = omega (arith, c.if-from-claim.false);
-  back = ap (λ xs. put_back c.args.links.now (reverse xs)) c.clear.ensures.items;
-  reading = λ root at.
-      let opened = step-open c.args.claim.now.instance.now c.args.claim.now.value c.args.place c.args.left root (get_or c.args.claim.now.bytes.now c.args.from 0) c.step.result c.in-Ok.open (c.step.ensures.gives root at tt) c.in-Ok.is c.if-not-open.false in
-      let more : c.args.left ≡ suc (c.args.left - 1) = omega (arith, opened.0) in
-      subst (IsReading c.args.claim.now.instance.now c.args.claim.now.value c.args.place root (read_tree c.args.claim.now.instance.now bound_at c.args.claim.now.value c.args.place c.args.left root (drop c.args.from c.args.claim.now.bytes.now)) c.step.new.node c.args.links.now (c.args.left - 1) 0 (c.args.from + 1) c.args.claim.now.bytes.now)
-      (sym (ap reverse c.clear.ensures.items))
-      (reading-start c.args.claim.now.instance.now c.args.claim.now.value c.args.place root c.step.new.node c.args.links.now c.args.left (c.args.left - 1) c.args.from c.args.claim.now.bytes.now (get_or c.args.claim.now.bytes.now c.args.from 0) (c.step.ensures.kept root c.args.left at) more opened.1 (drop-step c.args.claim.now.bytes.now c.args.from c.if-from-claim.false));
-}
-
-pub bounds-links-frame : goal.bounds-links-frame
-bounds-links-frame c =
-    let root : List ℕ = c.requires.at.0 in
-    let i = c.children.invariant.reading root c.requires.at.1 in
-    let popped = reverse-push c.pop.new.self.items c.children.stack.items c.in-Some.frame c.in-Some.ensures.items in
-    let s = subst (IsStack c.args.claim.now.instance.now root c.children.links (suc (suc c.children.below))) popped i.stack in
-    omega (arith, s.4, i.here.are_links.size)
-
-pub children-preserved-in-Some : goal.children-preserved-in-Some
-children-preserved-in-Some c =
-    let popped = reverse-push c.pop.new.self.items c.children.stack.items c.in-Some.frame c.in-Some.ensures.items in
-    record {
-      from = c.children.invariant.from;
-      within = c.children.invariant.within;
-      back = sym (ap (put_back c.children.links) popped) ∙ c.children.invariant.back;
-      reading = λ root at.
-          reading-up c.args.claim.now.instance.now c.args.claim.now.value c.args.place root (read_tree c.args.claim.now.instance.now bound_at c.args.claim.now.value c.args.place c.args.left root (drop c.args.from c.args.claim.now.bytes.now)) c.children.node c.children.links (slice_set c.children.links c.in-Some.frame.last c.in-Some.frame.job) c.children.below c.children.last c.children.at c.args.claim.now.bytes.now (reverse c.children.stack.items) c.in-Some.frame (reverse c.pop.new.self.items)
-          (c.children.invariant.reading root at) c.if-job-eq0.true popped refl;
-    }
-
-pub returns-in-None-clause-tree : goal.returns-in-None-clause-tree
-returns-in-None-clause-tree c root at =
-    let empty : c.children.stack.items ≡ [] = c.in-None.ensures.items ∙ ap (λ xs. xs ++ []) (c.in-None.ensures.rest ∙ ap (λ n. take (n - 1) c.children.stack.items) c.in-None.ensures.cases.0) in
-    (reading-done c.args.claim.now.instance.now c.args.claim.now.value c.args.place root (read_tree c.args.claim.now.instance.now bound_at c.args.claim.now.value c.args.place c.args.left root (drop c.args.from c.args.claim.now.bytes.now)) c.children.node c.children.links c.children.below c.children.last c.children.at c.args.claim.now.bytes.now (reverse c.children.stack.items) (c.children.invariant.reading root at) c.if-job-eq0.true (ap reverse empty), c.children.invariant.from, c.children.invariant.within)
-
-pub returns-then-at-claim-clause-tree : goal.returns-then-at-claim-clause-tree
-returns-then-at-claim-clause-tree c root at =
-    reading-fault c.args.claim.now.instance.now c.args.claim.now.value c.args.place root (read_tree c.args.claim.now.instance.now bound_at c.args.claim.now.value c.args.place c.args.left root (drop c.args.from c.args.claim.now.bytes.now)) c.children.node c.children.links c.children.below c.children.last c.children.at c.args.claim.now.bytes.now (reverse c.children.stack.items) [] (Tree c.args.place)
-    (c.children.invariant.reading root at) c.if-job-eq0.false (drop-past c.args.claim.now.bytes.now c.children.at c.if-at-claim.true) (no-byte c.args.claim.now.instance.now c.args.claim.now.value c.args.place c.children.below (path root (reverse c.children.stack.items) ++ (slice_index c.children.links c.children.last) ∷ []))
-
-pub step-requires-in-children-clause-at : goal.step-requires-in-children-clause-at
-step-requires-in-children-clause-at c =
+pub children_end-requires-clause-at : goal.children_end-requires-clause-at
+children_end-requires-clause-at c =
     let root : List ℕ = c.requires.at.0 in
     let at = c.requires.at.1 in
-    let i = c.children.invariant.reading root at in
-    let next = next-some c.args.claim.now.instance.now.jobs (path root (reverse c.children.stack.items)) c.children.last (slice_index c.children.links c.children.last) (reading-next c.args.claim.now.instance.now c.args.claim.now.value c.args.place root (read_tree c.args.claim.now.instance.now bound_at c.args.claim.now.value c.args.place c.args.left root (drop c.args.from c.args.claim.now.bytes.now)) c.children.node c.children.links c.children.below c.children.last c.children.at c.args.claim.now.bytes.now (reverse c.children.stack.items) i) c.if-job-eq0.false in
-    (path root (reverse c.children.stack.items), i.here, (next.1, next.2, next.3))
+    let opened = step-open c.args.claim.now.instance.now c.args.claim.now.value c.args.place c.args.left root (get_or c.args.claim.now.bytes.now c.args.from 0) c.step.result c.in-Ok.open (c.step.ensures.gives root at tt) c.in-Ok.is c.if-not-open.false in
+    let more : c.args.left ≡ suc (c.args.left - 1) = omega (arith, opened.0) in
+    (root, subst (IsAt c.args.claim.now.instance.now root c.step.new.node c.args.links.now) more (c.step.ensures.kept root c.args.left at))
 
-pub returns-in-Err-step-clause-tree : goal.returns-in-Err-step-clause-tree
-returns-in-Err-step-clause-tree c root at =
-    let i = c.children.invariant.reading root at in
-    let next = next-some c.args.claim.now.instance.now.jobs (path root (reverse c.children.stack.items)) c.children.last (slice_index c.children.links c.children.last) (reading-next c.args.claim.now.instance.now c.args.claim.now.value c.args.place root (read_tree c.args.claim.now.instance.now bound_at c.args.claim.now.value c.args.place c.args.left root (drop c.args.from c.args.claim.now.bytes.now)) c.children.node c.children.links c.children.below c.children.last c.children.at c.args.claim.now.bytes.now (reverse c.children.stack.items) i) c.if-job-eq0.false in
-    let bad = step-bad c.args.claim.now.instance.now c.args.claim.now.value c.args.place c.children.below (path root (reverse c.children.stack.items) ++ (slice_index c.children.links c.children.last) ∷ []) (get_or c.args.claim.now.bytes.now c.children.at 0) c.step-in-children.result c.in-Err-step.fault (c.step-in-children.ensures.gives (path root (reverse c.children.stack.items)) i.here (next.1, next.2, next.3)) c.in-Err-step.is in
-    tree-fails c.args.from c.args.claim.now.bytes.now (read_tree c.args.claim.now.instance.now bound_at c.args.claim.now.value c.args.place c.args.left root (drop c.args.from c.args.claim.now.bytes.now)) c.in-Err-step.fault
-    (reading-fault c.args.claim.now.instance.now c.args.claim.now.value c.args.place root (read_tree c.args.claim.now.instance.now bound_at c.args.claim.now.value c.args.place c.args.left root (drop c.args.from c.args.claim.now.bytes.now)) c.children.node c.children.links c.children.below c.children.last c.children.at c.args.claim.now.bytes.now (reverse c.children.stack.items) ((get_or c.args.claim.now.bytes.now c.children.at 0) ∷ drop (c.children.at + 1) c.args.claim.now.bytes.now) c.in-Err-step.fault
-    i c.if-job-eq0.false (drop-step c.args.claim.now.bytes.now c.children.at c.if-at-claim.false) (bad (drop (c.children.at + 1) c.args.claim.now.bytes.now)))
-
-pub child-child-requires-clause-at : goal.child-child-requires-clause-at
-child-child-requires-clause-at c =
-    let root : List ℕ = c.requires.at.0 in
-    let at = c.requires.at.1 in
-    let i = c.children.invariant.reading root at in
-    let next = next-some c.args.claim.now.instance.now.jobs (path root (reverse c.children.stack.items)) c.children.last (slice_index c.children.links c.children.last) (reading-next c.args.claim.now.instance.now c.args.claim.now.value c.args.place root (read_tree c.args.claim.now.instance.now bound_at c.args.claim.now.value c.args.place c.args.left root (drop c.args.from c.args.claim.now.bytes.now)) c.children.node c.children.links c.children.below c.children.last c.children.at c.args.claim.now.bytes.now (reverse c.children.stack.items) i) c.if-job-eq0.false in
-    let k = reading-kept c.args.claim.now.instance.now c.args.claim.now.value c.args.place root (read_tree c.args.claim.now.instance.now bound_at c.args.claim.now.value c.args.place c.args.left root (drop c.args.from c.args.claim.now.bytes.now)) c.children.node c.step-in-children.new.node c.children.links c.children.below c.children.last c.children.at c.args.claim.now.bytes.now (reverse c.children.stack.items) i (c.step-in-children.ensures.kept (path root (reverse c.children.stack.items)) (suc c.children.below) i.here) in
-    (path root (reverse c.children.stack.items), suc c.children.below, k.here.is_node, next.3)
-
-pub overflow_sub-below-then-open : goal.overflow_sub-below-then-open
-overflow_sub-below-then-open c =
-    let root : List ℕ = c.requires.at.0 in
-    let at = c.requires.at.1 in
-    let i = c.children.invariant.reading root at in
-    let next = next-some c.args.claim.now.instance.now.jobs (path root (reverse c.children.stack.items)) c.children.last (slice_index c.children.links c.children.last) (reading-next c.args.claim.now.instance.now c.args.claim.now.value c.args.place root (read_tree c.args.claim.now.instance.now bound_at c.args.claim.now.value c.args.place c.args.left root (drop c.args.from c.args.claim.now.bytes.now)) c.children.node c.children.links c.children.below c.children.last c.children.at c.args.claim.now.bytes.now (reverse c.children.stack.items) i) c.if-job-eq0.false in
-    let opened = step-open c.args.claim.now.instance.now c.args.claim.now.value c.args.place c.children.below (path root (reverse c.children.stack.items) ++ (slice_index c.children.links c.children.last) ∷ []) (get_or c.args.claim.now.bytes.now c.children.at 0) c.step-in-children.result c.in-Ok-step.open (c.step-in-children.ensures.gives (path root (reverse c.children.stack.items)) i.here (next.1, next.2, next.3)) c.in-Ok-step.is c.if-open.true in
-    omega (arith, opened.0)
-
-pub children-preserved-then-open : goal.children-preserved-then-open
-children-preserved-then-open c =
-    let pushed = reverse-push c.children.stack.items c.push.new.self.items (record { node = c.step-in-children.new.node; job = (slice_index c.children.links c.children.last); last = c.children.last }) c.in_ok-push.ensures.items in
-    let less : List ℕ = slice_set c.children.links c.children.last (slice_index c.children.links (slice_index c.children.links c.children.last)) in
-    record {
-      from = omega (arith, c.children.invariant.from);
-      within = omega (arith, c.if-at-claim.false);
-      back = ap (put_back less) pushed ∙ ap (λ l. put_back l (reverse c.children.stack.items)) (links-back c.children.links c.children.last (slice_index c.children.links c.children.last) (slice_index c.children.links (slice_index c.children.links c.children.last)) refl) ∙ c.children.invariant.back;
-      reading = λ root at.
-          let i = c.children.invariant.reading root at in
-          let next = next-some c.args.claim.now.instance.now.jobs (path root (reverse c.children.stack.items)) c.children.last (slice_index c.children.links c.children.last) (reading-next c.args.claim.now.instance.now c.args.claim.now.value c.args.place root (read_tree c.args.claim.now.instance.now bound_at c.args.claim.now.value c.args.place c.args.left root (drop c.args.from c.args.claim.now.bytes.now)) c.children.node c.children.links c.children.below c.children.last c.children.at c.args.claim.now.bytes.now (reverse c.children.stack.items) i) c.if-job-eq0.false in
-          let k = reading-kept c.args.claim.now.instance.now c.args.claim.now.value c.args.place root (read_tree c.args.claim.now.instance.now bound_at c.args.claim.now.value c.args.place c.args.left root (drop c.args.from c.args.claim.now.bytes.now)) c.children.node c.step-in-children.new.node c.children.links c.children.below c.children.last c.children.at c.args.claim.now.bytes.now (reverse c.children.stack.items) i (c.step-in-children.ensures.kept (path root (reverse c.children.stack.items)) (suc c.children.below) i.here) in
-          let opened = step-open c.args.claim.now.instance.now c.args.claim.now.value c.args.place c.children.below (path root (reverse c.children.stack.items) ++ (slice_index c.children.links c.children.last) ∷ []) (get_or c.args.claim.now.bytes.now c.children.at 0) c.step-in-children.result c.in-Ok-step.open (c.step-in-children.ensures.gives (path root (reverse c.children.stack.items)) i.here (next.1, next.2, next.3)) c.in-Ok-step.is c.if-open.true in
-          reading-dive c.args.claim.now.instance.now c.args.claim.now.value c.args.place root (read_tree c.args.claim.now.instance.now bound_at c.args.claim.now.value c.args.place c.args.left root (drop c.args.from c.args.claim.now.bytes.now)) c.step-in-children.new.node c.child-child.result c.children.links less c.children.below (c.children.below - 1) c.children.last c.children.at c.args.claim.now.bytes.now (reverse c.children.stack.items) (get_or c.args.claim.now.bytes.now c.children.at 0) (reverse c.push.new.self.items)
-          k c.if-job-eq0.false (drop-step c.args.claim.now.bytes.now c.children.at c.if-at-claim.false) (c.child-child.ensures (path root (reverse c.children.stack.items)) c.children.below k.here.is_node next.3) refl (omega (arith, opened.0)) opened.1 pushed;
-    }
-
-pub children-preserved : goal.children-preserved
-children-preserved c = record {
-  from = omega (arith, c.children.invariant.from);
-  within = omega (arith, c.if-at-claim.false);
-  back = c.children.invariant.back;
-  reading = λ root at.
-      let i = c.children.invariant.reading root at in
-      let next = next-some c.args.claim.now.instance.now.jobs (path root (reverse c.children.stack.items)) c.children.last (slice_index c.children.links c.children.last) (reading-next c.args.claim.now.instance.now c.args.claim.now.value c.args.place root (read_tree c.args.claim.now.instance.now bound_at c.args.claim.now.value c.args.place c.args.left root (drop c.args.from c.args.claim.now.bytes.now)) c.children.node c.children.links c.children.below c.children.last c.children.at c.args.claim.now.bytes.now (reverse c.children.stack.items) i) c.if-job-eq0.false in
-      let k = reading-kept c.args.claim.now.instance.now c.args.claim.now.value c.args.place root (read_tree c.args.claim.now.instance.now bound_at c.args.claim.now.value c.args.place c.args.left root (drop c.args.from c.args.claim.now.bytes.now)) c.children.node c.step-in-children.new.node c.children.links c.children.below c.children.last c.children.at c.args.claim.now.bytes.now (reverse c.children.stack.items) i (c.step-in-children.ensures.kept (path root (reverse c.children.stack.items)) (suc c.children.below) i.here) in
-      let closed = step-whole c.args.claim.now.instance.now c.args.claim.now.value c.args.place c.children.below (path root (reverse c.children.stack.items) ++ (slice_index c.children.links c.children.last) ∷ []) (get_or c.args.claim.now.bytes.now c.children.at 0) c.step-in-children.result c.in-Ok-step.open (c.step-in-children.ensures.gives (path root (reverse c.children.stack.items)) i.here (next.1, next.2, next.3)) c.in-Ok-step.is c.if-open.false in
-      reading-leaf c.args.claim.now.instance.now c.args.claim.now.value c.args.place root (read_tree c.args.claim.now.instance.now bound_at c.args.claim.now.value c.args.place c.args.left root (drop c.args.from c.args.claim.now.bytes.now)) c.step-in-children.new.node c.children.links c.children.below c.children.last c.children.at c.args.claim.now.bytes.now (reverse c.children.stack.items) (get_or c.args.claim.now.bytes.now c.children.at 0) k c.if-job-eq0.false (drop-step c.args.claim.now.bytes.now c.children.at c.if-at-claim.false) closed;
-}
+pub returns-clause-tree : goal.returns-clause-tree
+returns-clause-tree c root at =
+    let opened = step-open c.args.claim.now.instance.now c.args.claim.now.value c.args.place c.args.left root (get_or c.args.claim.now.bytes.now c.args.from 0) c.step.result c.in-Ok.open (c.step.ensures.gives root at tt) c.in-Ok.is c.if-not-open.false in
+    let more : c.args.left ≡ suc (c.args.left - 1) = omega (arith, opened.0) in
+    plus-gives c.args.claim.now.instance.now c.args.claim.now.value c.args.place root c.args.left (c.args.left - 1) c.args.from c.args.claim.now.bytes.now (get_or c.args.claim.now.bytes.now c.args.from 0) c.children_end.result more opened.1 (drop-step c.args.claim.now.bytes.now c.args.from c.if-from-claim.false)
+    (c.children_end.ensures.trees root (subst (IsAt c.args.claim.now.instance.now root c.step.new.node c.args.links.now) more (c.step.ensures.kept root c.args.left at)))
