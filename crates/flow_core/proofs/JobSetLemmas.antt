@@ -3,11 +3,11 @@ use Rattle.std.proofs.Common.{◌≡◌, ℕ, zero, suc, ◌+◌, ◌-◌, ◌<�
 use Rattle.std.specs.Prelude.{slice_index_or, count_by}
 use Rattle.std.specs.List.{filter, range_with_len}
 use Rattle.std.proofs.lemmas.Bool.{cases_lt}
-use Rattle.std.proofs.lemmas.List.{append-nil}
+use Rattle.std.proofs.lemmas.List.{append-nil, get_or_past}
 use Rattle.std.proofs.lemmas.List.Sums.{sum_by-cons}
 use Rattle.flow_core.specs.Shop.{numbers}
 use Rattle.flow_core.specs.JobSet.{contains, members}
-use Rattle.flow_core.proofs.JobsLeft.{filter-more, numbers-more}
+use Rattle.flow_core.proofs.JobsLeft.{filter-more, filter-past, numbers-more}
 
 -- a test that only the first numbers pass
 pub filter-first : (p : ℕ → Bool) (n most : ℕ) → n ≤ most → ((k : ℕ) → 1 ≤ k → k ≤ n → p k ≡ true) → ((k : ℕ) → n < k → p k ≡ false) → filter p (numbers 1 most) ≡ numbers 1 n
@@ -35,6 +35,19 @@ filter-first p n (suc most) h pass fail =
         ∙ ap (λ b. filter p (numbers 1 m) ++ cond b (suc m ∷ []) []) (pass (suc m) (omega arith) (omega arith))
         ∙ ap (λ xs. xs ++ suc m ∷ []) (all m (λ k low high. pass k low (omega arith)))
         ∙ sym (numbers-more m)
+
+-- the members of a set that has none above a number are the numbers up to it that the set has
+pub members-is : (set : List Bool) (n : ℕ) → ((k : ℕ) → n < k → contains set k ≡ false) → members set ≡ filter (contains set) (numbers 1 n)
+members-is set n h =
+    elim (cases_lt (length set) n) [
+      | inl short ↦
+          let e : n ≡ (n - length set) + length set = omega arith in
+          sym (filter-past (contains set) (length set) (n - length set) (λ k past. get_or_past set (k - 1) false (omega arith)))
+          ∙ ap (λ m. filter (contains set) (numbers 1 m)) (sym e)
+      | inr long ↦
+          let e : length set ≡ (length set - n) + n = omega arith in
+          ap (λ m. filter (contains set) (numbers 1 m)) e ∙ filter-past (contains set) n (length set - n) h
+    ]
 
 -- tests that agree from a number on
 filter-from : (p q : ℕ → Bool) (a n : ℕ) → ((k : ℕ) → a ≤ k → p k ≡ q k) → filter p (range_with_len a n) ≡ filter q (range_with_len a n)

@@ -51,6 +51,7 @@ count_fault earlier = if is_in_head earlier then Head (next_line earlier) else T
 abbrev pub is_head : List ℕ → Bool
 is_head head = is_in_range 1 MAX_JOBS (slice_index head 0) && is_in_range 1 MAX_MACHINES (slice_index head 1)
 
+-- whether each number may be a time
 abbrev pub are_times : List ℕ → Bool
 are_times times = list_all (λ time. nat_le time MAX_TIME) times
 

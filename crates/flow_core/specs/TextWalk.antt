@@ -14,24 +14,28 @@ use Rattle.flow_core.specs.declared.text.progress.Want.TheVariants.{FirstLabel, 
 use Rattle.flow_core.specs.declared.text.progress.Progress.{Progress}
 use Rattle.flow_core.specs.declared.text.progress.Head.{Head}
 
+-- the answer of a second step on what the first one gave, or the fault of the first
 infixl 10 ◌>>=◌
 abbrev pub ◌>>=◌ : {A B E : Type 0} → Result A E → (A → Result B E) → Result B E
 (Ok x) >>= f = f x
 (Err e) >>= f = Err e
 
--- what a call returned, seen by a view, is what a definition gives, unless memory ran out
+-- where a definition gives a fault of a line, a call returned that fault, unless memory ran out
 abbrev pub LineFails : {Y : Type 0} → LineFault → Result Y LineFault → Type 0
 LineFails line.Memory read = Unit {0}
 LineFails e read = read ≡ Err e
 
+-- what a call returned for a line, seen by a view, is what a definition gives, unless memory ran out
 abbrev pub LineGives : {X Y : Type 0} → (X → Y) → Result X LineFault → Result Y LineFault → Type 0
 LineGives view (Ok x) read = read ≡ Ok (view x)
 LineGives view (Err e) read = LineFails e read
 
+-- where a definition gives a fault of a text, a call returned that fault, unless memory ran out
 abbrev pub TextFails : {Y : Type 0} → TextFault → Result Y TextFault → Type 0
 TextFails text.Memory read = Unit {0}
 TextFails e read = read ≡ Err e
 
+-- what a call returned for a text, seen by a view, is what a definition gives, unless memory ran out
 abbrev pub TextGives : {X Y : Type 0} → (X → Y) → Result X TextFault → Result Y TextFault → Type 0
 TextGives view (Ok x) read = read ≡ Ok (view x)
 TextGives view (Err e) read = TextFails e read
@@ -49,9 +53,11 @@ pub record Sizes : Type 0 where
   pub upper : ℕ
   pub lower : ℕ
 
+-- a head as its five numbers
 abbrev pub sizes : Head → Sizes
 sizes h = record { jobs = h.jobs; machines = h.machines; seed = h.seed; upper = h.upper; lower = h.lower }
 
+-- the first five numbers of a list as a head
 abbrev pub sizes_of : List ℕ → Sizes
 sizes_of ns = record { jobs = slice_index ns 0; machines = slice_index ns 1; seed = slice_index ns 2; upper = slice_index ns 3; lower = slice_index ns 4 }
 
@@ -72,9 +78,11 @@ pub record State : Type 0 where
   pub head : Sizes
   pub blocks : List Block
 
+-- the state in which the reading is
 abbrev pub state_of : Progress → State
 state_of p = record { want = p.want; numbers = p.numbers.items; head = sizes p.head; blocks = p.blocks.items }
 
+-- the state before the first line
 abbrev pub start : State
 start = record { want = FirstLabel; numbers = []; head = record { jobs = 1; machines = 1; seed = 0; upper = 0; lower = 0 }; blocks = [] }
 
@@ -91,9 +99,11 @@ Keeps s = elim s.want [
 unfoldable pub line_numbers : List ℕ → Result (List ℕ) LineFault
 line_numbers l = if not (is_plain l) then Err line.Byte else (if not (are_small (numbers_of l)) then Err line.Number else Ok (numbers_of l))
 
+-- the block of a head and its times
 abbrev pub block_of : Sizes → List ℕ → Block
 block_of head times = record { seed = head.seed; upper = head.upper; lower = head.lower; instance = record { jobs = head.jobs; machines = head.machines; times = times } }
 
+-- the state after a label line, or its fault
 unfoldable pub after_label : State → Result State LineFault
 after_label s = elim s.want [
   | FirstLabel ↦ Ok (record s { want = HeadNumbers; numbers = [] })
@@ -102,11 +112,13 @@ after_label s = elim s.want [
   | Times ↦ Err line.Times
 ]
 
+-- the state when the numbers of a head so far are these, or the fault
 unfoldable pub after_head_numbers : State → List ℕ → Result State LineFault
 after_head_numbers s ns = if nat_lt 5 (length ns) then Err line.Head
     else (if nat_lt (length ns) 5 then Ok (record s { numbers = ns })
     else (if is_head ns then Ok (record s { want = SecondLabel; numbers = []; head = sizes_of ns }) else Err line.Limits))
 
+-- the state when the times of a block so far are all these, the new ones of the last line among them, or the fault
 unfoldable pub after_times : State → List ℕ → List ℕ → Result State LineFault
 after_times s new all = let wanted = s.head.jobs * s.head.machines in
     if nat_lt wanted (length all) then Err line.Times
@@ -114,6 +126,7 @@ after_times s new all = let wanted = s.head.jobs * s.head.machines in
     else (if nat_lt (length all) wanted then Ok (record s { numbers = all })
     else Ok (record s { want = FirstLabel; numbers = []; blocks = s.blocks ++ block_of s.head all ∷ [] })))
 
+-- the state after a number line, or its fault
 unfoldable pub after_numbers : State → List ℕ → Result State LineFault
 after_numbers s l = elim s.want [
   | FirstLabel ↦ Err line.Label
@@ -122,6 +135,7 @@ after_numbers s l = elim s.want [
   | Times ↦ line_numbers l >>= λ ns. after_times s ns (s.numbers ++ ns)
 ]
 
+-- the state after a line, or its fault
 unfoldable pub after_line : State → List ℕ → Result State LineFault
 after_line s l = elim (after_blanks l) [
   | [] ↦ Ok s
@@ -147,6 +161,7 @@ at_end s n = elim s.want [
   | Times ↦ Err (text.Times n)
 ]
 
+-- the answer of a line, with the number of the line at its fault
 abbrev pub placed : ℕ → Result State LineFault → Result State TextFault
 placed n (Ok s) = Ok s
 placed n (Err e) = Err (at_line e n)

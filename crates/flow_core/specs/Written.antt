@@ -9,9 +9,11 @@ abbrev pub row_text : List ℕ → List ℕ
 row_text [] = 10 ∷ []
 row_text (n ∷ ns) = decimal n ++ flat_map (λ m. 32 ∷ decimal m) ns ++ 10 ∷ []
 
+-- the label line of a head
 unfoldable pub head_label : List ℕ
 head_label = codes "number of jobs, number of machines, initial seed, upper bound and lower bound :\n"
 
+-- the label line of the times
 unfoldable pub times_label : List ℕ
 times_label = codes "processing times :\n"
 

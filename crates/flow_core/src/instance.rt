@@ -10,19 +10,19 @@ use std::alloc::{AllocError, Global};
 use std::marker::Model;
 use thiserror::Error;
 
-/// Why numbers are no instance, in the order in which it is tested, but for `Memory`, which comes last.
+/// Why numbers are no instance, in the order in which it is tested. `Seed` is an answer of `generate` alone.
 #[derive(Clone, Copy, Debug, PartialEq, Eq, Error)]
 pub enum InstanceFault {
-    /// The number of jobs is not in `1..=500`.
+    /// The number of jobs is not in `1..=MAX_JOBS`.
     #[error("Jobs")]
     Jobs,
-    /// The number of machines is not in `1..=20`.
+    /// The number of machines is not in `1..=MAX_MACHINES`.
     #[error("Machines")]
     Machines,
     /// There is not one time for each job and machine.
     #[error("Count")]
     Count,
-    /// The time at this place, from 1, is the first above 99,999.
+    /// The time at this place, from 1, is the first above `MAX_TIME`.
     #[error("Time {0}")]
     Time(usize),
     /// The seed of a generator is not in `1..=2147483646`.

@@ -1,7 +1,8 @@
 //! A sink and a source in memory.
 
-ghost use Rattle.std.specs.Prelude.{◌≡◌, ◌-◌, ◌<◌, ◌≤◌, ◌↔◌, [], length, take, min, false, Some, IsErr, IfOk, is_err, ◌||◌};
+ghost use Rattle.std.specs.Prelude.{◌≡◌, ◌+◌, ◌-◌, ◌<◌, ◌≤◌, ◌↔◌, [], length, take, min, false, Some, IsErr, IfOk, is_err, ◌||◌};
 ghost use Rattle.std.specs.Io.KnownBytes.{WriteAppends};
+ghost use Rattle.std.specs.Option.{ForSome};
 ghost use Rattle.flow_core.specs.Bytes.{is_end};
 
 use crate::bytes::device::{Sink, Source};
@@ -133,6 +134,8 @@ impl<'a> Source for MemorySource<'a> {
         ensures refuses { IsErr result ↔ (self.old.fail_after ≡ Some self.old.given) }
         ensures ends { IfOk result (λ c. (c ≡ 0) ↔ (self.old.given ≡ length self.old.bytes)) }
         ensures piece { IfOk result (λ c. c ≤ self.old.piece) }
+        ensures counts { IfOk result (λ c. self.new.given ≡ self.old.given + c) }
+        ensures all { ForSome self.new.fail_after (λ most. self.new.given ≤ most) }
         ensures keeps { (self.new.bytes ≡ self.old.bytes) × (self.new.piece ≡ self.old.piece) × (self.new.fail_after ≡ self.old.fail_after) }
     {
         let room = match self.fail_after {

@@ -35,13 +35,13 @@ pub enum TextFault {
     /// A byte of a number line is neither a digit nor a blank.
     #[error("Byte {0}")]
     Byte(usize),
-    /// A number is above 4,294,967,295.
+    /// A number is above `MAX_NUMBER`.
     #[error("Number {0}")]
     Number(usize),
     /// The head of a block has fewer or more than five numbers.
     #[error("Head {0}")]
     Head(usize),
-    /// The jobs or machines of a head are not in `1..=500` or `1..=20`, or a time is above 99,999.
+    /// The jobs or machines of a head are not in `1..=MAX_JOBS` or `1..=MAX_MACHINES`, or a time is above `MAX_TIME`.
     #[error("Limits {0}")]
     Limits(usize),
     /// There are fewer or more times than one for each job and machine.

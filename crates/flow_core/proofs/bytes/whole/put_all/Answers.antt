@@ -3,7 +3,6 @@ use Rattle.std.proofs.lemmas.Grind.{common_steps}
 use Rattle.flow_core.proofs.BytesLemmas.{Appends-more}
 use Rattle.flow_core.proofs.bytes.whole.put_all.Goals as goal
 
--- src/moves.rt:21:5
 pub loop-done-preserved : goal.loop-done-preserved
 loop-done-preserved g c =
     let e = c.in-Ok.ensures in

@@ -3,7 +3,6 @@ use Rattle.std.proofs.lemmas.List.{length-take-le}
 use Rattle.std.proofs.KnownBytes.{Appends-trans}
 use Rattle.flow_core.proofs.bytes.whole.read_all.Goals as goal
 
--- src/moves.rt:55:13
 pub returns-then-count-limit-clause-too_long : goal.returns-then-count-limit-clause-too_long
 returns-then-count-limit-clause-too_long g c =
     let e = c.in-Ok.ensures in
@@ -11,11 +10,9 @@ returns-then-count-limit-clause-too_long g c =
     let long : length piece ≡ c.in-Ok.count = length-take-le _ _ (omega arith) in
     λ _. (c.calls.all.items ++ piece, omega (arith, length-append c.calls.all.items piece, long, c.calls.all.ok.0), Appends-trans _ _ _ _ _ c.calls.invariant.came e.bytes)
 
--- src/moves.rt:55:13
 pub returns-then-count-limit-clause-stands : goal.returns-then-count-limit-clause-stands
 returns-then-count-limit-clause-stands g c = (_, Appends-trans _ _ _ _ _ c.calls.invariant.came c.in-Ok.ensures.bytes)
 
--- src/moves.rt:57:9
 pub returns-in_err-extend_from_slice-clause-stands :
     goal.returns-in_err-extend_from_slice-clause-stands
 returns-in_err-extend_from_slice-clause-stands g c = (_, Appends-trans _ _ _ _ _ c.calls.invariant.came c.in-Ok.ensures.bytes)
