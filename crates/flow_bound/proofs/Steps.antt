@@ -1,12 +1,10 @@
-use Rattle.std.proofs.Common.{◌≡◌, ℕ, zero, suc, ◌+◌, ◌-◌, ◌*◌, ◌<◌, ◌≤◌, min, Bool, true, false, cond, List, [], ◌∷◌, ◌++◌, length, map, subst, refl, ap, sym, ◌∙◌, inl, inr, arith}
+use Rattle.std.proofs.Common.{◌≡◌, ℕ, zero, suc, ◌+◌, ◌-◌, ◌*◌, ◌<◌, ◌≤◌, min, Bool, true, false, cond, List, [], ◌∷◌, ◌++◌, length, map, subst, refl, ap, ◌∙◌, inl, inr, arith}
 use Rattle.std.specs.List.{filter}
 use Rattle.std.proofs.lemmas.Bool.{cases_lt}
-use Rattle.std.proofs.lemmas.List.{get_or_past}
 use Rattle.flow_core.specs.declared.limits.TheConstants.{MAX_TIME}
 use Rattle.flow_core.specs.Shop.{Shop, numbers, time, time_between, IsWithinLimits}
 use Rattle.flow_core.specs.Least.{least}
-use Rattle.flow_core.specs.JobSet.{contains, members}
-use Rattle.flow_core.proofs.JobsLeft.{sum_by-jobs_left, sum_by-ones, filter-more, kept, kept-more}
+use Rattle.flow_core.proofs.JobsLeft.{sum_by-jobs_left, sum_by-ones, filter-more}
 use Rattle.flow_core.proofs.Recurrence.{time_between-more, time_between-none}
 use Rattle.flow_core.proofs.Fronts.{time-small}
 use Rattle.flow_core.specs.Paths.{span}
@@ -19,14 +17,6 @@ use Rattle.flow_core.proofs.Admissible.{admissible-front}
 abbrev pub capped : ℕ → List ℕ → ℕ
 capped cap [] = cap
 capped cap (x ∷ xs) = min x (capped cap xs)
-
--- one more job, which the set has or not
-pub kept-step : (f : ℕ → ℕ) (p : ℕ → Bool) (k : ℕ) → 1 ≤ k → kept f p (k + 1 - 1) ≡ kept f p (k - 1) + cond (p k) (f k) 0
-kept-step f p zero low = absurd (omega arith)
-kept-step f p (suc n) low =
-    let a : suc n + 1 - 1 ≡ suc n = omega arith in
-    let b : n ≡ suc n - 1 = omega arith in
-    ap (kept f p) a ∙ kept-more f p n ∙ ap (λ m. kept f p m + cond (p (suc n)) (f (suc n)) 0) b
 
 pub capped-push : (cap : ℕ) (xs : List ℕ) (x : ℕ) → capped cap (xs ++ x ∷ []) ≡ min (capped cap xs) x
 capped-push cap [] x = omega arith
@@ -59,33 +49,6 @@ capped-is cap x (y ∷ ys) = omega (arith, capped-is cap y ys)
 pub least-le-first : (x : ℕ) (xs : List ℕ) → least (x ∷ xs) ≤ x
 least-le-first x [] = omega arith
 least-le-first x (y ∷ ys) = omega arith
-
--- past the last number that passes the range does not matter
-filter-past : (p : ℕ → Bool) (a d : ℕ) → ((k : ℕ) → a < k → p k ≡ false) → filter p (numbers 1 (d + a)) ≡ filter p (numbers 1 a)
-filter-past p a zero h = ap (λ n. filter p (numbers 1 n)) (omega arith)
-filter-past p a (suc d) h =
-    let e : suc d + a ≡ suc (d + a) = omega arith in
-    ap (λ n. filter p (numbers 1 n)) e
-    ∙ filter-more p (d + a)
-    ∙ ap (λ b. filter p (numbers 1 (d + a)) ++ cond b (suc (d + a) ∷ []) []) (h (suc (d + a)) (omega arith))
-    ∙ append-none (filter p (numbers 1 (d + a)))
-    ∙ filter-past p a d h
-  where
-    append-none : (xs : List ℕ) → xs ++ [] ≡ xs
-    append-none [] = refl
-    append-none (x ∷ xs) = ap (λ ys. x ∷ ys) (append-none xs)
-
-pub members-is : (set : List Bool) (n : ℕ) → ((k : ℕ) → n < k → contains set k ≡ false) → members set ≡ filter (contains set) (numbers 1 n)
-members-is set n h =
-    elim (cases_lt (length set) n) [
-      | inl short ↦
-          let e : n ≡ (n - length set) + length set = omega arith in
-          sym (filter-past (contains set) (length set) (n - length set) (λ k past. get_or_past set (k - 1) false (omega arith)))
-          ∙ ap (λ m. filter (contains set) (numbers 1 m)) (sym e)
-      | inr long ↦
-          let e : length set ≡ (length set - n) + n = omega arith in
-          ap (λ m. filter (contains set) (numbers 1 m)) e ∙ filter-past (contains set) n (length set - n) h
-    ]
 
 -- the times from a machine on fit
 pub time_between-small : (shop : Shop) (job a b : ℕ) → 1 ≤ a → IsWithinLimits shop → time_between shop job a b ≤ b * MAX_TIME

@@ -5,8 +5,9 @@ use Rattle.flow_core.specs.declared.limits.TheConstants.{MAX_MACHINES, MAX_TIME,
 use Rattle.flow_core.specs.Shop.{numbers, time, time_between}
 use Rattle.flow_core.specs.Least.{least}
 use Rattle.flow_core.specs.JobSet.{contains, members}
-use Rattle.flow_core.proofs.JobsLeft.{kept}
-use Rattle.flow_bound.proofs.Steps.{capped, kept-step, capped-step, members-is, admissible-members}
+use Rattle.flow_core.proofs.JobsLeft.{kept, kept-step}
+use Rattle.flow_core.proofs.JobSetLemmas.{members-is}
+use Rattle.flow_bound.proofs.Steps.{capped, capped-step, admissible-members}
 use Rattle.flow_bound.proofs.Running.{zeros, capped-least-all, tail-small}
 use Rattle.flow_bound.proofs.machine_bound.bound.Goals as goal
 use Rattle.flow_bound.proofs.machine_bound.bound.Goals.{After-from-2, then-contains, else-contains}
