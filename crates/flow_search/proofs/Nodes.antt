@@ -1,8 +1,8 @@
 use Rattle.std.proofs.Common.{◌≡◌, ◌≢◌, ℕ, zero, suc, ◌+◌, ◌-◌, ◌<◌, ◌≤◌, Bool, true, false, cond, not, ◌||◌, nat_eq, nat_le, List, [], ◌∷◌, ◌++◌, Option, Some, None, length, map, set, slice_index, slice_index_or, slice_set, take, refl, ap, sym, subst, ◌∙◌, inl, inr, arith, append_assoc, length-append}
 use Rattle.std.specs.List.{filter, find, range_with_len, sum_by}
-use Rattle.std.proofs.lemmas.Bool.{cond-true, cond-false, eqb-false, cases_lt}
+use Rattle.std.proofs.lemmas.Bool.{cond-true, cond-false, eqb-false}
 use Rattle.std.proofs.lemmas.Bool.Decides.{eqb_tells}
-use Rattle.std.proofs.lemmas.List.{get_or-set_other, get_or-set_same, get_or_past, append-nil}
+use Rattle.std.proofs.lemmas.List.{get_or-set_other, get_or-set_same, append-nil}
 use Rattle.std.proofs.lemmas.List.Folds.{list_any-append}
 use Rattle.std.proofs.lemmas.List.Elements.{recursion_from_All, All-from_recursion}
 use Rattle.flow_core.specs.Shop.{Shop, numbers, time, time_between, IsWithinLimits}
@@ -10,12 +10,12 @@ use Rattle.flow_core.specs.Least.{least}
 use Rattle.flow_core.specs.Front.{IsFrontOf, IsWithinFront}
 use Rattle.flow_core.specs.JobSet.{contains, members}
 use Rattle.flow_core.specs.Sequences.{has, jobs_left}
-use Rattle.flow_core.specs.Bound.{machine_bound, bound_at, front_of}
+use Rattle.flow_core.specs.Bound.{letter, machine_bound, bound_at, front_of}
 use Rattle.flow_core.specs.declared.limits.TheConstants.{MAX_JOBS, MAX_MACHINES}
-use Rattle.flow_core.proofs.JobsLeft.{filter-same, filter-more, kept, kept-more, kept-has, sum_by-ones}
+use Rattle.flow_core.proofs.JobsLeft.{filter-same, kept, kept-more, kept-has, sum_by-ones}
 use Rattle.flow_core.proofs.Fronts.{front-within}
+use Rattle.flow_core.proofs.JobSetLemmas.{members-is}
 use Rattle.flow_core.proofs.Admissible.{front_of-is}
-use Rattle.flow_search.specs.Search.{letter}
 use Rattle.flow_search.specs.Walk.{walk, walk_each}
 use Rattle.flow_search.specs.Nodes.{IsAt, Wrote, Entered, Left, Walked, walked, incumbent_of}
 use Rattle.flow_search.specs.declared.subtree.Search.{Search}
@@ -46,29 +46,6 @@ find-same p q a zero h = refl
 find-same p q a (suc n) h =
     ap (λ b. cond b (Some a) (find p (range_with_len (a + 1) n))) (h a (omega arith) (omega arith))
     ∙ ap (cond (q a) (Some a)) (find-same p q (a + 1) n (λ k low high. h k (omega arith) (omega arith)))
-
--- where no number above one passes, the numbers up to it are all that matter
-filter-past : (p : ℕ → Bool) (a d : ℕ) → ((k : ℕ) → a < k → p k ≡ false) → filter p (numbers 1 (d + a)) ≡ filter p (numbers 1 a)
-filter-past p a zero h = ap (λ n. filter p (numbers 1 n)) (omega arith)
-filter-past p a (suc d) h =
-    let e : suc d + a ≡ suc (d + a) = omega arith in
-    ap (λ n. filter p (numbers 1 n)) e
-    ∙ filter-more p (d + a)
-    ∙ ap (λ b. filter p (numbers 1 (d + a)) ++ cond b (suc (d + a) ∷ []) []) (h (suc (d + a)) (omega arith))
-    ∙ append-nil (filter p (numbers 1 (d + a)))
-    ∙ filter-past p a d h
-
-members-is : (set : List Bool) (n : ℕ) → ((k : ℕ) → n < k → contains set k ≡ false) → members set ≡ filter (contains set) (numbers 1 n)
-members-is set n h =
-    elim (cases_lt (length set) n) [
-      | inl short ↦
-          let e : n ≡ (n - length set) + length set = omega arith in
-          sym (filter-past (contains set) (length set) (n - length set) (λ k past. get_or_past set (k - 1) false (omega arith)))
-          ∙ ap (λ m. filter (contains set) (numbers 1 m)) (sym e)
-      | inr long ↦
-          let e : length set ≡ (length set - n) + n = omega arith in
-          ap (λ m. filter (contains set) (numbers 1 m)) e ∙ filter-past (contains set) n (length set - n) h
-    ]
 
 -- the jobs of the set, in the numbers of the shop
 pub left-is : (shop : Shop) (node front : List ℕ) (unscheduled : List Bool) (count : ℕ) → IsAt shop node front unscheduled count →

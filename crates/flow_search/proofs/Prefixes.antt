@@ -4,7 +4,7 @@ use Rattle.std.proofs.lemmas.List.{take_more}
 use Rattle.std.proofs.lemmas.Bool.{cond-true, or_left, or_right, eq-eqb, false≢true}
 use Rattle.std.proofs.lemmas.Bool.Decides.{eqb_tells}
 use Rattle.std.proofs.lemmas.List.Elements.{All-from_recursion, recursion_from_All}
-use Rattle.flow_core.specs.Shop.{IsWithinLimits}
+use Rattle.flow_core.specs.Shop.{Shop, IsWithinLimits}
 use Rattle.flow_core.specs.Front.{IsFrontOf}
 use Rattle.flow_core.specs.JobSet.{contains}
 use Rattle.flow_core.specs.Sequences.{has, AreJobs, AreDistinct, IsSequence, cut}
@@ -12,7 +12,7 @@ use Rattle.flow_core.specs.Bound.{bound_at}
 use Rattle.flow_core.proofs.Admissible.{bound_is_admissible}
 use Rattle.flow_search.specs.Search.{Found, tree, best}
 use Rattle.flow_search.specs.Walk.{walk}
-use Rattle.flow_search.specs.Plans.{Planned, IsPlan, IsStored, prefixes_of, prefix_of, best_of}
+use Rattle.flow_search.specs.Plans.{Planned, IsPlan, IsStored, prefixes_of, prefix_of, best_of, tree_of}
 use Rattle.flow_search.specs.Nodes.{IsAt, IsFresh, Entered, Walked, walked, found_if, incumbent_of}
 use Rattle.flow_search.specs.declared.subtree.Search.{Search}
 use Rattle.flow_search.proofs.Walk.{Fresh, walk_is_tree}
@@ -120,7 +120,7 @@ way-ends plan prefix front i count search left low high way =
     let same : i ≡ length prefix = omega arith in
     subst (IsAt plan.shop search.node.items front search.unscheduled) (ap (λ k. plan.shop.jobs - k) same ∙ sym left) way.at
 
-pub prefix-done : (plan : Planned) (prefix front : List ℕ) (i budget count : ℕ) (old new : Search) → AreJobs plan.shop.jobs prefix → length prefix ≤ plan.shop.jobs →
+prefix-done : (plan : Planned) (prefix front : List ℕ) (i budget count : ℕ) (old new : Search) → AreJobs plan.shop.jobs prefix → length prefix ≤ plan.shop.jobs →
     count ≡ plan.shop.jobs - length prefix → i ≤ length prefix → length prefix ≤ i → IsOnTheWay plan prefix i front old → Walked plan.shop budget count old new →
     (found_if new ≡ best plan.shop plan.start.value prefix) × (new.tree.items ≡ tree plan.shop bound_at plan.start.value prefix)
 prefix-done plan prefix front i budget count old new are short left low high way w =
@@ -129,6 +129,16 @@ prefix-done plan prefix front i budget count old new are short left low high way
       ap (λ st. st.1) w.incumbent ∙ ap (λ w. w.1.1) walk_is ∙ law.1,
       w.tree ∙ ap (λ xs. xs ++ (walked plan.shop count old).0) way.tree ∙ ap (λ w. w.0) walk_is ∙ law.0,
     )
+
+-- the best and the tree of a prefix of the plan, once its walk is done; the code knows the instance as `shop`
+pub prefix-answered : (plan : Planned) (shop : Shop) (prefix front : List ℕ) (number i budget jobs : ℕ) (old new : Search) → shop ≡ plan.shop → jobs ≡ shop.jobs → prefix ≡ prefix_of plan number →
+    AreJobs plan.shop.jobs prefix → length prefix ≤ plan.shop.jobs → i ≤ length prefix → length prefix ≤ i → IsOnTheWay plan prefix i front old →
+    Walked shop budget (jobs - length prefix) old new → (found_if new ≡ best_of plan number) × (new.tree.items ≡ tree_of plan number)
+prefix-answered plan shop prefix front number i budget jobs old new shop_is jobs_is prefix_is are short low high way w =
+    let count : jobs - length prefix ≡ plan.shop.jobs - length prefix = ap (λ n. n - length prefix) (jobs_is ∙ ap (λ s. s.jobs) shop_is) in
+    let walk_done : Walked plan.shop budget (jobs - length prefix) old new = subst (λ s. Walked s budget (jobs - length prefix) old new) shop_is w in
+    let is = prefix-done plan prefix front i budget (jobs - length prefix) old new are short count low high way walk_done in
+    (is.0 ∙ ap (best plan.shop plan.start.value) prefix_is, is.1 ∙ ap (tree plan.shop bound_at plan.start.value) prefix_is)
 
 pub prefix-over : (plan : Planned) (prefix front : List ℕ) (i budget count : ℕ) (old : Search) → AreJobs plan.shop.jobs prefix → length prefix ≤ plan.shop.jobs →
     count ≡ plan.shop.jobs - length prefix → i ≤ length prefix → length prefix ≤ i → IsOnTheWay plan prefix i front old →

@@ -27,7 +27,7 @@ abbrev pub AreLawful : Planned → List Outcome → Type 0
 AreLawful plan outcomes =
     (number : ℕ) (other : Outcome) → number < length outcomes → IsLawful plan number (slice_index_or outcomes number other)
 
--- the outcome has the tree of its prefix
+-- the outcome is `Done`
 abbrev pub IsDone : Outcome → Type 0
 IsDone (Done best text) = Unit {0}
 IsDone OverBudget = ⊥

@@ -23,6 +23,7 @@ pub record Planned : Type 0 where
 abbrev pub prefixes_of : Planned → List (List ℕ)
 prefixes_of plan = cut plan.shop.jobs plan.options.depth
 
+-- the prefix of a number, or no job where there is none
 abbrev pub prefix_of : Planned → ℕ → List ℕ
 prefix_of plan number = slice_index_or (prefixes_of plan) number []
 

@@ -11,13 +11,13 @@ use thiserror::Error;
 /// Why numbers are no options, in the order in which it is tested.
 #[derive(Clone, Copy, Debug, PartialEq, Eq, Error)]
 pub enum OptionFault {
-    /// The number of workers is not in `1..=64`.
+    /// The number of workers is not in `1..=MAX_WORKERS`.
     #[error("Workers")]
     Workers,
-    /// The depth is above 3.
+    /// The depth is above `MAX_DEPTH`.
     #[error("Depth")]
     Depth,
-    /// The budget is not in `1..=100000000`.
+    /// The budget is not in `1..=MAX_BUDGET`.
     #[error("Budget")]
     Budget,
 }

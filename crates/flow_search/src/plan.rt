@@ -19,7 +19,7 @@ pub enum PlanFault {
     /// The depth is above the number of jobs.
     #[error("Depth")]
     Depth,
-    /// There are more than 100,000 prefixes.
+    /// There are more than `MAX_PREFIXES` prefixes.
     #[error("Prefixes")]
     Prefixes,
     /// A growth was refused.

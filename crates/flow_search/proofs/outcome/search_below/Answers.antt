@@ -2,15 +2,16 @@ use Rattle.std.proofs.Common.{◌≡◌, ℕ, ◌+◌, ◌-◌, ◌<◌, ◌≤�
 use Rattle.std.proofs.lemmas.Result.{err_from_is_err_and}
 use Rattle.flow_core.specs.Front.{IsFrontOf, IsWithinFront}
 use Rattle.flow_core.specs.Bound.{bound_at}
-use Rattle.flow_search.specs.Search.{tree, best}
-use Rattle.flow_search.specs.Plans.{Planned, prefix_of}
-use Rattle.flow_search.specs.Nodes.{Walked, walked}
+use Rattle.flow_search.specs.Search.{tree}
+use Rattle.flow_search.specs.Plans.{Planned, prefix_of, best_of, tree_of}
+use Rattle.flow_search.specs.Nodes.{walked, found_if}
 use Rattle.flow_search.specs.declared.subtree.Search.{Search}
 use Rattle.flow_search.specs.declared.subtree.Stop.{Stop}
 use Rattle.flow_search.specs.declared.subtree.Stop.TheVariants.{OverBudget}
 use Rattle.flow_search.proofs.Nodes.{within-front}
-use Rattle.flow_search.proofs.Prefixes.{way-goes-on, prefix-done, prefix-over, best-sequence}
+use Rattle.flow_search.proofs.Prefixes.{way-goes-on, prefix-answered, prefix-over, best-sequence}
 use Rattle.flow_search.proofs.outcome.search_below.Goals as goal
+use Rattle.flow_search.proofs.outcome.search_below.Goals.{In_ok-explore}
 
 pub front_push-requires-clause-within : goal.front_push-requires-clause-within
 front_push-requires-clause-within c =
@@ -54,33 +55,21 @@ returns-in_err-explore-clause-over c e =
     let budget : c.budget-budget.result ≡ plan.options.budget = c.budget-budget.ensures.value ∙ ap (λ o. o.budget) c.options.ensures.value in
     omega (arith, longer, named, budget)
 
-pub returns-clause-best : goal.returns-clause-best
-returns-clause-best c =
+-- what the prefix came to
+answered : (c : In_ok-explore) → (found_if c.explore.new.search ≡ best_of c.args.plan.now c.args.number) × (c.explore.new.search.tree.items ≡ tree_of c.args.plan.now c.args.number)
+answered c =
     let plan : Planned = c.args.plan.now in
     let prefix : List ℕ = c.prefix-prefix.result.now in
     let deep : plan.options.depth ≤ plan.shop.jobs = c.prefix-prefix.ensures.plan.deep in
     let short : length prefix ≤ plan.shop.jobs = omega (arith, deep, c.prefix-prefix.ensures.size) in
-    let shop : c.instance-instance.result.now ≡ plan.shop = c.instance-instance.ensures.value in
-    let jobs : c.jobs-jobs.result ≡ plan.shop.jobs = c.jobs-jobs.ensures.value ∙ ap (λ s. s.jobs) shop in
-    let walk_done : Walked plan.shop c.budget-budget.result (c.jobs-jobs.result - length prefix) c.loop-job.search c.explore.new.search =
-    subst (λ s. Walked s c.budget-budget.result (c.jobs-jobs.result - length prefix) c.loop-job.search c.explore.new.search) shop c.in_ok-explore.ensures.done in
-    let is = prefix-done plan prefix c.loop-job.front c.loop-job.job-index c.budget-budget.result (c.jobs-jobs.result - length prefix) c.loop-job.search c.explore.new.search
-    c.prefix-prefix.ensures.jobs short (ap (λ n. n - length prefix) jobs) (omega arith) (omega arith) c.loop-job.invariant walk_done in
-    is.0 ∙ ap (best plan.shop plan.start.value) c.prefix-prefix.ensures.value
+    prefix-answered plan c.instance-instance.result.now prefix c.loop-job.front c.args.number c.loop-job.job-index c.budget-budget.result c.jobs-jobs.result c.loop-job.search c.explore.new.search
+    c.instance-instance.ensures.value c.jobs-jobs.ensures.value c.prefix-prefix.ensures.value c.prefix-prefix.ensures.jobs short (omega arith) (omega arith) c.loop-job.invariant c.in_ok-explore.ensures.done
+
+pub returns-clause-best : goal.returns-clause-best
+returns-clause-best c = (answered c).0
 
 pub returns-clause-tree : goal.returns-clause-tree
-returns-clause-tree c =
-    let plan : Planned = c.args.plan.now in
-    let prefix : List ℕ = c.prefix-prefix.result.now in
-    let deep : plan.options.depth ≤ plan.shop.jobs = c.prefix-prefix.ensures.plan.deep in
-    let short : length prefix ≤ plan.shop.jobs = omega (arith, deep, c.prefix-prefix.ensures.size) in
-    let shop : c.instance-instance.result.now ≡ plan.shop = c.instance-instance.ensures.value in
-    let jobs : c.jobs-jobs.result ≡ plan.shop.jobs = c.jobs-jobs.ensures.value ∙ ap (λ s. s.jobs) shop in
-    let walk_done : Walked plan.shop c.budget-budget.result (c.jobs-jobs.result - length prefix) c.loop-job.search c.explore.new.search =
-    subst (λ s. Walked s c.budget-budget.result (c.jobs-jobs.result - length prefix) c.loop-job.search c.explore.new.search) shop c.in_ok-explore.ensures.done in
-    let is = prefix-done plan prefix c.loop-job.front c.loop-job.job-index c.budget-budget.result (c.jobs-jobs.result - length prefix) c.loop-job.search c.explore.new.search
-    c.prefix-prefix.ensures.jobs short (ap (λ n. n - length prefix) jobs) (omega arith) (omega arith) c.loop-job.invariant walk_done in
-    is.1 ∙ ap (tree plan.shop bound_at plan.start.value) c.prefix-prefix.ensures.value
+returns-clause-tree c = (answered c).1
 
 pub returns-clause-sequence : goal.returns-clause-sequence
 returns-clause-sequence c improved = best-sequence c.args.plan.now c.args.number c.explore.new.search c.prefix-prefix.ensures.plan c.requires (returns-clause-best c) improved
