@@ -1,5 +1,5 @@
 -- The steps of reading the lines of the trees.
-use Rattle.std.proofs.Common.{◌≡◌, ◌≢◌, ℕ, zero, suc, ◌+◌, ◌-◌, ◌<◌, ◌≤◌, false, List, [], ◌∷◌, ◌++◌, drop, slice_index, slice_set, Ok, Err, refl, ap, sym, subst, ◌∙◌, arith, append_assoc}
+use Rattle.std.proofs.Common.{◌≡◌, ◌≢◌, ℕ, zero, suc, ◌+◌, ◌-◌, ◌<◌, ◌≤◌, false, List, [], ◌∷◌, ◌++◌, drop, slice_index, slice_set, Result, Ok, Err, refl, ap, sym, subst, ◌∙◌, arith, append_assoc}
 use Rattle.std.specs.List.{flat_map}
 use Rattle.flow_core.specs.Shop.{Shop}
 use Rattle.flow_core.specs.Bound.{bound_at}
@@ -9,6 +9,7 @@ use Rattle.flow_cert.specs.Stack.{children, awaited, IsNext, IsPlace, IsNode, Is
 use Rattle.flow_cert.specs.declared.fault.CheckFault.{CheckFault}
 use Rattle.flow_cert.specs.declared.fault.CheckFault.TheVariants.{Memory, Header, Size, Value, Sequence, NotAttained, Tree, Weak, Low, End}
 use Rattle.flow_cert.specs.declared.node.Node.{Node}
+use Rattle.flow_cert.specs.declared.lines.Spot.{Spot}
 use Rattle.flow_cert.proofs.Links.{children-next, children-none, next-some, links-out}
 
 pub last-ok : (shop : Shop) (value more left line : ℕ) (list bs after : List ℕ) (rest : List (List ℕ)) → more ≡ 0 → read_tree shop bound_at value line left list bs ≡ Ok (10 ∷ after) →
@@ -64,16 +65,22 @@ child-at {shop} {list} {node} {links} {left} at kid last place some more made =
 abbrev Bad : Shop → ℕ → ℕ → List (List ℕ) → ℕ → ℕ → List ℕ → CheckFault → Type 0
 Bad shop value left prefixes line from bytes fault = (rest : List (List ℕ)) → trees_value shop bound_at value left (prefixes ++ rest) line (drop from bytes) ≡ Err fault
 
-pub lines-err : (shop : Shop) (value l m : ℕ) (ps qs : List (List ℕ)) (line place from at : ℕ) (bytes : List ℕ) (fault : CheckFault) →
+lines-fail : (shop : Shop) (value l m : ℕ) (ps qs : List (List ℕ)) (line place from at : ℕ) (bytes : List ℕ) (fault : CheckFault) →
     (Bad shop value m qs place at bytes fault → Bad shop value l ps line from bytes fault) →
     LinesGive shop value m qs place at bytes (Err fault) → LinesGive shop value l ps line from bytes (Err fault)
-lines-err shop value l m ps qs line place from at bytes Memory pass h = tt
-lines-err shop value l m ps qs line place from at bytes Header pass h = pass h
-lines-err shop value l m ps qs line place from at bytes Size pass h = pass h
-lines-err shop value l m ps qs line place from at bytes Value pass h = pass h
-lines-err shop value l m ps qs line place from at bytes Sequence pass h = pass h
-lines-err shop value l m ps qs line place from at bytes NotAttained pass h = pass h
-lines-err shop value l m ps qs line place from at bytes (Tree p) pass h = pass h
-lines-err shop value l m ps qs line place from at bytes (Weak p) pass h = pass h
-lines-err shop value l m ps qs line place from at bytes (Low p) pass h = pass h
-lines-err shop value l m ps qs line place from at bytes End pass h = pass h
+lines-fail shop value l m ps qs line place from at bytes Memory pass h = tt
+lines-fail shop value l m ps qs line place from at bytes Header pass h = pass h
+lines-fail shop value l m ps qs line place from at bytes Size pass h = pass h
+lines-fail shop value l m ps qs line place from at bytes Value pass h = pass h
+lines-fail shop value l m ps qs line place from at bytes Sequence pass h = pass h
+lines-fail shop value l m ps qs line place from at bytes NotAttained pass h = pass h
+lines-fail shop value l m ps qs line place from at bytes (Tree p) pass h = pass h
+lines-fail shop value l m ps qs line place from at bytes (Weak p) pass h = pass h
+lines-fail shop value l m ps qs line place from at bytes (Low p) pass h = pass h
+lines-fail shop value l m ps qs line place from at bytes End pass h = pass h
+
+pub lines-err : (shop : Shop) (value l m : ℕ) (ps qs : List (List ℕ)) (line place from at : ℕ) (bytes : List ℕ) (answer : Result Spot CheckFault) (fault : CheckFault) → answer ≡ Err fault →
+    (Bad shop value m qs place at bytes fault → Bad shop value l ps line from bytes fault) →
+    LinesGive shop value m qs place at bytes (Err fault) → LinesGive shop value l ps line from bytes answer
+lines-err shop value l m ps qs line place from at bytes answer fault is pass h =
+    subst (LinesGive shop value l ps line from bytes) (sym is) (lines-fail shop value l m ps qs line place from at bytes fault pass h)

@@ -162,26 +162,26 @@ reading-up shop value place root whole node links back below last at bytes frame
 
 -- what a byte says
 
-pub step-open : (shop : Shop) (value place left : ℕ) (node : List ℕ) (byte : ℕ) (r : Result Bool CheckFault) (b : Bool) → StepGives shop value place left node byte r → r ≡ Ok b → b ≡ true → (0 < left) × (byte ≡ 43)
-step-open shop value place left node byte r b g e t = subst (StepGives shop value place left node byte) (e ∙ ap Ok t) g
+pub step-open : (shop : Shop) (value place left : ℕ) (node : List ℕ) (byte : ℕ) (b : Bool) → StepGives shop value place left node byte (Ok b) → b ≡ true → (0 < left) × (byte ≡ 43)
+step-open shop value place left node byte b g t = subst (λ o. StepGives shop value place left node byte (Ok o)) t g
 
-pub step-whole : (shop : Shop) (value place left : ℕ) (node : List ℕ) (byte : ℕ) (r : Result Bool CheckFault) (b : Bool) → StepGives shop value place left node byte r → r ≡ Ok b → b ≡ false → (rest : List ℕ) → read_tree shop bound_at value place left node (byte ∷ rest) ≡ Ok rest
-step-whole shop value place left node byte r b g e t = subst (StepGives shop value place left node byte) (e ∙ ap Ok t) g
+pub step-whole : (shop : Shop) (value place left : ℕ) (node : List ℕ) (byte : ℕ) (b : Bool) → StepGives shop value place left node byte (Ok b) → b ≡ false → (rest : List ℕ) → read_tree shop bound_at value place left node (byte ∷ rest) ≡ Ok rest
+step-whole shop value place left node byte b g t = subst (λ o. StepGives shop value place left node byte (Ok o)) t g
 
-pub step-bad : (shop : Shop) (value place left : ℕ) (node : List ℕ) (byte : ℕ) (r : Result Bool CheckFault) (f : CheckFault) → StepGives shop value place left node byte r → r ≡ Err f → (rest : List ℕ) → read_tree shop bound_at value place left node (byte ∷ rest) ≡ Err f
-step-bad shop value place left node byte r f g e = subst (StepGives shop value place left node byte) e g
+fails : (from : ℕ) (bytes : List ℕ) (read : Result (List ℕ) CheckFault) (fault : CheckFault) → read ≡ Err fault → TreeGives from bytes (Err fault) read
+fails from bytes read Memory e = tt
+fails from bytes read Header e = e
+fails from bytes read Size e = e
+fails from bytes read Value e = e
+fails from bytes read Sequence e = e
+fails from bytes read NotAttained e = e
+fails from bytes read (Tree p) e = e
+fails from bytes read (Weak p) e = e
+fails from bytes read (Low p) e = e
+fails from bytes read End e = e
 
-pub tree-fails : (from : ℕ) (bytes : List ℕ) (read : Result (List ℕ) CheckFault) (fault : CheckFault) → read ≡ Err fault → TreeGives from bytes (Err fault) read
-tree-fails from bytes read Memory e = tt
-tree-fails from bytes read Header e = e
-tree-fails from bytes read Size e = e
-tree-fails from bytes read Value e = e
-tree-fails from bytes read Sequence e = e
-tree-fails from bytes read NotAttained e = e
-tree-fails from bytes read (Tree p) e = e
-tree-fails from bytes read (Weak p) e = e
-tree-fails from bytes read (Low p) e = e
-tree-fails from bytes read End e = e
+pub tree-fails : (from : ℕ) (bytes : List ℕ) (read : Result (List ℕ) CheckFault) (answer : Result ℕ CheckFault) (fault : CheckFault) → answer ≡ Err fault → read ≡ Err fault → TreeGives from bytes answer read
+tree-fails from bytes read answer fault is e = subst (λ (a : Result ℕ CheckFault). TreeGives from bytes a read) (sym is) (fails from bytes read fault e)
 
 pub drop-step : (bytes : List ℕ) (at : ℕ) → at < length bytes → drop at bytes ≡ get_or bytes at 0 ∷ drop (at + 1) bytes
 drop-step bytes at h = let n : suc at ≡ at + 1 = omega arith in drop-cons bytes at 0 h ∙ ap (λ k. get_or bytes at 0 ∷ drop k bytes) n

@@ -4,6 +4,7 @@ use Rattle.flow_core.specs.Sequences.{extensions}
 use Rattle.flow_cert.specs.Faults.{trees_value}
 use Rattle.flow_cert.specs.Stack.{awaited}
 use Rattle.flow_cert.proofs.Links.{start-place, next-place, links-back}
+use Rattle.flow_cert.proofs.Exits.{exit}
 use Rattle.flow_cert.proofs.LineSteps.{awaited-start, awaited-none, awaited-lines, lines-err, with-links, next-child, child-at}
 use Rattle.flow_cert.proofs.lines.+lines_end.Goals as goal
 
@@ -37,18 +38,18 @@ lines_end-requires t c =
     let there = child-at here c.child-child.result c.children.last (c.children.invariant.behind list here) c.if-job-eq0.false (omega (arith, c.if-more-eq0.false, c.requires.more)) (c.child-child.ensures list) in
     (omega (arith, c.decreases, c.if-more-eq0.false), (c.requires.rows, ((list ++ slice_index c.children.links c.children.last ∷ [], there), (omega (arith, c.requires.more), (c.children.invariant.within, c.children.invariant.place)))))
 
-pub returns-in-Err-lines_end-clause-lines : goal.returns-in-Err-lines_end-clause-lines
-returns-in-Err-lines_end-clause-lines t c list at =
+pub returns-in_err-spot-clause-lines : goal.returns-in_err-spot-clause-lines
+returns-in_err-spot-clause-lines t c list at =
     let job : ℕ = slice_index c.children.links c.children.last in
     let here = with-links c.children.invariant.links at in
     let place = c.children.invariant.behind list here in
     let there = child-at here c.child-child.result c.children.last place c.if-job-eq0.false (omega (arith, c.if-more-eq0.false, c.requires.more)) (c.child-child.ensures list) in
-    lines-err c.args.claim.now.instance.now c.args.claim.now.value (c.args.left - c.args.more) (c.args.left - 1 - (c.args.more - 1)) (extensions c.args.claim.now.instance.now.jobs c.args.more list) (extensions c.args.claim.now.instance.now.jobs (c.args.more - 1) (list ++ job ∷ [])) c.args.line c.children.place c.args.from c.children.at c.args.claim.now.bytes.now c.in-Err-lines_end.fault
+    lines-err c.args.claim.now.instance.now c.args.claim.now.value (c.args.left - c.args.more) (c.args.left - 1 - (c.args.more - 1)) (extensions c.args.claim.now.instance.now.jobs c.args.more list) (extensions c.args.claim.now.instance.now.jobs (c.args.more - 1) (list ++ job ∷ [])) c.args.line c.children.place c.args.from c.children.at c.args.claim.now.bytes.now c.from_residual-in_err-spot.result c.in_err-spot.field-0.0 (exit c.from_residual-in_err-spot.result c.in_err-spot.field-0.0 c.from_residual-in_err-spot.ensures.1)
     (λ bad rest.
     c.children.invariant.fault list here rest
     ∙ awaited-lines c.args.claim.now.instance.now c.args.claim.now.value c.args.left c.args.more list c.children.last job c.children.place (drop c.children.at c.args.claim.now.bytes.now) rest (here.are_links.each c.children.last place) c.if-job-eq0.false c.if-more-eq0.false c.requires.more
     ∙ bad (awaited c.args.claim.now.instance.now.jobs c.args.more list (job + 1) ++ rest))
-    (c.in-Err-lines_end.ensures.lines (list ++ job ∷ []) there)
+    (c.in_err-spot.ensures.lines (list ++ job ∷ []) there)
 
 pub children-smaller : goal.children-smaller
 children-smaller t c =
@@ -59,10 +60,10 @@ children-smaller t c =
 pub children-preserved : goal.children-preserved
 children-preserved t c =
     let job : ℕ = slice_index c.children.links c.children.last in
-    let same_links = ap (λ l. slice_set l c.children.last job) c.in-Ok-lines_end.ensures.back ∙ links-back c.children.links c.children.last job (slice_index c.children.links job) refl in
+    let same_links = ap (λ l. slice_set l c.children.last job) c.in_ok-spot.ensures.back ∙ links-back c.children.links c.children.last job (slice_index c.children.links job) refl in
     record {
-      within = c.in-Ok-lines_end.ensures.within.0;
-      place = c.in-Ok-lines_end.ensures.within.1;
+      within = c.in_ok-spot.ensures.within.0;
+      place = c.in_ok-spot.ensures.within.1;
       links = same_links ∙ c.children.invariant.links;
       behind = λ list now.
           let here = with-links (sym same_links) now in
@@ -75,6 +76,6 @@ children-preserved t c =
           let same : c.args.left - 1 - (c.args.more - 1) ≡ c.args.left - c.args.more = omega (arith, c.if-more-eq0.false, c.requires.more) in
           c.children.invariant.fault list here rest
           ∙ awaited-lines c.args.claim.now.instance.now c.args.claim.now.value c.args.left c.args.more list c.children.last job c.children.place (drop c.children.at c.args.claim.now.bytes.now) rest (here.are_links.each c.children.last place) c.if-job-eq0.false c.if-more-eq0.false c.requires.more
-          ∙ c.in-Ok-lines_end.ensures.lines (list ++ job ∷ []) there after
-          ∙ ap (λ l. trees_value c.args.claim.now.instance.now bound_at c.args.claim.now.value l after c.in-Ok-lines_end.spot.line (drop c.in-Ok-lines_end.spot.at c.args.claim.now.bytes.now)) same;
+          ∙ c.in_ok-spot.ensures.lines (list ++ job ∷ []) there after
+          ∙ ap (λ l. trees_value c.args.claim.now.instance.now bound_at c.args.claim.now.value l after c.in_ok-spot.spot.line (drop c.in_ok-spot.spot.at c.args.claim.now.bytes.now)) same;
     }
