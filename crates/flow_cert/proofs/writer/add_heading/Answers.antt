@@ -1,4 +1,4 @@
-use Rattle.std.proofs.Common.{◌≡◌, ◌++◌, List, ℕ, [], ◌∷◌, decimal}
+use Rattle.std.proofs.Common.{◌++◌, List, ℕ, [], ◌∷◌, decimal}
 use Rattle.std.proofs.lemmas.Result.{on_ok_weaker, on_err_weaker}
 use Rattle.flow_search.specs.Plans.{Planned}
 use Rattle.flow_search.specs.declared.verdict.Verdict.{Verdict}

@@ -1,4 +1,4 @@
-use Rattle.std.proofs.Common.{◌≡◌, [], ◌∷◌, decimal, refl}
+use Rattle.std.proofs.Common.{[], ◌∷◌, decimal, refl}
 use Rattle.std.proofs.lemmas.Result.{on_ok_weaker, on_err_weaker}
 use Rattle.flow_cert.specs.Certificate.{line}
 use Rattle.flow_cert.proofs.HandedOn.{on-err, then-hands, then-stops, stops-within}
