@@ -40,19 +40,15 @@ stops-within a b x done rest text is (front, back, whole, some, added) = (
   added,
 )
 
--- nor is what follows
-pub stops-before : (a b : Option (List ℕ)) (done rest : List ℕ) → AddsProperPrefix a b done → AddsProperPrefix a b (done ++ rest)
-stops-before a b done rest = stops-within a b [] done rest (done ++ rest) refl
-
 -- a text with some pieces behind it
 abbrev pub behind : List ℕ → List (List ℕ) → List ℕ
 behind text [] = text
 behind text (piece ∷ pieces) = behind (text ++ piece) pieces
 
--- where a text is not handed on whole, nor are the pieces behind it
-pub stops-early : (a b : Option (List ℕ)) (text : List ℕ) (pieces : List (List ℕ)) → AddsProperPrefix a b text → AddsProperPrefix a b (behind text pieces)
-stops-early a b text [] h = h
-stops-early a b text (piece ∷ pieces) h = stops-early a b (text ++ piece) pieces (stops-before a b text piece h)
+-- where a text is not handed on whole, nor is it with pieces behind it
+pub stops-early : (a b : Option (List ℕ)) (x text : List ℕ) (pieces : List (List ℕ)) → AddsProperPrefix a b (x ++ text) → AddsProperPrefix a b (x ++ behind text pieces)
+stops-early a b x text [] h = h
+stops-early a b x text (piece ∷ pieces) h = stops-early a b x (text ++ piece) pieces (stops-within a b x text piece (text ++ piece) refl h)
 
 -- all that was gathered is put, and what follows too
 pub puts-straight : (a b c : Option (List ℕ)) (x bytes z : List ℕ) → Appends a b x → z ≡ [] → Appends b c bytes → HandsOn a c x bytes z

@@ -14,7 +14,7 @@ use Rattle.flow_core.proofs.Fronts.{free_at, front-within, time-small}
 use Rattle.flow_core.proofs.Admissible.{front_of-is}
 use Rattle.flow_core.proofs.JobsLeft.{kept, kept-more, filter-more}
 use Rattle.std.proofs.lemmas.Bool.Decides.{eqb_tells}
-use Rattle.flow_cert.specs.Stack.{IsNode, AreKnown, AreLows, tails, least_below, second_below, children}
+use Rattle.flow_cert.specs.Stack.{IsNode, AreKnown, AreLows, tails, least_below, second_below, children, unknown}
 use Rattle.flow_cert.specs.declared.node.Node.{Node}
 use Rattle.flow_cert.specs.declared.node.Lows.{Lows}
 use Rattle.flow_cert.proofs.Links.{left-sum, left-count, left-split, left-without, left_under}
@@ -51,11 +51,11 @@ all-same zero v i h = absurd (omega (arith, h))
 all-same (suc n) v zero h = refl
 all-same (suc n) v (suc i) h = all-same n v i (omega (arith, h))
 
-none-known : (shop : Shop) (list least second : List ℕ) → IsWithinLimits shop → least ≡ replicate MAX_MACHINES 4294967295 → second ≡ replicate MAX_MACHINES 4294967295 → AreKnown shop list least second
+none-known : (shop : Shop) (list least second : List ℕ) → IsWithinLimits shop → least ≡ replicate MAX_MACHINES unknown → second ≡ replicate MAX_MACHINES unknown → AreKnown shop list least second
 none-known shop list least second limits a b = record {
   each = λ machine from to.
       let most : shop.machines ≤ MAX_MACHINES = limits.machines in
-      inl (ap (λ l. slice_index l (machine - 1)) a ∙ all-same MAX_MACHINES 4294967295 (machine - 1) (omega (arith, from, to, most)));
+      inl (ap (λ l. slice_index l (machine - 1)) a ∙ all-same MAX_MACHINES unknown (machine - 1) (omega (arith, from, to, most)));
   least_size = ap length a;
   second_size = ap length b;
 }
@@ -94,7 +94,7 @@ known-more shop list node left machine lows limits is from to low = record {
 -- the empty list
 pub root-node : (shop : Shop) (node : Node) → IsWithinLimits shop → IsFrontOf shop [] node.front →
     ((machine : ℕ) → 1 ≤ machine → machine ≤ shop.machines → slice_index node.owed (machine - 1) ≡ sum_by (λ job. time shop job machine) (jobs_left shop.jobs [])) →
-    length node.owed ≡ MAX_MACHINES → node.least ≡ replicate MAX_MACHINES 4294967295 → node.second ≡ replicate MAX_MACHINES 4294967295 → IsNode shop [] node shop.jobs
+    length node.owed ≡ MAX_MACHINES → node.least ≡ replicate MAX_MACHINES unknown → node.second ≡ replicate MAX_MACHINES unknown → IsNode shop [] node shop.jobs
 root-node shop node limits times owed size least second = record {
   times = times;
   owed = owed;
@@ -108,7 +108,7 @@ root-node shop node limits times owed size least second = record {
 pub child-node : (shop : Shop) (list : List ℕ) (node child : Node) (left job : ℕ) → IsWithinLimits shop → IsNode shop list node (suc left) → 1 ≤ job → job ≤ shop.jobs → has list job ≡ false →
     IsFrontOf shop (list ++ job ∷ []) child.front → length child.owed ≡ MAX_MACHINES →
     ((machine : ℕ) → 1 ≤ machine → machine ≤ shop.machines → slice_index child.owed (machine - 1) + time shop job machine ≡ slice_index node.owed (machine - 1)) →
-    child.least ≡ replicate MAX_MACHINES 4294967295 → child.second ≡ replicate MAX_MACHINES 4294967295 →
+    child.least ≡ replicate MAX_MACHINES unknown → child.second ≡ replicate MAX_MACHINES unknown →
     IsNode shop (list ++ job ∷ []) child left
 child-node shop list node child left job limits is low high fresh times size less least second = record {
   times = times;
@@ -143,7 +143,7 @@ pub own-bound : (shop : Shop) (list : List ℕ) (node : Node) (left machine : �
     (slice_index node.front (machine - 1) + slice_index node.owed (machine - 1) + lows.least ≡ bound_at shop list machine) × (lows.least ≤ MAX_MACHINES * MAX_TIME)
 own-bound shop list node left machine lows limits is from to low =
     let most : shop.machines ≤ MAX_MACHINES = limits.machines in
-    let cap = least-below-cap 4294967295 (MAX_MACHINES * MAX_TIME) (λ job. time_between shop job (machine + 1) shop.machines) (jobs_left shop.jobs list) (omega (arith, is.some))
+    let cap = least-below-cap unknown (MAX_MACHINES * MAX_TIME) (λ job. time_between shop job (machine + 1) shop.machines) (jobs_left shop.jobs list) (omega (arith, is.some))
     (λ job. omega (arith, tail-small shop job (shop.machines - machine) machine limits (omega (arith, to)), most)) (omega arith) in
     let front : slice_index node.front (machine - 1) ≡ slice_index (front_of shop list) (machine - 1) = is.times machine from to ∙ sym (front_of-is shop list machine from to) in
     (omega (arith, front, is.owed machine from to, low.0, cap.0), omega (arith, low.0, cap.0, cap.1))
@@ -162,15 +162,15 @@ child-bound shop list node left job machine free t tail behind lows limits is fr
     ap (tails shop machine) (left-split shop.jobs list job low high fresh) ∙ tails-append shop machine us (job ∷ vs) in
     let rest : tails shop machine (jobs_left shop.jobs (list ++ job ∷ [])) ≡ tails shop machine us ++ tails shop machine vs =
     ap (tails shop machine) (left-without shop.jobs list job low high) ∙ tails-append shop machine us vs in
-    let one : Without (f job) (least_below 4294967295 (tails shop machine us ++ f job ∷ tails shop machine vs)) (second_below 4294967295 4294967295 (tails shop machine us ++ f job ∷ tails shop machine vs)) (least_below 4294967295 (tails shop machine us ++ tails shop machine vs)) =
-    without-one (f job) 4294967295 4294967295 (tails shop machine us) (tails shop machine vs) (omega arith) in
-    let least_is : lows.least ≡ least_below 4294967295 (tails shop machine us ++ f job ∷ tails shop machine vs) = are.0 ∙ ap (least_below 4294967295) whole in
-    let second_is : lows.second ≡ second_below 4294967295 4294967295 (tails shop machine us ++ f job ∷ tails shop machine vs) = are.1 ∙ ap (second_below 4294967295 4294967295) whole in
-    let rest_is : least_below 4294967295 (tails shop machine (jobs_left shop.jobs (list ++ job ∷ []))) ≡ least_below 4294967295 (tails shop machine us ++ tails shop machine vs) = ap (least_below 4294967295) rest in
-    let behind_is : behind ≡ least_below 4294967295 (tails shop machine (jobs_left shop.jobs (list ++ job ∷ []))) =
-    same-without tail (f job) lows.least (least_below 4294967295 (tails shop machine us ++ f job ∷ tails shop machine vs)) lows.second (second_below 4294967295 4294967295 (tails shop machine us ++ f job ∷ tails shop machine vs)) behind (least_below 4294967295 (tails shop machine us ++ tails shop machine vs)) is_tail least_is second_is picked one ∙ sym rest_is in
+    let one : Without (f job) (least_below unknown (tails shop machine us ++ f job ∷ tails shop machine vs)) (second_below unknown unknown (tails shop machine us ++ f job ∷ tails shop machine vs)) (least_below unknown (tails shop machine us ++ tails shop machine vs)) =
+    without-one (f job) unknown unknown (tails shop machine us) (tails shop machine vs) (omega arith) in
+    let least_is : lows.least ≡ least_below unknown (tails shop machine us ++ f job ∷ tails shop machine vs) = are.0 ∙ ap (least_below unknown) whole in
+    let second_is : lows.second ≡ second_below unknown unknown (tails shop machine us ++ f job ∷ tails shop machine vs) = are.1 ∙ ap (second_below unknown unknown) whole in
+    let rest_is : least_below unknown (tails shop machine (jobs_left shop.jobs (list ++ job ∷ []))) ≡ least_below unknown (tails shop machine us ++ tails shop machine vs) = ap (least_below unknown) rest in
+    let behind_is : behind ≡ least_below unknown (tails shop machine (jobs_left shop.jobs (list ++ job ∷ []))) =
+    same-without tail (f job) lows.least (least_below unknown (tails shop machine us ++ f job ∷ tails shop machine vs)) lows.second (second_below unknown unknown (tails shop machine us ++ f job ∷ tails shop machine vs)) behind (least_below unknown (tails shop machine us ++ tails shop machine vs)) is_tail least_is second_is picked one ∙ sym rest_is in
     let count = left-count shop.jobs list job low high fresh in
-    let cap = least-below-cap 4294967295 (MAX_MACHINES * MAX_TIME) f (jobs_left shop.jobs (list ++ job ∷ [])) (omega (arith, is.some, count))
+    let cap = least-below-cap unknown (MAX_MACHINES * MAX_TIME) f (jobs_left shop.jobs (list ++ job ∷ [])) (omega (arith, is.some, count))
     (λ j. omega (arith, tail-small shop j (shop.machines - machine) machine limits (omega (arith, to)), most)) (omega arith) in
     let front : free ≡ slice_index (front_of shop (list ++ job ∷ [])) (machine - 1) = is_free ∙ sym (front_of-is shop (list ++ job ∷ []) machine from to) in
     let sum = left-sum (λ j. time shop j machine) shop.jobs list job low high fresh in

@@ -96,19 +96,20 @@ numbers-sound text ns e fits =
     let written : map decimal (map (digits_value 10) words) ≡ words = words-written words k.0 (subst Fit (sym k.1) fits) in
     sym (join_with_byte-slice_split 32 text) ∙ ap (join_with_byte 32) (sym written) ∙ ap spaced k.1
 
-no-space : (ds : List ℕ) → AreDigits ds → AllByRecursion (λ b. nat_eq b 32 ≡ false) ds
-no-space [] h = tt
-no-space (d ∷ ds) h =
+-- no digit is a byte below 48
+no-byte : (byte : ℕ) → byte < 48 → (ds : List ℕ) → AreDigits ds → AllByRecursion (λ b. nat_eq b byte ≡ false) ds
+no-byte byte low [] h = tt
+no-byte byte low (d ∷ ds) h =
     let k = both (is_digit d) (list_all is_digit ds) h in
-    let low = digit-range d k.0 in
-    let other : d ≢ 32 = omega (arith, low.0) in
-    (ne_eqb d 32 other, no-space ds k.1)
+    let range = digit-range d k.0 in
+    let other : d ≢ byte = omega (arith, range.0, low) in
+    (ne_eqb d byte other, no-byte byte low ds k.1)
 
 split-spaced : (n : ℕ) (ns : List ℕ) → Fit (n ∷ ns) → slice_split (λ b. nat_eq b 32) (spaced (n ∷ ns)) ≡ map decimal (n ∷ ns)
 split-spaced n [] h =
-    slice_split_none (λ b. nat_eq b 32) (decimal n) (All-from_recursion (λ b. nat_eq b 32 ≡ false) (decimal n) (no-space (decimal n) (decimal-digits n h.0)))
+    slice_split_none (λ b. nat_eq b 32) (decimal n) (All-from_recursion (λ b. nat_eq b 32 ≡ false) (decimal n) (no-byte 32 (omega arith) (decimal n) (decimal-digits n h.0)))
 split-spaced n (m ∷ ns) h =
-    slice_split_at (λ b. nat_eq b 32) (decimal n) 32 (spaced (m ∷ ns)) (All-from_recursion (λ b. nat_eq b 32 ≡ false) (decimal n) (no-space (decimal n) (decimal-digits n h.0))) refl
+    slice_split_at (λ b. nat_eq b 32) (decimal n) 32 (spaced (m ∷ ns)) (All-from_recursion (λ b. nat_eq b 32 ≡ false) (decimal n) (no-byte 32 (omega arith) (decimal n) (decimal-digits n h.0))) refl
     ∙ ap (λ xs. decimal n ∷ xs) (split-spaced m ns h.1)
 
 all-numerals : (ns : List ℕ) → Fit ns → list_all is_numeral (map decimal ns) ≡ true
@@ -131,19 +132,11 @@ numbers-complete n ns h =
 abbrev pub IsPlain : List ℕ → Type 0
 IsPlain text = AllByRecursion (λ b. nat_eq b 10 ≡ false) text
 
-no-end : (ds : List ℕ) → AreDigits ds → IsPlain ds
-no-end [] h = tt
-no-end (d ∷ ds) h =
-    let k = both (is_digit d) (list_all is_digit ds) h in
-    let low = digit-range d k.0 in
-    let other : d ≢ 10 = omega (arith, low.0) in
-    (ne_eqb d 10 other, no-end ds k.1)
-
 plain-append : (xs ys : List ℕ) → IsPlain xs → IsPlain ys → IsPlain (xs ++ ys)
 plain-append [] ys h k = k
 plain-append (x ∷ xs) ys h k = (h.0, plain-append xs ys h.1 k)
 
 pub spaced-plain : (ns : List ℕ) → Fit ns → IsPlain (spaced ns)
 spaced-plain [] h = tt
-spaced-plain (n ∷ []) h = no-end (decimal n) (decimal-digits n h.0)
-spaced-plain (n ∷ m ∷ ns) h = plain-append (decimal n) (32 ∷ spaced (m ∷ ns)) (no-end (decimal n) (decimal-digits n h.0)) (refl, spaced-plain (m ∷ ns) h.1)
+spaced-plain (n ∷ []) h = no-byte 10 (omega arith) (decimal n) (decimal-digits n h.0)
+spaced-plain (n ∷ m ∷ ns) h = plain-append (decimal n) (32 ∷ spaced (m ∷ ns)) (no-byte 10 (omega arith) (decimal n) (decimal-digits n h.0)) (refl, spaced-plain (m ∷ ns) h.1)

@@ -4,9 +4,9 @@ use Rattle.std.proofs.lemmas.List.{reverse-append}
 use Rattle.std.proofs.Math.Seq.{drop-cons}
 use Rattle.flow_core.specs.Shop.{Shop}
 use Rattle.flow_core.specs.Bound.{bound_at}
-use Rattle.flow_core.specs.Sequences.{jobs_left}
+use Rattle.flow_core.specs.Sequences.{has, jobs_left}
 use Rattle.flow_cert.specs.Faults.{read_tree, each_tree, then_read}
-use Rattle.flow_cert.specs.Stack.{StepGives, TreeGives, children_read, children, IsNext, AreLinks, IsNode, IsAt, path, resume, IsStack, IsReading}
+use Rattle.flow_cert.specs.Stack.{StepGives, TreeGives, children_read, children, AreLinks, IsNode, IsAt, path, resume, IsStack, IsReading}
 use Rattle.flow_cert.specs.declared.fault.CheckFault.{CheckFault}
 use Rattle.flow_cert.specs.declared.fault.CheckFault.TheVariants.{Memory, Header, Size, Value, Sequence, NotAttained, Tree, Weak, Low, End}
 use Rattle.flow_cert.specs.declared.node.Node.{Node}
@@ -60,21 +60,22 @@ pub plus-gives : (shop : Shop) (value place : ℕ) (root : List ℕ) (left below
 plus-gives shop value place root left below from bytes byte r e plus step h =
     gives-before from bytes r (children_read shop value place below root (drop (from + 1) bytes)) (read_tree shop bound_at value place left root (drop from bytes)) (plus-read shop value place root left below from bytes byte e plus step) h
 
--- the link behind the child that was read last
-pub reading-next : (shop : Shop) (value place : ℕ) (root : List ℕ) (whole : Result (List ℕ) CheckFault) (node : Node) (links : List ℕ) (below last at : ℕ) (bytes : List ℕ) (frames : List Frame) →
-    IsReading shop value place root whole node links below last at bytes frames → IsNext shop.jobs (path root frames) last (slice_index links last)
-reading-next shop value place root whole node links below last at bytes frames i = i.here.are_links.each last i.behind
-
 -- what a list knows of its jobs left may grow
 pub reading-kept : (shop : Shop) (value place : ℕ) (root : List ℕ) (whole : Result (List ℕ) CheckFault) (node more : Node) (links : List ℕ) (below last at : ℕ) (bytes : List ℕ) (frames : List Frame) →
     IsReading shop value place root whole node links below last at bytes frames → IsAt shop (path root frames) more links (suc below) → IsReading shop value place root whole more links below last at bytes frames
 reading-kept shop value place root whole node more links below last at bytes frames i here = record { here = here; behind = i.behind; stack = i.stack; answer = i.answer }
 
+-- the next child, where there is one
+pub reading-child : {shop : Shop} {value place : ℕ} {root : List ℕ} {whole : Result (List ℕ) CheckFault} {node : Node} {links : List ℕ} {below last at : ℕ} {bytes : List ℕ} {frames : List Frame} →
+    IsReading shop value place root whole node links below last at bytes frames → slice_index links last ≢ 0 →
+    (last < slice_index links last) × (1 ≤ slice_index links last) × (slice_index links last ≤ shop.jobs) × (has (path root frames) (slice_index links last) ≡ false)
+reading-child {shop} {root} {links} {last} {frames} i some = next-some shop.jobs (path root frames) last (slice_index links last) (i.here.are_links.each last i.behind) some
+
 -- the next child is read
-reading-child : (shop : Shop) (value place : ℕ) (root : List ℕ) (whole : Result (List ℕ) CheckFault) (node : Node) (links : List ℕ) (below last at : ℕ) (bytes : List ℕ) (frames : List Frame) (bs : List ℕ) →
+child-read : (shop : Shop) (value place : ℕ) (root : List ℕ) (whole : Result (List ℕ) CheckFault) (node : Node) (links : List ℕ) (below last at : ℕ) (bytes : List ℕ) (frames : List Frame) (bs : List ℕ) →
     IsReading shop value place root whole node links below last at bytes frames → slice_index links last ≢ 0 → drop at bytes ≡ bs →
     whole ≡ then_read (then_read (read_tree shop bound_at value place below (path root frames ++ slice_index links last ∷ []) bs) (each_tree (λ j. read_tree shop bound_at value place below (path root frames ++ j ∷ [])) (children shop.jobs (path root frames) (slice_index links last + 1)))) (resume shop value place root (suc below) frames)
-reading-child shop value place root whole node links below last at bytes frames bs i some dropped =
+child-read shop value place root whole node links below last at bytes frames bs i some dropped =
     let read : ℕ → List ℕ → Result (List ℕ) CheckFault = λ j. read_tree shop bound_at value place below (path root frames ++ j ∷ []) in
     let k : List ℕ → Result (List ℕ) CheckFault = resume shop value place root (suc below) frames in
     i.answer
@@ -85,7 +86,7 @@ pub reading-fault : (shop : Shop) (value place : ℕ) (root : List ℕ) (whole :
     IsReading shop value place root whole node links below last at bytes frames → slice_index links last ≢ 0 → drop at bytes ≡ bs →
     read_tree shop bound_at value place below (path root frames ++ slice_index links last ∷ []) bs ≡ Err fault → whole ≡ Err fault
 reading-fault shop value place root whole node links below last at bytes frames bs fault i some dropped bad =
-    reading-child shop value place root whole node links below last at bytes frames bs i some dropped
+    child-read shop value place root whole node links below last at bytes frames bs i some dropped
     ∙ ap (λ r. then_read (then_read r (each_tree (λ j. read_tree shop bound_at value place below (path root frames ++ j ∷ [])) (children shop.jobs (path root frames) (slice_index links last + 1)))) (resume shop value place root (suc below) frames)) bad
 
 pub reading-leaf : (shop : Shop) (value place : ℕ) (root : List ℕ) (whole : Result (List ℕ) CheckFault) (node : Node) (links : List ℕ) (below last at : ℕ) (bytes : List ℕ) (frames : List Frame) (byte : ℕ) →
@@ -97,7 +98,7 @@ reading-leaf shop value place root whole node links below last at bytes frames b
   behind = next-place shop.jobs (path root frames) last (slice_index links last) (i.here.are_links.each last i.behind);
   stack = i.stack;
   answer =
-      reading-child shop value place root whole node links below last at bytes frames (byte ∷ drop (at + 1) bytes) i some dropped
+      child-read shop value place root whole node links below last at bytes frames (byte ∷ drop (at + 1) bytes) i some dropped
       ∙ ap (λ r. then_read (then_read r (each_tree (λ j. read_tree shop bound_at value place below (path root frames ++ j ∷ [])) (children shop.jobs (path root frames) (slice_index links last + 1)))) (resume shop value place root (suc below) frames)) (good (drop (at + 1) bytes));
 }
 
@@ -108,7 +109,7 @@ pub reading-dive : (shop : Shop) (value place : ℕ) (root : List ℕ) (whole : 
     IsReading shop value place root whole child less lower 0 (at + 1) bytes deeper
 reading-dive shop value place root whole node child links less below lower last at bytes frames byte deeper i some dropped is out e plus pushed =
     let job : ℕ = slice_index links last in
-    let next = next-some shop.jobs (path root frames) last job (i.here.are_links.each last i.behind) some in
+    let next = reading-child i some in
     let taken = links-out shop.jobs (path root frames) links last job (slice_index links job) i.here.are_links i.behind refl some refl in
     let back : slice_set less last job ≡ links = ap (λ l. slice_set l last job) out ∙ links-back links last job (slice_index links job) refl in
     let js : List ℕ = children shop.jobs (path root frames) (job + 1) in
@@ -124,7 +125,7 @@ reading-dive shop value place root whole node child links less below lower last 
         subst (λ l. IsStack shop root l (suc (suc (suc lower))) frames) (sym back) (subst (λ l. IsStack shop root links (suc (suc l)) frames) e i.stack),
       );
       answer =
-          reading-child shop value place root whole node links below last at bytes frames (byte ∷ drop (at + 1) bytes) i some dropped
+          child-read shop value place root whole node links below last at bytes frames (byte ∷ drop (at + 1) bytes) i some dropped
           ∙ ap (λ l. then_read (then_read (read_tree shop bound_at value place l (path root frames ++ job ∷ []) (byte ∷ drop (at + 1) bytes)) (each_tree (λ j. read_tree shop bound_at value place l (path root frames ++ j ∷ [])) js)) (resume shop value place root (suc l) frames)) e
           ∙ ap (λ b. then_read (then_read (read_tree shop bound_at value place (suc lower) (path root frames ++ job ∷ []) (b ∷ drop (at + 1) bytes)) (each_tree (λ j. read_tree shop bound_at value place (suc lower) (path root frames ++ j ∷ [])) js)) (resume shop value place root (suc (suc lower)) frames)) plus
           ∙ then-assoc (each_tree (λ j. read_tree shop bound_at value place lower ((path root frames ++ job ∷ []) ++ j ∷ [])) (jobs_left shop.jobs (path root frames ++ job ∷ [])) (drop (at + 1) bytes)) (each_tree (λ j. read_tree shop bound_at value place (suc lower) (path root frames ++ j ∷ [])) js) (resume shop value place root (suc (suc lower)) frames);
@@ -161,26 +162,26 @@ reading-up shop value place root whole node links back below last at bytes frame
 
 -- what a byte says
 
-pub step-open : (shop : Shop) (value place left : ℕ) (node : List ℕ) (byte : ℕ) (r : Result Bool CheckFault) (b : Bool) → StepGives shop value place left node byte r → r ≡ Ok b → b ≡ true → (0 < left) × (byte ≡ 43)
-step-open shop value place left node byte r b g e t = subst (StepGives shop value place left node byte) (e ∙ ap Ok t) g
+pub step-open : (shop : Shop) (value place left : ℕ) (node : List ℕ) (byte : ℕ) (b : Bool) → StepGives shop value place left node byte (Ok b) → b ≡ true → (0 < left) × (byte ≡ 43)
+step-open shop value place left node byte b g t = subst (λ o. StepGives shop value place left node byte (Ok o)) t g
 
-pub step-whole : (shop : Shop) (value place left : ℕ) (node : List ℕ) (byte : ℕ) (r : Result Bool CheckFault) (b : Bool) → StepGives shop value place left node byte r → r ≡ Ok b → b ≡ false → (rest : List ℕ) → read_tree shop bound_at value place left node (byte ∷ rest) ≡ Ok rest
-step-whole shop value place left node byte r b g e t = subst (StepGives shop value place left node byte) (e ∙ ap Ok t) g
+pub step-whole : (shop : Shop) (value place left : ℕ) (node : List ℕ) (byte : ℕ) (b : Bool) → StepGives shop value place left node byte (Ok b) → b ≡ false → (rest : List ℕ) → read_tree shop bound_at value place left node (byte ∷ rest) ≡ Ok rest
+step-whole shop value place left node byte b g t = subst (λ o. StepGives shop value place left node byte (Ok o)) t g
 
-pub step-bad : (shop : Shop) (value place left : ℕ) (node : List ℕ) (byte : ℕ) (r : Result Bool CheckFault) (f : CheckFault) → StepGives shop value place left node byte r → r ≡ Err f → (rest : List ℕ) → read_tree shop bound_at value place left node (byte ∷ rest) ≡ Err f
-step-bad shop value place left node byte r f g e = subst (StepGives shop value place left node byte) e g
+fails : (from : ℕ) (bytes : List ℕ) (read : Result (List ℕ) CheckFault) (fault : CheckFault) → read ≡ Err fault → TreeGives from bytes (Err fault) read
+fails from bytes read Memory e = tt
+fails from bytes read Header e = e
+fails from bytes read Size e = e
+fails from bytes read Value e = e
+fails from bytes read Sequence e = e
+fails from bytes read NotAttained e = e
+fails from bytes read (Tree p) e = e
+fails from bytes read (Weak p) e = e
+fails from bytes read (Low p) e = e
+fails from bytes read End e = e
 
-pub tree-fails : (from : ℕ) (bytes : List ℕ) (read : Result (List ℕ) CheckFault) (fault : CheckFault) → read ≡ Err fault → TreeGives from bytes (Err fault) read
-tree-fails from bytes read Memory e = tt
-tree-fails from bytes read Header e = e
-tree-fails from bytes read Size e = e
-tree-fails from bytes read Value e = e
-tree-fails from bytes read Sequence e = e
-tree-fails from bytes read NotAttained e = e
-tree-fails from bytes read (Tree p) e = e
-tree-fails from bytes read (Weak p) e = e
-tree-fails from bytes read (Low p) e = e
-tree-fails from bytes read End e = e
+pub tree-fails : (from : ℕ) (bytes : List ℕ) (read : Result (List ℕ) CheckFault) (answer : Result ℕ CheckFault) (fault : CheckFault) → answer ≡ Err fault → read ≡ Err fault → TreeGives from bytes answer read
+tree-fails from bytes read answer fault is e = subst (λ (a : Result ℕ CheckFault). TreeGives from bytes a read) (sym is) (fails from bytes read fault e)
 
 pub drop-step : (bytes : List ℕ) (at : ℕ) → at < length bytes → drop at bytes ≡ get_or bytes at 0 ∷ drop (at + 1) bytes
 drop-step bytes at h = let n : suc at ≡ at + 1 = omega arith in drop-cons bytes at 0 h ∙ ap (λ k. get_or bytes at 0 ∷ drop k bytes) n

@@ -1,5 +1,5 @@
 -- The line of a sequence.
-use Rattle.std.proofs.Common.{◌≡◌, ◌≢◌, ℕ, suc, ◌+◌, ◌-◌, ◌≤◌, ◌<◌, Bool, true, false, cond, ◌||◌, nat_eq, List, [], ◌∷◌, ◌++◌, length, refl, ap, sym, subst, ◌∙◌, ◌⊎◌, inl, inr, append_assoc, arith}
+use Rattle.std.proofs.Common.{◌≡◌, ◌≢◌, ℕ, suc, ◌+◌, ◌-◌, ◌≤◌, ◌<◌, Bool, true, false, cond, ◌||◌, nat_eq, List, [], ◌∷◌, ◌++◌, length, refl, ap, sym, subst, ◌∙◌, inl, inr, append_assoc, arith}
 use Rattle.std.proofs.Common.{set as set_at}
 use Rattle.std.specs.Fmt.{decimal}
 use Rattle.std.proofs.lemmas.List.{append-nil, length_push, length-append, get_or-set_same, get_or-set_other}
@@ -13,11 +13,7 @@ use Rattle.flow_core.specs.JobSet.{contains}
 use Rattle.flow_core.specs.Sequences.{has, AreDistinct}
 use Rattle.flow_core.proofs.JobsLeft.{InRange, apart}
 use Rattle.flow_cert.specs.Certificate.{line, spaced}
-use Rattle.flow_cert.specs.Heading.{BeginsWithJob, BeginsWithSequence}
-
--- the byte that ends a number where so many numbers are still to come, with this one
-abbrev pub end_of : ℕ → ℕ
-end_of left = cond (nat_eq left 1) 10 32
+use Rattle.flow_cert.specs.Heading.{BeginsWithJob, BeginsWithSequence, end_of}
 
 -- numbers, each with the byte that ends it, where so many are still to come
 abbrev pub ended : ℕ → List ℕ → List ℕ
@@ -105,7 +101,7 @@ begins shop text set front some times empty = (
 )
 
 -- a sequence in whose line the text goes on has a next job at a place that is not behind the last
-pub next-job : (shop : Shop) (text : List ℕ) (place : ℕ) (set : List Bool) (front rest done : List ℕ) → IsDone shop text place set front rest done → place ≤ shop.jobs → (jobs after : List ℕ) → BeginsWithSequence shop.jobs text jobs after →
+next-job : (shop : Shop) (text : List ℕ) (place : ℕ) (set : List Bool) (front rest done : List ℕ) → IsDone shop text place set front rest done → place ≤ shop.jobs → (jobs after : List ℕ) → BeginsWithSequence shop.jobs text jobs after →
     (job : ℕ) × (more : List ℕ) × (jobs ≡ done ++ job ∷ more) × BeginsWithJob shop.jobs rest (end_of (shop.jobs - length done)) job (ended (shop.jobs - length done - 1) more ++ after) × (has done job ≡ false)
 next-job shop text place set front rest done is within jobs after h =
     let k = is.only jobs after h in split k.0 k.1 k.2
@@ -130,17 +126,21 @@ next-job shop text place set front rest done is within jobs after h =
         (j, js, e, (here.0, here.1, r ∙ append_assoc (decimal j) (end_of (shop.jobs - length done) ∷ ended (shop.jobs - length done - 1) js) after), fresh j js (has done j) (subst AreDistinct e h.0.each.distinct) refl)
 
 -- the byte behind a job, as the reader takes it
-pub end-byte : (n place len end : ℕ) → len + 1 ≡ place → place ≤ n → ((place ≡ n) × (end ≡ 10)) ⊎ ((place ≡ n → ⊥) × (end ≡ 32)) → end ≡ end_of (n - len)
-end-byte n place len end count within (inl h) =
-    let one : n - len ≡ 1 = omega (arith, count, within, h.0) in
-    h.1 ∙ sym (ap end_of one)
-end-byte n place len end count within (inr h) =
-    let more : n - len ≢ 1 = λ e. h.0 (omega (arith, count, within, e)) in
-    h.1 ∙ sym (ap (λ b. cond b 10 32) (ne_eqb (n - len) 1 more))
+read-end : (n m place len end : ℕ) → len + 1 ≡ place → place ≤ m → m ≡ n → end ≡ end_of (m + 1 - place) → end ≡ end_of (n - len)
+read-end n m place len end count within same is = let left : m + 1 - place ≡ n - len = omega (arith, count, within, same) in is ∙ ap end_of left
 
-pub as-read : (n m : ℕ) (text : List ℕ) (end other job : ℕ) (rest : List ℕ) → m ≡ n → other ≡ end → BeginsWithJob n text end job rest → BeginsWithJob m text other job rest
+as-read : (n m : ℕ) (text : List ℕ) (end other job : ℕ) (rest : List ℕ) → m ≡ n → other ≡ end → BeginsWithJob n text end job rest → BeginsWithJob m text other job rest
 as-read n m text end other job rest same byte h =
     (h.0, omega (arith, h.1, same), h.2 ∙ ap (λ e. decimal job ++ e ∷ rest) (sym byte))
+
+-- the next job, as the reader takes it
+pub at-job : {shop : Shop} {text : List ℕ} {place : ℕ} {set : List Bool} {front rest done : List ℕ} → IsDone shop text place set front rest done → (m end : ℕ) → m ≡ shop.jobs → place ≤ m → end ≡ end_of (m + 1 - place) →
+    (jobs after : List ℕ) → BeginsWithSequence shop.jobs text jobs after → (job : ℕ) × (more : List ℕ) × BeginsWithJob m rest end job more × (has done job ≡ false)
+at-job {shop} {text} {place} {set} {front} {rest} {done} is m end same within byte jobs after h =
+    let left : ℕ = shop.jobs - length done in
+    let next = next-job shop text place set front rest done is (omega (arith, within, same)) jobs after h in
+    let more : List ℕ = ended (left - 1) next.1 ++ after in
+    (next.0, more, as-read shop.jobs m rest (end_of left) end next.0 more same (read-end shop.jobs m place (length done) end is.count within same byte) next.3, next.4)
 
 members-more : (set : List Bool) (done : List ℕ) (job k : ℕ) → length set ≡ MAX_JOBS → 1 ≤ job → job ≤ MAX_JOBS → 1 ≤ k → k ≤ MAX_JOBS → contains set k ≡ has done k → contains (set_at set (job - 1) true) k ≡ has (done ++ job ∷ []) k
 members-more set done job k size low high from to before = elim (cases_Bool (nat_eq k job)) [
@@ -166,13 +166,13 @@ members-more set done job k size low high from to before = elim (cases_Bool (nat
     or-none false = refl
 
 -- one more job is read
-pub done-more : (shop : Shop) (text : List ℕ) (place : ℕ) (set : List Bool) (front rest : List ℕ) (more : List Bool) (times after : List ℕ) (job : ℕ) (done : List ℕ) →
+done-next : (shop : Shop) (text : List ℕ) (place : ℕ) (set : List Bool) (front rest : List ℕ) (more : List Bool) (times after : List ℕ) (job : ℕ) (done : List ℕ) →
     IsDone shop text place set front rest done → place ≤ shop.jobs → shop.jobs ≤ MAX_JOBS →
     BeginsWithJob shop.jobs rest (end_of (shop.jobs - length done)) job after →
     ((j : ℕ) (r : List ℕ) → BeginsWithJob shop.jobs rest (end_of (shop.jobs - length done)) j r → (job ≡ j) × (after ≡ r)) →
     contains set job ≡ false → length set ≡ MAX_JOBS → more ≡ set_at set (job - 1) true → IsFrontOf shop (done ++ job ∷ []) times →
     IsDone shop text (place + 1) more times after (done ++ job ∷ [])
-done-more shop text place set front rest more times after job done is within limit here only new size inserted pushed = record {
+done-next shop text place set front rest more times after job done is within limit here only new size inserted pushed = record {
   count = let long : length (done ++ job ∷ []) ≡ length done + 1 = length_push done job in omega (arith, long, is.count);
   range = range-push shop.jobs job done is.range here.0 here.1;
   distinct = distinct-push job done is.distinct (sym (is.members job here.0 (omega (arith, here.1, limit))) ∙ new);
@@ -188,6 +188,20 @@ done-more shop text place set front rest more times after job done is within lim
         same.1 ∙ ap (λ n. ended n next.1 ++ rest_after) left,
       );
 }
+
+-- and it is as the reader takes it
+pub done-more : {shop : Shop} {text : List ℕ} {place : ℕ} {set : List Bool} {front rest done : List ℕ} → IsDone shop text place set front rest done → (more : List Bool) (times after : List ℕ) (job m end : ℕ) →
+    m ≡ shop.jobs → place ≤ m → end ≡ end_of (m + 1 - place) → shop.jobs ≤ MAX_JOBS →
+    BeginsWithJob m rest end job after → ((j : ℕ) (r : List ℕ) → BeginsWithJob m rest end j r → (job ≡ j) × (after ≡ r)) →
+    contains set job ≡ false → length set ≡ MAX_JOBS → more ≡ set_at set (job - 1) true → IsFrontOf shop (done ++ job ∷ []) times →
+    IsDone shop text (place + 1) more times after (done ++ job ∷ [])
+done-more {shop} {text} {place} {set} {front} {rest} {done} is more times after job m end same within byte limit here only new size inserted pushed =
+    let left : ℕ = shop.jobs - length done in
+    let is_end : end ≡ end_of left = read-end shop.jobs m place (length done) end is.count within same byte in
+    done-next shop text place set front rest more times after job done is (omega (arith, within, same)) limit
+    (as-read m shop.jobs rest end (end_of left) job after (sym same) (sym is_end) here)
+    (λ j r h. only j r (as-read shop.jobs m rest (end_of left) end j r same is_end h))
+    new size inserted pushed
 
 -- behind the last place the sequence is read
 

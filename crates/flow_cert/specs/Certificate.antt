@@ -29,10 +29,11 @@ line text = text ++ 10 ∷ []
 abbrev pub spaced : List ℕ → List ℕ
 spaced ns = join_with_byte 32 (map decimal ns)
 
--- the first line, and the last
+-- the first line
 abbrev pub title : List ℕ
 title = codes "flowshop certificate 1"
 
+-- the last line
 abbrev pub ending : List ℕ
 ending = codes "end"
 

@@ -23,6 +23,7 @@ next_line (byte ∷ bytes) = cond (nat_eq byte 10) (Some ([], bytes)) (option_ma
 abbrev pub on_line : CheckFault → (List ℕ → List ℕ → Result ℕ CheckFault) → List ℕ → Result ℕ CheckFault
 on_line fault next bytes = option_map_or (λ r. next r.0 r.1) (next_line bytes) (Err fault)
 
+-- whether a byte is a digit
 abbrev pub is_digit : ℕ → Bool
 is_digit byte = nat_le 48 byte && nat_le byte 57
 

@@ -1,5 +1,5 @@
 -- What the lines before the trees begin with.
-use Rattle.std.specs.Prelude.{ℕ, ◌≡◌, ◌≤◌, ◌<◌, ◌+◌, ◌-◌, ◌*◌, ◌^◌, Bool, ◌&&◌, not, nat_eq, nat_lt, List, [], ◌∷◌, ◌++◌}
+use Rattle.std.specs.Prelude.{ℕ, ◌≡◌, ◌≤◌, ◌<◌, ◌+◌, ◌-◌, ◌*◌, ◌^◌, Bool, cond, ◌&&◌, not, nat_eq, nat_lt, List, [], ◌∷◌, ◌++◌}
 use Rattle.std.specs.Fmt.{decimal}
 use Rattle.flow_core.specs.declared.limits.TheConstants.{MAX_DEPTH}
 use Rattle.flow_core.specs.Sequences.{IsSequence}
@@ -27,3 +27,7 @@ BeginsWithSize jobs machines text depth rest =
 -- a text begins with the line of a sequence
 abbrev pub BeginsWithSequence : ℕ → List ℕ → List ℕ → List ℕ → Type 0
 BeginsWithSequence n text jobs rest = IsSequence n jobs × (text ≡ line (spaced jobs) ++ rest)
+
+-- the byte that ends a number of a line where so many are still to come, with this one
+abbrev pub end_of : ℕ → ℕ
+end_of left = cond (nat_eq left 1) 10 32

@@ -33,11 +33,16 @@ pub record AreLinks (n : ℕ) (list links : List ℕ) : Type 0 where
   pub each : (job : ℕ) → IsPlace n list job → IsNext n list job (slice_index links job)
   pub size : length links ≡ n + 1
 
--- the least of numbers below one, and the second least below two
+-- what stands for a least that is not known, or of no numbers: the greatest number of 32 bits
+abbrev pub unknown : ℕ
+unknown = 4294967295
+
+-- the least of some numbers and of one more
 abbrev pub least_below : ℕ → List ℕ → ℕ
 least_below a [] = a
 least_below a (x ∷ xs) = least_below (min a x) xs
 
+-- the second least of some numbers and of two more, the lesser one first
 abbrev pub second_below : ℕ → ℕ → List ℕ → ℕ
 second_below a b [] = b
 second_below a b (x ∷ xs) = second_below (min a x) (min b (max a x)) xs
@@ -49,13 +54,13 @@ tails shop machine jobs = map (λ job. time_between shop job (machine + 1) shop.
 -- the two least times behind a machine of the jobs left
 abbrev pub AreLows : Shop → List ℕ → ℕ → Lows → Type 0
 AreLows shop list machine lows =
-    (lows.least ≡ least_below 4294967295 (tails shop machine (jobs_left shop.jobs list)))
-    × (lows.second ≡ second_below 4294967295 4294967295 (tails shop machine (jobs_left shop.jobs list)))
+    (lows.least ≡ least_below unknown (tails shop machine (jobs_left shop.jobs list)))
+    × (lows.second ≡ second_below unknown unknown (tails shop machine (jobs_left shop.jobs list)))
 
 -- the two least times behind each machine, where the least is known
 pub record AreKnown (shop : Shop) (list least second : List ℕ) : Type 0 where
   pub each : (machine : ℕ) → 1 ≤ machine → machine ≤ shop.machines →
-      (slice_index least (machine - 1) ≡ 4294967295)
+      (slice_index least (machine - 1) ≡ unknown)
       ⊎ AreLows shop list machine (record { least = slice_index least (machine - 1); second = slice_index second (machine - 1) })
   pub least_size : length least ≡ MAX_MACHINES
   pub second_size : length second ≡ MAX_MACHINES
@@ -80,6 +85,7 @@ abbrev pub grown : List ℕ → Option ℕ → List ℕ
 grown list None = list
 grown list (Some job) = list ++ job ∷ []
 
+-- a list itself, or a job from 1 to n that the list does not have
 abbrev pub IsChild : ℕ → List ℕ → Option ℕ → Type 0
 IsChild n list None = Unit {0}
 IsChild n list (Some job) = (1 ≤ job) × (job ≤ n) × (has list job ≡ false)

@@ -1,10 +1,10 @@
 -- The certificates that are written.
-use Rattle.std.specs.Prelude.{◌≡◌, ℕ, List, [], ◌∷◌, length, map}
+use Rattle.std.specs.Prelude.{◌≡◌, ℕ, List, [], ◌∷◌, ◌++◌, length, map, decimal}
 use Rattle.flow_core.specs.Sequences.{IsLeastMakespan}
 use Rattle.flow_search.specs.Plans.{Planned, IsPlan, prefixes_of, trees_of, verdict_of}
 use Rattle.flow_search.specs.Verdicts.{IsVerdict}
 use Rattle.flow_search.specs.declared.verdict.Verdict.{Verdict}
-use Rattle.flow_cert.specs.Certificate.{line, spaced, certificate_text, IsCertificate}
+use Rattle.flow_cert.specs.Certificate.{line, spaced, title, certificate_text, IsCertificate}
 
 -- the certificate of a plan: its verdict, with the tree of each prefix
 abbrev pub certificate_of : Planned → List ℕ
@@ -14,6 +14,10 @@ certificate_of plan =
 -- the line of a plan's sizes
 abbrev pub size_line : Planned → List ℕ
 size_line plan = line (spaced (plan.shop.jobs ∷ plan.shop.machines ∷ plan.options.depth ∷ []))
+
+-- the lines before the trees, of a plan with a verdict
+abbrev pub heading_with : Planned → Verdict → List ℕ
+heading_with plan verdict = line title ++ size_line plan ++ line (decimal verdict.value) ++ line (spaced verdict.sequence)
 
 -- the text of a plan with a verdict, whichever it is
 abbrev pub text_with : Planned → Verdict → List ℕ

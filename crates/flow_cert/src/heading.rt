@@ -1,12 +1,12 @@
 //! The lines of a certificate before its trees.
 
-ghost use Rattle.std.specs.Prelude.{◌≡◌, ℕ, ◌<◌, ◌≤◌, ◌++◌, List, IfSome, IfOk, IfErr, Ok, Err};
+ghost use Rattle.std.specs.Prelude.{◌≡◌, ℕ, ◌+◌, ◌-◌, ◌<◌, ◌≤◌, ◌++◌, List, IfSome, IfOk, IfErr, Ok, Err};
 ghost use Rattle.std.specs.Option.{IsSomeAnd};
 ghost use Rattle.flow_core.specs.Shop.{IsWithinLimits};
 ghost use Rattle.flow_core.specs.Paths.{span};
 ghost use Rattle.flow_cert.specs.Certificate.{line, title};
 ghost use Rattle.flow_cert.specs.Faults.{certificate_value, cut_value};
-ghost use Rattle.flow_cert.specs.Heading.{BeginsWithJob, BeginsWithSize, BeginsWithSequence};
+ghost use Rattle.flow_cert.specs.Heading.{BeginsWithJob, BeginsWithSize, BeginsWithSequence, end_of};
 
 use crate::fault::CheckFault;
 use crate::number::read_number;
@@ -61,6 +61,14 @@ fn read_job(text: &[u8], end: u8, jobs: u16) -> Option<(u16, &[u8])>
     Some((job as u16, rest))
 }
 
+/// The byte that ends the job at a place of a line of so many jobs.
+fn end_behind(place: u16, jobs: u16) -> u8
+    ensures value { result ≡ end_of (jobs + 1 - place) }
+    ensures below { result < 48 }
+{
+    if place == jobs { b'\n' } else { b' ' }
+}
+
 /// The makespan of the sequence in the line with which a text begins, and what follows that line.
 fn read_sequence<'a>(instance: &Instance, text: &'a [u8]) -> Option<(u64, &'a [u8])>
     ensures found { IfSome result (λ r. (jobs : List ℕ) × BeginsWithSequence instance.now.jobs text.now jobs r.1.now × (span instance.now jobs ≡ r.0)) }
@@ -72,7 +80,7 @@ fn read_sequence<'a>(instance: &Instance, text: &'a [u8]) -> Option<(u64, &'a [u
     let mut front = Front::empty();
     let mut rest = text;
     for place in 1..jobs + 1 {
-        let end = if place == jobs { b'\n' } else { b' ' };
+        let end = end_behind(place, jobs);
         let (job, after) = read_job(rest, end, jobs)?;
         if scheduled.contains(job) {
             return None;

@@ -39,10 +39,7 @@ pub(crate) fn lines_end(
         LinesGive claim.now.instance.now claim.now.value (left - more) (extensions claim.now.instance.now.jobs more list) line from claim.now.bytes.now result }
 {
     if more == 0 {
-        let end = match tree_end(claim, line, node, left, links, from, stack) {
-            Ok(end) => end,
-            Err(fault) => return Err(fault),
-        };
+        let end = tree_end(claim, line, node, left, links, from, stack)?;
         if end >= claim.bytes.len() {
             return Err(CheckFault::Tree(line));
         }
@@ -64,13 +61,9 @@ pub(crate) fn lines_end(
         }
         let child = node.child(claim, job);
         links[last as usize] = links[job as usize];
-        match lines_end(claim, more - 1, child, left - 1, links, place, at, stack) {
-            Ok(spot) => {
-                place = spot.line;
-                at = spot.at;
-            }
-            Err(fault) => return Err(fault),
-        }
+        let spot = lines_end(claim, more - 1, child, left - 1, links, place, at, stack)?;
+        place = spot.line;
+        at = spot.at;
         links[last as usize] = job;
         last = job;
         continue 'children;

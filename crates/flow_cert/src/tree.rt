@@ -99,10 +99,7 @@ fn children_end(
             return Err(CheckFault::Tree(place));
         }
         let byte = claim.bytes[at];
-        let open = match step(claim, place, &mut node, links, Some(job), below, byte) {
-            Ok(open) => open,
-            Err(fault) => return Err(fault),
-        };
+        let open = step(claim, place, &mut node, links, Some(job), below, byte)?;
         at += 1;
         if open {
             let child = node.child(claim, job);
@@ -138,10 +135,7 @@ pub(crate) fn tree_end(
         return Err(CheckFault::Tree(place));
     }
     let byte = claim.bytes[from];
-    let open = match step(claim, place, &mut node, links, None, left, byte) {
-        Ok(open) => open,
-        Err(fault) => return Err(fault),
-    };
+    let open = step(claim, place, &mut node, links, None, left, byte)?;
     if !open {
         return Ok(from + 1);
     }

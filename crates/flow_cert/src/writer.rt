@@ -1,6 +1,6 @@
 //! Writing a certificate.
 
-ghost use Rattle.std.specs.Prelude.{◌≡◌, ◌↔◌, ◌++◌, false, true, length, map, is_err, IsErr, OnOk, OnErr};
+ghost use Rattle.std.specs.Prelude.{◌≡◌, ◌↔◌, ◌++◌, false, true, length, map, decimal, is_err, IsErr, OnOk, OnErr};
 ghost use Rattle.std.specs.List.{flat_map};
 ghost use Rattle.std.specs.Io.KnownBytes.{Appends};
 ghost use Rattle.flow_core.specs.Bytes.{AddsProperPrefix};
@@ -8,7 +8,7 @@ ghost use Rattle.flow_search.specs.Plans.{prefixes_of};
 ghost use Rattle.flow_search.specs.Verdicts.{IsVerdict};
 ghost use Rattle.flow_cert.specs.Certificate.{line};
 ghost use Rattle.flow_cert.specs.Gathered.{HandsOn};
-ghost use Rattle.flow_cert.specs.Written.{certificate_of, text_with, size_line};
+ghost use Rattle.flow_cert.specs.Written.{certificate_of, text_with, size_line, heading_with};
 
 use crate::gathered::Gathered;
 use flow_core::{Sink, WriteFault};
@@ -25,6 +25,35 @@ fn add_sizes<S: Sink>(gathered: &mut Gathered, out: &mut S, plan: &Plan) -> Resu
     let machines = plan.instance().machines();
     let depth = plan.options().depth() as u16;
     gathered.add_numbers(out, &[jobs, machines, depth])
+}
+
+/// Hands the line of the value on.
+fn add_value<S: Sink>(gathered: &mut Gathered, out: &mut S, value: u64) -> Result<(), WriteFault>
+    requires { S.has_failed out.old ≡ false }
+    ensures failed { S.has_failed out.new ≡ is_err result }
+    ensures ok { OnOk result (HandsOn (S.taken out.old) (S.taken out.new) gathered.old (line (decimal value)) gathered.new) }
+    ensures err { OnErr result (AddsProperPrefix (S.taken out.old) (S.taken out.new) (gathered.old ++ line (decimal value))) }
+{
+    gathered.add_number(out, value)?;
+    gathered.add(out, b"\n")
+}
+
+/// Hands the lines before the trees on.
+fn add_heading<S: Sink>(
+    gathered: &mut Gathered,
+    out: &mut S,
+    plan: &Plan,
+    verdict: &Verdict,
+) -> Result<(), WriteFault>
+    requires { S.has_failed out.old ≡ false }
+    ensures failed { S.has_failed out.new ≡ is_err result }
+    ensures ok { OnOk result (HandsOn (S.taken out.old) (S.taken out.new) gathered.old (heading_with plan.now verdict.now) gathered.new) }
+    ensures err { OnErr result (AddsProperPrefix (S.taken out.old) (S.taken out.new) (gathered.old ++ heading_with plan.now verdict.now)) }
+{
+    gathered.add(out, b"flowshop certificate 1\n")?;
+    add_sizes(gathered, out, plan)?;
+    add_value(gathered, out, verdict.value)?;
+    gathered.add_numbers(out, verdict.sequence.jobs())
 }
 
 /// Hands a line for each tree on.
@@ -60,11 +89,7 @@ pub fn write_certificate<S: Sink>(
     ensures of_plan { IsVerdict plan.now verdict.now → text_with plan.now verdict.now ≡ certificate_of plan.now }
 {
     let mut gathered = Gathered::none();
-    gathered.add(out, b"flowshop certificate 1\n")?;
-    add_sizes(&mut gathered, out, plan)?;
-    gathered.add_number(out, verdict.value)?;
-    gathered.add(out, b"\n")?;
-    gathered.add_numbers(out, verdict.sequence.jobs())?;
+    add_heading(&mut gathered, out, plan, verdict)?;
     add_trees(&mut gathered, out, verdict.trees.as_slice())?;
     gathered.add(out, b"end\n")?;
     gathered.put(out)

@@ -115,6 +115,18 @@ All-IsLawfulAnswer plan before hubs ends answers has served same some =
     let within : lane < length ends = omega arith in
     All-same (IsLawfulAnswer plan) _ _ (sym (by_lane-at worker_answers (λ lane'. dealt k lane' answers) ends k got lane d within)) (served lane d within).lawful)
 
+-- both, once all lanes are settled
+pub answers-of-run : (plan : Planned) (before hubs : List HubEnds) (ends : List WorkerEnds) (answers : List Answer) (lanes : List (Settled Task × Settled Answer))
+    → HasCollected plan before hubs answers → All (IsServed plan) ends
+    → (map pair_tasks lanes ≡ sent_lists hubs) × (map pair_tasks lanes ≡ map worker_tasks ends)
+    → (map pair_answers lanes ≡ received_lists hubs) × (map pair_answers lanes ≡ map worker_answers ends) → 0 < plan.options.workers
+    → (answered answers ≡ range_with_len 0 (prefix_count plan)) × All (IsLawfulAnswer plan) answers
+answers-of-run plan before hubs ends answers lanes has served tasks got some =
+    let same_answers = sym got.1 ∙ got.0 in (
+      answered-in_order plan before hubs ends answers has served (sym tasks.1 ∙ tasks.0) same_answers some,
+      All-IsLawfulAnswer plan before hubs ends answers has served same_answers some,
+    )
+
 -- the number of an answer is its place
 number-at : (answers : List Answer) (n : ℕ) → answered answers ≡ range_with_len 0 n → length answers ≡ n → (i : ℕ) (d : Answer) → i < length answers → (get_or answers i d).number ≡ i
 number-at answers n numbers long i d within =

@@ -1,10 +1,18 @@
--- What is so once the workers that were started have ended.
-use Rattle.std.specs.Prelude.{◌≡◌, List, map, All}
+-- What is so when the workers are started, and once they have ended.
+use Rattle.std.specs.Prelude.{◌≡◌, ◌≤◌, List, length, map, All}
+use Rattle.flow_core.specs.declared.limits.TheConstants.{MAX_WORKERS}
 use Rattle.flow_pool.specs.declared.ends.HubEnds.{HubEnds}
 use Rattle.flow_pool.specs.declared.ends.WorkerEnds.{WorkerEnds}
-use Rattle.flow_pool.specs.Work.{worker_lanes}
+use Rattle.flow_pool.specs.Work.{IsFresh, worker_lanes}
 use Rattle.flow_pool.specs.Hub.{hub_lanes}
-use Rattle.flow_pool.specs.Settling.{IsCollected}
+use Rattle.flow_pool.specs.Settling.{IsReadyHub, IsCollected}
+
+-- no more workers than the limit, with fresh ends; and the hub's ends of the same lanes, with room for a task
+pub record CanStart (workers : List WorkerEnds) (hubs : List HubEnds) : Type 0 where
+  pub count : length workers ≤ MAX_WORKERS
+  pub fresh : All IsFresh workers
+  pub ready : All IsReadyHub hubs
+  pub same : map hub_lanes hubs ≡ map worker_lanes workers
 
 -- the workers have served, the hub has sent each its end and taken its answers, and these are the ends of the same lanes
 pub record HasEnded (gives : WorkerEnds → Type 0) (workers : List WorkerEnds) (hubs : List HubEnds) : Type 0 where

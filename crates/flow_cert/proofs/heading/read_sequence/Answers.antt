@@ -1,12 +1,11 @@
-use Rattle.std.proofs.Common.{◌≡◌, ℕ, ◌+◌, ◌-◌, ◌≤◌, List, [], ◌∷◌, ◌++◌, length, ap, sym, slice_index, ◌∙◌, inl, inr, arith}
+use Rattle.std.proofs.Common.{◌≡◌, ℕ, ◌+◌, ◌-◌, ◌≤◌, [], ◌∷◌, ◌++◌, ap, sym, slice_index, ◌∙◌, arith}
 use Rattle.std.proofs.lemmas.Bool.{false≢true}
 use Rattle.flow_core.specs.declared.limits.TheConstants.{MAX_JOBS}
 use Rattle.flow_core.specs.Sequences.{has}
 use Rattle.flow_core.specs.Paths.{span}
 use Rattle.flow_core.proofs.Fronts.{front-within}
-use Rattle.flow_cert.proofs.SequenceLine.{begins, next-job, end_of, ended, end-byte, as-read, done-more, all-done, only-done}
+use Rattle.flow_cert.proofs.SequenceLine.{begins, at-job, done-more, all-done, only-done}
 use Rattle.flow_cert.proofs.heading.read_sequence.Goals as goal
-use Rattle.flow_cert.proofs.heading.read_sequence.Goals.{then-place-jobs, else-place-jobs}
 
 pub loop-place-init : goal.loop-place-init
 loop-place-init c =
@@ -15,37 +14,17 @@ loop-place-init c =
 
 pub returns-in_err-job-clause-only : goal.returns-in_err-job-clause-only
 returns-in_err-job-clause-only c jobs rest h =
-    let n : ℕ = c.args.instance.now.jobs in
-    let done = c.loop-place.invariant.0 in
-    let is = c.loop-place.invariant.1 in
-    let within : c.loop-place.place ≤ n = omega (arith, c.loop-place-test.true, c.jobs-jobs.ensures.value) in
-    let byte : c.if-place-jobs.end ≡ end_of (n - length done) =
-    end-byte n c.loop-place.place (length done) c.if-place-jobs.end is.count within
-    (elim c.if-place-jobs.branch [
-      | then-place-jobs w ↦ inl (w.if-place-jobs.true ∙ c.jobs-jobs.ensures.value, w.end-is)
-      | else-place-jobs w ↦ inr ((λ e. w.if-place-jobs.false (e ∙ sym c.jobs-jobs.ensures.value)), w.end-is)
-    ]) in
-    let next = next-job c.args.instance.now c.args.text.now c.loop-place.place c.loop-place.scheduled c.loop-place.front c.loop-place.rest.now done is within jobs rest h in
-    let there : List ℕ = ended (n - length done - 1) next.1 ++ rest in
-    absurd (c.in_err-job.ensures.only next.0 there (as-read n c.jobs-jobs.result c.loop-place.rest.now (end_of (n - length done)) c.if-place-jobs.end next.0 there c.jobs-jobs.ensures.value byte next.3))
+    let next = at-job c.loop-place.invariant.1 c.jobs-jobs.result c.end_behind-end.result c.jobs-jobs.ensures.value (omega (arith, c.loop-place-test.true)) c.end_behind-end.ensures.value jobs rest h in
+    absurd (c.in_err-job.ensures.only next.0 next.1 next.2)
 
 pub returns-then-contains-clause-only : goal.returns-then-contains-clause-only
 returns-then-contains-clause-only c jobs rest h =
-    let n : ℕ = c.args.instance.now.jobs in
     let done = c.loop-place.invariant.0 in
     let is = c.loop-place.invariant.1 in
-    let within : c.loop-place.place ≤ n = omega (arith, c.loop-place-test.true, c.jobs-jobs.ensures.value) in
-    let byte : c.if-place-jobs.end ≡ end_of (n - length done) =
-    end-byte n c.loop-place.place (length done) c.if-place-jobs.end is.count within
-    (elim c.if-place-jobs.branch [
-      | then-place-jobs w ↦ inl (w.if-place-jobs.true ∙ c.jobs-jobs.ensures.value, w.end-is)
-      | else-place-jobs w ↦ inr ((λ e. w.if-place-jobs.false (e ∙ sym c.jobs-jobs.ensures.value)), w.end-is)
-    ]) in
-    let next = next-job c.args.instance.now c.args.text.now c.loop-place.place c.loop-place.scheduled c.loop-place.front c.loop-place.rest.now done is within jobs rest h in
-    let there : List ℕ = ended (n - length done - 1) next.1 ++ rest in
-    let same = c.in_ok-job.ensures.only next.0 there (as-read n c.jobs-jobs.result c.loop-place.rest.now (end_of (n - length done)) c.if-place-jobs.end next.0 there c.jobs-jobs.ensures.value byte next.3) in
+    let next = at-job is c.jobs-jobs.result c.end_behind-end.result c.jobs-jobs.ensures.value (omega (arith, c.loop-place-test.true)) c.end_behind-end.ensures.value jobs rest h in
+    let same = c.in_ok-job.ensures.only next.0 next.1 next.2 in
     let small : c.in_ok-job.job ≤ MAX_JOBS = omega (arith, c.in_ok-job.ensures.found.1, c.jobs-jobs.ensures.value, c.jobs-jobs.ensures.limits.jobs) in
-    absurd (false≢true (sym next.4 ∙ ap (has done) (sym same.0) ∙ sym (is.members c.in_ok-job.job c.in_ok-job.ensures.found.0 small) ∙ sym c.contains.ensures.value ∙ c.if-contains.true))
+    absurd (false≢true (sym next.3 ∙ ap (has done) (sym same.0) ∙ sym (is.members c.in_ok-job.job c.in_ok-job.ensures.found.0 small) ∙ sym c.contains.ensures.value ∙ c.if-contains.true))
 
 pub front_push-requires-clause-within : goal.front_push-requires-clause-within
 front_push-requires-clause-within c =
@@ -55,21 +34,11 @@ front_push-requires-clause-within c =
 
 pub loop-place-preserved : goal.loop-place-preserved
 loop-place-preserved c =
-    let n : ℕ = c.args.instance.now.jobs in
     let done = c.loop-place.invariant.0 in
-    let is = c.loop-place.invariant.1 in
-    let within : c.loop-place.place ≤ n = omega (arith, c.loop-place-test.true, c.jobs-jobs.ensures.value) in
-    let byte : c.if-place-jobs.end ≡ end_of (n - length done) =
-    end-byte n c.loop-place.place (length done) c.if-place-jobs.end is.count within
-    (elim c.if-place-jobs.branch [
-      | then-place-jobs w ↦ inl (w.if-place-jobs.true ∙ c.jobs-jobs.ensures.value, w.end-is)
-      | else-place-jobs w ↦ inr ((λ e. w.if-place-jobs.false (e ∙ sym c.jobs-jobs.ensures.value)), w.end-is)
-    ]) in (
+    let is = c.loop-place.invariant.1 in (
       done ++ c.in_ok-job.job ∷ [],
-      done-more c.args.instance.now c.args.text.now c.loop-place.place c.loop-place.scheduled c.loop-place.front c.loop-place.rest.now c.insert.new.self c.front_push.new.front c.in_ok-job.after.now c.in_ok-job.job done
-          is within c.jobs-jobs.ensures.limits.jobs
-          (as-read c.jobs-jobs.result n c.loop-place.rest.now c.if-place-jobs.end (end_of (n - length done)) c.in_ok-job.job c.in_ok-job.after.now (sym c.jobs-jobs.ensures.value) (sym byte) c.in_ok-job.ensures.found)
-          (λ job rest h. c.in_ok-job.ensures.only job rest (as-read n c.jobs-jobs.result c.loop-place.rest.now (end_of (n - length done)) c.if-place-jobs.end job rest c.jobs-jobs.ensures.value byte h))
+      done-more is c.insert.new.self c.front_push.new.front c.in_ok-job.after.now c.in_ok-job.job c.jobs-jobs.result c.end_behind-end.result
+          c.jobs-jobs.ensures.value (omega (arith, c.loop-place-test.true)) c.end_behind-end.ensures.value c.jobs-jobs.ensures.limits.jobs c.in_ok-job.ensures.found c.in_ok-job.ensures.only
           (sym c.contains.ensures.value ∙ c.if-contains.false) c.contains.ensures.size c.insert.ensures.value (c.front_push.ensures.front done is.times),
     )
 

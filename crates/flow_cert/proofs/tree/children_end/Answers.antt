@@ -1,7 +1,8 @@
 use Rattle.std.proofs.Common.{◌≡◌, ℕ, suc, ◌+◌, ◌-◌, List, [], ◌∷◌, ◌++◌, drop, reverse, take, get_or, slice_index, slice_set, refl, sym, ap, subst, ◌∙◌, arith}
 use Rattle.flow_cert.specs.Stack.{children_read, path, put_back, IsReading, IsStack}
-use Rattle.flow_cert.proofs.Links.{next-some, links-back}
-use Rattle.flow_cert.proofs.Reading.{no-byte, reading-next, reading-kept, reading-start, reading-fault, reading-leaf, reading-dive, reading-done, reading-up, step-open, step-whole, step-bad, tree-fails, drop-step, drop-past, reverse-push}
+use Rattle.flow_cert.proofs.Links.{links-back}
+use Rattle.flow_cert.proofs.Exits.{exit}
+use Rattle.flow_cert.proofs.Reading.{no-byte, reading-child, reading-kept, reading-start, reading-fault, reading-leaf, reading-dive, reading-done, reading-up, step-open, step-whole, tree-fails, drop-step, drop-past, reverse-push}
 use Rattle.flow_cert.specs.declared.fault.CheckFault.TheVariants.{Tree}
 use Rattle.flow_cert.proofs.tree.children_end.Goals as goal
 
@@ -51,16 +52,16 @@ step-requires-clause-at c =
     let root : List ℕ = c.requires.at.0 in
     let at = c.requires.at.1 in
     let i = c.children.invariant.reading root at in
-    let next = next-some c.args.claim.now.instance.now.jobs (path root (reverse c.children.stack.items)) c.children.last (slice_index c.children.links c.children.last) (reading-next c.args.claim.now.instance.now c.args.claim.now.value c.args.place root (children_read c.args.claim.now.instance.now c.args.claim.now.value c.args.place c.args.below root (drop c.args.from c.args.claim.now.bytes.now)) c.children.node c.children.links c.children.below c.children.last c.children.at c.args.claim.now.bytes.now (reverse c.children.stack.items) i) c.if-job-eq0.false in
+    let next = reading-child i c.if-job-eq0.false in
     (path root (reverse c.children.stack.items), i.here, (next.1, next.2, next.3))
 
-pub returns-in-Err-clause-trees : goal.returns-in-Err-clause-trees
-returns-in-Err-clause-trees c root at =
+pub returns-in_err-open-clause-trees : goal.returns-in_err-open-clause-trees
+returns-in_err-open-clause-trees c root at =
     let i = c.children.invariant.reading root at in
-    let next = next-some c.args.claim.now.instance.now.jobs (path root (reverse c.children.stack.items)) c.children.last (slice_index c.children.links c.children.last) (reading-next c.args.claim.now.instance.now c.args.claim.now.value c.args.place root (children_read c.args.claim.now.instance.now c.args.claim.now.value c.args.place c.args.below root (drop c.args.from c.args.claim.now.bytes.now)) c.children.node c.children.links c.children.below c.children.last c.children.at c.args.claim.now.bytes.now (reverse c.children.stack.items) i) c.if-job-eq0.false in
-    let bad = step-bad c.args.claim.now.instance.now c.args.claim.now.value c.args.place c.children.below (path root (reverse c.children.stack.items) ++ (slice_index c.children.links c.children.last) ∷ []) (get_or c.args.claim.now.bytes.now c.children.at 0) c.step.result c.in-Err.fault (c.step.ensures.gives (path root (reverse c.children.stack.items)) i.here (next.1, next.2, next.3)) c.in-Err.is in
-    tree-fails c.args.from c.args.claim.now.bytes.now (children_read c.args.claim.now.instance.now c.args.claim.now.value c.args.place c.args.below root (drop c.args.from c.args.claim.now.bytes.now)) c.in-Err.fault
-    (reading-fault c.args.claim.now.instance.now c.args.claim.now.value c.args.place root (children_read c.args.claim.now.instance.now c.args.claim.now.value c.args.place c.args.below root (drop c.args.from c.args.claim.now.bytes.now)) c.children.node c.children.links c.children.below c.children.last c.children.at c.args.claim.now.bytes.now (reverse c.children.stack.items) ((get_or c.args.claim.now.bytes.now c.children.at 0) ∷ drop (c.children.at + 1) c.args.claim.now.bytes.now) c.in-Err.fault
+    let next = reading-child i c.if-job-eq0.false in
+    let bad = c.in_err-open.ensures.gives (path root (reverse c.children.stack.items)) i.here (next.1, next.2, next.3) in
+    tree-fails c.args.from c.args.claim.now.bytes.now (children_read c.args.claim.now.instance.now c.args.claim.now.value c.args.place c.args.below root (drop c.args.from c.args.claim.now.bytes.now)) c.from_residual.result c.in_err-open.field-0.0 (exit c.from_residual.result c.in_err-open.field-0.0 c.from_residual.ensures.1)
+    (reading-fault c.args.claim.now.instance.now c.args.claim.now.value c.args.place root (children_read c.args.claim.now.instance.now c.args.claim.now.value c.args.place c.args.below root (drop c.args.from c.args.claim.now.bytes.now)) c.children.node c.children.links c.children.below c.children.last c.children.at c.args.claim.now.bytes.now (reverse c.children.stack.items) ((get_or c.args.claim.now.bytes.now c.children.at 0) ∷ drop (c.children.at + 1) c.args.claim.now.bytes.now) c.in_err-open.field-0.0
     i c.if-job-eq0.false (drop-step c.args.claim.now.bytes.now c.children.at c.if-at-claim.false) (bad (drop (c.children.at + 1) c.args.claim.now.bytes.now)))
 
 pub child-child-requires-clause-at : goal.child-child-requires-clause-at
@@ -68,7 +69,7 @@ child-child-requires-clause-at c =
     let root : List ℕ = c.requires.at.0 in
     let at = c.requires.at.1 in
     let i = c.children.invariant.reading root at in
-    let next = next-some c.args.claim.now.instance.now.jobs (path root (reverse c.children.stack.items)) c.children.last (slice_index c.children.links c.children.last) (reading-next c.args.claim.now.instance.now c.args.claim.now.value c.args.place root (children_read c.args.claim.now.instance.now c.args.claim.now.value c.args.place c.args.below root (drop c.args.from c.args.claim.now.bytes.now)) c.children.node c.children.links c.children.below c.children.last c.children.at c.args.claim.now.bytes.now (reverse c.children.stack.items) i) c.if-job-eq0.false in
+    let next = reading-child i c.if-job-eq0.false in
     let k = reading-kept c.args.claim.now.instance.now c.args.claim.now.value c.args.place root (children_read c.args.claim.now.instance.now c.args.claim.now.value c.args.place c.args.below root (drop c.args.from c.args.claim.now.bytes.now)) c.children.node c.step.new.node c.children.links c.children.below c.children.last c.children.at c.args.claim.now.bytes.now (reverse c.children.stack.items) i (c.step.ensures.kept (path root (reverse c.children.stack.items)) (suc c.children.below) i.here) in
     (path root (reverse c.children.stack.items), suc c.children.below, k.here.is_node, next.3)
 
@@ -77,7 +78,7 @@ child-child-requires-clause-to c =
     let root : List ℕ = c.requires.at.0 in
     let at = c.requires.at.1 in
     let i = c.children.invariant.reading root at in
-    let next = next-some c.args.claim.now.instance.now.jobs (path root (reverse c.children.stack.items)) c.children.last (slice_index c.children.links c.children.last) (reading-next c.args.claim.now.instance.now c.args.claim.now.value c.args.place root (children_read c.args.claim.now.instance.now c.args.claim.now.value c.args.place c.args.below root (drop c.args.from c.args.claim.now.bytes.now)) c.children.node c.children.links c.children.below c.children.last c.children.at c.args.claim.now.bytes.now (reverse c.children.stack.items) i) c.if-job-eq0.false in
+    let next = reading-child i c.if-job-eq0.false in
     next.2
 
 pub bounds-links-job : goal.bounds-links-job
@@ -85,7 +86,7 @@ bounds-links-job c =
     let root : List ℕ = c.requires.at.0 in
     let at = c.requires.at.1 in
     let i = c.children.invariant.reading root at in
-    let next = next-some c.args.claim.now.instance.now.jobs (path root (reverse c.children.stack.items)) c.children.last (slice_index c.children.links c.children.last) (reading-next c.args.claim.now.instance.now c.args.claim.now.value c.args.place root (children_read c.args.claim.now.instance.now c.args.claim.now.value c.args.place c.args.below root (drop c.args.from c.args.claim.now.bytes.now)) c.children.node c.children.links c.children.below c.children.last c.children.at c.args.claim.now.bytes.now (reverse c.children.stack.items) i) c.if-job-eq0.false in
+    let next = reading-child i c.if-job-eq0.false in
     omega (arith, next.2, i.here.are_links.size)
 
 pub overflow_sub-below : goal.overflow_sub-below
@@ -93,8 +94,8 @@ overflow_sub-below c =
     let root : List ℕ = c.requires.at.0 in
     let at = c.requires.at.1 in
     let i = c.children.invariant.reading root at in
-    let next = next-some c.args.claim.now.instance.now.jobs (path root (reverse c.children.stack.items)) c.children.last (slice_index c.children.links c.children.last) (reading-next c.args.claim.now.instance.now c.args.claim.now.value c.args.place root (children_read c.args.claim.now.instance.now c.args.claim.now.value c.args.place c.args.below root (drop c.args.from c.args.claim.now.bytes.now)) c.children.node c.children.links c.children.below c.children.last c.children.at c.args.claim.now.bytes.now (reverse c.children.stack.items) i) c.if-job-eq0.false in
-    let opened = step-open c.args.claim.now.instance.now c.args.claim.now.value c.args.place c.children.below (path root (reverse c.children.stack.items) ++ (slice_index c.children.links c.children.last) ∷ []) (get_or c.args.claim.now.bytes.now c.children.at 0) c.step.result c.in-Ok.open (c.step.ensures.gives (path root (reverse c.children.stack.items)) i.here (next.1, next.2, next.3)) c.in-Ok.is c.if-open.true in
+    let next = reading-child i c.if-job-eq0.false in
+    let opened = step-open c.args.claim.now.instance.now c.args.claim.now.value c.args.place c.children.below (path root (reverse c.children.stack.items) ++ (slice_index c.children.links c.children.last) ∷ []) (get_or c.args.claim.now.bytes.now c.children.at 0) c.in_ok-open.open (c.in_ok-open.ensures.gives (path root (reverse c.children.stack.items)) i.here (next.1, next.2, next.3)) c.if-open.true in
     omega (arith, opened.0)
 
 pub children-preserved-then-open : goal.children-preserved-then-open
@@ -107,9 +108,9 @@ children-preserved-then-open c =
       back = ap (put_back less) pushed ∙ ap (λ l. put_back l (reverse c.children.stack.items)) (links-back c.children.links c.children.last (slice_index c.children.links c.children.last) (slice_index c.children.links (slice_index c.children.links c.children.last)) refl) ∙ c.children.invariant.back;
       reading = λ root at.
           let i = c.children.invariant.reading root at in
-          let next = next-some c.args.claim.now.instance.now.jobs (path root (reverse c.children.stack.items)) c.children.last (slice_index c.children.links c.children.last) (reading-next c.args.claim.now.instance.now c.args.claim.now.value c.args.place root (children_read c.args.claim.now.instance.now c.args.claim.now.value c.args.place c.args.below root (drop c.args.from c.args.claim.now.bytes.now)) c.children.node c.children.links c.children.below c.children.last c.children.at c.args.claim.now.bytes.now (reverse c.children.stack.items) i) c.if-job-eq0.false in
+          let next = reading-child i c.if-job-eq0.false in
           let k = reading-kept c.args.claim.now.instance.now c.args.claim.now.value c.args.place root (children_read c.args.claim.now.instance.now c.args.claim.now.value c.args.place c.args.below root (drop c.args.from c.args.claim.now.bytes.now)) c.children.node c.step.new.node c.children.links c.children.below c.children.last c.children.at c.args.claim.now.bytes.now (reverse c.children.stack.items) i (c.step.ensures.kept (path root (reverse c.children.stack.items)) (suc c.children.below) i.here) in
-          let opened = step-open c.args.claim.now.instance.now c.args.claim.now.value c.args.place c.children.below (path root (reverse c.children.stack.items) ++ (slice_index c.children.links c.children.last) ∷ []) (get_or c.args.claim.now.bytes.now c.children.at 0) c.step.result c.in-Ok.open (c.step.ensures.gives (path root (reverse c.children.stack.items)) i.here (next.1, next.2, next.3)) c.in-Ok.is c.if-open.true in
+          let opened = step-open c.args.claim.now.instance.now c.args.claim.now.value c.args.place c.children.below (path root (reverse c.children.stack.items) ++ (slice_index c.children.links c.children.last) ∷ []) (get_or c.args.claim.now.bytes.now c.children.at 0) c.in_ok-open.open (c.in_ok-open.ensures.gives (path root (reverse c.children.stack.items)) i.here (next.1, next.2, next.3)) c.if-open.true in
           reading-dive c.args.claim.now.instance.now c.args.claim.now.value c.args.place root (children_read c.args.claim.now.instance.now c.args.claim.now.value c.args.place c.args.below root (drop c.args.from c.args.claim.now.bytes.now)) c.step.new.node c.child-child.result c.children.links less c.children.below (c.children.below - 1) c.children.last c.children.at c.args.claim.now.bytes.now (reverse c.children.stack.items) (get_or c.args.claim.now.bytes.now c.children.at 0) (reverse c.push.new.self.items)
           k c.if-job-eq0.false (drop-step c.args.claim.now.bytes.now c.children.at c.if-at-claim.false) (c.child-child.ensures (path root (reverse c.children.stack.items)) c.children.below k.here.is_node next.3) refl (omega (arith, opened.0)) opened.1 pushed;
     }
@@ -121,8 +122,8 @@ children-preserved c = record {
   back = c.children.invariant.back;
   reading = λ root at.
       let i = c.children.invariant.reading root at in
-      let next = next-some c.args.claim.now.instance.now.jobs (path root (reverse c.children.stack.items)) c.children.last (slice_index c.children.links c.children.last) (reading-next c.args.claim.now.instance.now c.args.claim.now.value c.args.place root (children_read c.args.claim.now.instance.now c.args.claim.now.value c.args.place c.args.below root (drop c.args.from c.args.claim.now.bytes.now)) c.children.node c.children.links c.children.below c.children.last c.children.at c.args.claim.now.bytes.now (reverse c.children.stack.items) i) c.if-job-eq0.false in
+      let next = reading-child i c.if-job-eq0.false in
       let k = reading-kept c.args.claim.now.instance.now c.args.claim.now.value c.args.place root (children_read c.args.claim.now.instance.now c.args.claim.now.value c.args.place c.args.below root (drop c.args.from c.args.claim.now.bytes.now)) c.children.node c.step.new.node c.children.links c.children.below c.children.last c.children.at c.args.claim.now.bytes.now (reverse c.children.stack.items) i (c.step.ensures.kept (path root (reverse c.children.stack.items)) (suc c.children.below) i.here) in
-      let closed = step-whole c.args.claim.now.instance.now c.args.claim.now.value c.args.place c.children.below (path root (reverse c.children.stack.items) ++ (slice_index c.children.links c.children.last) ∷ []) (get_or c.args.claim.now.bytes.now c.children.at 0) c.step.result c.in-Ok.open (c.step.ensures.gives (path root (reverse c.children.stack.items)) i.here (next.1, next.2, next.3)) c.in-Ok.is c.if-open.false in
+      let closed = step-whole c.args.claim.now.instance.now c.args.claim.now.value c.args.place c.children.below (path root (reverse c.children.stack.items) ++ (slice_index c.children.links c.children.last) ∷ []) (get_or c.args.claim.now.bytes.now c.children.at 0) c.in_ok-open.open (c.in_ok-open.ensures.gives (path root (reverse c.children.stack.items)) i.here (next.1, next.2, next.3)) c.if-open.false in
       reading-leaf c.args.claim.now.instance.now c.args.claim.now.value c.args.place root (children_read c.args.claim.now.instance.now c.args.claim.now.value c.args.place c.args.below root (drop c.args.from c.args.claim.now.bytes.now)) c.step.new.node c.children.links c.children.below c.children.last c.children.at c.args.claim.now.bytes.now (reverse c.children.stack.items) (get_or c.args.claim.now.bytes.now c.children.at 0) k c.if-job-eq0.false (drop-step c.args.claim.now.bytes.now c.children.at c.if-at-claim.false) closed;
 }

@@ -1,10 +1,11 @@
+use Rattle.std.proofs.Common.{[], ◌∷◌}
 use Rattle.std.proofs.lemmas.Result.{on_ok_weaker, on_err_weaker}
-use Rattle.flow_cert.proofs.HandedOn.{on-err, stops-before, puts-straight, puts-then-stops}
+use Rattle.flow_cert.proofs.HandedOn.{on-err, stops-early, puts-straight, puts-then-stops}
 use Rattle.flow_cert.proofs.gathered.Gathered.add.Goals as goal
 
 pub returns-in_err-put-clause-err : goal.returns-in_err-put-clause-err
 returns-in_err-put-clause-err g c =
-    on-err c.from_residual.result (stops-before _ _ c.args.self.now c.args.bytes.now c.in_err-put.ensures.err)
+    on-err c.from_residual.result (stops-early _ _ [] c.args.self.now (c.args.bytes.now ∷ []) c.in_err-put.ensures.err)
 
 pub returns-clause-ok : goal.returns-clause-ok
 returns-clause-ok g c =

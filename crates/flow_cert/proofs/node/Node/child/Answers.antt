@@ -2,6 +2,7 @@ use Rattle.std.proofs.Common.{refl, replicate, ◌≡◌, ◌≢◌, ℕ, ◌+�
 use Rattle.std.proofs.lemmas.List.{length-set, get_or-set_other}
 use Rattle.flow_core.specs.declared.limits.TheConstants.{MAX_MACHINES}
 use Rattle.flow_core.specs.Shop.{time}
+use Rattle.flow_cert.specs.Stack.{unknown}
 use Rattle.flow_cert.proofs.NodeSteps.{node-within, owed-covers, filled-more, child-node}
 use Rattle.flow_cert.proofs.node.Node.child.Goals as goal
 
@@ -38,6 +39,6 @@ loop-machine-preserved c =
 
 pub returns : goal.returns
 returns c list left is fresh =
-    child-node c.args.claim.now.instance.now list c.args.self.now (record { front = c.front_push.new.front; owed = c.loop-machine.owed; least = replicate MAX_MACHINES 4294967295; second = replicate MAX_MACHINES 4294967295 }) left c.args.job c.requires.rows.limits is c.requires.from c.requires.to fresh
+    child-node c.args.claim.now.instance.now list c.args.self.now (record { front = c.front_push.new.front; owed = c.loop-machine.owed; least = replicate MAX_MACHINES unknown; second = replicate MAX_MACHINES unknown }) left c.args.job c.requires.rows.limits is c.requires.from c.requires.to fresh
     (c.front_push.ensures.front list is.times) c.loop-machine.invariant.size
     (λ machine low high. c.loop-machine.invariant.done machine low (omega (arith, high, c.loop-machine-test.false, c.machines-machines.ensures.value))) refl refl

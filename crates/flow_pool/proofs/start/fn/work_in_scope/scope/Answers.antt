@@ -4,7 +4,7 @@ use Rattle.flow_pool.proofs.start.fn.work_in_scope.scope.Goals as goal
 pub returns : goal.returns
 returns g c =
     let e = c.work_in_threads.ensures in
-    let same = c.requires.3 in (
+    let same = c.requires.0.same in (
       record {
         lanes = e.lanes [] (same ∙ sym (append-nil _)) ∙ append-nil _;
         served = e.served;
