@@ -10,9 +10,9 @@ use Rattle.flow_core.specs.Shop.{Shop, IsWithinLimits, numbers}
 use Rattle.flow_core.specs.Least.{least}
 use Rattle.flow_core.specs.Paths.{span}
 use Rattle.flow_core.specs.Sequences.{jobs_left, cut, IsSequence, IsLeastMakespan}
-use Rattle.flow_core.specs.Bound.{bound_at}
+use Rattle.flow_core.specs.Bound.{bound_at, letter}
 use Rattle.flow_core.proofs.Fronts.{completion-small}
-use Rattle.flow_search.specs.Search.{comes_before, in_force, tree_at, tree, letter, sequences_from}
+use Rattle.flow_search.specs.Search.{comes_before, in_force, tree_at, tree, sequences_from}
 use Rattle.flow_search.specs.Plans.{Planned, prefixes_of, trees_of, verdict_of}
 use Rattle.flow_search.specs.Verdicts.{IsVerdict}
 use Rattle.flow_search.specs.declared.verdict.Verdict.{Verdict}

@@ -21,14 +21,6 @@ use Rattle.flow_cert.proofs.Links.{left-sum, left-count, left-split, left-withou
 use Rattle.flow_cert.proofs.LeastSteps.{Without, without-one, least-below-cap}
 use Rattle.flow_cert.proofs.RowSteps.{tail-small}
 
--- one more job, which is kept or not
-pub kept-step : (f : ℕ → ℕ) (p : ℕ → Bool) (k : ℕ) → 1 ≤ k → kept f p (k + 1 - 1) ≡ kept f p (k - 1) + cond (p k) (f k) 0
-kept-step f p zero low = absurd (omega arith)
-kept-step f p (suc n) low =
-    let a : suc n + 1 - 1 ≡ suc n = omega arith in
-    let b : n ≡ suc n - 1 = omega arith in
-    ap (kept f p) a ∙ kept-more f p n ∙ ap (λ m. kept f p m + cond (p (suc n)) (f (suc n)) 0) b
-
 kept-small : (f : ℕ → ℕ) (p : ℕ → Bool) (most n : ℕ) → ((k : ℕ) → f k ≤ most) → kept f p n ≤ n * most
 kept-small f p most zero small = omega arith
 kept-small f p most (suc n) small = omega (arith, kept-more f p n, kept-small f p most n small, one (p (suc n)) (f (suc n)), small (suc n))

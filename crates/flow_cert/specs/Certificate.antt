@@ -1,16 +1,12 @@
 -- Certificates: texts that prove a least makespan. A bound gives a number for an instance, a list of jobs and a machine.
-use Rattle.std.specs.Prelude.{ℕ, zero, suc, ◌≡◌, ◌-◌, ◌+◌, ◌^◌, ◌<◌, ◌≤◌, ◌⊎◌, List, [], ◌∷◌, ◌++◌, map, codes}
+use Rattle.std.specs.Prelude.{ℕ, zero, suc, ◌≡◌, ◌-◌, ◌^◌, ◌<◌, ◌≤◌, ◌⊎◌, List, [], ◌∷◌, ◌++◌, map, codes}
 use Rattle.std.specs.Fmt.{decimal}
 use Rattle.std.specs.List.{AllZip, concat, flat_map, join_with_byte}
 use Rattle.flow_core.specs.declared.limits.TheConstants.{MAX_DEPTH}
 use Rattle.flow_core.specs.Shop.{Shop}
 use Rattle.flow_core.specs.Paths.{span}
 use Rattle.flow_core.specs.Sequences.{IsSequence, IsLeastMakespan, jobs_left, cut}
-use Rattle.flow_core.specs.Bound.{bound_at}
-
--- the letter of a machine: A for 1
-abbrev pub letter : ℕ → ℕ
-letter machine = 64 + machine
+use Rattle.flow_core.specs.Bound.{bound_at, letter}
 
 -- a text is a tree that covers a value from a list on, with so many jobs left: a point where none is left, a letter for a bound,
 -- or a plus before the trees of the next jobs in increasing order

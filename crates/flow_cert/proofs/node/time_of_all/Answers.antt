@@ -1,8 +1,7 @@
 use Rattle.std.proofs.Common.{◌≡◌, ℕ, ◌+◌, ◌-◌, Bool, not, [], ◌∙◌, arith}
 use Rattle.flow_core.specs.Shop.{time}
 use Rattle.flow_core.specs.Sequences.{has}
-use Rattle.flow_core.proofs.JobsLeft.{kept}
-use Rattle.flow_cert.proofs.NodeSteps.{kept-step}
+use Rattle.flow_core.proofs.JobsLeft.{kept, kept-step}
 use Rattle.flow_cert.proofs.node.time_of_all.Goals as goal
 
 pub loop-job-preserved : goal.loop-job-preserved
