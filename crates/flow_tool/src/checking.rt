@@ -25,10 +25,7 @@ fn checked_line(alloc: Global, instance: &Instance, bytes: &[u8]) -> Result<Vec<
     ensures line { IfOk result (λ line. AnswersCheck instance.now bytes.now (Ok line.items)) }
     ensures refused { IfErr result (λ fault. IsFirstFault instance.now bytes.now fault) }
 {
-    let value = match check(alloc, instance, bytes) {
-        Ok(value) => value,
-        Err(fault) => return Err(fault),
-    };
+    let value = check(alloc, instance, bytes)?;
     Ok(optimal_line(alloc, value)?)
 }
 
@@ -41,9 +38,8 @@ fn check_certificate<C: Source, K: Sink>(
 ) -> Result<(), ToolFault>
     requires cert_works { C.has_failed cert.old ≡ false }
     requires out_works { K.has_failed out.old ≡ false }
-    ensures written { OnOk result (Came MAX_CERTIFICATE (λ bytes. Wrote (AnswersCheck instance.now bytes) (K.taken out.old) (K.taken out.new)) (C.given cert.old) (C.given cert.new)) }
-    ensures whole { OnOk result (C.has_ended cert.new ≡ true) }
-    ensures ended { IfErr result (Ends (out.new ≡ out.old) MAX_CERTIFICATE (AnswersCheck instance.now) (C.given cert.old) (C.given cert.new) (K.taken out.old) (K.taken out.new)) }
+    ensures written { OnOk result (Came MAX_CERTIFICATE (λ bytes. Wrote (AnswersCheck instance.now bytes) (K.taken out.old) (K.taken out.new)) (C.given cert.old) (C.given cert.new) (C.has_ended cert.new)) }
+    ensures ended { IfErr result (Ends (out.new ≡ out.old) MAX_CERTIFICATE (AnswersCheck instance.now) (C.given cert.old) (C.given cert.new) (C.has_ended cert.new) (K.taken out.old) (K.taken out.new)) }
     ensures read_device { IsErrOf result (ToolFault.Read read.Device) ↔ (C.has_failed cert.new ≡ true) }
     ensures write_device { IsErrOf result (ToolFault.Write write.Device) ↔ (K.has_failed out.new ≡ true) }
     ensures stands { Grows (C.given cert.old) (C.given cert.new) }
@@ -73,19 +69,15 @@ pub(crate) fn run_check<S: Source, C: Source, K: Sink>(
     requires file_works { S.has_failed file.old ≡ false }
     requires cert_works { C.has_failed cert.old ≡ false }
     requires out_works { K.has_failed out.old ≡ false }
-    ensures written { OnOk result (Came MAX_TEXT (λ text. (block : Block) × Picks text index (Ok block) × Came MAX_CERTIFICATE (λ bytes. Wrote (AnswersCheck block.instance bytes) (K.taken out.old) (K.taken out.new)) (C.given cert.old) (C.given cert.new)) (S.given file.old) (S.given file.new)) }
-    ensures whole { OnOk result ((S.has_ended file.new ≡ true) × (C.has_ended cert.new ≡ true)) }
+    ensures written { OnOk result (Came MAX_TEXT (λ text. (block : Block) × Picks text index (Ok block) × Came MAX_CERTIFICATE (λ bytes. Wrote (AnswersCheck block.instance bytes) (K.taken out.old) (K.taken out.new)) (C.given cert.old) (C.given cert.new) (C.has_ended cert.new)) (S.given file.old) (S.given file.new) (S.has_ended file.new)) }
     ensures ended { IfErr result (λ fault.
-        ((out.new ≡ out.old) × (cert.new ≡ cert.old) × StopsAt MAX_TEXT (λ text refusal. Picks text index (Err refusal)) (S.given file.old) (S.given file.new) fault)
-        ⊎ Came MAX_TEXT (λ text. (block : Block) × Picks text index (Ok block) × Ends (out.new ≡ out.old) MAX_CERTIFICATE (AnswersCheck block.instance) (C.given cert.old) (C.given cert.new) (K.taken out.old) (K.taken out.new) fault) (S.given file.old) (S.given file.new)) }
+        ((out.new ≡ out.old) × (cert.new ≡ cert.old) × StopsAt MAX_TEXT (λ text refusal. Picks text index (Err refusal)) (S.given file.old) (S.given file.new) (S.has_ended file.new) fault)
+        ⊎ Came MAX_TEXT (λ text. (block : Block) × Picks text index (Ok block) × Ends (out.new ≡ out.old) MAX_CERTIFICATE (AnswersCheck block.instance) (C.given cert.old) (C.given cert.new) (C.has_ended cert.new) (K.taken out.old) (K.taken out.new) fault) (S.given file.old) (S.given file.new) (S.has_ended file.new)) }
     ensures read_device { IsErrOf result (ToolFault.Read read.Device) ↔ ((S.has_failed file.new ≡ true) ⊎ (C.has_failed cert.new ≡ true)) }
     ensures write_device { IsErrOf result (ToolFault.Write write.Device) ↔ (K.has_failed out.new ≡ true) }
     ensures stands { Grows (S.given file.old) (S.given file.new) }
     ensures cert_stands { Grows (C.given cert.old) (C.given cert.new) }
 {
-    let block = match read_block(alloc, file, index) {
-        Ok(block) => block,
-        Err(fault) => return Err(fault),
-    };
+    let block = read_block(alloc, file, index)?;
     check_certificate(alloc, &block.instance, cert, out)
 }

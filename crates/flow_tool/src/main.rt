@@ -12,6 +12,7 @@ mod picked;
 mod solving;
 mod span;
 mod starting;
+mod stop;
 #[cfg(test)]
 mod tests;
 
@@ -30,14 +31,7 @@ use std::io;
 use std::process::ExitCode;
 use std::sync::Wait;
 use std::thread::Threads;
-
-/// Why a run did not succeed.
-enum Stop {
-    Fault(ToolFault),
-    CommandLine,
-    Memory,
-    Open,
-}
+use stop::Stop;
 
 fn main(rt: HostRuntime) -> ExitCode {
     let stop = match run(&rt, &rt) {
@@ -45,14 +39,8 @@ fn main(rt: HostRuntime) -> ExitCode {
         Err(stop) => stop,
     };
     // Where standard error refuses the line, the status still tells.
-    let (told, status) = match stop {
-        Stop::Fault(fault) => (eprintln!(&rt; "{fault}"), fault.status()),
-        Stop::CommandLine => (eprintln!(&rt; "refused command line"), 2),
-        Stop::Memory => (eprintln!(&rt; "refused memory"), 1),
-        Stop::Open => (eprintln!(&rt; "failed open"), 3),
-    };
-    drop(told);
-    ExitCode::from(status)
+    drop(eprintln!(&rt; "{stop}"));
+    ExitCode::from(stop.status())
 }
 
 /// Reads the command line, and does what it asks for. Help that was asked for is printed.

@@ -62,18 +62,14 @@ pub(crate) fn run_solve<R: Threads + Wait + Sync, S: Source, G: Gate + Sync, K: 
 ) -> Result<(), ToolFault>
     requires file_works { S.has_failed file.old ≡ false }
     requires out_works { K.has_failed out.old ≡ false }
-    ensures written { OnOk result (Came MAX_TEXT (λ text. Wrote (AnswersSolve index workers depth budget text) (K.taken out.old) (K.taken out.new)) (S.given file.old) (S.given file.new)) }
-    ensures lawful { OnOk result (Came MAX_TEXT (λ text. (block : Block) × Picks text index (Ok block) × WroteCertificate block.instance (K.taken out.old) (K.taken out.new)) (S.given file.old) (S.given file.new)) }
-    ensures whole { OnOk result (S.has_ended file.new ≡ true) }
-    ensures ended { IfErr result (Ends (out.new ≡ out.old) MAX_TEXT (AnswersSolve index workers depth budget) (S.given file.old) (S.given file.new) (K.taken out.old) (K.taken out.new)) }
+    ensures written { OnOk result (Came MAX_TEXT (λ text. Wrote (AnswersSolve index workers depth budget text) (K.taken out.old) (K.taken out.new)) (S.given file.old) (S.given file.new) (S.has_ended file.new)) }
+    ensures lawful { OnOk result (Came MAX_TEXT (λ text. (block : Block) × Picks text index (Ok block) × WroteCertificate block.instance (K.taken out.old) (K.taken out.new)) (S.given file.old) (S.given file.new) (S.has_ended file.new)) }
+    ensures ended { IfErr result (Ends (out.new ≡ out.old) MAX_TEXT (AnswersSolve index workers depth budget) (S.given file.old) (S.given file.new) (S.has_ended file.new) (K.taken out.old) (K.taken out.new)) }
     ensures read_device { IsErrOf result (ToolFault.Read read.Device) ↔ (S.has_failed file.new ≡ true) }
     ensures write_device { IsErrOf result (ToolFault.Write write.Device) ↔ (K.has_failed out.new ≡ true) }
     ensures stands { Grows (S.given file.old) (S.given file.new) }
 {
-    let block = match read_block(alloc, file, index) {
-        Ok(block) => block,
-        Err(fault) => return Err(fault),
-    };
+    let block = read_block(alloc, file, index)?;
     let options = match Options::new(workers, depth, budget) {
         Ok(options) => options,
         Err(fault) => return Err(ToolFault::Choice(fault)),

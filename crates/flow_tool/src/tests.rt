@@ -3,11 +3,14 @@
 ghost use Rattle.std.specs.Prelude.{◌≡◌, ◌<◌, ◌||◌, None, false, length, IfOk, is_err};
 
 use crate::checking::run_check;
+use crate::command::{OfBlock, Order, make_command, order_of};
 use crate::fault::ToolFault;
 use crate::generated::run_gen;
 use crate::solving::run_solve;
 use crate::span::run_span;
 use crate::starting::run_neh;
+use crate::stop::Stop;
+use clap::error::ErrorKind;
 use flow_cert::CheckFault;
 use flow_core::{
     InstanceFault, MemorySink, MemorySource, ReadFault, Refused, SequenceFault, Source, TextFault,
@@ -35,6 +38,13 @@ const THREE_MACHINES: &[u8] =
 
 const TWO_MACHINES: &[u8] =
     b"number of jobs, number of machines, initial seed, upper bound and lower bound :\n3 2 0 0 0\nprocessing times :\n3 1 2\n2 4 2\n";
+
+/// One job on one machine, with time 0.
+const ONE_JOB: &[u8] = b"a\n1 1 0 0 0\nb\n0\n";
+
+/// What `gen` writes for two jobs, two machines and seed 1.
+const GENERATED: &[u8] =
+    b"number of jobs, number of machines, initial seed, upper bound and lower bound :\n2 2 1 122 122\nprocessing times :\n1 14\n75 46\n";
 
 /// The certificate of the first text at depth 0.
 const DEPTH_0: &[u8] = b"flowshop certificate 1\n3 3 0\n12\n3 1 2\n+BC++.B\nend\n";
@@ -233,7 +243,7 @@ fn solve_names_options_plan_and_budget(rt: HostRuntime) -> Result<(), Fail> {
     assert!(rt; refused(&ran, ToolFault::Choice(OptionFault::Depth)));
     let ran = solved(&rt, alloc, THREE_MACHINES, 1, 1, 0);
     assert!(rt; refused(&ran, ToolFault::Choice(OptionFault::Budget)));
-    let ran = solved(&rt, alloc, b"a\n1 1 0 0 0\nb\n0\n", 1, 2, AMPLE);
+    let ran = solved(&rt, alloc, ONE_JOB, 1, 2, AMPLE);
     assert!(rt; refused(&ran, ToolFault::Plan(PlanFault::Depth)));
     Ok(())
 }
@@ -241,12 +251,14 @@ fn solve_names_options_plan_and_budget(rt: HostRuntime) -> Result<(), Fail> {
 #[test]
 fn check_accepts_what_solve_wrote(rt: HostRuntime) -> Result<(), Fail> {
     let alloc = rt.alloc();
-    let texts: [(&[u8], &[u8]); 2] = [
-        (THREE_MACHINES, b"optimal 12\n"),
-        (TWO_MACHINES, b"optimal 9\n"),
+    let texts: [(&[u8], u32, &[u8]); 4] = [
+        (THREE_MACHINES, 3, b"optimal 12\n"),
+        (TWO_MACHINES, 3, b"optimal 9\n"),
+        (ONE_JOB, 1, b"optimal 0\n"),
+        (GENERATED, 2, b"optimal 122\n"),
     ];
-    for (text, line) in texts {
-        for depth in 0..4u32 {
+    for (text, deepest, line) in texts {
+        for depth in 0..deepest + 1 {
             let certificate = solved(&rt, alloc, text, 2, depth, AMPLE)?;
             assert!(rt; wrote(&checked(alloc, text, certificate.bytes()), line));
         }
@@ -379,13 +391,32 @@ fn span_stops_an_endless_source(rt: HostRuntime) -> Result<(), Fail> {
     Ok(())
 }
 
-/// Holds each of three prefixes until all of them were reached.
+/// Holds each of the first prefixes until all of them were reached.
 #[derive(Drop)]
 struct Meeting {
     first: AtomicBool,
     second: AtomicBool,
     third: AtomicBool,
+    of_three: bool,
     late: AtomicBool,
+}
+
+impl Meeting {
+    fn new(of_three: bool) -> Meeting {
+        Meeting {
+            first: AtomicBool::new(false),
+            second: AtomicBool::new(false),
+            third: AtomicBool::new(false),
+            of_three,
+            late: AtomicBool::new(false),
+        }
+    }
+
+    fn all_came(&self) -> bool {
+        self.first.load(Ordering::SeqCst)
+            && self.second.load(Ordering::SeqCst)
+            && (!self.of_three || self.third.load(Ordering::SeqCst))
+    }
 }
 
 impl Gate for Meeting {
@@ -395,11 +426,11 @@ impl Gate for Meeting {
             1 => self.second.store(true, Ordering::SeqCst),
             _ => self.third.store(true, Ordering::SeqCst),
         }
+        if number > 1 && !self.of_three {
+            return;
+        }
         for _ in 0..TURNS {
-            if self.first.load(Ordering::SeqCst)
-                && self.second.load(Ordering::SeqCst)
-                && self.third.load(Ordering::SeqCst)
-            {
+            if self.all_came() {
                 return;
             }
         }
@@ -409,17 +440,162 @@ impl Gate for Meeting {
 
 #[test]
 fn run_solve_starts_workers(rt: HostRuntime) -> Result<(), Fail> {
-    let gate = Meeting {
-        first: AtomicBool::new(false),
-        second: AtomicBool::new(false),
-        third: AtomicBool::new(false),
-        late: AtomicBool::new(false),
-    };
-    let mut out = MemorySink::new(rt.alloc(), ROOM);
-    let mut file = all_of(THREE_MACHINES);
-    run_solve(&rt, rt.alloc(), &mut file, 1, 3, 1, AMPLE, &gate, &mut out)?;
-    assert!(rt; !gate.late.load(Ordering::SeqCst));
-    assert!(rt; out.bytes() == DEPTH_1);
+    let alloc = rt.alloc();
+    for workers in 2..4u32 {
+        let gate = Meeting::new(workers == 3);
+        let mut out = MemorySink::new(alloc, ROOM);
+        let mut file = all_of(THREE_MACHINES);
+        run_solve(&rt, alloc, &mut file, 1, workers, 1, AMPLE, &gate, &mut out)?;
+        assert!(rt; !gate.late.load(Ordering::SeqCst));
+        assert!(rt; gate.all_came() && gate.third.load(Ordering::SeqCst));
+        assert!(rt; out.bytes() == DEPTH_1);
+    }
+    Ok(())
+}
+
+/// The order of a command line, or what kind of fault it has.
+fn ordered<'a>(alloc: Global, words: &'a [&'a str]) -> Result<Option<Order<'a>>, ErrorKind> {
+    let command = make_command(alloc).map_err(|_| ErrorKind::OutOfMemory)?;
+    let matches = command
+        .try_get_matches_from(words)
+        .map_err(|error| error.kind())?;
+    order_of(alloc, &matches).map_err(|_| ErrorKind::OutOfMemory)
+}
+
+/// What is asked for of a block, where that is of this index of `FILE`.
+fn of_block<'a>(alloc: Global, words: &'a [&'a str], number: u32) -> Option<OfBlock<'a>> {
+    match ordered(alloc, words) {
+        Ok(Some(Order::OfBlock { file, index, what })) => {
+            if file == "FILE" && index == number {
+                return Some(what);
+            }
+            None
+        }
+        _ => None,
+    }
+}
+
+#[test]
+fn words_are_read_as_orders(rt: HostRuntime) -> Result<(), Fail> {
+    let alloc = rt.alloc();
+    let words = ["flowshop", "gen", "20", "5", "873654221"];
+    let order = ordered(alloc, &words);
+    assert!(rt;
+        matches!(
+            order,
+            Ok(Some(Order::Gen {
+                jobs: 20,
+                machines: 5,
+                seed: 873_654_221
+            }))
+        )
+    );
+    let words = ["flowshop", "neh", "FILE", "4294967295"];
+    assert!(rt; matches!(of_block(alloc, &words, u32::MAX), Some(OfBlock::Neh)));
+    let words = ["flowshop", "span", "FILE", "2", "3", "1", "65535"];
+    match of_block(alloc, &words, 2) {
+        Some(OfBlock::Span { jobs }) => assert!(rt; jobs.as_slice() == [3, 1, 65_535].as_slice()),
+        _ => assert!(rt; false),
+    }
+    let words = ["flowshop", "check", "FILE", "1", "CERTIFICATE"];
+    match of_block(alloc, &words, 1) {
+        Some(OfBlock::Check { cert }) => assert_eq!(rt; cert, "CERTIFICATE"),
+        _ => assert!(rt; false),
+    }
+    Ok(())
+}
+
+#[test]
+fn options_of_solve_have_their_defaults(rt: HostRuntime) -> Result<(), Fail> {
+    let alloc = rt.alloc();
+    let rows: [(&[&str], u32, u32, u32); 3] = [
+        (&["flowshop", "solve", "FILE", "1"], 1, 1, 1_000_000),
+        (
+            &["flowshop", "solve", "FILE", "1", "--depth", "2"],
+            1,
+            2,
+            1_000_000,
+        ),
+        (
+            &[
+                "flowshop",
+                "solve",
+                "FILE",
+                "1",
+                "--workers",
+                "3",
+                "--depth",
+                "2",
+                "--budget",
+                "4",
+            ],
+            3,
+            2,
+            4,
+        ),
+    ];
+    for (words, k, d, b) in rows {
+        match of_block(alloc, words, 1) {
+            Some(
+                OfBlock::Solve {
+                    workers,
+                    depth,
+                    budget,
+                },
+            ) => {
+                assert_eq!(rt; (workers, depth, budget), (k, d, b));
+            }
+            _ => assert!(rt; false),
+        }
+    }
+    Ok(())
+}
+
+#[test]
+fn other_words_are_refused(rt: HostRuntime) -> Result<(), Fail> {
+    let alloc = rt.alloc();
+    let rows: [&[&str]; 9] = [
+        &["flowshop"],
+        &["flowshop", "sort"],
+        &["flowshop", "span", "FILE", "1"],
+        &["flowshop", "span", "FILE", "1", "65536"],
+        &["flowshop", "span", "FILE", "4294967296", "1"],
+        &["flowshop", "neh", "FILE", "x"],
+        &["flowshop", "solve", "FILE", "1", "--workers", "-1"],
+        &["flowshop", "check", "FILE", "1"],
+        &["flowshop", "gen", "20", "5", "1", "1"],
+    ];
+    for words in rows {
+        match ordered(alloc, words) {
+            Err(ErrorKind::DisplayHelp) => assert!(rt; false),
+            Err(_) => {}
+            Ok(_) => assert!(rt; false),
+        }
+    }
+    let words = ["flowshop", "--help"];
+    assert!(rt; matches!(ordered(alloc, &words), Err(ErrorKind::DisplayHelp)));
+    Ok(())
+}
+
+#[test]
+fn stops_are_printed_with_their_status(rt: HostRuntime) -> Result<(), Fail> {
+    let alloc = rt.alloc();
+    let rows = [
+        (Stop::CommandLine, "refused command line", 2),
+        (Stop::Memory, "refused memory", 1),
+        (Stop::Open, "failed open", 3),
+        (Stop::Fault(ToolFault::Index), "refused index", 1),
+        (
+            Stop::Fault(ToolFault::Write(WriteFault::Device)),
+            "failed write Device",
+            3,
+        ),
+    ];
+    for (stop, line, status) in rows {
+        let printed = format!(in alloc; "{}", stop)?;
+        assert_eq!(rt; printed.as_str(), line);
+        assert_eq!(rt; stop.status(), status);
+    }
     Ok(())
 }
 
@@ -451,6 +627,11 @@ fn faults_are_printed_with_their_status(rt: HostRuntime) -> Result<(), Fail> {
             1,
         ),
         (
+            ToolFault::Sequence(SequenceFault::Job(3)),
+            "refused sequence Job 3",
+            1,
+        ),
+        (
             ToolFault::Sequence(SequenceFault::Twice(2)),
             "refused sequence Twice 2",
             1,
@@ -461,10 +642,31 @@ fn faults_are_printed_with_their_status(rt: HostRuntime) -> Result<(), Fail> {
             1,
         ),
         (
+            ToolFault::Instance(InstanceFault::Jobs),
+            "refused instance Jobs",
+            1,
+        ),
+        (
+            ToolFault::Instance(InstanceFault::Machines),
+            "refused instance Machines",
+            1,
+        ),
+        (
             ToolFault::Choice(OptionFault::Workers),
             "refused option Workers",
             1,
         ),
+        (
+            ToolFault::Choice(OptionFault::Depth),
+            "refused option Depth",
+            1,
+        ),
+        (
+            ToolFault::Choice(OptionFault::Budget),
+            "refused option Budget",
+            1,
+        ),
+        (ToolFault::Plan(PlanFault::Depth), "refused plan Depth", 1),
         (
             ToolFault::Plan(PlanFault::Prefixes),
             "refused plan Prefixes",

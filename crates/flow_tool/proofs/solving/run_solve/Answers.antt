@@ -6,11 +6,11 @@ use Rattle.flow_tool.proofs.solving.run_solve.Goals as goal
 pub returns-clause-written : goal.returns-clause-written
 returns-clause-written g c =
     on_ok_weaker c.solve_instance.result
-    (solve-written c.args.index c.args.workers c.args.depth c.args.budget c.in-Ok.block c.in-Ok-new.options _ _ _ _ c.in-Ok-new.ensures c.in-Ok.ensures.picked)
+    (solve-written c.args.index c.args.workers c.args.depth c.args.budget c.in_ok-block.block c.in-Ok.options _ _ _ _ _ c.in-Ok.ensures c.in_ok-block.ensures.picked)
     c.solve_instance.ensures.written
 
 pub returns-clause-ended : goal.returns-clause-ended
 returns-clause-ended g c =
     IfErr-weaker c.solve_instance.result _ _
-    (λ fault. solve-ended (c.solve_instance.new.out ≡ c.args.out.now) c.args.index c.args.workers c.args.depth c.args.budget c.in-Ok.block c.in-Ok-new.options _ _ _ _ fault c.in-Ok-new.ensures c.in-Ok.ensures.picked)
+    (λ fault. solve-ended (c.solve_instance.new.out ≡ c.args.out.now) c.args.index c.args.workers c.args.depth c.args.budget c.in_ok-block.block c.in-Ok.options _ _ _ _ _ fault c.in-Ok.ensures c.in_ok-block.ensures.picked)
     c.solve_instance.ensures.ended
