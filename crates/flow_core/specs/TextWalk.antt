@@ -20,7 +20,7 @@ abbrev pub ◌>>=◌ : {A B E : Type 0} → Result A E → (A → Result B E) �
 (Ok x) >>= f = f x
 (Err e) >>= f = Err e
 
--- where a definition gives a fault of a line, a call returned that fault, unless memory ran out
+-- the fault that a call returned for a line is what a definition gives, unless memory ran out
 abbrev pub LineFails : {Y : Type 0} → LineFault → Result Y LineFault → Type 0
 LineFails line.Memory read = Unit {0}
 LineFails e read = read ≡ Err e
@@ -30,7 +30,7 @@ abbrev pub LineGives : {X Y : Type 0} → (X → Y) → Result X LineFault → R
 LineGives view (Ok x) read = read ≡ Ok (view x)
 LineGives view (Err e) read = LineFails e read
 
--- where a definition gives a fault of a text, a call returned that fault, unless memory ran out
+-- the fault that a call returned for a text is what a definition gives, unless memory ran out
 abbrev pub TextFails : {Y : Type 0} → TextFault → Result Y TextFault → Type 0
 TextFails text.Memory read = Unit {0}
 TextFails e read = read ≡ Err e
@@ -78,7 +78,7 @@ pub record State : Type 0 where
   pub head : Sizes
   pub blocks : List Block
 
--- the state in which the reading is
+-- the state of a reading
 abbrev pub state_of : Progress → State
 state_of p = record { want = p.want; numbers = p.numbers.items; head = sizes p.head; blocks = p.blocks.items }
 

@@ -106,6 +106,17 @@ fn bounds_of_two_machines_are_the_worked_ones(rt: HostRuntime) -> Result<(), Fai
 }
 
 #[test]
+fn two_jobs_end_sooner_with_the_second_first(rt: HostRuntime) -> Result<(), Fail> {
+    let instance = two_machines(rt.alloc())?;
+    let rows: [(&[u16], u64); 2] = [(&[2, 1], 7), (&[1, 2], 9)];
+    for (jobs, end) in rows {
+        let (front, _left) = node(&instance, jobs)?;
+        assert_eq!(rt; front.at(2), end, "at {jobs:?}");
+    }
+    Ok(())
+}
+
+#[test]
 fn starting_sequences_are_the_worked_ones(rt: HostRuntime) -> Result<(), Fail> {
     let alloc = rt.alloc();
     let rows: [(Instance, &[u16], u64); 3] = [

@@ -146,6 +146,18 @@ fn blocks_in_sequence_are_read_in_order(rt: HostRuntime) -> Result<(), Fail> {
     Ok(())
 }
 
+#[test]
+fn repeated_text_is_read_as_so_many_blocks(rt: HostRuntime) -> Result<(), Fail> {
+    let alloc = rt.alloc();
+    let mut text = Vec::new(alloc);
+    for _ in 0..10u32 {
+        text.extend_from_slice(TWO_MACHINES_TEXT)?;
+    }
+    let blocks = read_blocks(alloc, text.as_slice())?;
+    assert_eq!(rt; blocks.len(), 10);
+    Ok(())
+}
+
 /// What is missing behind so many bytes of the text of the two machines: its head has 80 and 10 bytes, and its times end at 121.
 fn missing(length: usize, line: usize) -> TextFault {
     match length {

@@ -76,9 +76,25 @@ fn makespan_is_that_of_the_worked_sequences(rt: HostRuntime) -> Result<(), Fail>
         assert_eq!(rt; makespan(&three, &sequence), value, "at {jobs:?}");
     }
     let two = two_machines(alloc)?;
-    let sequence = Sequence::new(alloc, &two, &[2, 3, 1])?;
-    assert!(rt; sequence.jobs().len() == two.jobs() as usize);
-    assert_eq!(rt; makespan(&two, &sequence), 9);
+    let rows: [(&[u16], u64); 3] = [(&[3, 2, 1], 10), (&[2, 3, 1], 9), (&[2, 1, 3], 9)];
+    for (jobs, value) in rows {
+        let sequence = Sequence::new(alloc, &two, jobs)?;
+        assert!(rt; sequence.jobs().len() == two.jobs() as usize);
+        assert_eq!(rt; makespan(&two, &sequence), value, "at {jobs:?}");
+    }
+    Ok(())
+}
+
+#[test]
+fn generated_jobs_take_longer_the_other_way_round(rt: HostRuntime) -> Result<(), Fail> {
+    let alloc = rt.alloc();
+    let instance = generate(alloc, 2, 2, 1)?;
+    let rows: [(&[u16], u64); 2] = [(&[1, 2], 122), (&[2, 1], 135)];
+    for (jobs, value) in rows {
+        let sequence = Sequence::new(alloc, &instance, jobs)?;
+        assert!(rt; sequence.jobs().len() == instance.jobs() as usize);
+        assert_eq!(rt; makespan(&instance, &sequence), value, "at {jobs:?}");
+    }
     Ok(())
 }
 
