@@ -1,24 +1,16 @@
 -- The steps of reading the lines of the trees.
-use Rattle.std.proofs.Common.{◌≡◌, ◌≢◌, ℕ, zero, suc, ◌+◌, ◌-◌, ◌<◌, ◌≤◌, false, List, [], ◌∷◌, ◌++◌, drop, slice_index, slice_set, Result, Ok, Err, refl, ap, sym, subst, ◌∙◌, arith, append_assoc}
+use Rattle.std.proofs.Common.{◌≡◌, ◌≢◌, ℕ, zero, suc, ◌+◌, ◌-◌, ◌<◌, ◌≤◌, false, List, [], ◌∷◌, ◌++◌, drop, slice_index, slice_set, Result, Err, refl, ap, sym, subst, ◌∙◌, arith, append_assoc}
 use Rattle.std.specs.List.{flat_map}
 use Rattle.flow_core.specs.Shop.{Shop}
 use Rattle.flow_core.specs.Bound.{bound_at}
 use Rattle.flow_core.specs.Sequences.{has, extensions}
-use Rattle.flow_cert.specs.Faults.{read_tree, after_tree, trees_value}
+use Rattle.flow_cert.specs.Faults.{trees_value}
 use Rattle.flow_cert.specs.Stack.{children, awaited, IsNext, IsPlace, IsNode, IsAt, LinesGive}
 use Rattle.flow_cert.specs.declared.fault.CheckFault.{CheckFault}
 use Rattle.flow_cert.specs.declared.fault.CheckFault.TheVariants.{Memory, Header, Size, Value, Sequence, NotAttained, Tree, Weak, Low, End}
 use Rattle.flow_cert.specs.declared.node.Node.{Node}
 use Rattle.flow_cert.specs.declared.lines.Spot.{Spot}
 use Rattle.flow_cert.proofs.Links.{children-next, children-none, next-some, links-out}
-
-pub last-ok : (shop : Shop) (value more left line : ℕ) (list bs after : List ℕ) (rest : List (List ℕ)) → more ≡ 0 → read_tree shop bound_at value line left list bs ≡ Ok (10 ∷ after) →
-    trees_value shop bound_at value (left - more) (extensions shop.jobs more list ++ rest) line bs ≡ trees_value shop bound_at value (left - more) rest (line + 1) after
-last-ok shop value (suc more) left line list bs after rest none h = absurd (omega (arith, none))
-last-ok shop value zero left line list bs after rest none h =
-    let e : left - 0 ≡ left = omega arith in
-    ap (λ l. after_tree line (trees_value shop bound_at value (left - 0) rest (line + 1)) (read_tree shop bound_at value line l list bs)) e
-    ∙ ap (after_tree line (trees_value shop bound_at value (left - 0) rest (line + 1))) h
 
 pub awaited-start : (n more : ℕ) (list : List ℕ) → more ≢ 0 → extensions n more list ≡ awaited n more list 1
 awaited-start n zero list some = absurd (some refl)

@@ -61,9 +61,9 @@ plus-gives shop value place root left below from bytes byte r e plus step h =
     gives-before from bytes r (children_read shop value place below root (drop (from + 1) bytes)) (read_tree shop bound_at value place left root (drop from bytes)) (plus-read shop value place root left below from bytes byte e plus step) h
 
 -- what a list knows of its jobs left may grow
-pub reading-kept : (shop : Shop) (value place : ℕ) (root : List ℕ) (whole : Result (List ℕ) CheckFault) (node more : Node) (links : List ℕ) (below last at : ℕ) (bytes : List ℕ) (frames : List Frame) →
+pub reading-kept : {shop : Shop} {value place : ℕ} {root : List ℕ} {whole : Result (List ℕ) CheckFault} {node more : Node} {links : List ℕ} {below last at : ℕ} {bytes : List ℕ} {frames : List Frame} →
     IsReading shop value place root whole node links below last at bytes frames → IsAt shop (path root frames) more links (suc below) → IsReading shop value place root whole more links below last at bytes frames
-reading-kept shop value place root whole node more links below last at bytes frames i here = record { here = here; behind = i.behind; stack = i.stack; answer = i.answer }
+reading-kept i here = record { here = here; behind = i.behind; stack = i.stack; answer = i.answer }
 
 -- the next child, where there is one
 pub reading-child : {shop : Shop} {value place : ℕ} {root : List ℕ} {whole : Result (List ℕ) CheckFault} {node : Node} {links : List ℕ} {below last at : ℕ} {bytes : List ℕ} {frames : List Frame} →
@@ -72,42 +72,42 @@ pub reading-child : {shop : Shop} {value place : ℕ} {root : List ℕ} {whole :
 reading-child {shop} {root} {links} {last} {frames} i some = next-some shop.jobs (path root frames) last (slice_index links last) (i.here.are_links.each last i.behind) some
 
 -- the next child is read
-child-read : (shop : Shop) (value place : ℕ) (root : List ℕ) (whole : Result (List ℕ) CheckFault) (node : Node) (links : List ℕ) (below last at : ℕ) (bytes : List ℕ) (frames : List Frame) (bs : List ℕ) →
+child-read : {shop : Shop} {value place : ℕ} {root : List ℕ} {whole : Result (List ℕ) CheckFault} {node : Node} {links : List ℕ} {below last at : ℕ} {bytes : List ℕ} {frames : List Frame} (bs : List ℕ) →
     IsReading shop value place root whole node links below last at bytes frames → slice_index links last ≢ 0 → drop at bytes ≡ bs →
     whole ≡ then_read (then_read (read_tree shop bound_at value place below (path root frames ++ slice_index links last ∷ []) bs) (each_tree (λ j. read_tree shop bound_at value place below (path root frames ++ j ∷ [])) (children shop.jobs (path root frames) (slice_index links last + 1)))) (resume shop value place root (suc below) frames)
-child-read shop value place root whole node links below last at bytes frames bs i some dropped =
+child-read {shop} {value} {place} {root} {whole} {node} {links} {below} {last} {at} {bytes} {frames} bs i some dropped =
     let read : ℕ → List ℕ → Result (List ℕ) CheckFault = λ j. read_tree shop bound_at value place below (path root frames ++ j ∷ []) in
     let k : List ℕ → Result (List ℕ) CheckFault = resume shop value place root (suc below) frames in
     i.answer
     ∙ ap (λ js. then_read (each_tree read js (drop at bytes)) k) (children-next shop.jobs (path root frames) last (slice_index links last) (i.here.are_links.each last i.behind) some)
     ∙ ap (λ b. then_read (each_tree read (slice_index links last ∷ children shop.jobs (path root frames) (slice_index links last + 1)) b) k) dropped
 
-pub reading-fault : (shop : Shop) (value place : ℕ) (root : List ℕ) (whole : Result (List ℕ) CheckFault) (node : Node) (links : List ℕ) (below last at : ℕ) (bytes : List ℕ) (frames : List Frame) (bs : List ℕ) (fault : CheckFault) →
+pub reading-fault : {shop : Shop} {value place : ℕ} {root : List ℕ} {whole : Result (List ℕ) CheckFault} {node : Node} {links : List ℕ} {below last at : ℕ} {bytes : List ℕ} {frames : List Frame} (bs : List ℕ) (fault : CheckFault) →
     IsReading shop value place root whole node links below last at bytes frames → slice_index links last ≢ 0 → drop at bytes ≡ bs →
     read_tree shop bound_at value place below (path root frames ++ slice_index links last ∷ []) bs ≡ Err fault → whole ≡ Err fault
-reading-fault shop value place root whole node links below last at bytes frames bs fault i some dropped bad =
-    child-read shop value place root whole node links below last at bytes frames bs i some dropped
+reading-fault {shop} {value} {place} {root} {whole} {node} {links} {below} {last} {at} {bytes} {frames} bs fault i some dropped bad =
+    child-read bs i some dropped
     ∙ ap (λ r. then_read (then_read r (each_tree (λ j. read_tree shop bound_at value place below (path root frames ++ j ∷ [])) (children shop.jobs (path root frames) (slice_index links last + 1)))) (resume shop value place root (suc below) frames)) bad
 
-pub reading-leaf : (shop : Shop) (value place : ℕ) (root : List ℕ) (whole : Result (List ℕ) CheckFault) (node : Node) (links : List ℕ) (below last at : ℕ) (bytes : List ℕ) (frames : List Frame) (byte : ℕ) →
+pub reading-leaf : {shop : Shop} {value place : ℕ} {root : List ℕ} {whole : Result (List ℕ) CheckFault} {node : Node} {links : List ℕ} {below last at : ℕ} {bytes : List ℕ} {frames : List Frame} (byte : ℕ) →
     IsReading shop value place root whole node links below last at bytes frames → slice_index links last ≢ 0 → drop at bytes ≡ byte ∷ drop (at + 1) bytes →
     ((rest : List ℕ) → read_tree shop bound_at value place below (path root frames ++ slice_index links last ∷ []) (byte ∷ rest) ≡ Ok rest) →
     IsReading shop value place root whole node links below (slice_index links last) (at + 1) bytes frames
-reading-leaf shop value place root whole node links below last at bytes frames byte i some dropped good = record {
+reading-leaf {shop} {value} {place} {root} {whole} {node} {links} {below} {last} {at} {bytes} {frames} byte i some dropped good = record {
   here = i.here;
   behind = next-place shop.jobs (path root frames) last (slice_index links last) (i.here.are_links.each last i.behind);
   stack = i.stack;
   answer =
-      child-read shop value place root whole node links below last at bytes frames (byte ∷ drop (at + 1) bytes) i some dropped
+      child-read (byte ∷ drop (at + 1) bytes) i some dropped
       ∙ ap (λ r. then_read (then_read r (each_tree (λ j. read_tree shop bound_at value place below (path root frames ++ j ∷ [])) (children shop.jobs (path root frames) (slice_index links last + 1)))) (resume shop value place root (suc below) frames)) (good (drop (at + 1) bytes));
 }
 
-pub reading-dive : (shop : Shop) (value place : ℕ) (root : List ℕ) (whole : Result (List ℕ) CheckFault) (node child : Node) (links less : List ℕ) (below lower last at : ℕ) (bytes : List ℕ) (frames : List Frame) (byte : ℕ) (deeper : List Frame) →
+pub reading-dive : {shop : Shop} {value place : ℕ} {root : List ℕ} {whole : Result (List ℕ) CheckFault} {node : Node} {links : List ℕ} {below last at : ℕ} {bytes : List ℕ} {frames : List Frame} (child : Node) (less : List ℕ) (lower byte : ℕ) (deeper : List Frame) →
     IsReading shop value place root whole node links below last at bytes frames → slice_index links last ≢ 0 → drop at bytes ≡ byte ∷ drop (at + 1) bytes →
     IsNode shop (path root frames ++ slice_index links last ∷ []) child below → less ≡ slice_set links last (slice_index links (slice_index links last)) → below ≡ suc lower → byte ≡ 43 →
     deeper ≡ record { node = node; job = slice_index links last; last = last } ∷ frames →
     IsReading shop value place root whole child less lower 0 (at + 1) bytes deeper
-reading-dive shop value place root whole node child links less below lower last at bytes frames byte deeper i some dropped is out e plus pushed =
+reading-dive {shop} {value} {place} {root} {whole} {node} {links} {below} {last} {at} {bytes} {frames} child less lower byte deeper i some dropped is out e plus pushed =
     let job : ℕ = slice_index links last in
     let next = reading-child i some in
     let taken = links-out shop.jobs (path root frames) links last job (slice_index links job) i.here.are_links i.behind refl some refl in
@@ -125,7 +125,7 @@ reading-dive shop value place root whole node child links less below lower last 
         subst (λ l. IsStack shop root l (suc (suc (suc lower))) frames) (sym back) (subst (λ l. IsStack shop root links (suc (suc l)) frames) e i.stack),
       );
       answer =
-          child-read shop value place root whole node links below last at bytes frames (byte ∷ drop (at + 1) bytes) i some dropped
+          child-read (byte ∷ drop (at + 1) bytes) i some dropped
           ∙ ap (λ l. then_read (then_read (read_tree shop bound_at value place l (path root frames ++ job ∷ []) (byte ∷ drop (at + 1) bytes)) (each_tree (λ j. read_tree shop bound_at value place l (path root frames ++ j ∷ [])) js)) (resume shop value place root (suc l) frames)) e
           ∙ ap (λ b. then_read (then_read (read_tree shop bound_at value place (suc lower) (path root frames ++ job ∷ []) (b ∷ drop (at + 1) bytes)) (each_tree (λ j. read_tree shop bound_at value place (suc lower) (path root frames ++ j ∷ [])) js)) (resume shop value place root (suc (suc lower)) frames)) plus
           ∙ then-assoc (each_tree (λ j. read_tree shop bound_at value place lower ((path root frames ++ job ∷ []) ++ j ∷ [])) (jobs_left shop.jobs (path root frames ++ job ∷ [])) (drop (at + 1) bytes)) (each_tree (λ j. read_tree shop bound_at value place (suc lower) (path root frames ++ j ∷ [])) js) (resume shop value place root (suc (suc lower)) frames);
@@ -133,22 +133,22 @@ reading-dive shop value place root whole node child links less below lower last 
     subst (IsReading shop value place root whole child less lower 0 (at + 1) bytes) (sym pushed) goal
 
 -- no child is left
-reading-none : (shop : Shop) (value place : ℕ) (root : List ℕ) (whole : Result (List ℕ) CheckFault) (node : Node) (links : List ℕ) (below last at : ℕ) (bytes : List ℕ) (frames : List Frame) →
+reading-none : {shop : Shop} {value place : ℕ} {root : List ℕ} {whole : Result (List ℕ) CheckFault} {node : Node} {links : List ℕ} {below last at : ℕ} {bytes : List ℕ} {frames : List Frame} →
     IsReading shop value place root whole node links below last at bytes frames → slice_index links last ≡ 0 →
     whole ≡ resume shop value place root (suc below) frames (drop at bytes)
-reading-none shop value place root whole node links below last at bytes frames i none =
+reading-none {shop} {value} {place} {root} {whole} {node} {links} {below} {last} {at} {bytes} {frames} i none =
     i.answer
     ∙ ap (λ js. then_read (each_tree (λ j. read_tree shop bound_at value place below (path root frames ++ j ∷ [])) js (drop at bytes)) (resume shop value place root (suc below) frames)) (children-none shop.jobs (path root frames) last (slice_index links last) (i.here.are_links.each last i.behind) none)
 
-pub reading-done : (shop : Shop) (value place : ℕ) (root : List ℕ) (whole : Result (List ℕ) CheckFault) (node : Node) (links : List ℕ) (below last at : ℕ) (bytes : List ℕ) (frames : List Frame) →
+pub reading-done : {shop : Shop} {value place : ℕ} {root : List ℕ} {whole : Result (List ℕ) CheckFault} {node : Node} {links : List ℕ} {below last at : ℕ} {bytes : List ℕ} {frames : List Frame} →
     IsReading shop value place root whole node links below last at bytes frames → slice_index links last ≡ 0 → frames ≡ [] → whole ≡ Ok (drop at bytes)
-reading-done shop value place root whole node links below last at bytes frames i none empty =
-    reading-none shop value place root whole node links below last at bytes frames i none ∙ ap (λ fs. resume shop value place root (suc below) fs (drop at bytes)) empty
+reading-done {shop} {value} {place} {root} {whole} {node} {links} {below} {last} {at} {bytes} {frames} i none empty =
+    reading-none i none ∙ ap (λ fs. resume shop value place root (suc below) fs (drop at bytes)) empty
 
-pub reading-up : (shop : Shop) (value place : ℕ) (root : List ℕ) (whole : Result (List ℕ) CheckFault) (node : Node) (links back : List ℕ) (below last at : ℕ) (bytes : List ℕ) (frames : List Frame) (f : Frame) (higher : List Frame) →
+pub reading-up : {shop : Shop} {value place : ℕ} {root : List ℕ} {whole : Result (List ℕ) CheckFault} {node : Node} {links : List ℕ} {below last at : ℕ} {bytes : List ℕ} {frames : List Frame} (back : List ℕ) (f : Frame) (higher : List Frame) →
     IsReading shop value place root whole node links below last at bytes frames → slice_index links last ≡ 0 → frames ≡ f ∷ higher → back ≡ slice_set links f.last f.job →
     IsReading shop value place root whole f.node back (below + 1) f.job at bytes higher
-reading-up shop value place root whole node links back below last at bytes frames f higher i none popped is =
+reading-up {shop} {value} {place} {root} {whole} {node} {links} {below} {last} {at} {bytes} {frames} back f higher i none popped is =
     let was : IsReading shop value place root whole node links below last at bytes (f ∷ higher) = subst (IsReading shop value place root whole node links below last at bytes) popped i in
     let s = was.stack in
     let more : suc below ≡ below + 1 = omega arith in
@@ -157,7 +157,7 @@ reading-up shop value place root whole node links back below last at bytes frame
       here = subst (λ l. IsAt shop (path root higher) f.node l (suc (suc below))) (sym is) s.0;
       behind = (s.2, λ low. s.3);
       stack = subst (λ l. IsStack shop root l (suc (suc (suc below))) higher) (sym is) s.5;
-      answer = reading-none shop value place root whole node links below last at bytes (f ∷ higher) was none;
+      answer = reading-none was none;
     })
 
 -- what a byte says

@@ -1,35 +1,12 @@
 -- What one byte of a tree says.
-use Rattle.std.proofs.Common.{◌≡◌, ◌≢◌, ◌&&◌, ℕ, zero, suc, ◌-◌, ◌<◌, ◌≤◌, Bool, true, false, cond, nat_le, List, ◌∷◌, ◌++◌, [], Ok, Err, refl, ap, subst, ◌∙◌, arith}
-use Rattle.std.proofs.lemmas.Bool.{eq-eqb, ne_eqb, le-leb, lt-leb, lt-ltb, le-ltb}
+use Rattle.std.proofs.Common.{◌≡◌, ◌≢◌, ◌&&◌, ℕ, zero, suc, ◌-◌, ◌<◌, ◌≤◌, Bool, true, false, cond, nat_le, List, ◌∷◌, ◌++◌, [], Ok, Err, ap, subst, ◌∙◌, arith}
+use Rattle.std.proofs.lemmas.Bool.{ne_eqb, le-leb, lt-leb, lt-ltb, le-ltb}
 use Rattle.flow_core.specs.Shop.{Shop}
-use Rattle.flow_core.specs.Paths.{span}
 use Rattle.flow_core.specs.Sequences.{jobs_left}
-use Rattle.flow_cert.specs.Faults.{read_tree, each_tree, leaf_fault, cut_fault, is_letter}
-use Rattle.flow_cert.specs.declared.fault.CheckFault.TheVariants.{Tree, Weak, Low}
-
--- one byte where no job is left
-
-pub leaf-other : (shop : Shop) (reach : Shop → List ℕ → ℕ → ℕ) (value place left : ℕ) (node : List ℕ) (byte : ℕ) → left ≡ 0 → byte ≢ 46 → (rest : List ℕ) → read_tree shop reach value place left node (byte ∷ rest) ≡ Err (Tree place)
-leaf-other shop reach value place (suc left) node byte e h rest = absurd (omega (arith, e))
-leaf-other shop reach value place zero node byte e h rest = ap (λ b. leaf_fault b (nat_le value (span shop node)) place rest) (ne_eqb byte 46 h)
-
-pub leaf-low : (shop : Shop) (reach : Shop → List ℕ → ℕ → ℕ) (value place left : ℕ) (node : List ℕ) (byte at : ℕ) → left ≡ 0 → byte ≡ 46 → at ≡ span shop node → at < value → (rest : List ℕ) → read_tree shop reach value place left node (byte ∷ rest) ≡ Err (Low place)
-leaf-low shop reach value place (suc left) node byte at e h is low rest = absurd (omega (arith, e))
-leaf-low shop reach value place zero node byte at e h is low rest =
-    let short : nat_le value (span shop node) ≡ false = lt-leb value (span shop node) (omega (arith, is, low)) in
-    ap (λ b. leaf_fault b (nat_le value (span shop node)) place rest) (eq-eqb byte 46 h) ∙ ap (λ b. leaf_fault true b place rest) short
-
-pub leaf-high : (shop : Shop) (reach : Shop → List ℕ → ℕ → ℕ) (value place left : ℕ) (node : List ℕ) (byte at : ℕ) → left ≡ 0 → byte ≡ 46 → at ≡ span shop node → value ≤ at → (rest : List ℕ) → read_tree shop reach value place left node (byte ∷ rest) ≡ Ok rest
-leaf-high shop reach value place (suc left) node byte at e h is low rest = absurd (omega (arith, e))
-leaf-high shop reach value place zero node byte at e h is low rest =
-    let high : nat_le value (span shop node) ≡ true = le-leb value (span shop node) (omega (arith, is, low)) in
-    ap (λ b. leaf_fault b (nat_le value (span shop node)) place rest) (eq-eqb byte 46 h) ∙ ap (λ b. leaf_fault true b place rest) high
+use Rattle.flow_cert.specs.Faults.{read_tree, each_tree, cut_fault, is_letter}
+use Rattle.flow_cert.specs.declared.fault.CheckFault.TheVariants.{Tree, Weak}
 
 -- one byte where jobs are left
-
-pub plus-reads : (shop : Shop) (reach : Shop → List ℕ → ℕ → ℕ) (value place left : ℕ) (node : List ℕ) (rest : List ℕ) →
-    read_tree shop reach value place (suc left) node (43 ∷ rest) ≡ each_tree (λ job. read_tree shop reach value place left (node ++ job ∷ [])) (jobs_left shop.jobs node) rest
-plus-reads shop reach value place left node rest = refl
 
 cut-reads : (shop : Shop) (reach : Shop → List ℕ → ℕ → ℕ) (value place left : ℕ) (node : List ℕ) (byte : ℕ) (rest : List ℕ) → byte ≢ 43 →
     read_tree shop reach value place (suc left) node (byte ∷ rest) ≡ cut_fault (is_letter shop byte) (nat_le value (reach shop node (byte - 64))) place rest

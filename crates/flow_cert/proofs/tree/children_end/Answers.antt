@@ -33,25 +33,24 @@ children-preserved-in-Some c =
       within = c.children.invariant.within;
       back = sym (ap (put_back c.children.links) popped) ∙ c.children.invariant.back;
       reading = λ root at.
-          reading-up c.args.claim.now.instance.now c.args.claim.now.value c.args.place root (children_read c.args.claim.now.instance.now c.args.claim.now.value c.args.place c.args.below root (drop c.args.from c.args.claim.now.bytes.now)) c.children.node c.children.links (slice_set c.children.links c.in-Some.frame.last c.in-Some.frame.job) c.children.below c.children.last c.children.at c.args.claim.now.bytes.now (reverse c.children.stack.items) c.in-Some.frame (reverse c.pop.new.self.items)
+          reading-up (slice_set c.children.links c.in-Some.frame.last c.in-Some.frame.job) c.in-Some.frame (reverse c.pop.new.self.items)
           (c.children.invariant.reading root at) c.if-job-eq0.true popped refl;
     }
 
 pub returns-in-None-clause-trees : goal.returns-in-None-clause-trees
 returns-in-None-clause-trees c root at =
     let empty : c.children.stack.items ≡ [] = c.in-None.ensures.items ∙ ap (λ xs. xs ++ []) (c.in-None.ensures.rest ∙ ap (λ n. take (n - 1) c.children.stack.items) c.in-None.ensures.cases.0) in
-    (reading-done c.args.claim.now.instance.now c.args.claim.now.value c.args.place root (children_read c.args.claim.now.instance.now c.args.claim.now.value c.args.place c.args.below root (drop c.args.from c.args.claim.now.bytes.now)) c.children.node c.children.links c.children.below c.children.last c.children.at c.args.claim.now.bytes.now (reverse c.children.stack.items) (c.children.invariant.reading root at) c.if-job-eq0.true (ap reverse empty), c.children.invariant.from, c.children.invariant.within)
+    (reading-done (c.children.invariant.reading root at) c.if-job-eq0.true (ap reverse empty), c.children.invariant.from, c.children.invariant.within)
 
 pub returns-then-at-claim-clause-trees : goal.returns-then-at-claim-clause-trees
 returns-then-at-claim-clause-trees c root at =
-    reading-fault c.args.claim.now.instance.now c.args.claim.now.value c.args.place root (children_read c.args.claim.now.instance.now c.args.claim.now.value c.args.place c.args.below root (drop c.args.from c.args.claim.now.bytes.now)) c.children.node c.children.links c.children.below c.children.last c.children.at c.args.claim.now.bytes.now (reverse c.children.stack.items) [] (Tree c.args.place)
+    reading-fault [] (Tree c.args.place)
     (c.children.invariant.reading root at) c.if-job-eq0.false (drop-past c.args.claim.now.bytes.now c.children.at c.if-at-claim.true) (no-byte c.args.claim.now.instance.now c.args.claim.now.value c.args.place c.children.below (path root (reverse c.children.stack.items) ++ (slice_index c.children.links c.children.last) ∷ []))
 
 pub step-requires-clause-at : goal.step-requires-clause-at
 step-requires-clause-at c =
     let root : List ℕ = c.requires.at.0 in
-    let at = c.requires.at.1 in
-    let i = c.children.invariant.reading root at in
+    let i = c.children.invariant.reading root c.requires.at.1 in
     let next = reading-child i c.if-job-eq0.false in
     (path root (reverse c.children.stack.items), i.here, (next.1, next.2, next.3))
 
@@ -61,39 +60,30 @@ returns-in_err-open-clause-trees c root at =
     let next = reading-child i c.if-job-eq0.false in
     let bad = c.in_err-open.ensures.gives (path root (reverse c.children.stack.items)) i.here (next.1, next.2, next.3) in
     tree-fails c.args.from c.args.claim.now.bytes.now (children_read c.args.claim.now.instance.now c.args.claim.now.value c.args.place c.args.below root (drop c.args.from c.args.claim.now.bytes.now)) c.from_residual.result c.in_err-open.field-0.0 (exit c.from_residual.result c.in_err-open.field-0.0 c.from_residual.ensures.1)
-    (reading-fault c.args.claim.now.instance.now c.args.claim.now.value c.args.place root (children_read c.args.claim.now.instance.now c.args.claim.now.value c.args.place c.args.below root (drop c.args.from c.args.claim.now.bytes.now)) c.children.node c.children.links c.children.below c.children.last c.children.at c.args.claim.now.bytes.now (reverse c.children.stack.items) ((get_or c.args.claim.now.bytes.now c.children.at 0) ∷ drop (c.children.at + 1) c.args.claim.now.bytes.now) c.in_err-open.field-0.0
+    (reading-fault ((get_or c.args.claim.now.bytes.now c.children.at 0) ∷ drop (c.children.at + 1) c.args.claim.now.bytes.now) c.in_err-open.field-0.0
     i c.if-job-eq0.false (drop-step c.args.claim.now.bytes.now c.children.at c.if-at-claim.false) (bad (drop (c.children.at + 1) c.args.claim.now.bytes.now)))
 
 pub child-child-requires-clause-at : goal.child-child-requires-clause-at
 child-child-requires-clause-at c =
     let root : List ℕ = c.requires.at.0 in
-    let at = c.requires.at.1 in
-    let i = c.children.invariant.reading root at in
+    let i = c.children.invariant.reading root c.requires.at.1 in
     let next = reading-child i c.if-job-eq0.false in
-    let k = reading-kept c.args.claim.now.instance.now c.args.claim.now.value c.args.place root (children_read c.args.claim.now.instance.now c.args.claim.now.value c.args.place c.args.below root (drop c.args.from c.args.claim.now.bytes.now)) c.children.node c.step.new.node c.children.links c.children.below c.children.last c.children.at c.args.claim.now.bytes.now (reverse c.children.stack.items) i (c.step.ensures.kept (path root (reverse c.children.stack.items)) (suc c.children.below) i.here) in
+    let k = reading-kept i (c.step.ensures.kept (path root (reverse c.children.stack.items)) (suc c.children.below) i.here) in
     (path root (reverse c.children.stack.items), suc c.children.below, k.here.is_node, next.3)
 
 pub child-child-requires-clause-to : goal.child-child-requires-clause-to
-child-child-requires-clause-to c =
-    let root : List ℕ = c.requires.at.0 in
-    let at = c.requires.at.1 in
-    let i = c.children.invariant.reading root at in
-    let next = reading-child i c.if-job-eq0.false in
-    next.2
+child-child-requires-clause-to c = (reading-child (c.children.invariant.reading c.requires.at.0 c.requires.at.1) c.if-job-eq0.false).2
 
 pub bounds-links-job : goal.bounds-links-job
 bounds-links-job c =
-    let root : List ℕ = c.requires.at.0 in
-    let at = c.requires.at.1 in
-    let i = c.children.invariant.reading root at in
+    let i = c.children.invariant.reading c.requires.at.0 c.requires.at.1 in
     let next = reading-child i c.if-job-eq0.false in
     omega (arith, next.2, i.here.are_links.size)
 
 pub overflow_sub-below : goal.overflow_sub-below
 overflow_sub-below c =
     let root : List ℕ = c.requires.at.0 in
-    let at = c.requires.at.1 in
-    let i = c.children.invariant.reading root at in
+    let i = c.children.invariant.reading root c.requires.at.1 in
     let next = reading-child i c.if-job-eq0.false in
     let opened = step-open c.args.claim.now.instance.now c.args.claim.now.value c.args.place c.children.below (path root (reverse c.children.stack.items) ++ (slice_index c.children.links c.children.last) ∷ []) (get_or c.args.claim.now.bytes.now c.children.at 0) c.in_ok-open.open (c.in_ok-open.ensures.gives (path root (reverse c.children.stack.items)) i.here (next.1, next.2, next.3)) c.if-open.true in
     omega (arith, opened.0)
@@ -109,9 +99,9 @@ children-preserved-then-open c =
       reading = λ root at.
           let i = c.children.invariant.reading root at in
           let next = reading-child i c.if-job-eq0.false in
-          let k = reading-kept c.args.claim.now.instance.now c.args.claim.now.value c.args.place root (children_read c.args.claim.now.instance.now c.args.claim.now.value c.args.place c.args.below root (drop c.args.from c.args.claim.now.bytes.now)) c.children.node c.step.new.node c.children.links c.children.below c.children.last c.children.at c.args.claim.now.bytes.now (reverse c.children.stack.items) i (c.step.ensures.kept (path root (reverse c.children.stack.items)) (suc c.children.below) i.here) in
+          let k = reading-kept i (c.step.ensures.kept (path root (reverse c.children.stack.items)) (suc c.children.below) i.here) in
           let opened = step-open c.args.claim.now.instance.now c.args.claim.now.value c.args.place c.children.below (path root (reverse c.children.stack.items) ++ (slice_index c.children.links c.children.last) ∷ []) (get_or c.args.claim.now.bytes.now c.children.at 0) c.in_ok-open.open (c.in_ok-open.ensures.gives (path root (reverse c.children.stack.items)) i.here (next.1, next.2, next.3)) c.if-open.true in
-          reading-dive c.args.claim.now.instance.now c.args.claim.now.value c.args.place root (children_read c.args.claim.now.instance.now c.args.claim.now.value c.args.place c.args.below root (drop c.args.from c.args.claim.now.bytes.now)) c.step.new.node c.child-child.result c.children.links less c.children.below (c.children.below - 1) c.children.last c.children.at c.args.claim.now.bytes.now (reverse c.children.stack.items) (get_or c.args.claim.now.bytes.now c.children.at 0) (reverse c.push.new.self.items)
+          reading-dive c.child-child.result less (c.children.below - 1) (get_or c.args.claim.now.bytes.now c.children.at 0) (reverse c.push.new.self.items)
           k c.if-job-eq0.false (drop-step c.args.claim.now.bytes.now c.children.at c.if-at-claim.false) (c.child-child.ensures (path root (reverse c.children.stack.items)) c.children.below k.here.is_node next.3) refl (omega (arith, opened.0)) opened.1 pushed;
     }
 
@@ -123,7 +113,7 @@ children-preserved c = record {
   reading = λ root at.
       let i = c.children.invariant.reading root at in
       let next = reading-child i c.if-job-eq0.false in
-      let k = reading-kept c.args.claim.now.instance.now c.args.claim.now.value c.args.place root (children_read c.args.claim.now.instance.now c.args.claim.now.value c.args.place c.args.below root (drop c.args.from c.args.claim.now.bytes.now)) c.children.node c.step.new.node c.children.links c.children.below c.children.last c.children.at c.args.claim.now.bytes.now (reverse c.children.stack.items) i (c.step.ensures.kept (path root (reverse c.children.stack.items)) (suc c.children.below) i.here) in
+      let k = reading-kept i (c.step.ensures.kept (path root (reverse c.children.stack.items)) (suc c.children.below) i.here) in
       let closed = step-whole c.args.claim.now.instance.now c.args.claim.now.value c.args.place c.children.below (path root (reverse c.children.stack.items) ++ (slice_index c.children.links c.children.last) ∷ []) (get_or c.args.claim.now.bytes.now c.children.at 0) c.in_ok-open.open (c.in_ok-open.ensures.gives (path root (reverse c.children.stack.items)) i.here (next.1, next.2, next.3)) c.if-open.false in
-      reading-leaf c.args.claim.now.instance.now c.args.claim.now.value c.args.place root (children_read c.args.claim.now.instance.now c.args.claim.now.value c.args.place c.args.below root (drop c.args.from c.args.claim.now.bytes.now)) c.step.new.node c.children.links c.children.below c.children.last c.children.at c.args.claim.now.bytes.now (reverse c.children.stack.items) (get_or c.args.claim.now.bytes.now c.children.at 0) k c.if-job-eq0.false (drop-step c.args.claim.now.bytes.now c.children.at c.if-at-claim.false) closed;
+      reading-leaf (get_or c.args.claim.now.bytes.now c.children.at 0) k c.if-job-eq0.false (drop-step c.args.claim.now.bytes.now c.children.at c.if-at-claim.false) closed;
 }
