@@ -1,5 +1,5 @@
 -- What the hub does with its ends of the lanes.
-use Rattle.std.specs.Prelude.{◌≡◌, ℕ, ◌≤◌, List, [], length, map, All, vec_capacity}
+use Rattle.std.specs.Prelude.{◌≡◌, ℕ, ◌≤◌, List, [], length, map, All, vec_len, vec_capacity}
 use Rattle.std.specs.Global.{Vec}
 use Rattle.flow_search.specs.Plans.{Planned}
 use Rattle.flow_lanes.specs.Lane.{Lane}
@@ -32,6 +32,12 @@ received_lists hubs = map (λ hub. hub.answers.received) hubs
 -- each of k lanes has the answers of its turn
 abbrev pub all_dealt : ℕ → List Answer → List (List Answer)
 all_dealt k answers = by_lane k (λ lane. dealt k lane answers)
+
+-- the hub has taken answers in turn, no more than a limit, and there is room for so many
+pub record HasTaken (hubs : List HubEnds) (answers : Vec Answer) (limit : ℕ) : Type 0 where
+  pub dealt : received_lists hubs ≡ all_dealt (length hubs) answers.items
+  pub few : vec_len answers ≤ limit
+  pub room : limit ≤ vec_capacity answers
 
 -- the hub may collect: it has fresh ends for each worker, and room for all answers
 pub record CanCollect (plan : Planned) (hubs : List HubEnds) (answers : Vec Answer) : Type 0 where

@@ -18,6 +18,10 @@ share k n worker = filter (λ number. nat_eq (number % k) worker) (range_with_le
 abbrev pub asking : List ℕ → List Task
 asking numbers = map Prefix numbers
 
+-- what a worker is asked of the first n prefixes
+abbrev pub asked : ℕ → ℕ → ℕ → List Task
+asked k n worker = asking (share k n worker)
+
 -- the tasks of one worker of k, where there are n prefixes: its share, and then one end
 abbrev pub tasks_of : ℕ → ℕ → ℕ → List Task
 tasks_of k n worker = asking (share k n worker) ++ End ∷ []

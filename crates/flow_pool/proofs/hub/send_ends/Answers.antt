@@ -1,0 +1,17 @@
+use Rattle.std.proofs.Common.{◌≡◌, ◌∙◌, length, refl, arith}
+use Rattle.flow_pool.proofs.Asked.{ended-none, ended-all, pushed_at-ended}
+use Rattle.flow_pool.proofs.hub.send_ends.Goals as goal
+
+pub ending-init : goal.ending-init
+ending-init g c = record { lanes = refl; sent = c.requires.asked ∙ ended-none (length c.args.hubs.now) c.args.count; taken = c.requires.taken }
+
+pub ending-preserved : goal.ending-preserved
+ending-preserved g c =
+    let next = pushed_at-ended (length c.args.hubs.now) c.args.count c.ending.lane (omega arith) in
+    record { lanes = cc; sent = cc; taken = c.send_on.ensures.taken }
+
+pub returns-clause-sent : goal.returns-clause-sent
+returns-clause-sent g c =
+    let last : c.ending.lane ≡ length c.args.hubs.now = omega arith in
+    let all = ended-all (length c.args.hubs.now) c.args.count in
+    cc

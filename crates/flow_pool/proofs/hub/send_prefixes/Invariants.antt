@@ -1,0 +1,14 @@
+use Rattle.std.proofs.Common.{◌≡◌, length, map}
+use Rattle.flow_pool.specs.Deal.{by_lane}
+use Rattle.flow_pool.specs.Work.{asked}
+use Rattle.flow_pool.specs.Hub.{hub_lanes, sent_lists, HasTaken}
+use Rattle.flow_pool.proofs.hub.send_prefixes.Given as goal
+
+abbrev pub invariant-asking : goal.invariant-asking
+invariant-asking g l =
+    let k = length l.fn.hubs in
+    record {
+      lanes : map hub_lanes l.hubs ≡ map hub_lanes l.fn.hubs;
+      sent : sent_lists l.hubs ≡ by_lane k (asked k l.number);
+      taken : HasTaken l.hubs l.answers l.limit;
+    }

@@ -1,0 +1,11 @@
+use Rattle.std.proofs.Common.{◌≡◌, map}
+use Rattle.flow_pool.specs.Hub.{hub_lanes, sent_lists, HasTaken}
+use Rattle.flow_pool.proofs.hub.take_rest.Given as goal
+
+abbrev pub invariant-draining : goal.invariant-draining
+invariant-draining g l =
+    record {
+      lanes : map hub_lanes l.hubs ≡ map hub_lanes l.fn.hubs;
+      sent : sent_lists l.hubs ≡ sent_lists l.fn.hubs;
+      taken : HasTaken l.hubs l.answers l.count;
+    }
