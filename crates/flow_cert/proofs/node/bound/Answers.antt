@@ -66,13 +66,13 @@ overflow_add-result c =
 pub overflow_add-result-in-None : goal.overflow_add-result-in-None
 overflow_add-result-in-None c =
     let small = fits (goal.at.overflow_add-result-in-None c).After-lows_of-lows in
-    omega (arith, small.0, small.1, c.at.ensures, (own (goal.at.overflow_add-result-in-None c).After-from c.requires.at.0 c.requires.at.1 c.requires.at.2).1)
+    omega (arith, small.0, small.1, c.at.ensures, (own c c.requires.at.0 c.requires.at.1 c.requires.at.2).1)
 
 pub overflow_sub-owed : goal.overflow_sub-owed
 overflow_sub-owed c =
     let list : List ℕ = c.requires.at.0 in
     let left : ℕ = left_before c.args.child (suc c.requires.at.1) in
-    let (kid, there) = taken (goal.at.overflow_sub-owed c).After-from-in-Some list c.requires.at.3 in
+    let (kid, there) = taken c list c.requires.at.3 in
     omega (arith, there, owed-covers c.args.claim.now.instance.now list c.lows_of-lows.new.node left c.in-Some.job c.args.machine
     (c.lows_of-lows.ensures.kept list left c.requires.at.2).is_node kid.0 kid.1 kid.2 c.requires.from c.requires.to)
 
@@ -88,12 +88,12 @@ pub overflow_add-result-in-Some-2 : goal.overflow_add-result-in-Some-2
 overflow_add-result-in-Some-2 c =
     let list : List ℕ = c.requires.at.0 in
     let most : c.args.claim.now.instance.now.machines ≤ MAX_MACHINES = c.requires.rows.limits.machines in
-    let is = child (goal.at.overflow_add-result-in-Some-2 c).After-from-in-Some-2 list c.requires.at.1 c.requires.at.2 (taken (goal.at.overflow_add-result-in-Some-2 c).After-from-in-Some list c.requires.at.3) in
+    let is = child c list c.requires.at.1 c.requires.at.2 (taken (goal.at.overflow_add-result-in-Some-2 c).After-from-in-Some list c.requires.at.3) in
     omega (arith, (fits (goal.at.overflow_add-result-in-Some-2 c).After-lows_of-lows).1, c.completion_of.ensures.small, most, c.requires.to, is.1)
 
 pub returns-in-None-clause-value : goal.returns-in-None-clause-value
-returns-in-None-clause-value c list left at kid = (own (goal.at.returns-in-None-clause-value c).After-from list left at).0
+returns-in-None-clause-value c list left at kid = (own c list left at).0
 
 pub returns-after-alone-clause-value : goal.returns-after-alone-clause-value
 returns-after-alone-clause-value c list left at kid =
-    (child (goal.at.returns-after-alone-clause-value c).After-from-in-Some-2 list left at (taken (goal.at.returns-after-alone-clause-value c).After-from-in-Some list kid)).0
+    (child c list left at (taken (goal.at.returns-after-alone-clause-value c).After-from-in-Some list kid)).0
