@@ -27,7 +27,7 @@ returns-in_err-add-clause-err g c =
     ∙ sym (append_assoc done bytes (10 ∷ [] ++ more)) in
     on-err c.from_residual.result
     (stops-within _ _ c.args.gathered.now (done ++ bytes) (10 ∷ [] ++ more) (lines_of trees) text
-    (then-stops _ _ _ c.args.gathered.now c.loop-tree.gathered done bytes c.loop-tree.invariant.handed c.in_err-add.ensures.err))
+    (then-stops _ bytes c.loop-tree.invariant.handed c.in_err-add.ensures.err))
 
 pub returns-in_err-add-2-clause-err : goal.returns-in_err-add-2-clause-err
 returns-in_err-add-2-clause-err g c =
@@ -40,8 +40,7 @@ returns-in_err-add-2-clause-err g c =
     on-err c.from_residual-in_err-add-2.result
     (stops-within _ _ c.args.gathered.now (done ++ line bytes) more (lines_of trees)
     (at-line bytes_of trees i c.tree-item.result bytes below c.tree-item.is c.as_slice.ensures.value)
-    (then-stops _ _ _ c.args.gathered.now c.loop-tree.gathered done (line bytes) c.loop-tree.invariant.handed
-    (then-stops _ _ _ c.loop-tree.gathered c.add.new.self bytes (10 ∷ []) c.in_ok-add.ensures.ok c.in_err-add-2.ensures.err)))
+    (then-stops _ (line bytes) c.loop-tree.invariant.handed (then-stops _ (10 ∷ []) c.in_ok-add.ensures.ok c.in_err-add-2.ensures.err)))
 
 pub loop-tree-preserved : goal.loop-tree-preserved
 loop-tree-preserved g c =
@@ -55,6 +54,5 @@ loop-tree-preserved g c =
       works = c.in_ok-add-2.ensures.failed;
       handed = subst (λ t. HandsOn (g.S.Sink.taken c.args.out.now) (g.S.Sink.taken c.add-in-loop-tree.new.out) c.args.gathered.now t next)
           (sym (one-more-line bytes_of trees i c.tree-item.result bytes below c.tree-item.is c.as_slice.ensures.value))
-          (then-hands _ _ _ c.args.gathered.now c.loop-tree.gathered next done (line bytes) c.loop-tree.invariant.handed
-          (then-hands _ _ _ c.loop-tree.gathered c.add.new.self next bytes (10 ∷ []) c.in_ok-add.ensures.ok c.in_ok-add-2.ensures.ok));
+          (then-hands c.loop-tree.invariant.handed (then-hands c.in_ok-add.ensures.ok c.in_ok-add-2.ensures.ok));
     }
