@@ -38,14 +38,9 @@ returns-in_err-add-2-clause-err g c =
 
 pub loop-tree-preserved : goal.loop-tree-preserved
 loop-tree-preserved g c =
-    let trees : List (Vec ℕ Global) = c.args.trees.now in
-    let i : ℕ = c.loop-tree.tree-index in
-    let bytes : List ℕ = c.as_slice.result.now in
-    let below : i < length trees = omega arith in
-    let next : List ℕ = c.add-in-loop-tree.new.self in
+    let below : c.loop-tree.tree-index < length c.args.trees.now = omega arith in
     record {
       works = c.in_ok-add-2.ensures.failed;
-      handed = subst (λ t. HandsOn (g.S.Sink.taken c.args.out.now) (g.S.Sink.taken c.add-in-loop-tree.new.out) c.args.gathered.now t next)
-          (sym (one-more-line bytes_of trees i c.tree-item.result bytes below c.tree-item.is c.as_slice.ensures.value))
+      handed = rw (one-more-line bytes_of c.args.trees.now c.loop-tree.tree-index c.tree-item.result c.as_slice.result.now below c.tree-item.is c.as_slice.ensures.value)
           (then-hands c.loop-tree.invariant.handed (then-hands c.in_ok-add.ensures.ok c.in_ok-add-2.ensures.ok));
     }
