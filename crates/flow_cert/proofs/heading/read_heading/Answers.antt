@@ -1,4 +1,4 @@
-use Rattle.std.proofs.Common.{◌≡◌, ◌≢◌, nat_eq, ap, cond, sym, ◌∙◌, Err}
+use Rattle.std.proofs.Common.{◌≡◌, ◌≢◌, Bool, true, false, nat_eq, ap, cond, sym, ◌∙◌, Err}
 use Rattle.std.proofs.lemmas.Bool.{eq-eqb, ne_eqb}
 use Rattle.flow_core.specs.Paths.{span}
 use Rattle.flow_cert.specs.Faults.{certificate_value, header_value, cut_value, on_line}
@@ -32,9 +32,12 @@ valued : (c : In-Some-read_number) →
 valued c = value-read c.args.instance.now c.in-Some-read_size.value_text.now c.in-Some-read_size.depth c.in-Some-read_number.value c.in-Some-read_number.sequence_text.now c.in-Some-read_number.ensures.found
 
 -- what the line of the sequence makes of it
-sequenced : (c : In-Some-read_sequence) → on_line Sequence (after_value c.args.instance.now c.in-Some-read_size.depth c.in-Some-read_number.value) c.in-Some-read_number.sequence_text.now
-    ≡ cond (nat_eq (span c.args.instance.now c.in-Some-read_sequence.ensures.found.0) c.in-Some-read_number.value) (cut_value c.args.instance.now c.in-Some-read_size.depth c.in-Some-read_number.value c.in-Some-read_sequence.trees.now) (Err NotAttained)
-sequenced c = sequence-read c.args.instance.now c.in-Some-read_number.sequence_text.now c.in-Some-read_size.depth c.in-Some-read_number.value _ c.in-Some-read_sequence.trees.now c.jobs-jobs.ensures.limits c.in-Some-read_sequence.ensures.found.1
+sequenced : (c : In-Some-read_sequence) (same : Bool) → nat_eq (span c.args.instance.now c.in-Some-read_sequence.ensures.found.0) c.in-Some-read_number.value ≡ same →
+    on_line Sequence (after_value c.args.instance.now c.in-Some-read_size.depth c.in-Some-read_number.value) c.in-Some-read_number.sequence_text.now
+    ≡ cond same (cut_value c.args.instance.now c.in-Some-read_size.depth c.in-Some-read_number.value c.in-Some-read_sequence.trees.now) (Err NotAttained)
+sequenced c same is =
+    sequence-read c.args.instance.now c.in-Some-read_number.sequence_text.now c.in-Some-read_size.depth c.in-Some-read_number.value _ c.in-Some-read_sequence.trees.now c.jobs-jobs.ensures.limits c.in-Some-read_sequence.ensures.found.1
+    ∙ ap (λ b. cond b (cut_value c.args.instance.now c.in-Some-read_size.depth c.in-Some-read_number.value c.in-Some-read_sequence.trees.now) (Err NotAttained)) is
 
 pub returns-in_default-read_number-clause-fault : goal.returns-in_default-read_number-clause-fault
 unfolding certificate_value
@@ -46,28 +49,19 @@ pub returns-in_default-read_sequence-clause-fault : goal.returns-in_default-read
 unfolding certificate_value
 returns-in_default-read_sequence-clause-fault c =
     let at = goal.at.returns-in_default-read_sequence-clause-fault c in
-    sized at.In-Some-read_size
-    ∙ valued at.In-Some-read_number
+    sized at.In-Some-read_size ∙ valued at.In-Some-read_number
     ∙ sequence-refused c.args.instance.now c.in-Some-read_number.sequence_text.now c.in-Some-read_size.depth c.in-Some-read_number.value c.jobs-jobs.ensures.limits c.in_default-read_sequence.ensures.only
 
 pub returns-then-makespan-value-clause-fault : goal.returns-then-makespan-value-clause-fault
 unfolding certificate_value
 returns-then-makespan-value-clause-fault c =
     let at = goal.at.returns-then-makespan-value-clause-fault c in
-    let makespan = span c.args.instance.now c.in-Some-read_sequence.ensures.found.0 in
-    let other : makespan ≢ c.in-Some-read_number.value = λ e. c.if-makespan-value.true (sym c.in-Some-read_sequence.ensures.found.2 ∙ e) in
-    sized at.In-Some-read_size
-    ∙ valued at.In-Some-read_number
-    ∙ sequenced at.In-Some-read_sequence
-    ∙ ap (λ b. cond b (cut_value c.args.instance.now c.in-Some-read_size.depth c.in-Some-read_number.value c.in-Some-read_sequence.trees.now) (Err NotAttained)) (ne_eqb makespan c.in-Some-read_number.value other)
+    let other : span c.args.instance.now c.in-Some-read_sequence.ensures.found.0 ≢ c.in-Some-read_number.value = λ e. c.if-makespan-value.true (sym c.in-Some-read_sequence.ensures.found.2 ∙ e) in
+    sized at.In-Some-read_size ∙ valued at.In-Some-read_number ∙ sequenced at.In-Some-read_sequence false (ne_eqb _ c.in-Some-read_number.value other)
 
 pub returns-clause-found : goal.returns-clause-found
 unfolding certificate_value
 returns-clause-found c =
     let at = goal.at.returns-clause-found c in
-    let makespan = span c.args.instance.now c.in-Some-read_sequence.ensures.found.0 in
-    let same : makespan ≡ c.in-Some-read_number.value = c.in-Some-read_sequence.ensures.found.2 ∙ c.if-makespan-value.false in
-    sized at.In-Some-read_size
-    ∙ valued at.In-Some-read_number
-    ∙ sequenced at.In-Some-read_sequence
-    ∙ ap (λ b. cond b (cut_value c.args.instance.now c.in-Some-read_size.depth c.in-Some-read_number.value c.in-Some-read_sequence.trees.now) (Err NotAttained)) (eq-eqb makespan c.in-Some-read_number.value same)
+    sized at.In-Some-read_size ∙ valued at.In-Some-read_number
+    ∙ sequenced at.In-Some-read_sequence true (eq-eqb _ c.in-Some-read_number.value (c.in-Some-read_sequence.ensures.found.2 ∙ c.if-makespan-value.false))
