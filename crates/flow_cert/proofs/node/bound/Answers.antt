@@ -2,7 +2,7 @@ use Rattle.std.proofs.Common.{◌≡◌, ℕ, suc, ◌+◌, ◌-◌, ◌*◌, �
 use Rattle.flow_core.specs.declared.limits.TheConstants.{MAX_JOBS, MAX_MACHINES, MAX_TIME, MAX_COMPLETION}
 use Rattle.flow_core.specs.Shop.{time}
 use Rattle.flow_core.specs.Bound.{bound_at}
-use Rattle.flow_cert.specs.Stack.{IsAt, IsChild, IsNode, grown, left_before}
+use Rattle.flow_cert.specs.Stack.{IsAt, IsChild, grown, left_before}
 use Rattle.flow_cert.proofs.NodeSteps.{node-within, owed-fits, owed-covers, own-bound, child-bound}
 use Rattle.flow_cert.proofs.node.bound.Goals as goal
 use Rattle.flow_cert.proofs.node.bound.Goals.{After-lows_of-lows, After-from, After-from-in-Some, After-from-in-Some-2, then-alone, else-alone}
