@@ -72,9 +72,9 @@ pub overflow_sub-owed : goal.overflow_sub-owed
 overflow_sub-owed c =
     let list : List ℕ = c.requires.at.0 in
     let left : ℕ = left_before c.args.child (suc c.requires.at.1) in
+    let here = (c.lows_of-lows.ensures.kept list left c.requires.at.2).is_node in
     let (kid, there) = taken c list c.requires.at.3 in
-    omega (arith, there, owed-covers c.args.claim.now.instance.now list c.lows_of-lows.new.node left c.in-Some.job c.args.machine
-    (c.lows_of-lows.ensures.kept list left c.requires.at.2).is_node kid.0 kid.1 kid.2 c.requires.from c.requires.to)
+    omega (arith, there, owed-covers c.args.claim.now.instance.now list c.lows_of-lows.new.node left c.in-Some.job c.args.machine here kid.0 kid.1 kid.2 c.requires.from c.requires.to)
 
 pub completion_of-requires-clause-within : goal.completion_of-requires-clause-within
 completion_of-requires-clause-within c = node-within c.args.claim.now.instance.now c.requires.at.0 c.lows_of-lows.new.node (left_before c.args.child (suc c.requires.at.1)) c.requires.rows.limits (c.lows_of-lows.ensures.kept c.requires.at.0 (left_before c.args.child (suc c.requires.at.1)) c.requires.at.2).is_node
