@@ -18,16 +18,16 @@ joined x first next front y tail rest before behind =
     ∙ sym (append_assoc front tail rest)
 
 -- one piece behind another
-pub then-hands : (a b c : Option (List ℕ)) (x y z first next : List ℕ) → HandsOn a b x first y → HandsOn b c y next z → HandsOn a c x (first ++ next) z
-then-hands a b c x y z first next h k = record {
+pub then-hands : {a b c : Option (List ℕ)} {x y z first next : List ℕ} → HandsOn a b x first y → HandsOn b c y next z → HandsOn a c x (first ++ next) z
+then-hands {a = a} {b = b} {c = c} {x = x} {y = y} {z = z} {first = first} {next = next} h k = record {
   front = h.front ++ k.front;
   whole = joined x first next h.front y k.front z h.whole k.whole;
   added = Appends-trans a b c h.front k.front h.added k.added;
 }
 
 -- a piece that is not handed on whole, behind another
-pub then-stops : (a b c : Option (List ℕ)) (x y first next : List ℕ) → HandsOn a b x first y → AddsProperPrefix b c (y ++ next) → AddsProperPrefix a c (x ++ (first ++ next))
-then-stops a b c x y first next h (front, back, whole, some, added) =
+pub then-stops : {a b : Option (List ℕ)} {x y first : List ℕ} (c : Option (List ℕ)) (next : List ℕ) → HandsOn a b x first y → AddsProperPrefix b c (y ++ next) → AddsProperPrefix a c (x ++ (first ++ next))
+then-stops {a = a} {b = b} {x = x} {y = y} {first = first} c next h (front, back, whole, some, added) =
     (h.front ++ front, back, joined x first next h.front y front back h.whole whole, some, Appends-trans a b c h.front front h.added added)
 
 -- nor is a text that begins with it
@@ -64,12 +64,12 @@ puts-then-stops a b c x bytes first (front, back, whole, some, added) =
     (x ++ front, back, ap (λ t. x ++ t) whole ∙ sym (append_assoc x front back), some, Appends-trans a b c x front first added)
 
 -- a text is handed on, and what is gathered at its end is put
-pub then-puts : (a b c : Option (List ℕ)) (y text : List ℕ) → HandsOn a b [] text y → Appends b c y → Appends a c text
-then-puts a b c y text h k = subst (Appends a c) (sym h.whole) (Appends-trans a b c h.front y h.added k)
+pub then-puts : {a b : Option (List ℕ)} {y text : List ℕ} (c : Option (List ℕ)) → HandsOn a b [] text y → Appends b c y → Appends a c text
+then-puts {a = a} {b = b} {y = y} c h k = subst (Appends a c) (sym h.whole) (Appends-trans a b c h.front y h.added k)
 
 -- a text is handed on, and what is gathered at its end is not put whole
-pub then-stops_putting : (a b c : Option (List ℕ)) (y text : List ℕ) → HandsOn a b [] text y → AddsProperPrefix b c y → AddsProperPrefix a c text
-then-stops_putting a b c y text h (front, back, whole, some, added) = (
+pub then-stops_putting : {a b : Option (List ℕ)} {y text : List ℕ} (c : Option (List ℕ)) → HandsOn a b [] text y → AddsProperPrefix b c y → AddsProperPrefix a c text
+then-stops_putting {a = a} {b = b} c h (front, back, whole, some, added) = (
   h.front ++ front,
   back,
   h.whole ∙ ap (λ t. h.front ++ t) whole ∙ sym (append_assoc h.front front back),

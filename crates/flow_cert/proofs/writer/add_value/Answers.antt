@@ -11,8 +11,8 @@ returns-in_err-add_number-clause-err g c =
 
 pub returns-clause-ok : goal.returns-clause-ok
 returns-clause-ok g c =
-    on_ok_weaker c.add.result (then-hands _ _ _ c.args.gathered.now c.add_number.new.self c.add.new.self (decimal c.args.value) (10 ∷ []) c.in_ok-add_number.ensures.ok) c.add.ensures.ok
+    on_ok_weaker c.add.result (then-hands c.in_ok-add_number.ensures.ok) c.add.ensures.ok
 
 pub returns-clause-err : goal.returns-clause-err
 returns-clause-err g c =
-    on_err_weaker c.add.result (then-stops _ _ _ c.args.gathered.now c.add_number.new.self (decimal c.args.value) (10 ∷ []) c.in_ok-add_number.ensures.ok) c.add.ensures.err
+    on_err_weaker c.add.result (then-stops _ (10 ∷ []) c.in_ok-add_number.ensures.ok) c.add.ensures.err

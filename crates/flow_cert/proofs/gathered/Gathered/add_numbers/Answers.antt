@@ -20,7 +20,7 @@ returns-in_err-add-clause-err g c =
     at-number ns i n gap below refl c.loop-number.invariant.gap ∙ append_assoc done (decimal n) rest in
     on-err c.from_residual.result
     (stops-within _ _ c.args.self.now done (decimal n ++ rest) (line (spaced ns)) text
-    (then-stops _ _ _ c.args.self.now c.loop-number.self (spaced (take i ns)) gap c.loop-number.invariant.handed c.in_err-add.ensures.err))
+    (then-stops _ gap c.loop-number.invariant.handed c.in_err-add.ensures.err))
 
 pub returns-in_err-add_number-clause-err : goal.returns-in_err-add_number-clause-err
 returns-in_err-add_number-clause-err g c =
@@ -34,9 +34,7 @@ returns-in_err-add_number-clause-err g c =
     let is : n ≡ get_or ns i 0 = c.from.ensures in
     on-err c.from_residual-in_err-add_number.result
     (stops-within _ _ c.args.self.now (done ++ decimal n) rest (line (spaced ns)) (at-number ns i n gap below is c.loop-number.invariant.gap)
-    (then-stops _ _ _ c.args.self.now c.add.new.self done (decimal n)
-    (then-hands _ _ _ c.args.self.now c.loop-number.self c.add.new.self (spaced (take i ns)) gap c.loop-number.invariant.handed c.in_ok-add.ensures.ok)
-    c.in_err-add_number.ensures.err))
+    (then-stops _ (decimal n) (then-hands c.loop-number.invariant.handed c.in_ok-add.ensures.ok) c.in_err-add_number.ensures.err))
 
 pub loop-number-preserved : goal.loop-number-preserved
 loop-number-preserved g c =
@@ -52,9 +50,7 @@ loop-number-preserved g c =
       gap = gap-more ns i below;
       handed = subst (λ t. HandsOn (g.S.Sink.taken c.args.out.now) (g.S.Sink.taken c.add_number.new.out) c.args.self.now t c.add_number.new.self)
           (sym (one-more-number ns i n gap below is c.loop-number.invariant.gap))
-          (then-hands _ _ _ c.args.self.now c.add.new.self c.add_number.new.self done (decimal n)
-          (then-hands _ _ _ c.args.self.now c.loop-number.self c.add.new.self (spaced (take i ns)) gap c.loop-number.invariant.handed c.in_ok-add.ensures.ok)
-          c.in_ok-add_number.ensures.ok);
+          (then-hands (then-hands c.loop-number.invariant.handed c.in_ok-add.ensures.ok) c.in_ok-add_number.ensures.ok);
     }
 
 pub returns-clause-ok : goal.returns-clause-ok
@@ -62,11 +58,11 @@ returns-clause-ok g c =
     let ns : List ℕ = c.args.numbers.now in
     let all : take c.loop-number.number-index ns ≡ ns = take_all c.loop-number.number-index ns (omega arith) in
     let handed = rw all at c.loop-number.invariant.handed in
-    on_ok_weaker c.add-2.result (then-hands _ _ _ c.args.self.now c.loop-number.self c.add-2.new.self (spaced ns) (10 ∷ []) handed) c.add-2.ensures.ok
+    on_ok_weaker c.add-2.result (then-hands handed) c.add-2.ensures.ok
 
 pub returns-clause-err : goal.returns-clause-err
 returns-clause-err g c =
     let ns : List ℕ = c.args.numbers.now in
     let all : take c.loop-number.number-index ns ≡ ns = take_all c.loop-number.number-index ns (omega arith) in
     let handed = rw all at c.loop-number.invariant.handed in
-    on_err_weaker c.add-2.result (then-stops _ _ _ c.args.self.now c.loop-number.self (spaced ns) (10 ∷ []) handed) c.add-2.ensures.err
+    on_err_weaker c.add-2.result (then-stops _ (10 ∷ []) handed) c.add-2.ensures.err
