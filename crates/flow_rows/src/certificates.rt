@@ -3,6 +3,7 @@
 use crate::instances::{three_machines, two_machines};
 use flow_cert::{CheckFault, check};
 use flow_core::Instance;
+use std::alloc::Global;
 use std::test::Fail;
 
 /// The certificate of the instance with three machines at depth 0.
@@ -40,6 +41,39 @@ fn checker_accepts_lawful_certificates(rt: HostRuntime) -> Result<(), Fail> {
     let one = Instance::new(alloc, 1, 1, &[0])?;
     let text = b"flowshop certificate 1\n1 1 0\n0\n1\nA\nend\n";
     assert_eq!(rt; check(alloc, &one, text), Ok(0));
+    Ok(())
+}
+
+/// A certificate of 48 jobs on one machine with times 0, at depth 3, with so many trees.
+fn of_48_jobs(alloc: Global, trees: u32) -> Result<Vec<u8>, Fail> {
+    let mut text = Vec::new(alloc);
+    text.extend_from_slice(b"flowshop certificate 1\n48 1 3\n0\n1")?;
+    for job in 2..49u16 {
+        text.extend_from_slice(format!(in alloc; " {}", job)?.as_bytes())?;
+    }
+    text.push(b'\n')?;
+    text.extend_from_slice(b"A\n".repeat(alloc, trees as usize)?.as_slice())?;
+    text.extend_from_slice(b"end\n")?;
+    Ok(text)
+}
+
+#[test]
+fn checker_reads_more_trees_than_a_plan_may_have(rt: HostRuntime) -> Result<(), Fail> {
+    let alloc = rt.alloc();
+    let instance = Instance::new(alloc, 48, 1, &[0; 48])?;
+    // 48 jobs have 48 * 47 * 46 lists of three.
+    let text = of_48_jobs(alloc, 103_776)?;
+    assert_eq!(rt; check(alloc, &instance, text.as_slice()), Ok(0));
+    let text = of_48_jobs(alloc, 103_775)?;
+    assert_eq!(rt;
+        check(alloc, &instance, text.as_slice()),
+        Err(CheckFault::Tree(103_780))
+    );
+    let text = of_48_jobs(alloc, 103_777)?;
+    assert_eq!(rt;
+        check(alloc, &instance, text.as_slice()),
+        Err(CheckFault::End)
+    );
     Ok(())
 }
 

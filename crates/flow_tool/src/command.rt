@@ -39,52 +39,70 @@ pub(crate) enum OfBlock<'a> {
 
 /// The grammar of the command line.
 pub(crate) fn make_command<'a>(alloc: Global) -> Result<Command<'a>, AllocError> {
-    let span = Command::new(alloc, "span")
-        .about("Prints the makespan of jobs in the given order")
-        .arg(word(alloc, "FILE"))?
-        .arg(number(alloc, "INDEX"))?
-        .arg(jobs(alloc))?;
-    let made = Command::new(alloc, "gen")
-        .about("Writes the instance of a seed, with its bounds")
-        .arg(number(alloc, "JOBS"))?
-        .arg(number(alloc, "MACHINES"))?
-        .arg(number(alloc, "SEED"))?;
-    let start = Command::new(alloc, "neh")
-        .about("Prints the starting sequence and its makespan")
-        .arg(word(alloc, "FILE"))?
-        .arg(number(alloc, "INDEX"))?;
-    let solved = Command::new(alloc, "solve")
-        .about("Finds the least makespan, and writes a certificate of it")
-        .arg(word(alloc, "FILE"))?
-        .arg(number(alloc, "INDEX"))?
-        .arg(option(
-            alloc,
-            "workers",
-            "K",
-            "1",
-            "How many workers there are, 1 to 64",
-        ))?
-        .arg(option(
-            alloc,
-            "depth",
-            "D",
-            "1",
-            "How many jobs a prefix has, 0 to 3",
-        ))?
-        .arg(option(alloc, "budget", "B", "1000000", "The most bytes of a tree"))?;
-    let checked = Command::new(alloc, "check")
-        .about("Checks a certificate, and prints the value that it proves least")
-        .arg(word(alloc, "FILE"))?
-        .arg(number(alloc, "INDEX"))?
-        .arg(word(alloc, "CERT"))?;
     Command::new(alloc, "flowshop")
         .about("Least makespans of permutation flow shops, with certificates")
         .subcommand_required(true)
-        .subcommand(span)?
-        .subcommand(made)?
-        .subcommand(start)?
-        .subcommand(solved)?
-        .subcommand(checked)
+        .subcommand(span_command(alloc)?)?
+        .subcommand(gen_command(alloc)?)?
+        .subcommand(neh_command(alloc)?)?
+        .subcommand(solve_command(alloc)?)?
+        .subcommand(check_command(alloc)?)
+}
+
+fn span_command<'a>(alloc: Global) -> Result<Command<'a>, AllocError> {
+    Command::new(alloc, "span")
+        .about("Prints the makespan of jobs in the given order")
+        .arg(word(alloc, "FILE"))?
+        .arg(number(alloc, "INDEX"))?
+        .arg(jobs(alloc))
+}
+
+fn gen_command<'a>(alloc: Global) -> Result<Command<'a>, AllocError> {
+    Command::new(alloc, "gen")
+        .about("Writes the instance of a seed, with its bounds")
+        .arg(number(alloc, "JOBS"))?
+        .arg(number(alloc, "MACHINES"))?
+        .arg(number(alloc, "SEED"))
+}
+
+fn neh_command<'a>(alloc: Global) -> Result<Command<'a>, AllocError> {
+    Command::new(alloc, "neh")
+        .about("Prints the starting sequence and its makespan")
+        .arg(word(alloc, "FILE"))?
+        .arg(number(alloc, "INDEX"))
+}
+
+fn solve_command<'a>(alloc: Global) -> Result<Command<'a>, AllocError> {
+    let workers = option(
+        alloc,
+        "workers",
+        "K",
+        "1",
+        "How many workers there are, 1 to 64",
+    );
+    let depth = option(
+        alloc,
+        "depth",
+        "D",
+        "1",
+        "How many jobs a prefix has, 0 to 3",
+    );
+    let budget = option(alloc, "budget", "B", "1000000", "The most bytes of a tree");
+    Command::new(alloc, "solve")
+        .about("Finds the least makespan, and writes a certificate of it")
+        .arg(word(alloc, "FILE"))?
+        .arg(number(alloc, "INDEX"))?
+        .arg(workers)?
+        .arg(depth)?
+        .arg(budget)
+}
+
+fn check_command<'a>(alloc: Global) -> Result<Command<'a>, AllocError> {
+    Command::new(alloc, "check")
+        .about("Checks a certificate, and prints the value that it proves least")
+        .arg(word(alloc, "FILE"))?
+        .arg(number(alloc, "INDEX"))?
+        .arg(word(alloc, "CERT"))
 }
 
 /// A required word.
