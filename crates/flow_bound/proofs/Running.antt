@@ -4,7 +4,7 @@ use Rattle.std.specs.List.{sum_by}
 use Rattle.std.proofs.lemmas.Bool.{cases_lt}
 use Rattle.std.proofs.lemmas.List.{get_or-set_other, get_or-set_same}
 use Rattle.std.proofs.lemmas.List.Sums.{sum_by_push}
-use Rattle.flow_core.specs.declared.limits.TheConstants.{MAX_MACHINES, MAX_TIME}
+use Rattle.flow_core.specs.Limits.{most_machines, greatest_time}
 use Rattle.flow_core.specs.Shop.{Shop, numbers, time, time_between, IsWithinLimits}
 use Rattle.flow_core.specs.Least.{least, greatest}
 use Rattle.flow_core.proofs.Extremes.{greatest-append, map-map-append}
@@ -85,14 +85,14 @@ head-step shop job (suc k) low =
     let e : k ≡ suc k - 1 = omega arith in
     time_between-more shop job 1 k (omega arith) ∙ ap (λ n. time_between shop job 1 n + time shop job (suc k)) e
 
-pub head-small : (shop : Shop) (job machine : ℕ) → IsWithinLimits shop → machine ≤ shop.machines → time_between shop job 1 machine ≤ MAX_MACHINES * MAX_TIME
+pub head-small : (shop : Shop) (job machine : ℕ) → IsWithinLimits shop → machine ≤ shop.machines → time_between shop job 1 machine ≤ most_machines * greatest_time
 head-small shop job machine limits within =
-    let most : shop.machines ≤ MAX_MACHINES = limits.machines in
+    let most : shop.machines ≤ most_machines = limits.machines in
     omega (arith, time_between-small shop job 1 machine (omega arith) limits, most)
 
-pub tail-small : (shop : Shop) (job machine : ℕ) → IsWithinLimits shop → time_between shop job (machine + 1) shop.machines ≤ MAX_MACHINES * MAX_TIME
+pub tail-small : (shop : Shop) (job machine : ℕ) → IsWithinLimits shop → time_between shop job (machine + 1) shop.machines ≤ most_machines * greatest_time
 tail-small shop job machine limits =
-    let most : shop.machines ≤ MAX_MACHINES = limits.machines in
+    let most : shop.machines ≤ most_machines = limits.machines in
     omega (arith, time_between-small shop job (machine + 1) shop.machines (omega arith) limits, most)
 
 pub zeros : (n i : ℕ) → slice_index (replicate n 0) i ≡ 0

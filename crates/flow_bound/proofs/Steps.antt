@@ -1,7 +1,7 @@
 use Rattle.std.proofs.Common.{◌≡◌, ℕ, zero, suc, ◌+◌, ◌-◌, ◌*◌, ◌<◌, ◌≤◌, min, Bool, true, false, cond, List, [], ◌∷◌, ◌++◌, length, map, subst, refl, ap, ◌∙◌, inl, inr, arith}
 use Rattle.std.specs.List.{filter}
 use Rattle.std.proofs.lemmas.Bool.{cases_lt}
-use Rattle.flow_core.specs.declared.limits.TheConstants.{MAX_TIME}
+use Rattle.flow_core.specs.Limits.{greatest_time}
 use Rattle.flow_core.specs.Shop.{Shop, numbers, time, time_between, IsWithinLimits}
 use Rattle.flow_core.specs.Least.{least}
 use Rattle.flow_core.proofs.JobsLeft.{sum_by-jobs_left, sum_by-ones, filter-more}
@@ -51,7 +51,7 @@ least-le-first x [] = omega arith
 least-le-first x (y ∷ ys) = omega arith
 
 -- the times from a machine on fit
-pub time_between-small : (shop : Shop) (job a b : ℕ) → 1 ≤ a → IsWithinLimits shop → time_between shop job a b ≤ b * MAX_TIME
+pub time_between-small : (shop : Shop) (job a b : ℕ) → 1 ≤ a → IsWithinLimits shop → time_between shop job a b ≤ b * greatest_time
 time_between-small shop job a zero low limits = omega (arith, time_between-none shop job a 0 (omega arith))
 time_between-small shop job a (suc b) low limits =
     elim (cases_lt (suc b) a) [

@@ -5,7 +5,7 @@ use Rattle.std.specs.Str.{bytes_eq}
 use Rattle.std.specs.Cmp.Lexicographic.{bytes_decides}
 use Rattle.std.specs.Fmt.{decimal}
 use Rattle.std.proofs.lemmas.Bool.{cases_Bool, eqb-true, leb-true, ltb-true, lt-ltb}
-use Rattle.flow_core.specs.declared.limits.TheConstants.{MAX_DEPTH}
+use Rattle.flow_core.specs.Limits.{greatest_depth}
 use Rattle.flow_core.specs.Shop.{Shop, IsWithinLimits}
 use Rattle.flow_core.specs.Paths.{span}
 use Rattle.flow_core.specs.Sequences.{IsSequence}
@@ -61,17 +61,17 @@ size-read shop bytes depth rest limits h =
     ∙ ap (size_value shop rest) (numbers-complete shop.jobs (shop.machines ∷ depth ∷ []) fits)
     ∙ ap (λ b. cond b (on_line Value (after_size shop depth) rest) (Err Size)) (size-true shop depth h.0 h.1)
 
-size-other : (shop : Shop) (rest : List ℕ) (o : Option (List ℕ)) → ((depth : ℕ) → depth ≤ shop.jobs → depth ≤ MAX_DEPTH → o ≡ Some (shop.jobs ∷ shop.machines ∷ depth ∷ []) → ⊥) → size_value shop rest o ≡ Err Size
+size-other : (shop : Shop) (rest : List ℕ) (o : Option (List ℕ)) → ((depth : ℕ) → depth ≤ shop.jobs → depth ≤ greatest_depth → o ≡ Some (shop.jobs ∷ shop.machines ∷ depth ∷ []) → ⊥) → size_value shop rest o ≡ Err Size
 size-other shop rest None none = refl
 size-other shop rest (Some []) none = refl
 size-other shop rest (Some (a ∷ [])) none = refl
 size-other shop rest (Some (a ∷ b ∷ [])) none = refl
 size-other shop rest (Some (a ∷ b ∷ d ∷ x ∷ xs)) none = refl
 size-other shop rest (Some (a ∷ b ∷ d ∷ [])) none =
-    elim (cases_Bool (nat_eq a shop.jobs && nat_eq b shop.machines && nat_le d shop.jobs && nat_le d MAX_DEPTH)) [
+    elim (cases_Bool (nat_eq a shop.jobs && nat_eq b shop.machines && nat_le d shop.jobs && nat_le d greatest_depth)) [
       | inl same ↦
-          let t = four (nat_eq a shop.jobs) (nat_eq b shop.machines) (nat_le d shop.jobs) (nat_le d MAX_DEPTH) same in
-          absurd (none d (leb-true d shop.jobs t.2) (leb-true d MAX_DEPTH t.3) (ap (λ k. Some (k ∷ b ∷ d ∷ [])) (eqb-true a shop.jobs t.0) ∙ ap (λ k. Some (shop.jobs ∷ k ∷ d ∷ [])) (eqb-true b shop.machines t.1)))
+          let t = four (nat_eq a shop.jobs) (nat_eq b shop.machines) (nat_le d shop.jobs) (nat_le d greatest_depth) same in
+          absurd (none d (leb-true d shop.jobs t.2) (leb-true d greatest_depth t.3) (ap (λ k. Some (k ∷ b ∷ d ∷ [])) (eqb-true a shop.jobs t.0) ∙ ap (λ k. Some (shop.jobs ∷ k ∷ d ∷ [])) (eqb-true b shop.machines t.1)))
       | inr other ↦ ap (λ b. cond b (on_line Value (after_size shop d) rest) (Err Size)) other
     ]
 

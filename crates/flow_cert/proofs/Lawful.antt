@@ -5,7 +5,7 @@ use Rattle.std.specs.List.{AllZip, AllByRecursion, flat_map, filter, find, conca
 use Rattle.std.specs.Option.{option_map_or}
 use Rattle.std.proofs.lemmas.List.Elements.{All-from_recursion}
 use Rattle.std.proofs.lemmas.Bool.{leb-true, cases_Bool, cond-true, cond-false}
-use Rattle.flow_core.specs.declared.limits.TheConstants.{MAX_TIME, MAX_MACHINES, MAX_JOBS}
+use Rattle.flow_core.specs.Limits.{greatest_time, most_machines, most_jobs}
 use Rattle.flow_core.specs.Shop.{Shop, IsWithinLimits, numbers}
 use Rattle.flow_core.specs.Least.{least}
 use Rattle.flow_core.specs.Paths.{span}
@@ -80,8 +80,8 @@ tree-covers shop v start (suc left) prefix node low f short h fresh whole =
 -- the makespan of a sequence fits a word
 span-fits : (shop : Shop) (sequence : List ℕ) → IsWithinLimits shop → IsSequence shop.jobs sequence → span shop sequence < 2 ^ 64
 span-fits shop sequence limits is =
-    let small : span shop sequence ≤ (length sequence + shop.machines) * MAX_TIME = completion-small shop sequence shop.machines limits in
-    let few : length sequence + shop.machines ≤ MAX_JOBS + MAX_MACHINES = omega (arith, is.whole, limits.jobs, limits.machines) in
+    let small : span shop sequence ≤ (length sequence + shop.machines) * greatest_time = completion-small shop sequence shop.machines limits in
+    let few : length sequence + shop.machines ≤ most_jobs + most_machines = omega (arith, is.whole, limits.jobs, limits.machines) in
     omega (arith, small, few)
 
 pub plan_is_certified : PlanIsCertified

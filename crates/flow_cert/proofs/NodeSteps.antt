@@ -3,7 +3,7 @@ use Rattle.std.proofs.Common.{◌≡◌, ◌≢◌, ℕ, zero, suc, ◌+◌, ◌
 use Rattle.std.specs.List.{filter, sum_by}
 use Rattle.std.proofs.lemmas.List.{get_or-set_same, get_or-set_other, length-set}
 use Rattle.std.proofs.lemmas.Bool.{cases_lt}
-use Rattle.flow_core.specs.declared.limits.TheConstants.{MAX_JOBS, MAX_MACHINES, MAX_TIME}
+use Rattle.flow_core.specs.Limits.{most_jobs, most_machines, greatest_time}
 use Rattle.flow_core.specs.Shop.{Shop, numbers, time, time_between, IsWithinLimits}
 use Rattle.flow_core.specs.Paths.{completion}
 use Rattle.flow_core.specs.Front.{IsFrontOf, IsWithinFront}
@@ -30,8 +30,8 @@ kept-small f p most (suc n) small = omega (arith, kept-more f p n, kept-small f 
     one false v = omega arith
 
 -- the time owed to the jobs left fits
-pub owed-small : (shop : Shop) (list : List ℕ) (machine : ℕ) → IsWithinLimits shop → sum_by (λ job. time shop job machine) (jobs_left shop.jobs list) ≤ shop.jobs * MAX_TIME
-owed-small shop list machine limits = kept-small (λ job. time shop job machine) (λ job. not (has list job)) MAX_TIME shop.jobs (λ k. time-small shop k machine limits)
+pub owed-small : (shop : Shop) (list : List ℕ) (machine : ℕ) → IsWithinLimits shop → sum_by (λ job. time shop job machine) (jobs_left shop.jobs list) ≤ shop.jobs * greatest_time
+owed-small shop list machine limits = kept-small (λ job. time shop job machine) (λ job. not (has list job)) greatest_time shop.jobs (λ k. time-small shop k machine limits)
 
 none-has : (n : ℕ) → length (jobs_left n []) ≡ n
 none-has zero = refl
@@ -43,11 +43,11 @@ all-same zero v i h = absurd (omega (arith, h))
 all-same (suc n) v zero h = refl
 all-same (suc n) v (suc i) h = all-same n v i (omega (arith, h))
 
-none-known : (shop : Shop) (list least second : List ℕ) → IsWithinLimits shop → least ≡ replicate MAX_MACHINES unknown → second ≡ replicate MAX_MACHINES unknown → AreKnown shop list least second
+none-known : (shop : Shop) (list least second : List ℕ) → IsWithinLimits shop → least ≡ replicate most_machines unknown → second ≡ replicate most_machines unknown → AreKnown shop list least second
 none-known shop list least second limits a b = record {
   each = λ machine from to.
-      let most : shop.machines ≤ MAX_MACHINES = limits.machines in
-      inl (ap (λ l. slice_index l (machine - 1)) a ∙ all-same MAX_MACHINES unknown (machine - 1) (omega (arith, from, to, most)));
+      let most : shop.machines ≤ most_machines = limits.machines in
+      inl (ap (λ l. slice_index l (machine - 1)) a ∙ all-same most_machines unknown (machine - 1) (omega (arith, from, to, most)));
   least_size = ap length a;
   second_size = ap length b;
 }
@@ -62,7 +62,7 @@ known-more shop list node left machine lows limits is from to low = record {
   known = record {
     each = λ k low_k high_k. elim (eqb_tells k machine) [
       | inl same ↦
-          let most : shop.machines ≤ MAX_MACHINES = limits.machines in
+          let most : shop.machines ≤ most_machines = limits.machines in
           let a : lows.least ≡ slice_index (set node.least (machine - 1) lows.least) (k - 1) = sym (ap (λ i. slice_index (set node.least (machine - 1) lows.least) (i - 1)) same.1 ∙ get_or-set_same node.least (machine - 1) lows.least 0 (omega (arith, is.known.least_size, from, to, most))) in
           let b : lows.second ≡ slice_index (set node.second (machine - 1) lows.second) (k - 1) = sym (ap (λ i. slice_index (set node.second (machine - 1) lows.second) (i - 1)) same.1 ∙ get_or-set_same node.second (machine - 1) lows.second 0 (omega (arith, is.known.second_size, from, to, most))) in
           let here : AreLows shop list k lows = subst (λ i. AreLows shop list i lows) (sym same.1) low in
@@ -86,7 +86,7 @@ known-more shop list node left machine lows limits is from to low = record {
 -- the empty list
 pub root-node : (shop : Shop) (node : Node) → IsWithinLimits shop → IsFrontOf shop [] node.front →
     ((machine : ℕ) → 1 ≤ machine → machine ≤ shop.machines → slice_index node.owed (machine - 1) ≡ sum_by (λ job. time shop job machine) (jobs_left shop.jobs [])) →
-    length node.owed ≡ MAX_MACHINES → node.least ≡ replicate MAX_MACHINES unknown → node.second ≡ replicate MAX_MACHINES unknown → IsNode shop [] node shop.jobs
+    length node.owed ≡ most_machines → node.least ≡ replicate most_machines unknown → node.second ≡ replicate most_machines unknown → IsNode shop [] node shop.jobs
 root-node shop node limits times owed size least second = record {
   times = times;
   owed = owed;
@@ -98,9 +98,9 @@ root-node shop node limits times owed size least second = record {
 
 -- a list's child
 pub child-node : (shop : Shop) (list : List ℕ) (node child : Node) (left job : ℕ) → IsWithinLimits shop → IsNode shop list node (suc left) → 1 ≤ job → job ≤ shop.jobs → has list job ≡ false →
-    IsFrontOf shop (list ++ job ∷ []) child.front → length child.owed ≡ MAX_MACHINES →
+    IsFrontOf shop (list ++ job ∷ []) child.front → length child.owed ≡ most_machines →
     ((machine : ℕ) → 1 ≤ machine → machine ≤ shop.machines → slice_index child.owed (machine - 1) + time shop job machine ≡ slice_index node.owed (machine - 1)) →
-    child.least ≡ replicate MAX_MACHINES unknown → child.second ≡ replicate MAX_MACHINES unknown →
+    child.least ≡ replicate most_machines unknown → child.second ≡ replicate most_machines unknown →
     IsNode shop (list ++ job ∷ []) child left
 child-node shop list node child left job limits is low high fresh times size less least second = record {
   times = times;
@@ -132,10 +132,10 @@ tails-append shop machine (u ∷ us) vs = ap (λ xs. time_between shop u (machin
 
 -- the bound of a list with jobs left
 pub own-bound : (shop : Shop) (list : List ℕ) (node : Node) (left machine : ℕ) (lows : Lows) → IsWithinLimits shop → IsNode shop list node (suc left) → 1 ≤ machine → machine ≤ shop.machines → AreLows shop list machine lows →
-    (slice_index node.front (machine - 1) + slice_index node.owed (machine - 1) + lows.least ≡ bound_at shop list machine) × (lows.least ≤ MAX_MACHINES * MAX_TIME)
+    (slice_index node.front (machine - 1) + slice_index node.owed (machine - 1) + lows.least ≡ bound_at shop list machine) × (lows.least ≤ most_machines * greatest_time)
 own-bound shop list node left machine lows limits is from to low =
-    let most : shop.machines ≤ MAX_MACHINES = limits.machines in
-    let cap = least-below-cap unknown (MAX_MACHINES * MAX_TIME) (λ job. time_between shop job (machine + 1) shop.machines) (jobs_left shop.jobs list) (omega (arith, is.some))
+    let most : shop.machines ≤ most_machines = limits.machines in
+    let cap = least-below-cap unknown (most_machines * greatest_time) (λ job. time_between shop job (machine + 1) shop.machines) (jobs_left shop.jobs list) (omega (arith, is.some))
     (λ job. omega (arith, tail-small shop job (shop.machines - machine) machine limits (omega (arith, to)), most)) (omega arith) in
     let front : slice_index node.front (machine - 1) ≡ slice_index (front_of shop list) (machine - 1) = is.times machine from to ∙ sym (front_of-is shop list machine from to) in
     (omega (arith, front, is.owed machine from to, low.0, cap.0), omega (arith, low.0, cap.0, cap.1))
@@ -144,9 +144,9 @@ own-bound shop list node left machine lows limits is from to low =
 pub child-bound : (shop : Shop) (list : List ℕ) (node : Node) (left job machine free t tail behind : ℕ) (lows : Lows) → IsWithinLimits shop → IsNode shop list node (suc (suc left)) → 1 ≤ machine → machine ≤ shop.machines →
     1 ≤ job → job ≤ shop.jobs → has list job ≡ false → AreLows shop list machine lows →
     free ≡ completion shop (list ++ job ∷ []) machine → t ≡ time shop job machine → tail ≡ time_between shop job (machine + 1) shop.machines → Without tail lows.least lows.second behind →
-    (free + (slice_index node.owed (machine - 1) - t) + behind ≡ bound_at shop (list ++ job ∷ []) machine) × (behind ≤ MAX_MACHINES * MAX_TIME)
+    (free + (slice_index node.owed (machine - 1) - t) + behind ≡ bound_at shop (list ++ job ∷ []) machine) × (behind ≤ most_machines * greatest_time)
 child-bound shop list node left job machine free t tail behind lows limits is from to low high fresh are is_free is_t is_tail picked =
-    let most : shop.machines ≤ MAX_MACHINES = limits.machines in
+    let most : shop.machines ≤ most_machines = limits.machines in
     let f : ℕ → ℕ = λ j. time_between shop j (machine + 1) shop.machines in
     let us : List ℕ = left_under list job in
     let vs : List ℕ = children shop.jobs list (job + 1) in
@@ -162,7 +162,7 @@ child-bound shop list node left job machine free t tail behind lows limits is fr
     let behind_is : behind ≡ least_below unknown (tails shop machine (jobs_left shop.jobs (list ++ job ∷ []))) =
     same-without tail (f job) lows.least (least_below unknown (tails shop machine us ++ f job ∷ tails shop machine vs)) lows.second (second_below unknown unknown (tails shop machine us ++ f job ∷ tails shop machine vs)) behind (least_below unknown (tails shop machine us ++ tails shop machine vs)) is_tail least_is second_is picked one ∙ sym rest_is in
     let count = left-count shop.jobs list job low high fresh in
-    let cap = least-below-cap unknown (MAX_MACHINES * MAX_TIME) f (jobs_left shop.jobs (list ++ job ∷ [])) (omega (arith, is.some, count))
+    let cap = least-below-cap unknown (most_machines * greatest_time) f (jobs_left shop.jobs (list ++ job ∷ [])) (omega (arith, is.some, count))
     (λ j. omega (arith, tail-small shop j (shop.machines - machine) machine limits (omega (arith, to)), most)) (omega arith) in
     let front : free ≡ slice_index (front_of shop (list ++ job ∷ [])) (machine - 1) = is_free ∙ sym (front_of-is shop (list ++ job ∷ []) machine from to) in
     let sum = left-sum (λ j. time shop j machine) shop.jobs list job low high fresh in
@@ -186,7 +186,7 @@ filled-more P xs machine v from within here done k low high = elim (cases_lt k m
       subst (λ i. P i (slice_index (set xs (machine - 1) v) (i - 1))) e (subst (P machine) (sym (get_or-set_same xs (machine - 1) v 0 within)) here)
 ]
 
-pub owed-fits : (shop : Shop) (list : List ℕ) (node : Node) (left machine : ℕ) → IsWithinLimits shop → IsNode shop list node left → 1 ≤ machine → machine ≤ shop.machines → slice_index node.owed (machine - 1) ≤ MAX_JOBS * MAX_TIME
+pub owed-fits : (shop : Shop) (list : List ℕ) (node : Node) (left machine : ℕ) → IsWithinLimits shop → IsNode shop list node left → 1 ≤ machine → machine ≤ shop.machines → slice_index node.owed (machine - 1) ≤ most_jobs * greatest_time
 owed-fits shop list node left machine limits is from to =
-    let most : shop.jobs ≤ MAX_JOBS = limits.jobs in
+    let most : shop.jobs ≤ most_jobs = limits.jobs in
     omega (arith, is.owed machine from to, owed-small shop list machine limits, most)

@@ -4,7 +4,7 @@ use Rattle.std.specs.List.{range_with_len, sum_by}
 use Rattle.std.proofs.lemmas.List.{get_or-set_other, get_or-set_same}
 use Rattle.std.proofs.lemmas.List.Sums.{sum_by-cons}
 use Rattle.std.proofs.lemmas.Bool.{cases_lt}
-use Rattle.flow_core.specs.declared.limits.TheConstants.{MAX_TIME}
+use Rattle.flow_core.specs.Limits.{greatest_time}
 use Rattle.flow_core.specs.Shop.{Shop, time, time_between, IsWithinLimits}
 use Rattle.flow_core.proofs.Recurrence.{time_between-none}
 use Rattle.flow_core.proofs.Fronts.{time-small}
@@ -19,7 +19,7 @@ time_between-first shop job a b h =
     ∙ ap (λ k. time shop job a + sum_by (time shop job) (range_with_len (a + 1) k)) m
 
 -- the times behind a machine fit
-pub tail-small : (shop : Shop) (job d machine : ℕ) → IsWithinLimits shop → shop.machines ≡ machine + d → time_between shop job (machine + 1) shop.machines ≤ d * MAX_TIME
+pub tail-small : (shop : Shop) (job d machine : ℕ) → IsWithinLimits shop → shop.machines ≡ machine + d → time_between shop job (machine + 1) shop.machines ≤ d * greatest_time
 tail-small shop job zero machine limits e = omega (arith, time_between-none shop job (machine + 1) shop.machines (omega (arith, e)))
 tail-small shop job (suc d) machine limits e =
     let first = time_between-first shop job (machine + 1) shop.machines (omega (arith, e)) in

@@ -6,7 +6,7 @@ use Rattle.std.proofs.lemmas.List.{append-nil, length_push, length-append, get_o
 use Rattle.std.proofs.lemmas.List.Folds.{list_any-append}
 use Rattle.std.proofs.lemmas.List.Elements.{All-from_recursion, recursion_from_All}
 use Rattle.std.proofs.lemmas.Bool.{cases_Bool, eq-eqb, ne_eqb, false≢true, eqb-true}
-use Rattle.flow_core.specs.declared.limits.TheConstants.{MAX_JOBS}
+use Rattle.flow_core.specs.Limits.{most_jobs}
 use Rattle.flow_core.specs.Shop.{Shop}
 use Rattle.flow_core.specs.Front.{IsFrontOf}
 use Rattle.flow_core.specs.JobSet.{contains}
@@ -74,7 +74,7 @@ pub record IsDone (shop : Shop) (text : List ℕ) (place : ℕ) (set : List Bool
   pub range : InRange shop.jobs done
   pub distinct : AreDistinct done
   pub times : IsFrontOf shop done front
-  pub members : (job : ℕ) → 1 ≤ job → job ≤ MAX_JOBS → contains set job ≡ has done job
+  pub members : (job : ℕ) → 1 ≤ job → job ≤ most_jobs → contains set job ≡ has done job
   pub read : text ≡ ended shop.jobs done ++ rest
   pub only : (jobs after : List ℕ) → BeginsWithSequence shop.jobs text jobs after → (more : List ℕ) × (jobs ≡ done ++ more) × (rest ≡ ended (shop.jobs - length done) more ++ after)
 
@@ -142,7 +142,7 @@ at-job {shop} {text} {place} {set} {front} {rest} {done} is m end same within by
     let more : List ℕ = ended (left - 1) next.1 ++ after in
     (next.0, more, as-read shop.jobs m rest (end_of left) end next.0 more same (read-end shop.jobs m place (length done) end is.count within same byte) next.3, next.4)
 
-members-more : (set : List Bool) (done : List ℕ) (job k : ℕ) → length set ≡ MAX_JOBS → 1 ≤ job → job ≤ MAX_JOBS → 1 ≤ k → k ≤ MAX_JOBS → contains set k ≡ has done k → contains (set_at set (job - 1) true) k ≡ has (done ++ job ∷ []) k
+members-more : (set : List Bool) (done : List ℕ) (job k : ℕ) → length set ≡ most_jobs → 1 ≤ job → job ≤ most_jobs → 1 ≤ k → k ≤ most_jobs → contains set k ≡ has done k → contains (set_at set (job - 1) true) k ≡ has (done ++ job ∷ []) k
 members-more set done job k size low high from to before = elim (cases_Bool (nat_eq k job)) [
   | inl same ↦
       let e : k ≡ job = eqb-true k job same in
@@ -167,10 +167,10 @@ members-more set done job k size low high from to before = elim (cases_Bool (nat
 
 -- one more job is read
 done-next : (shop : Shop) (text : List ℕ) (place : ℕ) (set : List Bool) (front rest : List ℕ) (more : List Bool) (times after : List ℕ) (job : ℕ) (done : List ℕ) →
-    IsDone shop text place set front rest done → place ≤ shop.jobs → shop.jobs ≤ MAX_JOBS →
+    IsDone shop text place set front rest done → place ≤ shop.jobs → shop.jobs ≤ most_jobs →
     BeginsWithJob shop.jobs rest (end_of (shop.jobs - length done)) job after →
     ((j : ℕ) (r : List ℕ) → BeginsWithJob shop.jobs rest (end_of (shop.jobs - length done)) j r → (job ≡ j) × (after ≡ r)) →
-    contains set job ≡ false → length set ≡ MAX_JOBS → more ≡ set_at set (job - 1) true → IsFrontOf shop (done ++ job ∷ []) times →
+    contains set job ≡ false → length set ≡ most_jobs → more ≡ set_at set (job - 1) true → IsFrontOf shop (done ++ job ∷ []) times →
     IsDone shop text (place + 1) more times after (done ++ job ∷ [])
 done-next shop text place set front rest more times after job done is within limit here only new size inserted pushed = record {
   count = let long : length (done ++ job ∷ []) ≡ length done + 1 = length_push done job in omega (arith, long, is.count);
@@ -191,9 +191,9 @@ done-next shop text place set front rest more times after job done is within lim
 
 -- and it is as the reader takes it
 pub done-more : {shop : Shop} {text : List ℕ} {place : ℕ} {set : List Bool} {front rest done : List ℕ} → IsDone shop text place set front rest done → (more : List Bool) (times after : List ℕ) (job m end : ℕ) →
-    m ≡ shop.jobs → place ≤ m → end ≡ end_of (m + 1 - place) → shop.jobs ≤ MAX_JOBS →
+    m ≡ shop.jobs → place ≤ m → end ≡ end_of (m + 1 - place) → shop.jobs ≤ most_jobs →
     BeginsWithJob m rest end job after → ((j : ℕ) (r : List ℕ) → BeginsWithJob m rest end j r → (job ≡ j) × (after ≡ r)) →
-    contains set job ≡ false → length set ≡ MAX_JOBS → more ≡ set_at set (job - 1) true → IsFrontOf shop (done ++ job ∷ []) times →
+    contains set job ≡ false → length set ≡ most_jobs → more ≡ set_at set (job - 1) true → IsFrontOf shop (done ++ job ∷ []) times →
     IsDone shop text (place + 1) more times after (done ++ job ∷ [])
 done-more {shop} {text} {place} {set} {front} {rest} {done} is more times after job m end same within byte limit here only new size inserted pushed =
     let left : ℕ = shop.jobs - length done in

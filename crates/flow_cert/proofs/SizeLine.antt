@@ -1,7 +1,7 @@
 -- The line of an instance's size and a depth.
 use Rattle.std.proofs.Common.{◌≡◌, ℕ, ◌≤◌, ◌<◌, ◌^◌, List, [], ◌∷◌, ◌++◌, ap, ◌∙◌, append_assoc, arith}
 use Rattle.std.specs.Fmt.{decimal}
-use Rattle.flow_core.specs.declared.limits.TheConstants.{MAX_DEPTH}
+use Rattle.flow_core.specs.Limits.{greatest_depth}
 use Rattle.flow_cert.specs.Certificate.{line, spaced}
 use Rattle.flow_cert.specs.Heading.{BeginsWithNumber, BeginsWithSize}
 
@@ -15,5 +15,5 @@ size-parts a b d rest =
 pub first-number : (jobs machines : ℕ) (text rest : List ℕ) (depth : ℕ) → jobs < 2 ^ 64 → BeginsWithSize jobs machines text depth rest → BeginsWithNumber text 32 jobs (decimal machines ++ 32 ∷ (decimal depth ++ 10 ∷ rest))
 first-number jobs machines text rest depth fits h = (fits, h.2 ∙ size-parts jobs machines depth rest)
 
-pub depth-fits : (depth : ℕ) → depth ≤ MAX_DEPTH → depth < 2 ^ 64
+pub depth-fits : (depth : ℕ) → depth ≤ greatest_depth → depth < 2 ^ 64
 depth-fits depth h = let small : depth ≤ 3 = h in omega arith

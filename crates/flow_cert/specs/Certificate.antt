@@ -2,7 +2,7 @@
 use Rattle.std.specs.Prelude.{ℕ, zero, suc, ◌≡◌, ◌-◌, ◌^◌, ◌<◌, ◌≤◌, ◌⊎◌, List, [], ◌∷◌, ◌++◌, map, codes}
 use Rattle.std.specs.Fmt.{decimal}
 use Rattle.std.specs.List.{AllZip, concat, flat_map, join_with_byte}
-use Rattle.flow_core.specs.declared.limits.TheConstants.{MAX_DEPTH}
+use Rattle.flow_core.specs.Limits.{greatest_depth}
 use Rattle.flow_core.specs.Shop.{Shop}
 use Rattle.flow_core.specs.Paths.{span}
 use Rattle.flow_core.specs.Sequences.{IsSequence, IsLeastMakespan, jobs_left, cut}
@@ -46,7 +46,7 @@ certificate_text shop depth value sequence trees =
 -- what a certificate holds: a sequence that has the value, and trees that cover it from each prefix of the cut
 pub record Certifies (shop : Shop) (value depth : ℕ) (sequence : List ℕ) (trees : List (List ℕ)) : Type 0 where
   pub jobs_enough : depth ≤ shop.jobs
-  pub shallow : depth ≤ MAX_DEPTH
+  pub shallow : depth ≤ greatest_depth
   pub fits : value < 2 ^ 64
   pub whole : IsSequence shop.jobs sequence
   pub attained : span shop sequence ≡ value

@@ -4,7 +4,7 @@ use Rattle.std.specs.Option.{option_map, option_map_or}
 use Rattle.std.specs.List.{list_all, slice_split}
 use Rattle.std.specs.Str.{bytes_eq}
 use Rattle.std.specs.Str.Parse.{digits_value}
-use Rattle.flow_core.specs.declared.limits.TheConstants.{MAX_DEPTH}
+use Rattle.flow_core.specs.Limits.{greatest_depth}
 use Rattle.flow_core.specs.Shop.{Shop, IsWithinLimits}
 use Rattle.flow_core.specs.Paths.{span}
 use Rattle.flow_core.specs.Sequences.{jobs_left, cut}
@@ -107,7 +107,7 @@ value_value shop depth rest other = Err Value
 -- the numbers of the size's line, and the lines behind it
 abbrev pub size_value : Shop → List ℕ → Option (List ℕ) → Result ℕ CheckFault
 size_value shop rest (Some (jobs ∷ machines ∷ depth ∷ [])) =
-    cond (nat_eq jobs shop.jobs && nat_eq machines shop.machines && nat_le depth shop.jobs && nat_le depth MAX_DEPTH)
+    cond (nat_eq jobs shop.jobs && nat_eq machines shop.machines && nat_le depth shop.jobs && nat_le depth greatest_depth)
     (on_line Value (λ text more. value_value shop depth more (numbers_in text)) rest)
     (Err Size)
 size_value shop rest other = Err Size

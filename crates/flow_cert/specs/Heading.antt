@@ -1,7 +1,7 @@
 -- What the lines before the trees begin with.
 use Rattle.std.specs.Prelude.{ℕ, ◌≡◌, ◌≤◌, ◌<◌, ◌+◌, ◌-◌, ◌*◌, ◌^◌, Bool, cond, ◌&&◌, not, nat_eq, nat_lt, List, [], ◌∷◌, ◌++◌}
 use Rattle.std.specs.Fmt.{decimal}
-use Rattle.flow_core.specs.declared.limits.TheConstants.{MAX_DEPTH}
+use Rattle.flow_core.specs.Limits.{greatest_depth}
 use Rattle.flow_core.specs.Sequences.{IsSequence}
 use Rattle.flow_cert.specs.Certificate.{line, spaced}
 use Rattle.flow_cert.specs.Faults.{is_digit}
@@ -22,7 +22,7 @@ BeginsWithJob n text end job rest = (1 ≤ job) × (job ≤ n) × (text ≡ deci
 -- a text begins with the line of so many jobs and machines, and a depth
 abbrev pub BeginsWithSize : ℕ → ℕ → List ℕ → ℕ → List ℕ → Type 0
 BeginsWithSize jobs machines text depth rest =
-    (depth ≤ jobs) × (depth ≤ MAX_DEPTH) × (text ≡ line (spaced (jobs ∷ machines ∷ depth ∷ [])) ++ rest)
+    (depth ≤ jobs) × (depth ≤ greatest_depth) × (text ≡ line (spaced (jobs ∷ machines ∷ depth ∷ [])) ++ rest)
 
 -- a text begins with the line of a sequence
 abbrev pub BeginsWithSequence : ℕ → List ℕ → List ℕ → List ℕ → Type 0

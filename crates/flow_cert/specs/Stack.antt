@@ -1,7 +1,7 @@
 -- The lists of jobs at which the trees are read. A list's jobs left are linked: each leads to the next one.
 use Rattle.std.specs.Prelude.{ℕ, zero, suc, ◌≡◌, ◌+◌, ◌-◌, ◌≤◌, ◌<◌, ◌⊎◌, Bool, true, false, not, List, [], ◌∷◌, ◌++◌, length, filter, map, min, max, sum_by, drop, slice_index, slice_set, Option, Some, None, Result, Ok, Err}
 use Rattle.std.specs.List.{flat_map}
-use Rattle.flow_core.specs.declared.limits.TheConstants.{MAX_MACHINES}
+use Rattle.flow_core.specs.Limits.{most_machines}
 use Rattle.flow_core.specs.Shop.{Shop, numbers, time, time_between}
 use Rattle.flow_core.specs.Bound.{bound_at}
 use Rattle.flow_core.specs.Front.{IsFrontOf}
@@ -62,15 +62,15 @@ pub record AreKnown (shop : Shop) (list least second : List ℕ) : Type 0 where
   pub each : (machine : ℕ) → 1 ≤ machine → machine ≤ shop.machines →
       (slice_index least (machine - 1) ≡ unknown)
       ⊎ AreLows shop list machine (record { least = slice_index least (machine - 1); second = slice_index second (machine - 1) })
-  pub least_size : length least ≡ MAX_MACHINES
-  pub second_size : length second ≡ MAX_MACHINES
+  pub least_size : length least ≡ most_machines
+  pub second_size : length second ≡ most_machines
 
 -- a front and the times owed are those of a list with so many jobs left
 pub record IsNode (shop : Shop) (list : List ℕ) (node : Node) (left : ℕ) : Type 0 where
   pub times : IsFrontOf shop list node.front
   pub owed : (machine : ℕ) → 1 ≤ machine → machine ≤ shop.machines →
       slice_index node.owed (machine - 1) ≡ sum_by (λ job. time shop job machine) (jobs_left shop.jobs list)
-  pub size : length node.owed ≡ MAX_MACHINES
+  pub size : length node.owed ≡ most_machines
   pub known : AreKnown shop list node.least node.second
   pub count : length list + left ≡ shop.jobs
   pub some : length (jobs_left shop.jobs list) ≡ left

@@ -1,7 +1,7 @@
 //! The lists of jobs at which the trees are read, and their bounds.
 
 ghost use Rattle.std.specs.Prelude.{◌≡◌, ℕ, ◌+◌, ◌-◌, ◌*◌, ◌≤◌, ◌<◌, List, [], ◌∷◌, ◌++◌, sum_by, suc, false};
-ghost use Rattle.flow_core.specs.declared.limits.TheConstants.{MAX_JOBS, MAX_MACHINES, MAX_TIME, MAX_COMPLETION};
+ghost use Rattle.flow_core.specs.Limits.{most_jobs, most_machines, greatest_time, greatest_completion};
 ghost use Rattle.flow_core.specs.Shop.{time};
 ghost use Rattle.flow_core.specs.Paths.{completion};
 ghost use Rattle.flow_core.specs.Front.{IsFrontOf, IsWithinFront};
@@ -99,7 +99,7 @@ fn completion_of(claim: &Claim, front: &Front, job: u16, machine: u16) -> u64
     requires within { IsWithinFront claim.now.instance.now front.now }
     ensures value { (list : List ℕ) → IsFrontOf claim.now.instance.now list front.now →
         result ≡ completion claim.now.instance.now (list ++ job ∷ []) machine }
-    ensures small { result ≤ MAX_COMPLETION + machine * MAX_TIME }
+    ensures small { result ≤ greatest_completion + machine * greatest_time }
 {
     let row = &claim.rows[job as usize - 1];
     let mut free = 0;

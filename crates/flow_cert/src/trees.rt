@@ -1,7 +1,7 @@
 //! Reading the trees of a certificate.
 
 ghost use Rattle.std.specs.Prelude.{◌≡◌, ◌+◌, ◌≤◌, [], length, IfOk};
-ghost use Rattle.flow_core.specs.declared.limits.TheConstants.{MAX_JOBS};
+ghost use Rattle.flow_core.specs.Limits.{most_jobs};
 ghost use Rattle.flow_cert.specs.Stack.{AreLinks};
 ghost use Rattle.flow_cert.specs.Trees.{TreesGive};
 
@@ -18,7 +18,7 @@ const FIRST_TREE: usize = 5;
 
 /// The links of the empty list: each job leads to the next.
 fn all_links(alloc: Global, jobs: u16) -> Result<Vec<u16>, AllocError>
-    requires { jobs ≤ MAX_JOBS }
+    requires { jobs ≤ most_jobs }
     ensures { IfOk result (λ links. AreLinks jobs [] links.items) }
 {
     let mut links = Vec::with_capacity(alloc, jobs as usize + 1)?;

@@ -2,7 +2,7 @@ use Rattle.std.proofs.Common.{◌≡◌, ℕ, zero, suc, ◌+◌, ◌-◌, ◌*�
 use Rattle.std.proofs.Common.{inl, inr, ◌≢◌, set}
 use Rattle.std.proofs.lemmas.Bool.{cases_lt}
 use Rattle.std.proofs.lemmas.List.{get_or_past, get_or-set_other, get_or-set_same}
-use Rattle.flow_core.specs.declared.limits.TheConstants.{MAX_JOBS, MAX_MACHINES, MAX_TIME}
+use Rattle.flow_core.specs.Limits.{most_jobs, most_machines, greatest_time}
 use Rattle.flow_core.specs.Shop.{Shop, time, IsWithinLimits}
 use Rattle.flow_core.specs.Paths.{completion}
 use Rattle.flow_core.specs.Front.{IsFrontOf, IsWithinFront}
@@ -17,8 +17,8 @@ zeros zero i = refl
 zeros (suc n) zero = refl
 zeros (suc n) (suc i) = zeros n i
 
-pub front-empty : (shop : Shop) (machine : ℕ) → slice_index (replicate MAX_MACHINES 0) (machine - 1) ≡ completion shop [] machine
-front-empty shop machine = zeros MAX_MACHINES (machine - 1) ∙ sym (completion-is shop [] machine)
+pub front-empty : (shop : Shop) (machine : ℕ) → slice_index (replicate most_machines 0) (machine - 1) ≡ completion shop [] machine
+front-empty shop machine = zeros most_machines (machine - 1) ∙ sym (completion-is shop [] machine)
 
 -- a front that has the recurrence's values is that of the longer list
 pub front-push : (shop : Shop) (jobs old new : List ℕ) (job : ℕ) → ((machine : ℕ) → 1 ≤ machine → machine ≤ shop.machines → free_at new machine ≡ after shop (free_at old) job machine) → IsFrontOf shop jobs old → IsFrontOf shop (jobs ++ job ∷ []) new
@@ -28,7 +28,7 @@ front-push shop jobs old new job values front machine from to =
     ∙ sym (completion-after shop jobs job machine)
 
 -- the time of any job on any machine is within the limit
-pub time-small : (shop : Shop) (job machine : ℕ) → IsWithinLimits shop → time shop job machine ≤ MAX_TIME
+pub time-small : (shop : Shop) (job machine : ℕ) → IsWithinLimits shop → time shop job machine ≤ greatest_time
 time-small shop job machine limits =
     let place : ℕ = (machine - 1) * shop.jobs + (job - 1) in
     elim (cases_lt place (length shop.times)) [
@@ -36,19 +36,19 @@ time-small shop job machine limits =
       | inr past ↦ let none : slice_index shop.times place ≡ 0 = get_or_past shop.times place 0 past in omega arith
     ]
 
-after-small : (shop : Shop) (free : ℕ → ℕ) (job n k : ℕ) → IsWithinLimits shop → ((i : ℕ) → free i ≤ (n + i) * MAX_TIME) → after shop free job k ≤ (n + 1 + k) * MAX_TIME
+after-small : (shop : Shop) (free : ℕ → ℕ) (job n k : ℕ) → IsWithinLimits shop → ((i : ℕ) → free i ≤ (n + i) * greatest_time) → after shop free job k ≤ (n + 1 + k) * greatest_time
 after-small shop free job n zero limits small = omega arith
 after-small shop free job n (suc k) limits small =
     omega (arith, small (suc k), after-small shop free job n k limits small, time-small shop job (suc k) limits)
 
-completed-small : (shop : Shop) (free : ℕ → ℕ) (jobs : List ℕ) (n k : ℕ) → IsWithinLimits shop → ((i : ℕ) → free i ≤ (n + i) * MAX_TIME) → completed shop free jobs k ≤ (n + length jobs + k) * MAX_TIME
+completed-small : (shop : Shop) (free : ℕ → ℕ) (jobs : List ℕ) (n k : ℕ) → IsWithinLimits shop → ((i : ℕ) → free i ≤ (n + i) * greatest_time) → completed shop free jobs k ≤ (n + length jobs + k) * greatest_time
 completed-small shop free [] n k limits small = omega (arith, small k)
 completed-small shop free (j ∷ js) n k limits small =
     let ih = completed-small shop (after shop free j) js (n + 1) k limits (λ i. after-small shop free j n i limits small) in
     omega (arith, ih)
 
 -- a path has one step for each job and each machine
-pub completion-small : (shop : Shop) (jobs : List ℕ) (machine : ℕ) → IsWithinLimits shop → completion shop jobs machine ≤ (length jobs + machine) * MAX_TIME
+pub completion-small : (shop : Shop) (jobs : List ℕ) (machine : ℕ) → IsWithinLimits shop → completion shop jobs machine ≤ (length jobs + machine) * greatest_time
 completion-small shop jobs machine limits =
     omega (arith, completion-is shop jobs machine, completed-small shop (λ _. 0) jobs 0 machine limits (λ i. omega arith))
 
@@ -57,8 +57,8 @@ pub front-within : (shop : Shop) (jobs front : List ℕ) → IsWithinLimits shop
 front-within shop jobs front limits short is_front place within =
     let here : slice_index front (place + 1 - 1) ≡ completion shop jobs (place + 1) = is_front (place + 1) (omega arith) (omega arith) in
     let same : slice_index front (place + 1 - 1) ≡ slice_index front place = ap (slice_index front) (omega arith) in
-    let jobs_limit : shop.jobs ≤ MAX_JOBS = limits.jobs in
-    let machines_limit : shop.machines ≤ MAX_MACHINES = limits.machines in
+    let jobs_limit : shop.jobs ≤ most_jobs = limits.jobs in
+    let machines_limit : shop.machines ≤ most_machines = limits.machines in
     omega (arith, here, same, completion-small shop jobs (place + 1) limits)
 
 -- one more machine of a front

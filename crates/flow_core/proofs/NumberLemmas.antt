@@ -8,7 +8,7 @@ use Rattle.std.proofs.lemmas.List.{at_drop_more}
 use Rattle.std.proofs.lemmas.List.Folds.{list_all-append}
 use Rattle.flow_core.specs.Lines.{is_blank, is_plain, numbers_of, are_small}
 use Rattle.flow_core.specs.TextWalk.{line_numbers}
-use Rattle.flow_core.specs.declared.limits.TheConstants.{MAX_NUMBER}
+use Rattle.flow_core.specs.Limits.{greatest_number}
 use Rattle.flow_core.specs.declared.text.fault.LineFault.TheVariants as line
 
 -- the numbers of what is left of a line, behind what was read of a number, if any
@@ -57,14 +57,14 @@ pub numbers_of-after : (l : List ℕ) → numbers_of l ≡ numbers_after None l
 numbers_of-after l = sym (agree l).1
 
 -- a number stays too large, whatever follows
-numbers_after-large : (n : ℕ) (bs : List ℕ) → MAX_NUMBER < n → are_small (numbers_after (Some n) bs) ≡ false
+numbers_after-large : (n : ℕ) (bs : List ℕ) → greatest_number < n → are_small (numbers_after (Some n) bs) ≡ false
 numbers_after-large n [] h = grind (arith, nat_tests)
 numbers_after-large n (b ∷ bs) h = go (digit_value b) (numbers_after-large (n * 10 + digit_value b) bs)
   where
-    large : nat_le n MAX_NUMBER ≡ false
+    large : nat_le n greatest_number ≡ false
     large = grind (arith, nat_tests)
 
-    go : (d : ℕ) → (MAX_NUMBER < n * 10 + d → are_small (numbers_after (Some (n * 10 + d)) bs) ≡ false) → are_small (cond (is_blank b) (n ∷ numbers_after None bs) (numbers_after (Some (n * 10 + d)) bs)) ≡ false
+    go : (d : ℕ) → (greatest_number < n * 10 + d → are_small (numbers_after (Some (n * 10 + d)) bs) ≡ false) → are_small (cond (is_blank b) (n ∷ numbers_after None bs) (numbers_after (Some (n * 10 + d)) bs)) ≡ false
     go d more = pick (is_blank b)
       where
         pick : (p : Bool) → are_small (cond p (n ∷ numbers_after None bs) (numbers_after (Some (n * 10 + d)) bs)) ≡ false
@@ -90,14 +90,14 @@ numbers-digit read all line (Some n) i h b e =
     let step = at_drop_more (numbers_after (Some n)) line i 0 h in
     grind (arith, step)
 
-pub small-push : (read : List ℕ) (n : ℕ) → are_small read ≡ true → n ≤ MAX_NUMBER → are_small (read ++ n ∷ []) ≡ true
+pub small-push : (read : List ℕ) (n : ℕ) → are_small read ≡ true → n ≤ greatest_number → are_small (read ++ n ∷ []) ≡ true
 small-push read n h k = grind (arith, nat_tests, list_all-append)
 
 -- a number that is too large makes the whole too large
-pub large-all : (read all line : List ℕ) (n i : ℕ) → MAX_NUMBER < n → read ++ numbers_after (Some n) (drop (i + 1) line) ≡ all → are_small all ≡ false
+pub large-all : (read all line : List ℕ) (n i : ℕ) → greatest_number < n → read ++ numbers_after (Some n) (drop (i + 1) line) ≡ all → are_small all ≡ false
 large-all read all line n i h e =
     let large = numbers_after-large n (drop (i + 1) line) h in
-    let both = list_all-append (λ m. nat_le m MAX_NUMBER) read (numbers_after (Some n) (drop (i + 1) line)) in
+    let both = list_all-append (λ m. nat_le m greatest_number) read (numbers_after (Some n) (drop (i + 1) line)) in
     grind (arith, large, both)
 
 pub line_numbers-large : (l : List ℕ) → is_plain l ≡ true → are_small (numbers_of l) ≡ false → line_numbers l ≡ Err line.Number

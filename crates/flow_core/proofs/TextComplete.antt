@@ -9,7 +9,7 @@ use Rattle.flow_core.proofs.NumberLemmas.{numbers_after, numbers_of-after}
 use Rattle.flow_core.specs.declared.text.block.Block.{Block}
 use Rattle.flow_core.specs.TextFaults.{is_head}
 use Rattle.flow_core.specs.Shop.{Shop, IsWithinLimits}
-use Rattle.flow_core.specs.declared.limits.TheConstants.{MAX_TIME}
+use Rattle.flow_core.specs.Limits.{greatest_time}
 use Rattle.std.specs.Char.{digit_value}
 use Rattle.std.proofs.lemmas.List.Elements.{recursion_from_All}
 use Rattle.flow_core.specs.TextWalk.{◌>>=◌, State, Sizes, sizes_of, start, walk, placed, at_end, after_line, after_label, after_numbers, after_head_numbers, after_times, line_numbers, block_of}
@@ -50,17 +50,17 @@ numbers_of-some : (l : List ℕ) → is_number_line l ≡ true → 0 < length (n
 numbers_of-some l h = subst (λ ns. 0 < length ns) (sym (numbers_of-after l)) (numbers_after-some l h)
 
 -- times are small
-small-times : (ts : List ℕ) → AllByRecursion (λ t. t ≤ MAX_TIME) ts → (list_all small ts ≡ true) × (list_all is_time ts ≡ true)
+small-times : (ts : List ℕ) → AllByRecursion (λ t. t ≤ greatest_time) ts → (list_all small ts ≡ true) × (list_all is_time ts ≡ true)
 small-times [] h = (refl, refl)
 small-times (t ∷ ts) h =
     let more = small-times ts h.1 in
-    let first : t ≤ MAX_TIME = h.0 in
+    let first : t ≤ greatest_time = h.0 in
     let a : small t ≡ true = grind (arith, nat_tests) in
     let b : is_time t ≡ true = grind (arith, nat_tests) in
     (rw (a, more.0) refl, rw (b, more.1) refl)
 
 small-of-time : (shop : Shop) → IsWithinLimits shop → (list_all small shop.times ≡ true) × (list_all is_time shop.times ≡ true)
-small-of-time shop w = small-times shop.times (recursion_from_All (λ t. t ≤ MAX_TIME) shop.times w.times)
+small-of-time shop w = small-times shop.times (recursion_from_All (λ t. t ≤ greatest_time) shop.times w.times)
 
 line_numbers-plain : (l : List ℕ) → is_plain l ≡ true → list_all small (numbers_of l) ≡ true → line_numbers l ≡ Ok (numbers_of l)
 unfolding line_numbers

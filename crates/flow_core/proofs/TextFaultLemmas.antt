@@ -1,7 +1,7 @@
 -- The states of the reader agree with what the lines before decide, and its answer with the first fault.
 use Rattle.std.proofs.Common.{◌≡◌, ◌∙◌, ap, subst, ◌<◌, ◌+◌, ◌*◌, ◌%◌, ℕ, Bool, true, false, not, cond, eqb, nat_lt, nat_le, List, Option, Some, None, Ok, Err, Result, ◌++◌, ◌∷◌, [], length, slice_index, arith, refl, sym, inl, inr, length-append, append-nil}
 use Rattle.std.specs.Int.{is_in_range}
-use Rattle.flow_core.specs.declared.limits.TheConstants.{MAX_JOBS, MAX_MACHINES}
+use Rattle.flow_core.specs.Limits.{most_jobs, most_machines}
 use Rattle.flow_core.proofs.InstanceLemmas.{range-in}
 use Rattle.std.specs.Option.{option_or}
 use Rattle.std.proofs.lemmas.Bool.Decides.{nat_tests}
@@ -258,8 +258,8 @@ times-fault-is n ns h bs l =
 
 head-some : (ns : List ℕ) → is_head ns ≡ true → 0 < slice_index ns 0 * slice_index ns 1
 head-some ns h =
-    let both = and_true (is_in_range 1 MAX_JOBS (slice_index ns 0)) (is_in_range 1 MAX_MACHINES (slice_index ns 1)) h in
-    mul-some (slice_index ns 0) (slice_index ns 1) (range-in MAX_JOBS (slice_index ns 0) both.0).0 (range-in MAX_MACHINES (slice_index ns 1) both.1).0
+    let both = and_true (is_in_range 1 most_jobs (slice_index ns 0)) (is_in_range 1 most_machines (slice_index ns 1)) h in
+    mul-some (slice_index ns 0) (slice_index ns 1) (range-in most_jobs (slice_index ns 0) both.0).0 (range-in most_machines (slice_index ns 1) both.1).0
 
 -- behind a whole block
 whole-tracks : (h : Sizes) (bs : List Block) (e : List (List ℕ)) (l : List ℕ) (since : List ℕ) (block : Block) → Facts (l ∷ e) false false since (length since) → FirstTracks (at FirstLabel [] h (bs ++ block ∷ [])) (l ∷ e)

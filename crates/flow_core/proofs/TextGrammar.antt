@@ -7,7 +7,7 @@ use Rattle.flow_core.specs.Lines.{lines_of, after_blanks, is_digit, is_plain, nu
 use Rattle.flow_core.specs.declared.text.block.Block.{Block}
 use Rattle.std.specs.Prelude.{IfOk}
 use Rattle.flow_core.specs.TextFaults.{is_head}
-use Rattle.flow_core.specs.declared.limits.TheConstants.{MAX_NUMBER, MAX_TIME}
+use Rattle.flow_core.specs.Limits.{greatest_number, greatest_time}
 use Rattle.std.proofs.lemmas.List.Elements.{All-from_recursion}
 use Rattle.flow_core.specs.TextWalk.{◌>>=◌, TextGives, SizesFit, Keeps, State, Sizes, sizes_of, start, walk, placed, at_end, after_line, after_label, after_numbers, after_head_numbers, after_times, line_numbers, block_of}
 use Rattle.flow_core.specs.Text.{head_of, IsNumbers, IsBlock, AreGroups, Reads}
@@ -69,10 +69,10 @@ GoesOn s ls all = elim s.want [
 
 -- whether a number may stand in a text, and be a time
 abbrev pub small : ℕ → Bool
-small n = nat_le n MAX_NUMBER
+small n = nat_le n greatest_number
 
 abbrev pub is_time : ℕ → Bool
-is_time t = nat_le t MAX_TIME
+is_time t = nat_le t greatest_time
 
 pub bind_ok : {A B E : Type 0} (r : Result A E) (f : A → Result B E) (y : B) → (r >>= f) ≡ Ok y → (x : A) × (r ≡ Ok x) × (f x ≡ Ok y)
 bind_ok (Ok x) f y e = (x, refl, e)
@@ -184,7 +184,7 @@ and_true true true e = (refl, refl)
 and_true true false e = cc
 and_true false q e = cc
 
-all-times : (ts : List ℕ) → list_all is_time ts ≡ true → AllByRecursion (λ t. t ≤ MAX_TIME) ts
+all-times : (ts : List ℕ) → list_all is_time ts ≡ true → AllByRecursion (λ t. t ≤ greatest_time) ts
 all-times [] h = tt
 all-times (t ∷ ts) h =
     let both = and_true (is_time t) (list_all is_time ts) h in
@@ -194,7 +194,7 @@ all-times (t ∷ ts) h =
 -- a head and its times within the limits are a block
 pub IsBlock-fits : (h : Sizes) (ts : List ℕ) → SizesFit h → length ts ≡ h.jobs * h.machines → list_all is_time ts ≡ true → IsBlock (block_of h ts)
 IsBlock-fits h ts fit whole times = record {
-  instance = record { some_job = fit.some_job; jobs = fit.jobs; some_machine = fit.some_machine; machines = fit.machines; count = whole; times = All-from_recursion (λ t. t ≤ MAX_TIME) ts (all-times ts times) };
+  instance = record { some_job = fit.some_job; jobs = fit.jobs; some_machine = fit.some_machine; machines = fit.machines; count = whole; times = All-from_recursion (λ t. t ≤ greatest_time) ts (all-times ts times) };
   seed = fit.seed;
   upper = fit.upper;
   lower = fit.lower;

@@ -15,7 +15,7 @@ use Rattle.std.specs.List.{onto_first}
 use Rattle.std.specs.Char.{digit_value}
 use Rattle.flow_core.proofs.NumberLemmas.{numbers_after, numbers_of-after}
 use Rattle.flow_core.specs.Shop.{Shop, IsWithinLimits, numbers, time}
-use Rattle.flow_core.specs.declared.limits.TheConstants.{MAX_TIME}
+use Rattle.flow_core.specs.Limits.{greatest_time}
 use Rattle.flow_core.proofs.JobsLeft.{numbers-more}
 use Rattle.std.proofs.lemmas.List.{get_or-take, get_or-drop}
 use Rattle.std.proofs.lemmas.List.Elements.{recursion_from_All}
@@ -234,12 +234,12 @@ unfolding second_label
 second-is = (refl, refl)
 
 -- numbers within a limit are printed
-small-numbers : (ts : List ℕ) → AllByRecursion (λ t. t ≤ MAX_TIME) ts → AllByRecursion (λ t. t < 2 ^ 64) ts
+small-numbers : (ts : List ℕ) → AllByRecursion (λ t. t ≤ greatest_time) ts → AllByRecursion (λ t. t < 2 ^ 64) ts
 small-numbers [] h = tt
-small-numbers (t ∷ ts) h = let first : t ≤ MAX_TIME = h.0 in (omega (arith, first), small-numbers ts h.1)
+small-numbers (t ∷ ts) h = let first : t ≤ greatest_time = h.0 in (omega (arith, first), small-numbers ts h.1)
 
 small-times : (shop : Shop) → IsWithinLimits shop → AllByRecursion (λ t. t < 2 ^ 64) shop.times
-small-times shop w = small-numbers shop.times (recursion_from_All (λ t. t ≤ MAX_TIME) shop.times w.times)
+small-times shop w = small-numbers shop.times (recursion_from_All (λ t. t ≤ greatest_time) shop.times w.times)
 
 head-small : (block : Block) → IsBlock block → AllByRecursion (λ m. m < 2 ^ 64) (head_of block)
 head-small block w = (omega (arith, w.instance.jobs), (omega (arith, w.instance.machines), (omega (arith, w.seed), (omega (arith, w.upper), (omega (arith, w.lower), tt)))))

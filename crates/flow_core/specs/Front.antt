@@ -1,5 +1,5 @@
 use Rattle.std.specs.Prelude.{ℕ, ◌≡◌, ◌-◌, ◌<◌, ◌≤◌, List, slice_index}
-use Rattle.flow_core.specs.declared.limits.TheConstants.{MAX_COMPLETION}
+use Rattle.flow_core.specs.Limits.{greatest_completion}
 use Rattle.flow_core.specs.Shop.{Shop}
 use Rattle.flow_core.specs.Paths.{completion}
 
@@ -11,7 +11,7 @@ IsFrontOf shop jobs front =
 
 -- each time on the instance's machines is within the limit of a front
 abbrev pub IsWithinFront : Shop → List ℕ → Type 0
-IsWithinFront shop front = (place : ℕ) → place < shop.machines → slice_index front place ≤ MAX_COMPLETION
+IsWithinFront shop front = (place : ℕ) → place < shop.machines → slice_index front place ≤ greatest_completion
 
 -- only the times of the instance's machines differ
 abbrev pub SameElsewhere : Shop → List ℕ → List ℕ → Type 0

@@ -3,19 +3,19 @@ use Rattle.std.specs.Prelude.{ℕ, ◌+◌, ◌*◌, ◌==◌, nat_lt, List, [],
 use Rattle.std.specs.Int.{is_in_range}
 use Rattle.std.specs.Option.{option_map}
 use Rattle.flow_core.specs.Refusals.{fault_unless, first_fault}
-use Rattle.flow_core.specs.declared.limits.TheConstants.{MAX_JOBS, MAX_MACHINES, MAX_TIME}
+use Rattle.flow_core.specs.Limits.{most_jobs, most_machines, greatest_time}
 use Rattle.flow_core.specs.declared.instance.InstanceFault.{InstanceFault}
 use Rattle.flow_core.specs.declared.instance.InstanceFault.TheVariants.{Jobs, Machines, Count, Time, Memory}
 
 -- the first time that is too great, at its place in the list, from 1
 abbrev pub time_fault : List ℕ → Option InstanceFault
-time_fault times = option_map (λ index. Time (index + 1)) (position (λ time. nat_lt MAX_TIME time) times)
+time_fault times = option_map (λ index. Time (index + 1)) (position (λ time. nat_lt greatest_time time) times)
 
 -- why these numbers are no instance, if they are none
 abbrev pub instance_fault : ℕ → ℕ → List ℕ → Option InstanceFault
 instance_fault jobs machines times = first_fault (
-    fault_unless (is_in_range 1 MAX_JOBS jobs) Jobs
-    ∷ fault_unless (is_in_range 1 MAX_MACHINES machines) Machines
+    fault_unless (is_in_range 1 most_jobs jobs) Jobs
+    ∷ fault_unless (is_in_range 1 most_machines machines) Machines
     ∷ fault_unless (length times == jobs * machines) Count
     ∷ time_fault times
     ∷ [])

@@ -1,3 +1,4 @@
+pub mod Limits
 pub mod Shop
 pub mod Least
 pub mod Paths

@@ -2,7 +2,7 @@
 use Rattle.std.specs.Prelude.{ℕ, Bool, true, false, not, ◌||◌, ◌&&◌, ◌==◌, nat_lt, nat_le, if◌then◌else◌, List, [], ◌∷◌, length, map, filter}
 use Rattle.std.specs.List.{list_all, onto_first, slice_split}
 use Rattle.std.specs.Str.Parse.{digits_value}
-use Rattle.flow_core.specs.declared.limits.TheConstants.{MAX_NUMBER}
+use Rattle.flow_core.specs.Limits.{greatest_number}
 
 -- the lines of a text, without their ends: a line ends with LF or with the text
 abbrev pub lines_of : List ℕ → List (List ℕ)
@@ -48,4 +48,4 @@ numbers_of line = map (digits_value 10) (words line)
 
 -- whether each number may stand in a text
 abbrev pub are_small : List ℕ → Bool
-are_small numbers = list_all (λ n. nat_le n MAX_NUMBER) numbers
+are_small numbers = list_all (λ n. nat_le n greatest_number) numbers

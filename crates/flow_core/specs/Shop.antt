@@ -1,6 +1,6 @@
 use Rattle.std.specs.Prelude.{ℕ, ◌≡◌, ◌+◌, ◌-◌, ◌*◌, ◌≤◌, List, length, slice_index, sum_by, All}
 use Rattle.std.specs.List.{range_with_len}
-use Rattle.flow_core.specs.declared.limits.TheConstants.{MAX_JOBS, MAX_MACHINES, MAX_TIME}
+use Rattle.flow_core.specs.Limits.{most_jobs, most_machines, greatest_time}
 
 -- an instance: how many jobs and machines there are, and the times, machine by machine, of each machine job by job
 pub record Shop : Type 0 where
@@ -23,8 +23,8 @@ time_between shop job first last = sum_by (time shop job) (numbers first last)
 -- an instance is within the limits
 pub record IsWithinLimits (shop : Shop) : Type 0 where
   pub some_job : 1 ≤ shop.jobs
-  pub jobs : shop.jobs ≤ MAX_JOBS
+  pub jobs : shop.jobs ≤ most_jobs
   pub some_machine : 1 ≤ shop.machines
-  pub machines : shop.machines ≤ MAX_MACHINES
+  pub machines : shop.machines ≤ most_machines
   pub count : length shop.times ≡ shop.jobs * shop.machines
-  pub times : All (λ time. time ≤ MAX_TIME) shop.times
+  pub times : All (λ time. time ≤ greatest_time) shop.times

@@ -3,7 +3,7 @@ use Rattle.std.specs.Prelude.{◌≡◌, ℕ, ◌<◌, ◌≤◌, true, not, Lis
 use Rattle.std.specs.List.{AllByRecursion}
 use Rattle.flow_core.specs.Shop.{IsWithinLimits}
 use Rattle.flow_core.specs.Lines.{lines_of, is_blank_line, is_label_line, is_number_line, is_plain, numbers_of}
-use Rattle.flow_core.specs.declared.limits.TheConstants.{MAX_NUMBER}
+use Rattle.flow_core.specs.Limits.{greatest_number}
 use Rattle.flow_core.specs.declared.text.block.Block.{Block}
 
 -- a number line of digits and blanks alone
@@ -18,9 +18,9 @@ head_of block = block.instance.jobs ∷ block.instance.machines ∷ block.seed �
 -- the numbers of a block are within the limits
 pub record IsBlock (block : Block) : Type 0 where
   pub instance : IsWithinLimits block.instance
-  pub seed : block.seed ≤ MAX_NUMBER
-  pub upper : block.upper ≤ MAX_NUMBER
-  pub lower : block.lower ≤ MAX_NUMBER
+  pub seed : block.seed ≤ greatest_number
+  pub upper : block.upper ≤ greatest_number
+  pub lower : block.lower ≤ greatest_number
 
 -- the lines are a label line, number lines with the head of the block, a label line, and number lines with its times
 pub record IsGroup (lines : List (List ℕ)) (block : Block) : Type 0 where

@@ -5,7 +5,7 @@ use Rattle.std.specs.List.{list_all}
 use Rattle.std.specs.Option.{option_or}
 use Rattle.flow_core.specs.Refusals.{fault_unless, first_fault}
 use Rattle.flow_core.specs.Lines.{lines_of, is_blank_line, is_label_line, is_plain, numbers_of, are_small}
-use Rattle.flow_core.specs.declared.limits.TheConstants.{MAX_JOBS, MAX_MACHINES, MAX_TIME}
+use Rattle.flow_core.specs.Limits.{most_jobs, most_machines, greatest_time}
 use Rattle.flow_core.specs.declared.text.fault.TextFault.{TextFault}
 use Rattle.flow_core.specs.declared.text.fault.TextFault.TheVariants.{NoBlock, Label, Byte, Number, Head, Limits, Times}
 
@@ -49,11 +49,11 @@ count_fault earlier = if is_in_head earlier then Head (next_line earlier) else T
 
 -- the jobs and machines of a whole head are within the limits
 abbrev pub is_head : List ℕ → Bool
-is_head head = is_in_range 1 MAX_JOBS (slice_index head 0) && is_in_range 1 MAX_MACHINES (slice_index head 1)
+is_head head = is_in_range 1 most_jobs (slice_index head 0) && is_in_range 1 most_machines (slice_index head 1)
 
 -- whether each number may be a time
 abbrev pub are_times : List ℕ → Bool
-are_times times = list_all (λ time. nat_le time MAX_TIME) times
+are_times times = list_all (λ time. nat_le time greatest_time) times
 
 -- the numbers of a line keep the limits: those of a head once there are five, times at once
 abbrev pub keeps_limits : List (List ℕ) → List ℕ → Bool

@@ -3,7 +3,7 @@
 use Rattle.std.specs.Prelude.{◌≡◌, ℕ, ◌+◌, ◌*◌, ◌≤◌, true, not, ◌==◌, nat_lt, if◌then◌else◌, List, [], ◌∷◌, ◌++◌, length, Option, None, Some, Result, Ok, Err, slice_index}
 use Rattle.flow_core.specs.Lines.{after_blanks, is_digit, is_plain, numbers_of, are_small}
 use Rattle.flow_core.specs.TextFaults.{is_head, are_times}
-use Rattle.flow_core.specs.declared.limits.TheConstants.{MAX_JOBS, MAX_MACHINES, MAX_NUMBER}
+use Rattle.flow_core.specs.Limits.{most_jobs, most_machines, greatest_number}
 use Rattle.flow_core.specs.declared.text.block.Block.{Block}
 use Rattle.flow_core.specs.declared.text.fault.LineFault.{LineFault}
 use Rattle.flow_core.specs.declared.text.fault.LineFault.TheVariants as line
@@ -64,12 +64,12 @@ sizes_of ns = record { jobs = slice_index ns 0; machines = slice_index ns 1; see
 -- the head of a block keeps the limits
 pub record SizesFit (h : Sizes) : Type 0 where
   pub some_job : 1 ≤ h.jobs
-  pub jobs : h.jobs ≤ MAX_JOBS
+  pub jobs : h.jobs ≤ most_jobs
   pub some_machine : 1 ≤ h.machines
-  pub machines : h.machines ≤ MAX_MACHINES
-  pub seed : h.seed ≤ MAX_NUMBER
-  pub upper : h.upper ≤ MAX_NUMBER
-  pub lower : h.lower ≤ MAX_NUMBER
+  pub machines : h.machines ≤ most_machines
+  pub seed : h.seed ≤ greatest_number
+  pub upper : h.upper ≤ greatest_number
+  pub lower : h.lower ≤ greatest_number
 
 -- what is wanted, the numbers since the last label, the head of the block, and the blocks before it
 pub record State : Type 0 where

@@ -4,6 +4,7 @@ ghost use Rattle.std.specs.Prelude.{◌≡◌, ℕ, ◌-◌, ◌≤◌, List, []
 ghost use Rattle.flow_core.specs.Shop.{Shop};
 ghost use Rattle.flow_core.specs.Paths.{span};
 ghost use Rattle.flow_core.specs.Front.{IsFrontOf, IsWithinFront, SameElsewhere};
+ghost use Rattle.flow_core.specs.Limits.{most_machines};
 
 use crate::instance::Instance;
 use crate::limits::MAX_MACHINES;
@@ -51,7 +52,7 @@ impl Front {
     /// The completion time on a machine, counted from 1.
     pub fn at(&self, machine: u16) -> u64
         requires from { 1 ≤ machine }
-        requires to { machine ≤ MAX_MACHINES }
+        requires to { machine ≤ most_machines }
         ensures { result ≡ slice_index self.now (machine - 1) }
     {
         self.times[machine as usize - 1]

@@ -2,7 +2,7 @@
 
 ghost use Rattle.std.specs.Prelude.{◌≡◌, ℕ, ◌+◌, ◌-◌, ◌<◌, ◌≤◌, None, IfOk, OnOk, IfErr};
 ghost use Rattle.std.specs.Option.{SomeIff};
-ghost use Rattle.flow_core.specs.Generator.{state_after, drawn, generated, generator_fault};
+ghost use Rattle.flow_core.specs.Generator.{modulus, state_after, drawn, generated, generator_fault};
 ghost use Rattle.flow_core.specs.InstanceFaults.{but_memory};
 
 use crate::instance::{Instance, InstanceFault};
@@ -32,19 +32,19 @@ pub struct Taillard {
 
 impl Model for Taillard {
     ghost use Rattle.std.specs.Prelude.{ℕ, ◌<◌};
-    ghost use Rattle.flow_core.specs.declared.generator.TheConstants.{MODULUS};
+    ghost use Rattle.flow_core.specs.Generator.{modulus};
 
     ghost Value = { ℕ };
 
     ghost view = { λ g. g.state };
 
-    ghost invariant = { λ g. g.state < MODULUS };
+    ghost invariant = { λ g. g.state < modulus };
 }
 
 impl Taillard {
     /// The generator whose first state is the seed; `None` for a seed that is not in `1..=2147483646`.
     pub fn new(seed: u32) -> Option<Taillard>
-        ensures { SomeIff result ((1 ≤ seed) × (seed < MODULUS)) seed }
+        ensures { SomeIff result ((1 ≤ seed) × (seed < modulus)) seed }
     {
         if seed >= 1 && seed < MODULUS {
             Some(Taillard { state: seed })
@@ -56,7 +56,7 @@ impl Taillard {
     /// The state.
     pub fn state(&self) -> u32
         ensures value { result ≡ self.now }
-        ensures small { result < MODULUS }
+        ensures small { result < modulus }
     {
         self.state
     }

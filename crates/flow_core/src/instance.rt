@@ -4,6 +4,7 @@ ghost use Rattle.std.specs.Prelude.{◌≡◌, ℕ, ◌<◌, ◌≤◌, nat_lt, 
 ghost use Rattle.flow_core.specs.Shop.{IsWithinLimits, time};
 ghost use Rattle.flow_core.specs.InstanceFaults.{instance_fault, but_memory};
 ghost use Rattle.flow_core.specs.declared.instance.InstanceFault.TheVariants.{Memory};
+ghost use Rattle.flow_core.specs.Limits.{greatest_time};
 
 use crate::limits::{MAX_JOBS, MAX_MACHINES, MAX_TIME};
 use std::alloc::{AllocError, Global};
@@ -61,9 +62,9 @@ impl Model for Instance {
 
 /// The index of the first time above the limit.
 fn first_too_great(times: &[u32]) -> Option<usize>
-    ensures value { result ≡ position (λ time. nat_lt MAX_TIME time) times.now }
+    ensures value { result ≡ position (λ time. nat_lt greatest_time time) times.now }
     ensures within { IfSome result (λ index. index < length times.now) }
-    ensures none { IfNone result (All (λ time. time ≤ MAX_TIME) times.now) }
+    ensures none { IfNone result (All (λ time. time ≤ greatest_time) times.now) }
 {
     times.iter().position(|time| *time > MAX_TIME)
 }
@@ -139,7 +140,7 @@ impl Instance {
         requires machine_from { 1 ≤ machine }
         requires machine_to { machine ≤ self.now.machines }
         ensures value { result ≡ time self.now job machine }
-        ensures limit { result ≤ MAX_TIME }
+        ensures limit { result ≤ greatest_time }
     {
         let place = (machine as usize - 1) * self.jobs as usize + (job as usize - 1);
         self.times[place]

@@ -3,6 +3,7 @@
 ghost use Rattle.std.specs.Prelude.{◌≡◌, ℕ, ◌-◌, ◌<◌, ◌≤◌, List, [], length, count_by, slice_set, true, false};
 ghost use Rattle.flow_core.specs.Shop.{numbers};
 ghost use Rattle.flow_core.specs.JobSet.{contains, members};
+ghost use Rattle.flow_core.specs.Limits.{most_jobs};
 
 use crate::instance::Instance;
 use crate::limits::MAX_JOBS;
@@ -40,7 +41,7 @@ impl JobSet {
     pub fn none() -> Self
         ensures members { members result ≡ [] }
         ensures empty { (job : ℕ) → contains result job ≡ false }
-        ensures size { length result ≡ MAX_JOBS }
+        ensures size { length result ≡ most_jobs }
     {
         JobSet {
             flags: [false; MAX_JOBS],
@@ -52,7 +53,7 @@ impl JobSet {
         ensures members { members result ≡ numbers 1 instance.now.jobs }
         ensures each { (job : ℕ) → 1 ≤ job → job ≤ instance.now.jobs → contains result job ≡ true }
         ensures others { (job : ℕ) → instance.now.jobs < job → contains result job ≡ false }
-        ensures size { length result ≡ MAX_JOBS }
+        ensures size { length result ≡ most_jobs }
     {
         let mut set = JobSet::none();
         let end = instance.jobs() + 1;
@@ -65,9 +66,9 @@ impl JobSet {
     /// Puts a job in.
     pub fn insert(&mut self, job: u16)
         requires from { 1 ≤ job }
-        requires to { job ≤ MAX_JOBS }
+        requires to { job ≤ most_jobs }
         ensures value { self.new ≡ slice_set self.old (job - 1) true }
-        ensures size { length self.new ≡ MAX_JOBS }
+        ensures size { length self.new ≡ most_jobs }
     {
         self.flags[job as usize - 1] = true;
     }
@@ -75,9 +76,9 @@ impl JobSet {
     /// Takes a job out.
     pub fn remove(&mut self, job: u16)
         requires from { 1 ≤ job }
-        requires to { job ≤ MAX_JOBS }
+        requires to { job ≤ most_jobs }
         ensures value { self.new ≡ slice_set self.old (job - 1) false }
-        ensures size { length self.new ≡ MAX_JOBS }
+        ensures size { length self.new ≡ most_jobs }
     {
         self.flags[job as usize - 1] = false;
     }
@@ -85,9 +86,9 @@ impl JobSet {
     /// Whether a job is in.
     pub fn contains(&self, job: u16) -> bool
         requires from { 1 ≤ job }
-        requires to { job ≤ MAX_JOBS }
+        requires to { job ≤ most_jobs }
         ensures value { result ≡ contains self.now job }
-        ensures size { length self.now ≡ MAX_JOBS }
+        ensures size { length self.now ≡ most_jobs }
     {
         self.flags[job as usize - 1]
     }

@@ -23,9 +23,6 @@ pub use laws::{
     bound_is_admissible, completion_by_recurrence, completion_is_greatest, instances_have_no_fault,
     sequences_have_no_fault, texts_have_no_fault,
 };
-pub use limits::{
-    MAX_BUDGET, MAX_COMPLETION, MAX_DEPTH, MAX_JOBS, MAX_MACHINES, MAX_NUMBER, MAX_PREFIXES,
-    MAX_TIME, MAX_WORKERS,
-};
+pub use limits::{MAX_DEPTH, MAX_JOBS, MAX_MACHINES, MAX_NUMBER, MAX_TIME};
 pub use sequence::{Sequence, SequenceFault};
 pub use text::{Block, TextFault, block_text, read_blocks};

@@ -4,6 +4,7 @@ ghost use Rattle.std.specs.Prelude.{◌≡◌, ℕ, ◌≤◌, [], None, length,
 ghost use Rattle.flow_core.specs.Sequences.{IsSequence};
 ghost use Rattle.flow_core.specs.SequenceFaults.{place_fault, sequence_fault, but_memory};
 ghost use Rattle.flow_core.specs.declared.sequence.SequenceFault.TheVariants.{Memory};
+ghost use Rattle.flow_core.specs.Limits.{most_jobs};
 
 use crate::instance::Instance;
 use crate::job_set::JobSet;
@@ -56,7 +57,7 @@ impl Model for Sequence {
 
 /// The fault of the first job that is none of those from 1 to `n`, or stands at an earlier place.
 fn first_job_at_fault(n: u16, jobs: &[u16]) -> Option<SequenceFault>
-    requires { n ≤ MAX_JOBS }
+    requires { n ≤ most_jobs }
     ensures { result ≡ place_fault n [] jobs.now }
 {
     let mut earlier = JobSet::none();

@@ -3,6 +3,10 @@ use Rattle.std.specs.Prelude.{ℕ, List}
 use denote.RawPtr.{Ptr}
 use Rattle.rtrb.specs.Shared.{Names}
 
+-- the most slots of a lane: one for each prefix that a plan may have, and one for the end of its tasks
+abbrev pub most_slots : ℕ
+most_slots = 100001
+
 -- what tells one ring from another: where its words and its slots stand, and its names in proofs
 pub record Ring : Type 0 where
   pub words : Ptr

@@ -3,6 +3,7 @@
 #![tactic(auto)]
 
 ghost use Rattle.std.specs.Prelude.{◌≡◌, ◌≤◌, [], IfOk};
+ghost use Rattle.flow_lanes.specs.Lane.{most_slots};
 
 mod receiver;
 mod sender;
@@ -16,16 +17,13 @@ pub use sender::Sender;
 pub use settled::{Settled, settle};
 use std::alloc::{AllocError, Global};
 
-/// The most slots of a lane: one for each prefix that a plan may have, and one for the end of its tasks.
-pub const MAX_CAPACITY: usize = 100_001;
-
-/// The two ends of a new lane with `capacity` slots, all free. Refused only for want of memory.
+/// The two ends of a new lane with `capacity` slots, all free: 1 to 100,001 of them. Refused only where memory ran out.
 pub fn lane<T: Send + Drop>(
     alloc: Global,
     capacity: usize,
 ) -> Result<(Sender<T>, Receiver<T>), AllocError>
     requires at_least_one { 1 ≤ capacity }
-    requires within_limit { capacity ≤ MAX_CAPACITY }
+    requires within_limit { capacity ≤ most_slots }
     ensures one_lane { IfOk result (λ ends. ends.0.lane ≡ ends.1.lane) }
     ensures its_capacity { IfOk result (λ ends. ends.0.lane.capacity ≡ capacity) }
     ensures fresh_sender { IfOk result

@@ -17,7 +17,7 @@ use Rattle.flow_pool.specs.declared.ends.Task.TheVariants.{End}
 use Rattle.flow_pool.specs.declared.ends.Answer.{Answer}
 use Rattle.flow_pool.specs.declared.ends.HubEnds.{HubEnds}
 use Rattle.flow_pool.specs.declared.ends.WorkerEnds.{WorkerEnds}
-use Rattle.flow_pool.specs.declared.whole_run.TheConstants.{SLOTS}
+use Rattle.flow_pool.specs.Report.{run_slots}
 use Rattle.flow_pool.specs.Deal.{dealt, by_lane}
 use Rattle.flow_pool.specs.Work.{share, asking, tasks_of, prefix_count, answered, IsLawfulAnswer, IsServed}
 use Rattle.flow_pool.specs.Hub.{HasCollected, hub_lanes, hub_slots, sent_lists, received_lists}
@@ -167,7 +167,7 @@ pub AreWholeWork-from_parts : (plan : Planned) (before hubs : List HubEnds) (end
     → HasCollected plan before hubs answers → All (IsServed plan) ends → All (IsDoneAnswer plan) answers
     → map pair_tasks lanes ≡ sent_lists hubs → map pair_tasks lanes ≡ map worker_tasks ends
     → map pair_answers lanes ≡ received_lists hubs → map pair_answers lanes ≡ map worker_answers ends
-    → map pair_lanes lanes ≡ map hub_lanes hubs → map hub_slots before ≡ by_lane plan.options.workers (λ lane. (SLOTS, SLOTS))
+    → map pair_lanes lanes ≡ map hub_lanes hubs → map hub_slots before ≡ by_lane plan.options.workers (λ lane. (run_slots, run_slots))
     → AreWholeWork plan lanes
 AreWholeWork-from_parts plan before hubs ends answers lanes has served done t0 t1 a0 a1 c0 c1 =
     let k = plan.options.workers in
@@ -177,14 +177,14 @@ AreWholeWork-from_parts plan before hubs ends answers lanes has served done t0 t
     sym (map-map answered pair_answers lanes) ∙ (ap (map answered) a1 ∙ (map-map answered worker_answers ends ∙ answered-by_lane plan before hubs ends answers has served (sym t1 ∙ t0))) in
     let got : map pair_answers lanes ≡ by_lane k (λ lane. dealt k lane answers) = a0 ∙ has.received in
     let slots_of : Lane × Lane → ℕ × ℕ = λ q. (q.0.capacity, q.1.capacity) in
-    let slots : map (λ (q : Settled Task × Settled Answer). slots_of (pair_lanes q)) lanes ≡ by_lane k (λ lane. (SLOTS, SLOTS)) =
+    let slots : map (λ (q : Settled Task × Settled Answer). slots_of (pair_lanes q)) lanes ≡ by_lane k (λ lane. (run_slots, run_slots)) =
     sym (map-map slots_of pair_lanes lanes) ∙ (ap (map slots_of) (c0 ∙ has.lanes) ∙ (map-map slots_of hub_lanes before ∙ c1)) in
     let count : length lanes ≡ k = by_lane-length pair_tasks (tasks_of k n) lanes k tasks in
     record {
       count = count;
       each = λ worker within d.
           let here : worker < length lanes = omega arith in
-          let both = by_lane-at (λ (q : Settled Task × Settled Answer). slots_of (pair_lanes q)) (λ lane. (SLOTS, SLOTS)) lanes k slots worker d here in
+          let both = by_lane-at (λ (q : Settled Task × Settled Answer). slots_of (pair_lanes q)) (λ lane. (run_slots, run_slots)) lanes k slots worker d here in
           record {
             tasks = by_lane-at pair_tasks (tasks_of k n) lanes k tasks worker d here;
             numbers = by_lane-at (λ (q : Settled Task × Settled Answer). answered (pair_answers q)) (share k n) lanes k numbers worker d here;

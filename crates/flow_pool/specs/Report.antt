@@ -7,22 +7,25 @@ use Rattle.flow_search.specs.Outcomes.{IsLawful, IsDone, first_over_budget}
 use Rattle.flow_lanes.specs.declared.settled.Settled.{Settled}
 use Rattle.flow_pool.specs.declared.ends.Task.{Task}
 use Rattle.flow_pool.specs.declared.ends.Answer.{Answer}
-use Rattle.flow_pool.specs.declared.whole_run.TheConstants.{SLOTS}
 use Rattle.flow_pool.specs.declared.whole_run.SolveFault.{SolveFault}
 use Rattle.flow_pool.specs.declared.whole_run.SolveFault.TheVariants.{Memory, Threads, OverBudget}
 use Rattle.flow_pool.specs.Work.{prefix_count, share, tasks_of, answered}
+
+-- the slots of each lane of a run
+abbrev pub run_slots : ℕ
+run_slots = 4
 
 -- the answer is done, and lawful for its prefix
 pub record IsDoneAnswer (plan : Planned) (answer : Answer) : Type 0 where
   pub lawful : IsLawful plan answer.number answer.outcome
   pub done : IsDone answer.outcome
 
--- the settled lanes of a worker hold its tasks and a done, lawful answer to each prefix, and each lane has SLOTS slots
+-- the settled lanes of a worker hold its tasks and a done, lawful answer to each prefix, and each lane has run_slots slots
 pub record IsWholeWork (plan : Planned) (worker : ℕ) (lanes : Settled Task × Settled Answer) : Type 0 where
   pub tasks : lanes.0.items ≡ tasks_of plan.options.workers (prefix_count plan) worker
   pub numbers : answered lanes.1.items ≡ share plan.options.workers (prefix_count plan) worker
   pub answers : All (IsDoneAnswer plan) lanes.1.items
-  pub slots : (lanes.0.lane.capacity ≡ SLOTS) × (lanes.1.lane.capacity ≡ SLOTS)
+  pub slots : (lanes.0.lane.capacity ≡ run_slots) × (lanes.1.lane.capacity ≡ run_slots)
 
 -- one pair of settled lanes for each worker in order
 pub record AreWholeWork (plan : Planned) (lanes : List (Settled Task × Settled Answer)) : Type 0 where

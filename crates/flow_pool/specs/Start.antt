@@ -1,6 +1,6 @@
 -- What is so when the workers are started, and once they have ended.
 use Rattle.std.specs.Prelude.{◌≡◌, ◌≤◌, List, length, map, All}
-use Rattle.flow_core.specs.declared.limits.TheConstants.{MAX_WORKERS}
+use Rattle.flow_search.specs.Limits.{most_workers}
 use Rattle.flow_pool.specs.declared.ends.HubEnds.{HubEnds}
 use Rattle.flow_pool.specs.declared.ends.WorkerEnds.{WorkerEnds}
 use Rattle.flow_pool.specs.Work.{IsFresh, worker_lanes}
@@ -9,7 +9,7 @@ use Rattle.flow_pool.specs.Settling.{IsReadyHub, IsCollected}
 
 -- no more workers than the limit, with fresh ends; and the hub's ends of the same lanes, with room for a task
 pub record CanStart (workers : List WorkerEnds) (hubs : List HubEnds) : Type 0 where
-  pub count : length workers ≤ MAX_WORKERS
+  pub count : length workers ≤ most_workers
   pub fresh : All IsFresh workers
   pub ready : All IsReadyHub hubs
   pub same : map hub_lanes hubs ≡ map worker_lanes workers

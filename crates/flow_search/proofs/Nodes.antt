@@ -11,7 +11,7 @@ use Rattle.flow_core.specs.Front.{IsFrontOf, IsWithinFront}
 use Rattle.flow_core.specs.JobSet.{contains, members}
 use Rattle.flow_core.specs.Sequences.{has, jobs_left}
 use Rattle.flow_core.specs.Bound.{letter, machine_bound, bound_at, front_of}
-use Rattle.flow_core.specs.declared.limits.TheConstants.{MAX_JOBS, MAX_MACHINES}
+use Rattle.flow_core.specs.Limits.{most_jobs, most_machines}
 use Rattle.flow_core.proofs.JobsLeft.{filter-same, kept, kept-more, kept-has, sum_by-ones}
 use Rattle.flow_core.proofs.Fronts.{front-within}
 use Rattle.flow_core.proofs.JobSetLemmas.{members-is}
@@ -94,10 +94,10 @@ find-is shop node front unscheduled count value at =
     ∙ ap (λ x. nat_le value (x + sum_by (λ job. time shop job k) (jobs_left shop.jobs node) + least (map (λ job. time_between shop job (k + 1) shop.machines) (jobs_left shop.jobs node)))) same)
 
 -- a machine that was found
-pub machine-is : (shop : Shop) (p : ℕ → Bool) (machine : ℕ) → IsWithinLimits shop → Some machine ≡ find p (numbers 1 shop.machines) → (1 ≤ machine) × (machine ≤ MAX_MACHINES)
+pub machine-is : (shop : Shop) (p : ℕ → Bool) (machine : ℕ) → IsWithinLimits shop → Some machine ≡ find p (numbers 1 shop.machines) → (1 ≤ machine) × (machine ≤ most_machines)
 machine-is shop p machine limits e =
     let at = find-some p (λ k. (1 ≤ k) × (k ≤ shop.machines)) (numbers 1 shop.machines) machine (range-all shop.machines) (sym e) in
-    let most : shop.machines ≤ MAX_MACHINES = limits.machines in
+    let most : shop.machines ≤ most_machines = limits.machines in
     (at.1.0, omega (arith, at.1.1))
 
 size-set : (xs : List Bool) (i : ℕ) (b : Bool) → length (set xs i b) ≡ length xs
@@ -119,8 +119,8 @@ pub at-child : (shop : Shop) (node front next : List ℕ) (unscheduled : List Bo
     IsAt shop (node ++ job ∷ []) next (slice_set unscheduled (job - 1) false) left
 at-child shop node front next unscheduled count left job at e low high there is_next =
     let whole : length node + count ≡ shop.jobs = at.whole in
-    let size : length unscheduled ≡ MAX_JOBS = at.size in
-    let most : shop.jobs ≤ MAX_JOBS = at.limits.jobs in
+    let size : length unscheduled ≡ most_jobs = at.size in
+    let most : shop.jobs ≤ most_jobs = at.limits.jobs in
     let within : job - 1 < length unscheduled = omega arith in
     let free : has node job ≡ false = not-false (has node job) (sym there ∙ at.left job low high) in
     let fresh : Fresh shop.jobs (node ++ job ∷ []) =

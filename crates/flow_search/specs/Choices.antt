@@ -2,7 +2,8 @@
 use Rattle.std.specs.Prelude.{ℕ, ◌≤◌, nat_le, [], ◌∷◌, Option, Some, None, Result, Ok, Err}
 use Rattle.std.specs.Int.{is_in_range}
 use Rattle.flow_core.specs.Refusals.{fault_unless, first_fault}
-use Rattle.flow_core.specs.declared.limits.TheConstants.{MAX_WORKERS, MAX_DEPTH, MAX_BUDGET}
+use Rattle.flow_search.specs.Limits.{most_workers, greatest_budget}
+use Rattle.flow_core.specs.Limits.{greatest_depth}
 use Rattle.flow_search.specs.declared.options.OptionFault.{OptionFault}
 use Rattle.flow_search.specs.declared.options.OptionFault.TheVariants.{Workers, Depth, Budget}
 
@@ -15,17 +16,17 @@ pub record Choices : Type 0 where
 -- options are within the limits
 pub record AreWithinLimits (options : Choices) : Type 0 where
   pub some_worker : 1 ≤ options.workers
-  pub workers : options.workers ≤ MAX_WORKERS
-  pub depth : options.depth ≤ MAX_DEPTH
+  pub workers : options.workers ≤ most_workers
+  pub depth : options.depth ≤ greatest_depth
   pub some_byte : 1 ≤ options.budget
-  pub budget : options.budget ≤ MAX_BUDGET
+  pub budget : options.budget ≤ greatest_budget
 
 -- why three numbers are no options, if they are none
 abbrev pub option_fault : ℕ → ℕ → ℕ → Option OptionFault
 option_fault workers depth budget = first_fault (
-    fault_unless (is_in_range 1 MAX_WORKERS workers) Workers
-    ∷ fault_unless (nat_le depth MAX_DEPTH) Depth
-    ∷ fault_unless (is_in_range 1 MAX_BUDGET budget) Budget
+    fault_unless (is_in_range 1 most_workers workers) Workers
+    ∷ fault_unless (nat_le depth greatest_depth) Depth
+    ∷ fault_unless (is_in_range 1 greatest_budget budget) Budget
     ∷ [])
 
 -- the options of three numbers, or the first fault

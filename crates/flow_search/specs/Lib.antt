@@ -1,3 +1,4 @@
+pub mod Limits
 pub mod Choices
 pub mod Search
 pub mod Walk

@@ -1,6 +1,6 @@
 -- What the code of the search holds at a node, and what it does to its state.
 use Rattle.std.specs.Prelude.{ℕ, ◌≡◌, ◌+◌, ◌-◌, ◌<◌, ◌≤◌, Bool, true, false, not, cond, nat_lt, List, [], ◌∷◌, ◌++◌, length, slice_set, Option, Some, None}
-use Rattle.flow_core.specs.declared.limits.TheConstants.{MAX_JOBS}
+use Rattle.flow_core.specs.Limits.{most_jobs}
 use Rattle.flow_core.specs.Shop.{Shop, IsWithinLimits}
 use Rattle.flow_core.specs.Front.{IsFrontOf}
 use Rattle.flow_core.specs.JobSet.{contains}
@@ -26,14 +26,14 @@ pub record IsAt (shop : Shop) (node : List ℕ) (front : List ℕ) (unscheduled 
   pub is_front : IsFrontOf shop node front
   pub left : (job : ℕ) → 1 ≤ job → job ≤ shop.jobs → contains unscheduled job ≡ not (has node job)
   pub none : (job : ℕ) → shop.jobs < job → contains unscheduled job ≡ false
-  pub size : length unscheduled ≡ MAX_JOBS
+  pub size : length unscheduled ≡ most_jobs
 
 -- a search before its first node: all jobs are left, and nothing is seen or written
 pub record IsFresh (shop : Shop) (start : ℕ) (search : Search) : Type 0 where
   pub node : search.node.items ≡ []
   pub left : (job : ℕ) → 1 ≤ job → job ≤ shop.jobs → contains search.unscheduled job ≡ true
   pub none : (job : ℕ) → shop.jobs < job → contains search.unscheduled job ≡ false
-  pub size : length search.unscheduled ≡ MAX_JOBS
+  pub size : length search.unscheduled ≡ most_jobs
   pub incumbent : incumbent_of search ≡ (start, None)
   pub tree : search.tree.items ≡ []
 

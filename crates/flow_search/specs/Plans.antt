@@ -2,7 +2,7 @@
 use Rattle.std.specs.Prelude.{ℕ, ◌≡◌, ◌≤◌, nat_le, List, [], ◌∷◌, length, slice_index_or, Option, Some, None}
 use Rattle.std.specs.List.{concat}
 use Rattle.flow_core.specs.Refusals.{fault_unless, first_fault}
-use Rattle.flow_core.specs.declared.limits.TheConstants.{MAX_PREFIXES}
+use Rattle.flow_search.specs.Limits.{most_prefixes}
 use Rattle.flow_core.specs.Shop.{Shop, IsWithinLimits}
 use Rattle.flow_core.specs.Paths.{span}
 use Rattle.flow_core.specs.Sequences.{IsSequence, cut}
@@ -35,7 +35,7 @@ pub record IsPlan (plan : Planned) : Type 0 where
   pub is_sequence : IsSequence plan.shop.jobs plan.start.sequence
   pub is_span : plan.start.value ≡ span plan.shop plan.start.sequence
   pub deep : plan.options.depth ≤ plan.shop.jobs
-  pub few : length (prefixes_of plan) ≤ MAX_PREFIXES
+  pub few : length (prefixes_of plan) ≤ most_prefixes
 
 -- the prefixes of a plan, stored by their number and one after another
 pub record IsStored (plan : Planned) (count : ℕ) (lists : List ℕ) : Type 0 where
@@ -47,7 +47,7 @@ pub record IsStored (plan : Planned) (count : ℕ) (lists : List ℕ) : Type 0 w
 abbrev pub plan_fault : Shop → Choices → Option PlanFault
 plan_fault shop options = first_fault (
     fault_unless (nat_le options.depth shop.jobs) Depth
-    ∷ fault_unless (nat_le (length (cut shop.jobs options.depth)) MAX_PREFIXES) Prefixes
+    ∷ fault_unless (nat_le (length (cut shop.jobs options.depth)) most_prefixes) Prefixes
     ∷ [])
 
 -- a fault, want of memory aside

@@ -2,19 +2,20 @@
 
 ghost use Rattle.std.specs.Prelude.{◌≡◌, ℕ, ◌<◌, ◌≤◌, ◌++◌, length, IfSome, IfNone, OnOk};
 ghost use Rattle.std.specs.List.{concat};
-ghost use Rattle.flow_core.specs.declared.limits.TheConstants.{MAX_JOBS, MAX_PREFIXES};
+ghost use Rattle.flow_core.specs.Limits.{most_jobs};
+ghost use Rattle.flow_search.specs.Limits.{most_prefixes};
 ghost use Rattle.flow_core.specs.Sequences.{has, extensions, cut};
 
-use flow_core::MAX_PREFIXES;
+use crate::limits::MAX_PREFIXES;
 use std::alloc::AllocError;
 
 /// How many lists the cut has, where they are no more than the prefixes of a plan may be.
 pub fn prefix_count(jobs: u16, depth: u32) -> Option<u32>
     requires deep { depth ≤ jobs }
-    requires limit { jobs ≤ MAX_JOBS }
+    requires limit { jobs ≤ most_jobs }
     ensures counted { IfSome result (λ count. count ≡ length (cut jobs depth)) }
-    ensures few { IfSome result (λ count. count ≤ MAX_PREFIXES) }
-    ensures many { IfNone result (MAX_PREFIXES < length (cut jobs depth)) }
+    ensures few { IfSome result (λ count. count ≤ most_prefixes) }
+    ensures many { IfNone result (most_prefixes < length (cut jobs depth)) }
 {
     let mut count = 1;
     for used in 0..depth {
@@ -40,7 +41,7 @@ pub fn extend(
     list: &mut Vec<u16>,
     lists: &mut Vec<u16>,
 ) -> Result<(), AllocError>
-    requires { jobs ≤ MAX_JOBS }
+    requires { jobs ≤ most_jobs }
     ensures lists { OnOk result (lists.new.items ≡ lists.old.items ++ concat (extensions jobs more list.old.items)) }
     ensures list { OnOk result (list.new.items ≡ list.old.items) }
 {

@@ -3,7 +3,8 @@
 ghost use Rattle.std.specs.Prelude.{◌≡◌};
 ghost use Rattle.flow_search.specs.Choices.{AreWithinLimits, options_or_fault};
 
-use flow_core::{MAX_BUDGET, MAX_DEPTH, MAX_WORKERS};
+use crate::limits::{MAX_BUDGET, MAX_WORKERS};
+use flow_core::MAX_DEPTH;
 use std::alloc::AllocError;
 use std::marker::Model;
 use thiserror::Error;

@@ -1,7 +1,7 @@
 //! The search of the subtree of a prefix.
 
 ghost use Rattle.std.specs.Prelude.{◌≡◌, ℕ, ◌+◌, ◌<◌, ◌≤◌, List, ◌++◌, ◌∷◌, [], length, find, nat_le, false, IfOk, OnOk};
-ghost use Rattle.flow_core.specs.declared.limits.TheConstants.{MAX_JOBS};
+ghost use Rattle.flow_core.specs.Limits.{most_jobs};
 ghost use Rattle.flow_core.specs.Shop.{numbers};
 ghost use Rattle.flow_core.specs.Front.{IsWithinFront};
 ghost use Rattle.flow_core.specs.JobSet.{contains, members};
@@ -97,7 +97,7 @@ impl Search {
     /// Goes to the node with a job more.
     pub fn enter(&mut self, job: u16) -> Result<(), AllocFailed<u16>>
         requires from { 1 ≤ job }
-        requires to { job ≤ MAX_JOBS }
+        requires to { job ≤ most_jobs }
         ensures { OnOk result (Entered job self.old self.new) }
     {
         self.unscheduled.remove(job);
@@ -108,7 +108,7 @@ impl Search {
     /// Goes back to the node without its last job.
     fn leave(&mut self, job: u16)
         requires from { 1 ≤ job }
-        requires to { job ≤ MAX_JOBS }
+        requires to { job ≤ most_jobs }
         ensures { (jobs : List ℕ) → self.old.node.items ≡ jobs ++ job ∷ [] → Left job jobs self.old self.new }
     {
         self.node.pop();

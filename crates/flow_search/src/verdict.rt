@@ -1,7 +1,7 @@
 //! The verdict of a plan.
 
 ghost use Rattle.std.specs.Prelude.{◌≡◌, ℕ, ◌≤◌, ◌⊎◌, length, vec_len, None, Some, IfOk, OnOk, IfErr, All};
-ghost use Rattle.flow_core.specs.declared.limits.TheConstants.{MAX_PREFIXES};
+ghost use Rattle.flow_search.specs.Limits.{most_prefixes};
 ghost use Rattle.flow_core.specs.Paths.{span};
 ghost use Rattle.flow_core.specs.Sequences.{IsSequence, IsLeastMakespan};
 ghost use Rattle.flow_search.specs.Plans.{prefixes_of};
@@ -94,7 +94,7 @@ pub fn solve_plain(alloc: Global, plan: &Plan) -> Result<Verdict, RunFault>
 
 /// The fault of the first outcome that is not done.
 fn refusal_among(outcomes: &[Outcome]) -> Option<RunFault>
-    requires { length outcomes.now ≤ MAX_PREFIXES }
+    requires { length outcomes.now ≤ most_prefixes }
     ensures { result ≡ first_refusal 0 outcomes.now }
 {
     for (number, outcome) in outcomes.iter().enumerate() {

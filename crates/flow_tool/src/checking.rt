@@ -7,8 +7,9 @@ ghost use Rattle.flow_core.specs.declared.bytes.fault.WriteFault.TheVariants as 
 ghost use Rattle.flow_core.specs.declared.text.block.Block.{Block};
 ghost use Rattle.flow_tool.specs.Answers.{AnswersCheck, Picks};
 ghost use Rattle.flow_tool.specs.Runs.{Came, Ends, StopsAt, Wrote};
-ghost use Rattle.flow_tool.specs.declared.picked.TheConstants.{MAX_TEXT};
+ghost use Rattle.flow_tool.specs.Limits.{most_text};
 ghost use Rattle.flow_cert.specs.Check.{IsFirstFault};
+ghost use Rattle.flow_tool.specs.Limits.{most_certificate};
 
 use crate::fault::{ToolFault, of_check, of_read};
 use crate::lines::optimal_line;
@@ -38,8 +39,8 @@ fn check_certificate<C: Source, K: Sink>(
 ) -> Result<(), ToolFault>
     requires cert_works { C.has_failed cert.old ≡ false }
     requires out_works { K.has_failed out.old ≡ false }
-    ensures written { OnOk result (Came MAX_CERTIFICATE (λ bytes. Wrote (AnswersCheck instance.now bytes) (K.taken out.old) (K.taken out.new)) (C.given cert.old) (C.given cert.new) (C.has_ended cert.new)) }
-    ensures ended { IfErr result (Ends (out.new ≡ out.old) MAX_CERTIFICATE (AnswersCheck instance.now) (C.given cert.old) (C.given cert.new) (C.has_ended cert.new) (K.taken out.old) (K.taken out.new)) }
+    ensures written { OnOk result (Came most_certificate (λ bytes. Wrote (AnswersCheck instance.now bytes) (K.taken out.old) (K.taken out.new)) (C.given cert.old) (C.given cert.new) (C.has_ended cert.new)) }
+    ensures ended { IfErr result (Ends (out.new ≡ out.old) most_certificate (AnswersCheck instance.now) (C.given cert.old) (C.given cert.new) (C.has_ended cert.new) (K.taken out.old) (K.taken out.new)) }
     ensures read_device { IsErrOf result (ToolFault.Read read.Device) ↔ (C.has_failed cert.new ≡ true) }
     ensures write_device { IsErrOf result (ToolFault.Write write.Device) ↔ (K.has_failed out.new ≡ true) }
     ensures stands { Grows (C.given cert.old) (C.given cert.new) }
@@ -69,10 +70,10 @@ pub(crate) fn run_check<S: Source, C: Source, K: Sink>(
     requires file_works { S.has_failed file.old ≡ false }
     requires cert_works { C.has_failed cert.old ≡ false }
     requires out_works { K.has_failed out.old ≡ false }
-    ensures written { OnOk result (Came MAX_TEXT (λ text. (block : Block) × Picks text index (Ok block) × Came MAX_CERTIFICATE (λ bytes. Wrote (AnswersCheck block.instance bytes) (K.taken out.old) (K.taken out.new)) (C.given cert.old) (C.given cert.new) (C.has_ended cert.new)) (S.given file.old) (S.given file.new) (S.has_ended file.new)) }
+    ensures written { OnOk result (Came most_text (λ text. (block : Block) × Picks text index (Ok block) × Came most_certificate (λ bytes. Wrote (AnswersCheck block.instance bytes) (K.taken out.old) (K.taken out.new)) (C.given cert.old) (C.given cert.new) (C.has_ended cert.new)) (S.given file.old) (S.given file.new) (S.has_ended file.new)) }
     ensures ended { IfErr result (λ fault.
-        ((out.new ≡ out.old) × (cert.new ≡ cert.old) × StopsAt MAX_TEXT (λ text refusal. Picks text index (Err refusal)) (S.given file.old) (S.given file.new) (S.has_ended file.new) fault)
-        ⊎ Came MAX_TEXT (λ text. (block : Block) × Picks text index (Ok block) × Ends (out.new ≡ out.old) MAX_CERTIFICATE (AnswersCheck block.instance) (C.given cert.old) (C.given cert.new) (C.has_ended cert.new) (K.taken out.old) (K.taken out.new) fault) (S.given file.old) (S.given file.new) (S.has_ended file.new)) }
+        ((out.new ≡ out.old) × (cert.new ≡ cert.old) × StopsAt most_text (λ text refusal. Picks text index (Err refusal)) (S.given file.old) (S.given file.new) (S.has_ended file.new) fault)
+        ⊎ Came most_text (λ text. (block : Block) × Picks text index (Ok block) × Ends (out.new ≡ out.old) most_certificate (AnswersCheck block.instance) (C.given cert.old) (C.given cert.new) (C.has_ended cert.new) (K.taken out.old) (K.taken out.new) fault) (S.given file.old) (S.given file.new) (S.has_ended file.new)) }
     ensures read_device { IsErrOf result (ToolFault.Read read.Device) ↔ ((S.has_failed file.new ≡ true) ⊎ (C.has_failed cert.new ≡ true)) }
     ensures write_device { IsErrOf result (ToolFault.Write write.Device) ↔ (K.has_failed out.new ≡ true) }
     ensures stands { Grows (S.given file.old) (S.given file.new) }

@@ -5,6 +5,7 @@ ghost use Rattle.flow_core.specs.Bytes.{Grows};
 ghost use Rattle.flow_core.specs.declared.bytes.fault.ReadFault.TheVariants.{Device};
 ghost use Rattle.flow_tool.specs.Answers.{Picks};
 ghost use Rattle.flow_tool.specs.Runs.{Came, StopsAt};
+ghost use Rattle.flow_tool.specs.Limits.{most_text};
 
 use crate::fault::{ToolFault, of_read, of_text};
 use flow_core::{Block, Source, read_all, read_blocks};
@@ -20,8 +21,8 @@ pub(crate) fn read_block<S: Source>(
     index: u32,
 ) -> Result<Block, ToolFault>
     requires { S.has_failed file.old ≡ false }
-    ensures picked { IfOk result (λ block. Came MAX_TEXT (λ text. Picks text index (Ok block)) (S.given file.old) (S.given file.new) (S.has_ended file.new)) }
-    ensures refused { IfErr result (λ fault. StopsAt MAX_TEXT (λ text refusal. Picks text index (Err refusal)) (S.given file.old) (S.given file.new) (S.has_ended file.new) fault) }
+    ensures picked { IfOk result (λ block. Came most_text (λ text. Picks text index (Ok block)) (S.given file.old) (S.given file.new) (S.has_ended file.new)) }
+    ensures refused { IfErr result (λ fault. StopsAt most_text (λ text refusal. Picks text index (Err refusal)) (S.given file.old) (S.given file.new) (S.has_ended file.new) fault) }
     ensures device { IsErrOf result (ToolFault.Read Device) ↔ (S.has_failed file.new ≡ true) }
     ensures stands { Grows (S.given file.old) (S.given file.new) }
 {

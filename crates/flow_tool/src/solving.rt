@@ -7,7 +7,7 @@ ghost use Rattle.flow_core.specs.declared.bytes.fault.WriteFault.TheVariants as 
 ghost use Rattle.flow_core.specs.declared.text.block.Block.{Block};
 ghost use Rattle.flow_tool.specs.Answers.{AnswersPlan, AnswersSolve, Picks};
 ghost use Rattle.flow_tool.specs.Runs.{Came, Ends, EndsAlone, Wrote, WroteCertificate};
-ghost use Rattle.flow_tool.specs.declared.picked.TheConstants.{MAX_TEXT};
+ghost use Rattle.flow_tool.specs.Limits.{most_text};
 
 use crate::fault::{ToolFault, of_plan, of_solve};
 use crate::picked::read_block;
@@ -62,9 +62,9 @@ pub(crate) fn run_solve<R: Threads + Wait + Sync, S: Source, G: Gate + Sync, K: 
 ) -> Result<(), ToolFault>
     requires file_works { S.has_failed file.old ≡ false }
     requires out_works { K.has_failed out.old ≡ false }
-    ensures written { OnOk result (Came MAX_TEXT (λ text. Wrote (AnswersSolve index workers depth budget text) (K.taken out.old) (K.taken out.new)) (S.given file.old) (S.given file.new) (S.has_ended file.new)) }
-    ensures lawful { OnOk result (Came MAX_TEXT (λ text. (block : Block) × Picks text index (Ok block) × WroteCertificate block.instance (K.taken out.old) (K.taken out.new)) (S.given file.old) (S.given file.new) (S.has_ended file.new)) }
-    ensures ended { IfErr result (Ends (out.new ≡ out.old) MAX_TEXT (AnswersSolve index workers depth budget) (S.given file.old) (S.given file.new) (S.has_ended file.new) (K.taken out.old) (K.taken out.new)) }
+    ensures written { OnOk result (Came most_text (λ text. Wrote (AnswersSolve index workers depth budget text) (K.taken out.old) (K.taken out.new)) (S.given file.old) (S.given file.new) (S.has_ended file.new)) }
+    ensures lawful { OnOk result (Came most_text (λ text. (block : Block) × Picks text index (Ok block) × WroteCertificate block.instance (K.taken out.old) (K.taken out.new)) (S.given file.old) (S.given file.new) (S.has_ended file.new)) }
+    ensures ended { IfErr result (Ends (out.new ≡ out.old) most_text (AnswersSolve index workers depth budget) (S.given file.old) (S.given file.new) (S.has_ended file.new) (K.taken out.old) (K.taken out.new)) }
     ensures read_device { IsErrOf result (ToolFault.Read read.Device) ↔ (S.has_failed file.new ≡ true) }
     ensures write_device { IsErrOf result (ToolFault.Write write.Device) ↔ (K.has_failed out.new ≡ true) }
     ensures stands { Grows (S.given file.old) (S.given file.new) }

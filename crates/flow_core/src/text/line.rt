@@ -5,6 +5,7 @@ ghost use Rattle.std.specs.Char.{digit_value};
 ghost use Rattle.std.specs.Option.{SomeIff};
 ghost use Rattle.flow_core.specs.Lines.{lines_of, is_blank, is_digit, is_plain, after_blanks};
 ghost use Rattle.flow_core.specs.TextWalk.{line_numbers, LineGives, first};
+ghost use Rattle.flow_core.specs.Limits.{greatest_number};
 
 use crate::limits::MAX_NUMBER;
 use crate::text::fault::LineFault;
@@ -54,7 +55,7 @@ pub(crate) fn first_solid(line: &[u8]) -> Option<u8>
 /// The number with one more digit, where it still may stand in a text.
 fn with_digit(number: u32, byte: u8) -> Option<u32>
     requires { IsTrue (is_digit byte) }
-    ensures { SomeIff result (number * 10 + digit_value byte ≤ MAX_NUMBER) (number * 10 + digit_value byte) }
+    ensures { SomeIff result (number * 10 + digit_value byte ≤ greatest_number) (number * 10 + digit_value byte) }
 {
     let wide = u64::from(number) * 10 + u64::from(byte - b'0');
     if wide <= u64::from(MAX_NUMBER) {

@@ -3,6 +3,7 @@
 ghost use Rattle.std.specs.Prelude.{◌≡◌, ◌<◌, ◌≤◌, ◌++◌, ◌∷◌, [], length, OnOk, IfOk, decimal};
 ghost use Rattle.flow_core.specs.Text.{Reads};
 ghost use Rattle.flow_core.specs.Written.{row_text, head_label, times_label, written};
+ghost use Rattle.flow_core.specs.Limits.{greatest_number};
 
 use crate::instance::Instance;
 use crate::limits::MAX_NUMBER;
@@ -48,7 +49,7 @@ fn push_head(
 ) -> Result<(), AllocError>
     ensures row { OnOk result (out.new.items ≡ out.old.items
         ++ row_text (instance.now.jobs ∷ instance.now.machines ∷ seed ∷ upper ∷ lower ∷ [])) }
-    ensures small { (seed ≤ MAX_NUMBER) × (upper ≤ MAX_NUMBER) × (lower ≤ MAX_NUMBER) }
+    ensures small { (seed ≤ greatest_number) × (upper ≤ greatest_number) × (lower ≤ greatest_number) }
 {
     let jobs = u32::from(instance.jobs());
     let machines = u32::from(instance.machines());

@@ -1,7 +1,7 @@
 use Rattle.std.proofs.Common.{min, true, false, slice_index, slice_index_or, ◌≡◌, ℕ, ◌+◌, ◌-◌, ◌*◌, ◌≤◌, map, filter, cond, ap, sym, ◌∙◌, arith}
-use Rattle.flow_core.specs.declared.limits.TheConstants.{MAX_JOBS}
+use Rattle.flow_core.specs.Limits.{most_jobs}
 use Rattle.std.specs.List.{sum_by}
-use Rattle.flow_core.specs.declared.limits.TheConstants.{MAX_MACHINES, MAX_TIME, MAX_COMPLETION}
+use Rattle.flow_core.specs.Limits.{most_machines, greatest_time, greatest_completion}
 use Rattle.flow_core.specs.Shop.{numbers, time, time_between}
 use Rattle.flow_core.specs.Least.{least}
 use Rattle.flow_core.specs.JobSet.{contains, members}
@@ -13,7 +13,7 @@ use Rattle.flow_bound.proofs.machine_bound.bound.Goals as goal
 use Rattle.flow_bound.proofs.machine_bound.bound.Goals.{After-from-2, then-contains, else-contains}
 
 pub sum_times-requires-clause-zeros : goal.sum_times-requires-clause-zeros
-sum_times-requires-clause-zeros c job from to = zeros MAX_JOBS (job - 1)
+sum_times-requires-clause-zeros c job from to = zeros most_jobs (job - 1)
 
 pub loop-job-preserved : goal.loop-job-preserved
 loop-job-preserved c =
@@ -74,18 +74,18 @@ whole c =
     let last : c.loop-job.job - 1 ≡ shop.jobs = omega arith in
     let same : filter (contains set) (numbers 1 (c.loop-job.job - 1)) ≡ members set =
     ap (λ n. filter (contains set) (numbers 1 n)) last ∙ sym (members-is set shop.jobs c.requires.jobs) in
-    let capped_is = capped-least-all 4294967295 (MAX_MACHINES * MAX_TIME) tail (members set)
+    let capped_is = capped-least-all 4294967295 (most_machines * greatest_time) tail (members set)
     (λ job. tail-small shop job c.args.machine c.jobs-end.ensures.limits) (omega arith) c.requires.some in
     (c.loop-job.invariant.owed ∙ ap (sum_by f) same, c.loop-job.invariant.tail ∙ ap (λ xs. capped 4294967295 (map tail xs)) same ∙ capped_is.0)
 
 pub overflow_add-result : goal.overflow_add-result
 overflow_add-result c =
-    let front : slice_index c.args.front.now (c.args.machine - 1) ≤ MAX_COMPLETION = c.requires.within (c.args.machine - 1) (omega arith) in
+    let front : slice_index c.args.front.now (c.args.machine - 1) ≤ greatest_completion = c.requires.within (c.args.machine - 1) (omega arith) in
     omega (arith, front, c.at.ensures, c.from.ensures, c.loop-job.invariant.small)
 
 pub overflow_add-result-2 : goal.overflow_add-result-2
 overflow_add-result-2 c =
-    let front : slice_index c.args.front.now (c.args.machine - 1) ≤ MAX_COMPLETION = c.requires.within (c.args.machine - 1) (omega arith) in
+    let front : slice_index c.args.front.now (c.args.machine - 1) ≤ greatest_completion = c.requires.within (c.args.machine - 1) (omega arith) in
     omega (arith, front, c.at.ensures, c.from.ensures, c.from-2.ensures, c.loop-job.invariant.small, c.loop-job.invariant.tail_fits)
 
 pub returns-clause-value : goal.returns-clause-value

@@ -2,7 +2,7 @@ use Rattle.std.proofs.Common.{◌≡◌, ◌+◌, ◌-◌, ◌*◌, ◌<◌, ◌
 use Rattle.std.specs.List.{sum_by}
 use Rattle.std.proofs.lemmas.Grind.{common_steps}
 use Rattle.std.proofs.lemmas.List.{get_or-set_same}
-use Rattle.flow_core.specs.declared.limits.TheConstants.{MAX_MACHINES, MAX_TIME}
+use Rattle.flow_core.specs.Limits.{most_machines, greatest_time}
 use Rattle.flow_core.specs.Shop.{numbers, time, time_between}
 use Rattle.flow_core.specs.Least.{least}
 use Rattle.flow_bound.proofs.Steps.{capped}
@@ -73,8 +73,8 @@ returns-clause-value c =
     let machine = c.args.machine in
     let last : c.loop-job.job ≡ shop.jobs + 1 = omega arith in
     let some : 1 ≤ shop.jobs = c.jobs-job-end.ensures.limits.some_job in
-    let head = least-of-jobs 4294967295 (MAX_MACHINES * MAX_TIME) (λ job. time_between shop job 1 (machine - 1)) shop.jobs c.loop-job.job (λ job. head-small shop job (machine - 1) c.jobs-job-end.ensures.limits (omega arith)) (omega arith) some last in
-    let tail = least-of-jobs 4294967295 (MAX_MACHINES * MAX_TIME) (λ job. time_between shop job (machine + 1) shop.machines) shop.jobs c.loop-job.job (λ job. tail-small shop job machine c.jobs-job-end.ensures.limits) (omega arith) some last in
+    let head = least-of-jobs 4294967295 (most_machines * greatest_time) (λ job. time_between shop job 1 (machine - 1)) shop.jobs c.loop-job.job (λ job. head-small shop job (machine - 1) c.jobs-job-end.ensures.limits (omega arith)) (omega arith) some last in
+    let tail = least-of-jobs 4294967295 (most_machines * greatest_time) (λ job. time_between shop job (machine + 1) shop.machines) shop.jobs c.loop-job.job (λ job. tail-small shop job machine c.jobs-job-end.ensures.limits) (omega arith) some last in
     let least_head : c.loop-job.least_head ≡ least (map (λ job. time_between shop job 1 (machine - 1)) (numbers 1 shop.jobs)) = c.loop-job.invariant.head ∙ head.0 in
     let least_tail : c.loop-job.least_tail ≡ least (map (λ job. time_between shop job (machine + 1) shop.machines) (numbers 1 shop.jobs)) = c.loop-job.invariant.tail ∙ tail.0 in
     let e : c.loop-job.job - 1 ≡ shop.jobs = omega arith in

@@ -1,5 +1,5 @@
 use Rattle.std.proofs.Common.{◌≡◌, ◌+◌, ◌-◌, map, max, arith, ap, ◌∙◌}
-use Rattle.flow_core.specs.declared.limits.TheConstants.{MAX_JOBS}
+use Rattle.flow_core.specs.Limits.{most_jobs}
 use Rattle.flow_core.specs.Shop.{numbers, time_between}
 use Rattle.flow_core.specs.Least.{greatest}
 use Rattle.flow_bound.specs.Totals.{total}
@@ -9,7 +9,7 @@ use Rattle.flow_bound.proofs.Loads.{taillard-below}
 use Rattle.flow_bound.proofs.machine_load.taillard_bound.Goals as goal
 
 pub sum_times-requires-clause-zeros : goal.sum_times-requires-clause-zeros
-sum_times-requires-clause-zeros c job from to = zeros MAX_JOBS (job - 1)
+sum_times-requires-clause-zeros c job from to = zeros most_jobs (job - 1)
 
 pub loop-machine-init : goal.loop-machine-init
 loop-machine-init c =
@@ -17,7 +17,7 @@ loop-machine-init c =
     let totals : c.greatest_total.result ≡ greatest (map (total shop) (numbers 1 shop.jobs)) = c.greatest_total.ensures in
     let most : c.from-most.result ≡ max 0 (greatest (map (total shop) (numbers 1 shop.jobs))) = omega (arith, c.from-most.ensures, totals) in
     record {
-      heads = λ job from to. times-none shop MAX_JOBS job 1 (omega arith);
+      heads = λ job from to. times-none shop most_jobs job 1 (omega arith);
       most = most;
     }
 

@@ -1,6 +1,6 @@
 use Rattle.std.proofs.Common.{◌≡◌, ℕ, ◌+◌, ◌-◌, ◌≤◌, [], ◌∷◌, ◌++◌, ap, sym, slice_index, ◌∙◌, arith}
 use Rattle.std.proofs.lemmas.Bool.{false≢true}
-use Rattle.flow_core.specs.declared.limits.TheConstants.{MAX_JOBS}
+use Rattle.flow_core.specs.Limits.{most_jobs}
 use Rattle.flow_core.specs.Sequences.{has}
 use Rattle.flow_core.specs.Paths.{span}
 use Rattle.flow_core.proofs.Fronts.{front-within}
@@ -23,7 +23,7 @@ returns-then-contains-clause-only c jobs rest h =
     let is = c.loop-place.invariant.1 in
     let next = at-job is c.jobs-jobs.result c.end_behind-end.result c.jobs-jobs.ensures.value (omega (arith, c.loop-place-test.true)) c.end_behind-end.ensures.value jobs rest h in
     let same = c.in_ok-job.ensures.only next.0 next.1 next.2 in
-    let small : c.in_ok-job.job ≤ MAX_JOBS = omega (arith, c.in_ok-job.ensures.found.1, c.jobs-jobs.ensures.value, c.jobs-jobs.ensures.limits.jobs) in
+    let small : c.in_ok-job.job ≤ most_jobs = omega (arith, c.in_ok-job.ensures.found.1, c.jobs-jobs.ensures.value, c.jobs-jobs.ensures.limits.jobs) in
     absurd (false≢true (sym next.3 ∙ ap (has done) (sym same.0) ∙ sym (is.members c.in_ok-job.job c.in_ok-job.ensures.found.0 small) ∙ sym c.contains.ensures.value ∙ c.if-contains.true))
 
 pub front_push-requires-clause-within : goal.front_push-requires-clause-within

@@ -1,5 +1,5 @@
 use Rattle.std.proofs.Common.{◌≡◌, ℕ, suc, ◌+◌, ◌-◌, ◌*◌, ◌≤◌, List, [], Some, slice_index, ap, sym, subst, ◌∙◌, arith}
-use Rattle.flow_core.specs.declared.limits.TheConstants.{MAX_JOBS, MAX_MACHINES, MAX_TIME, MAX_COMPLETION}
+use Rattle.flow_core.specs.Limits.{most_jobs, most_machines, greatest_time, greatest_completion}
 use Rattle.flow_core.specs.Shop.{time}
 use Rattle.flow_core.specs.Bound.{bound_at}
 use Rattle.flow_cert.specs.Stack.{IsAt, IsChild, grown, left_before}
@@ -12,7 +12,7 @@ lows_of-lows-requires-clause-at c = (c.requires.at.0, left_before c.args.child (
 
 -- the list's time and what is owed fit
 fits : (c : After-lows_of-lows) →
-    (slice_index c.lows_of-lows.new.node.front (c.args.machine - 1) ≤ MAX_COMPLETION) × (slice_index c.lows_of-lows.new.node.owed (c.args.machine - 1) ≤ MAX_JOBS * MAX_TIME)
+    (slice_index c.lows_of-lows.new.node.front (c.args.machine - 1) ≤ greatest_completion) × (slice_index c.lows_of-lows.new.node.owed (c.args.machine - 1) ≤ most_jobs * greatest_time)
 fits c =
     let list : List ℕ = c.requires.at.0 in
     let left : ℕ = left_before c.args.child (suc c.requires.at.1) in
@@ -23,7 +23,7 @@ fits c =
 
 -- the bound of the list itself
 own : (c : After-from) (list : List ℕ) (left : ℕ) → IsAt c.args.claim.now.instance.now list c.args.node.now c.args.links.now (left_before c.args.child (suc left)) →
-    (c.at.result + slice_index c.lows_of-lows.new.node.owed (c.args.machine - 1) + c.from.result ≡ bound_at c.args.claim.now.instance.now (grown list c.args.child) c.args.machine) × (c.from.result ≤ MAX_MACHINES * MAX_TIME)
+    (c.at.result + slice_index c.lows_of-lows.new.node.owed (c.args.machine - 1) + c.from.result ≡ bound_at c.args.claim.now.instance.now (grown list c.args.child) c.args.machine) × (c.from.result ≤ most_machines * greatest_time)
 own c list left at =
     let was : IsAt c.args.claim.now.instance.now list c.args.node.now c.args.links.now (suc left) =
     subst (λ o. IsAt c.args.claim.now.instance.now list c.args.node.now c.args.links.now (left_before o (suc left))) c.in-None.is at in
@@ -44,7 +44,7 @@ taken c list kid =
 child : (c : After-from-in-Some-2) (list : List ℕ) (left : ℕ) → IsAt c.args.claim.now.instance.now list c.args.node.now c.args.links.now (left_before c.args.child (suc left)) →
     IsChild c.args.claim.now.instance.now.jobs list (Some c.in-Some.job) × (c.from-in-Some.result ≡ time c.args.claim.now.instance.now c.in-Some.job c.args.machine) →
     (c.completion_of.result + (slice_index c.lows_of-lows.new.node.owed (c.args.machine - 1) - c.from-in-Some.result) + c.from-in-Some-2.result ≡ bound_at c.args.claim.now.instance.now (grown list c.args.child) c.args.machine)
-    × (c.from-in-Some-2.result ≤ MAX_MACHINES * MAX_TIME)
+    × (c.from-in-Some-2.result ≤ most_machines * greatest_time)
 child c list left at (kid, there) =
     let was : IsAt c.args.claim.now.instance.now list c.args.node.now c.args.links.now (suc (suc left)) =
     subst (λ o. IsAt c.args.claim.now.instance.now list c.args.node.now c.args.links.now (left_before o (suc left))) c.in-Some.is at in
@@ -81,13 +81,13 @@ completion_of-requires-clause-within c = node-within c.args.claim.now.instance.n
 
 pub overflow_add-result-in-Some : goal.overflow_add-result-in-Some
 overflow_add-result-in-Some c =
-    let most : c.args.claim.now.instance.now.machines ≤ MAX_MACHINES = c.requires.rows.limits.machines in
+    let most : c.args.claim.now.instance.now.machines ≤ most_machines = c.requires.rows.limits.machines in
     omega (arith, (fits (goal.at.overflow_add-result-in-Some c).After-lows_of-lows).1, c.completion_of.ensures.small, most, c.requires.to)
 
 pub overflow_add-result-in-Some-2 : goal.overflow_add-result-in-Some-2
 overflow_add-result-in-Some-2 c =
     let list : List ℕ = c.requires.at.0 in
-    let most : c.args.claim.now.instance.now.machines ≤ MAX_MACHINES = c.requires.rows.limits.machines in
+    let most : c.args.claim.now.instance.now.machines ≤ most_machines = c.requires.rows.limits.machines in
     let is = child c list c.requires.at.1 c.requires.at.2 (taken (goal.at.overflow_add-result-in-Some-2 c).After-from-in-Some list c.requires.at.3) in
     omega (arith, (fits (goal.at.overflow_add-result-in-Some-2 c).After-lows_of-lows).1, c.completion_of.ensures.small, most, c.requires.to, is.1)
 

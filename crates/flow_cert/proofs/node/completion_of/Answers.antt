@@ -1,5 +1,5 @@
 use Rattle.std.proofs.Common.{◌≡◌, ◌+◌, ◌-◌, ◌≤◌, max, slice_index, refl, ap, sym, ◌∙◌, arith}
-use Rattle.flow_core.specs.declared.limits.TheConstants.{MAX_COMPLETION}
+use Rattle.flow_core.specs.Limits.{greatest_completion}
 use Rattle.flow_core.specs.Shop.{time}
 use Rattle.flow_core.proofs.Recurrence.{after}
 use Rattle.flow_core.proofs.Fronts.{free_at, after-step, time-small}
@@ -12,7 +12,7 @@ loop-earlier-preserved c =
     let high : c.loop-earlier.earlier ≤ c.args.claim.now.instance.now.machines = omega (arith, c.loop-earlier-test.true, c.requires.machine_to) in
     let there : c.from-time.result ≡ time c.args.claim.now.instance.now c.args.job c.loop-earlier.earlier =
     c.from-time.ensures ∙ (c.requires.rows.each c.args.job _ c.requires.job_from c.requires.job_to c.loop-earlier.earlier low high).0 in
-    let within : slice_index c.args.front.now (c.loop-earlier.earlier - 1) ≤ MAX_COMPLETION = c.requires.within (c.loop-earlier.earlier - 1) (omega (arith, low, high)) in
+    let within : slice_index c.args.front.now (c.loop-earlier.earlier - 1) ≤ greatest_completion = c.requires.within (c.loop-earlier.earlier - 1) (omega (arith, low, high)) in
     let sum : c.max.result + c.from-time.result ≡ max (slice_index c.args.front.now (c.loop-earlier.earlier - 1)) c.loop-earlier.free + c.from-time.result = omega (arith, c.max.ensures, c.at.ensures) in
     let value = after-step c.args.claim.now.instance.now c.args.front.now c.args.front.now c.args.job c.loop-earlier.earlier c.loop-earlier.free c.from-time.result (c.max.result + c.from-time.result)
     low c.loop-earlier.invariant.value refl there sum in

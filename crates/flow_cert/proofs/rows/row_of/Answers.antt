@@ -1,6 +1,6 @@
 use Rattle.std.proofs.Common.{◌≡◌, ℕ, ◌+◌, ◌-◌, ◌<◌, ◌≤◌, length, arith, ap, ◌∙◌}
 use Rattle.std.proofs.lemmas.List.{length-set}
-use Rattle.flow_core.specs.declared.limits.TheConstants.{MAX_MACHINES}
+use Rattle.flow_core.specs.Limits.{most_machines}
 use Rattle.flow_core.specs.Shop.{time_between}
 use Rattle.flow_cert.proofs.RowSteps.{time_between-first, tail-small, made-more}
 use Rattle.flow_cert.proofs.rows.row_of.Goals as goal
@@ -9,14 +9,14 @@ pub overflow_add-behind : goal.overflow_add-behind
 overflow_add-behind c =
     let d : ℕ = c.args.instance.now.machines - c.loop-machine.machine in
     let small = tail-small c.args.instance.now c.args.job d c.loop-machine.machine c.machines-machine.ensures.limits (omega (arith, c.loop-machine.invariant.within)) in
-    let most : c.args.instance.now.machines ≤ MAX_MACHINES = c.machines-machine.ensures.limits.machines in
+    let most : c.args.instance.now.machines ≤ most_machines = c.machines-machine.ensures.limits.machines in
     omega (arith, small, most, c.loop-machine.invariant.behind, c.time-time.ensures.limit)
 
 pub loop-machine-preserved : goal.loop-machine-preserved
 loop-machine-preserved c =
     let low : 1 ≤ c.loop-machine.machine = omega (arith, c.loop-machine-test.true) in
     let within : c.loop-machine.machine ≤ c.args.instance.now.machines = c.loop-machine.invariant.within in
-    let most : c.args.instance.now.machines ≤ MAX_MACHINES = c.machines-machine.ensures.limits.machines in
+    let most : c.args.instance.now.machines ≤ most_machines = c.machines-machine.ensures.limits.machines in
     let in_times : c.loop-machine.machine - 1 < length c.loop-machine.times = omega (arith, most, within, low, c.loop-machine.invariant.times_length) in
     let in_tails : c.loop-machine.machine - 1 < length c.loop-machine.tails = omega (arith, most, within, low, c.loop-machine.invariant.tails_length) in
     let first = time_between-first c.args.instance.now c.args.job c.loop-machine.machine c.args.instance.now.machines within in

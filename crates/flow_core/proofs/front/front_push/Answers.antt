@@ -2,7 +2,7 @@ use Rattle.std.proofs.Common.{rules, ◌≡◌, ◌-◌, ◌≤◌, ◌+◌, ◌
 use Rattle.std.proofs.Common.{◌≢◌, subst}
 use Rattle.std.proofs.lemmas.Grind.{common_steps}
 use Rattle.std.proofs.lemmas.List.{get_or-set_other}
-use Rattle.flow_core.specs.declared.limits.TheConstants.{MAX_COMPLETION}
+use Rattle.flow_core.specs.Limits.{greatest_completion}
 use Rattle.flow_core.specs.Shop.{time}
 use Rattle.flow_core.specs.Front.{IsFrontOf}
 use Rattle.flow_core.proofs.Recurrence.{after}
@@ -15,7 +15,7 @@ loop-machine-preserved c =
     let there : c.from.result ≡ time c.args.instance.now c.args.job c.loop-machine.machine = c.from.ensures ∙ c.time.ensures.value in
     let value = after-step c.args.instance.now c.front.inside.times c.loop-machine.front-inside.times c.args.job c.loop-machine.machine c.loop-machine.free c.from.result (c.max.result + c.from.result)
     (omega arith) c.loop-machine.invariant.free (c.loop-machine.invariant.others (c.loop-machine.machine - 1) (omega arith)) there (omega arith) in
-    let old_small : slice_index c.front.inside.times (c.loop-machine.machine - 1) ≤ MAX_COMPLETION =
+    let old_small : slice_index c.front.inside.times (c.loop-machine.machine - 1) ≤ greatest_completion =
     rw c.front.view_is (c.requires.within (c.loop-machine.machine - 1) (omega arith)) in
     let next : c.loop-machine.machine + 1 - 1 ≡ c.loop-machine.machine = omega arith in
     record {

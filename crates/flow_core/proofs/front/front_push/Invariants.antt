@@ -1,5 +1,5 @@
 use Rattle.std.proofs.Common.{◌≡◌, ℕ, ◌-◌, ◌≤◌, ◌+◌, ◌*◌, ◌<◌, slice_index, length}
-use Rattle.flow_core.specs.declared.limits.TheConstants.{MAX_MACHINES, MAX_TIME, MAX_COMPLETION}
+use Rattle.flow_core.specs.Limits.{most_machines, greatest_time, greatest_completion}
 use Rattle.flow_core.proofs.Recurrence.{after}
 use Rattle.flow_core.proofs.Fronts.{free_at}
 use Rattle.flow_core.proofs.front.front_push.Given as goal
@@ -9,8 +9,8 @@ abbrev pub invariant-loop-machine : goal.invariant-loop-machine
 invariant-loop-machine l = record {
   end : l.end ≡ l.instance.machines + 1;
   free : l.free ≡ after l.instance (free_at l.initial.front-inside.times) l.job (l.machine - 1);
-  length : length l.front-inside.times ≡ MAX_MACHINES;
-  small : l.free ≤ MAX_COMPLETION + (l.machine - 1) * MAX_TIME;
+  length : length l.front-inside.times ≡ most_machines;
+  small : l.free ≤ greatest_completion + (l.machine - 1) * greatest_time;
   done : (machine : ℕ) → 1 ≤ machine → machine < l.machine → free_at l.front-inside.times machine ≡ after l.instance (free_at l.initial.front-inside.times) l.job machine;
   others : (place : ℕ) → l.machine ≤ place + 1 → slice_index l.front-inside.times place ≡ slice_index l.initial.front-inside.times place;
 }

@@ -1,6 +1,6 @@
 use Rattle.std.proofs.Common.{arith, ap, ◌∙◌}
 use Rattle.flow_core.specs.Generator.{drawn, drawn_time}
-use Rattle.flow_core.specs.declared.generator.TheConstants.{LEAST_TIME, GREATEST_TIME}
+use Rattle.flow_core.specs.Generator.{least_drawn, greatest_drawn}
 use Rattle.flow_core.proofs.GeneratorLemmas.{drawn-more, drawn-are-times}
 use Rattle.flow_core.proofs.generator.generate.Goals as goal
 
@@ -14,7 +14,7 @@ loop-preserved c =
       state = state;
       times = c.push_reserved.ensures.items
           ∙ drawn-more (drawn_time c.args.seed) c.loop.times.items c.loop.counter c.next.result before.times
-          (c.next.ensures.number ∙ ap (drawn LEAST_TIME GREATEST_TIME) state);
+          (c.next.ensures.number ∙ ap (drawn least_drawn greatest_drawn) state);
     }
 
 pub from_times-requires : goal.from_times-requires

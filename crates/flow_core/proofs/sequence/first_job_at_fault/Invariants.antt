@@ -1,5 +1,5 @@
 use Rattle.std.proofs.Common.{◌≡◌, ℕ, ◌≤◌, [], take, drop}
-use Rattle.flow_core.specs.declared.limits.TheConstants.{MAX_JOBS}
+use Rattle.flow_core.specs.Limits.{most_jobs}
 use Rattle.flow_core.specs.JobSet.{contains}
 use Rattle.flow_core.specs.Sequences.{has}
 use Rattle.flow_core.specs.SequenceFaults.{place_fault}
@@ -9,5 +9,5 @@ use Rattle.flow_core.proofs.sequence.first_job_at_fault.Given as goal
 abbrev pub invariant-loop-index : goal.invariant-loop-index
 invariant-loop-index l = record {
   fault : place_fault l.n [] l.jobs ≡ place_fault l.n (take l.index l.jobs) (drop l.index l.jobs);
-  earlier : (job : ℕ) → 1 ≤ job → job ≤ MAX_JOBS → contains l.earlier job ≡ has (take l.index l.jobs) job;
+  earlier : (job : ℕ) → 1 ≤ job → job ≤ most_jobs → contains l.earlier job ≡ has (take l.index l.jobs) job;
 }

@@ -1,5 +1,5 @@
 use Rattle.std.proofs.Common.{◌≡◌, ◌-◌, ◌*◌, ◌≤◌, length}
-use Rattle.flow_core.specs.declared.limits.TheConstants.{MAX_PREFIXES}
+use Rattle.flow_search.specs.Limits.{most_prefixes}
 use Rattle.flow_core.specs.Sequences.{cut}
 use Rattle.flow_search.proofs.CutLemmas.{falling}
 use Rattle.flow_search.proofs.cut_lists.prefix_count.Given as goal
@@ -7,5 +7,5 @@ use Rattle.flow_search.proofs.cut_lists.prefix_count.Given as goal
 abbrev pub invariant-loop-used : goal.invariant-loop-used
 invariant-loop-used l = record {
   product : l.count * falling (l.jobs - l.used) (l.depth - l.used) ≡ length (cut l.jobs l.depth);
-  few : l.count ≤ MAX_PREFIXES;
+  few : l.count ≤ most_prefixes;
 }

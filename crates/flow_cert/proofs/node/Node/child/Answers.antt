@@ -1,6 +1,6 @@
 use Rattle.std.proofs.Common.{refl, replicate, ◌≡◌, ◌≢◌, ℕ, ◌+◌, ◌-◌, ◌≤◌, slice_index, ◌∙◌, arith}
 use Rattle.std.proofs.lemmas.List.{length-set, get_or-set_other}
-use Rattle.flow_core.specs.declared.limits.TheConstants.{MAX_MACHINES}
+use Rattle.flow_core.specs.Limits.{most_machines}
 use Rattle.flow_core.specs.Shop.{time}
 use Rattle.flow_cert.specs.Stack.{unknown}
 use Rattle.flow_cert.proofs.NodeSteps.{node-within, owed-covers, filled-more, child-node}
@@ -22,7 +22,7 @@ pub loop-machine-preserved : goal.loop-machine-preserved
 loop-machine-preserved c =
     let low : 1 ≤ c.loop-machine.machine = c.loop-machine.auto.machine in
     let high : c.loop-machine.machine ≤ c.args.claim.now.instance.now.machines = omega (arith, c.loop-machine-test.true, c.machines-machines.ensures.value) in
-    let most : c.args.claim.now.instance.now.machines ≤ MAX_MACHINES = c.requires.rows.limits.machines in
+    let most : c.args.claim.now.instance.now.machines ≤ most_machines = c.requires.rows.limits.machines in
     let there : c.from.result ≡ time c.args.claim.now.instance.now c.args.job c.loop-machine.machine =
     c.from.ensures ∙ (c.requires.rows.each c.args.job _ c.requires.from c.requires.to c.loop-machine.machine low high).0 in
     let covers = owed-covers c.args.claim.now.instance.now c.requires.at.0 c.args.self.now c.requires.at.1 c.args.job c.loop-machine.machine c.requires.at.2 c.requires.from c.requires.to c.requires.at.3 low high in
@@ -39,6 +39,6 @@ loop-machine-preserved c =
 
 pub returns : goal.returns
 returns c list left is fresh =
-    child-node c.args.claim.now.instance.now list c.args.self.now (record { front = c.front_push.new.front; owed = c.loop-machine.owed; least = replicate MAX_MACHINES unknown; second = replicate MAX_MACHINES unknown }) left c.args.job c.requires.rows.limits is c.requires.from c.requires.to fresh
+    child-node c.args.claim.now.instance.now list c.args.self.now (record { front = c.front_push.new.front; owed = c.loop-machine.owed; least = replicate most_machines unknown; second = replicate most_machines unknown }) left c.args.job c.requires.rows.limits is c.requires.from c.requires.to fresh
     (c.front_push.ensures.front list is.times) c.loop-machine.invariant.size
     (λ machine low high. c.loop-machine.invariant.done machine low (omega (arith, high, c.loop-machine-test.false, c.machines-machines.ensures.value))) refl refl

@@ -1,7 +1,7 @@
 use Rattle.std.proofs.Common.{◌≡◌, ◌+◌, arith, ap, ◌∙◌}
 use Rattle.flow_core.specs.Shop.{numbers}
 use Rattle.flow_core.specs.JobSet.{contains}
-use Rattle.flow_core.specs.declared.limits.TheConstants.{MAX_JOBS}
+use Rattle.flow_core.specs.Limits.{most_jobs}
 use Rattle.std.specs.List.{filter}
 use Rattle.flow_core.proofs.JobSetLemmas.{filter-first}
 use Rattle.flow_core.proofs.job_set.JobSet.all.Goals as goal
@@ -11,5 +11,5 @@ returns-clause-members c =
     let there = c.loop-job.invariant in
     let last : c.loop-job.job ≡ c.args.instance.now.jobs + 1 = omega arith in
     ap (λ n. filter (contains c.loop-job.set) (numbers 1 n)) there.size
-    ∙ filter-first (contains c.loop-job.set) c.args.instance.now.jobs MAX_JOBS (omega arith)
+    ∙ filter-first (contains c.loop-job.set) c.args.instance.now.jobs most_jobs (omega arith)
     (λ k low high. there.inside k low (omega arith)) (λ k above. there.outside k (omega arith))

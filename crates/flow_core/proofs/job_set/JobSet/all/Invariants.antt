@@ -1,5 +1,5 @@
 use Rattle.std.proofs.Common.{◌≡◌, ℕ, ◌<◌, ◌≤◌, true, false, length}
-use Rattle.flow_core.specs.declared.limits.TheConstants.{MAX_JOBS}
+use Rattle.flow_core.specs.Limits.{most_jobs}
 use Rattle.flow_core.specs.JobSet.{contains}
 use Rattle.flow_core.proofs.job_set.JobSet.all.Given as goal
 
@@ -8,5 +8,5 @@ abbrev pub invariant-loop-job : goal.invariant-loop-job
 invariant-loop-job l = record {
   inside : (k : ℕ) → 1 ≤ k → k < l.job → contains l.set k ≡ true;
   outside : (k : ℕ) → l.job ≤ k → contains l.set k ≡ false;
-  size : length l.set ≡ MAX_JOBS;
+  size : length l.set ≡ most_jobs;
 }

@@ -1,5 +1,5 @@
 use Rattle.std.proofs.Common.{◌≡◌, ℕ, ◌-◌, zero, suc, false, slice_index_or, replicate, refl}
-use Rattle.flow_core.specs.declared.limits.TheConstants.{MAX_JOBS}
+use Rattle.flow_core.specs.Limits.{most_jobs}
 use Rattle.flow_core.proofs.job_set.JobSet.none.Goals as goal
 
 falses : (n i : ℕ) → slice_index_or (replicate n false) i false ≡ false
@@ -8,4 +8,4 @@ falses (suc n) zero = refl
 falses (suc n) (suc i) = falses n i
 
 pub returns-clause-empty : goal.returns-clause-empty
-returns-clause-empty c job = falses MAX_JOBS (job - 1)
+returns-clause-empty c job = falses most_jobs (job - 1)

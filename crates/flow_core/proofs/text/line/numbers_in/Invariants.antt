@@ -1,6 +1,6 @@
 use Rattle.std.proofs.Common.{◌≡◌, ◌≤◌, ◌++◌, drop, true, IfSome}
 use Rattle.flow_core.specs.Lines.{numbers_of, are_small}
-use Rattle.flow_core.specs.declared.limits.TheConstants.{MAX_NUMBER}
+use Rattle.flow_core.specs.Limits.{greatest_number}
 use Rattle.flow_core.proofs.NumberLemmas.{numbers_after}
 use Rattle.flow_core.proofs.text.line.numbers_in.Given as goal
 
@@ -9,5 +9,5 @@ abbrev pub invariant-loop-byte : goal.invariant-loop-byte
 invariant-loop-byte l = record {
   split : l.numbers.items ++ numbers_after l.begun (drop l.byte-index l.line) ≡ numbers_of l.line;
   small : are_small l.numbers.items ≡ true;
-  begun_small : IfSome l.begun (λ n. n ≤ MAX_NUMBER);
+  begun_small : IfSome l.begun (λ n. n ≤ greatest_number);
 }

@@ -1,0 +1,26 @@
+-- The limits of instances and of texts. The code has constants for them; the contracts speak of these numbers alone.
+use Rattle.std.specs.Prelude.{ℕ}
+
+-- the most jobs of an instance
+abbrev pub most_jobs : ℕ
+most_jobs = 500
+
+-- the most machines of an instance
+abbrev pub most_machines : ℕ
+most_machines = 20
+
+-- the greatest time of a job on a machine
+abbrev pub greatest_time : ℕ
+greatest_time = 99999
+
+-- the greatest completion time at which a front takes another job; no list of an instance's jobs reaches it
+abbrev pub greatest_completion : ℕ
+greatest_completion = 1000000000
+
+-- the greatest number in a benchmark text
+abbrev pub greatest_number : ℕ
+greatest_number = 4294967295
+
+-- the greatest depth of a cut
+abbrev pub greatest_depth : ℕ
+greatest_depth = 3
