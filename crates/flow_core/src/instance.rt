@@ -29,7 +29,7 @@ pub enum InstanceFault {
     /// The seed of a generator is not in `1..=2147483646`.
     #[error("Seed")]
     Seed,
-    /// A growth was refused.
+    /// Memory ran out.
     #[error("Memory")]
     Memory,
 }

@@ -25,7 +25,7 @@ pub enum SequenceFault {
     /// The job at this place, the first at fault, stands at an earlier place.
     #[error("Twice {0}")]
     Twice(usize),
-    /// A growth was refused.
+    /// Memory ran out.
     #[error("Memory")]
     Memory,
 }

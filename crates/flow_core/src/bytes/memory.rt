@@ -10,7 +10,7 @@ use crate::bytes::fault::Refused;
 use std::alloc::Global;
 use std::marker::Model;
 
-/// Takes and keeps bytes up to a limit, and then refuses. A refused growth is a refusal too.
+/// Takes and keeps bytes up to a limit, and then refuses; it refuses also where memory ran out.
 #[derive(Debug, Drop)]
 pub struct MemorySink {
     bytes: Vec<u8>,
@@ -132,6 +132,7 @@ impl<'a> Source for MemorySource<'a> {
         ensures ended { self.new.ended ≡ is_end result }
         ensures failed { self.new.failed ≡ (self.old.failed || is_err result) }
         ensures refuses { IsErr result ↔ (self.old.fail_after ≡ Some self.old.given) }
+        ensures untouched { IsErr result → buffer.new ≡ buffer.old }
         ensures ends { IfOk result (λ c. (c ≡ 0) ↔ (self.old.given ≡ length self.old.bytes)) }
         ensures piece { IfOk result (λ c. c ≤ self.old.piece) }
         ensures counts { IfOk result (λ c. self.new.given ≡ self.old.given + c) }

@@ -23,7 +23,7 @@ pub(crate) enum LineFault {
 /// behind its last.
 #[derive(Clone, Copy, Debug, PartialEq, Eq, Error)]
 pub enum TextFault {
-    /// A growth was refused.
+    /// Memory ran out.
     #[error("Memory")]
     Memory,
     /// The text has blank lines alone, or none.

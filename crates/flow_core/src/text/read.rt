@@ -19,7 +19,7 @@ pub fn read_blocks(alloc: Global, text: &[u8]) -> Result<Vec<Block>, TextFault>
     ensures value { IfOk result (λ blocks. Reads text.now blocks.items) }
     ensures accepted { OnOk result (text_fault text.now ≡ None) }
     ensures refused { IfErr result (λ fault. fault ≢ Memory → text_fault text.now ≡ Some fault) }
-    // A text that has a reading is refused for want of memory alone.
+    // A text that has a reading is refused only where memory ran out.
     ensures only { (blocks : List Block) → Reads text.now blocks → IfErr result (λ fault. fault ≡ Memory) }
 {
     walk_text(alloc, text)
