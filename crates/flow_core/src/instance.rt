@@ -70,7 +70,8 @@ fn first_too_great(times: &[u32]) -> Option<usize>
 }
 
 impl Instance {
-    /// The instance with these times, machine by machine and for each machine job by job, or the first fault.
+    /// The instance of these times, machine by machine and for each machine job by job; or its first fault, or
+    /// `Memory`.
     pub fn new(
         alloc: Global,
         jobs: u32,

@@ -222,8 +222,8 @@ fn std_source_gives_every_piece(rt: HostRuntime) -> Result<(), Fail> {
     Ok(())
 }
 
-/// Keeps bytes in pieces, each after so many interrupted writes, and fails once it has as many as its limit. It counts its
-/// writes.
+/// Keeps bytes in pieces, each after so many interrupted writes, and fails once it has as many as its limit. It counts
+/// its writes.
 #[derive(Drop)]
 struct FakeWriter {
     bytes: Vec<u8>,

@@ -169,7 +169,8 @@ fn repeated_text_is_read_as_so_many_blocks(rt: HostRuntime) -> Result<(), Fail> 
     Ok(())
 }
 
-/// What is missing behind so many bytes of the text of the two machines: its head has 80 and 10 bytes, and its times end at 121.
+/// What is missing behind so many bytes of the text of the two machines: its head has 80 and 10 bytes, and its times
+/// end at 121.
 fn missing(length: usize, line: usize) -> TextFault {
     match length {
         0 => TextFault::NoBlock,

@@ -102,7 +102,8 @@ impl<'a> Model for MemorySource<'a> {
 }
 
 impl<'a> MemorySource<'a> {
-    /// A source of these bytes, which gives at most `piece` of them in a call, and refuses once `fail_after` went out.
+    /// A source of these bytes, which gives at most `piece` of them in a call, and refuses once `fail_after` of them
+    /// went out. A piece has at least 1 byte.
     pub fn new(bytes: &'a [u8], piece: usize, fail_after: Option<usize>) -> MemorySource<'a>
         requires { 1 ≤ piece }
         ensures { result ≡ record { bytes = bytes.entry.now; given = 0; piece = piece; fail_after = fail_after; ended = false; failed = false } }
