@@ -25,7 +25,7 @@ tested-named true false place rest fault h e = h e
 tested-named true true place rest fault h e = let is : Twice place ≡ fault = cc in subst (λ f. but_memory f ≡ Some f) is refl
 tested-named false held place rest fault h e = let is : Job place ≡ fault = cc in subst (λ f. but_memory f ≡ Some f) is refl
 
--- the fault of a place is never want of memory
+-- the fault of a place is never that memory ran out
 pub place-fault-named : (n : ℕ) (earlier jobs : List ℕ) (fault : SequenceFault) → place_fault n earlier jobs ≡ Some fault → but_memory fault ≡ Some fault
 place-fault-named n earlier [] fault e = absurd (none-some fault e)
 place-fault-named n earlier (job ∷ jobs) fault e =

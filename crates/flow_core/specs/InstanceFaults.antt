@@ -20,7 +20,7 @@ instance_fault jobs machines times = first_fault (
     ∷ time_fault times
     ∷ [])
 
--- a fault, want of memory aside
+-- a fault, unless memory ran out
 abbrev pub but_memory : InstanceFault → Option InstanceFault
 but_memory Memory = None
 but_memory fault = Some fault

@@ -1,4 +1,4 @@
--- What a call refuses. Each fault has a function of the arguments that gives the first one, want of memory aside.
+-- What a call refuses. Each fault has a function of the arguments that gives the first one, but for memory that ran out.
 use Rattle.std.specs.Prelude.{Bool, List, [], ◌∷◌, Option, Some, None, if◌then◌else◌}
 use Rattle.std.specs.Option.{option_or}
 

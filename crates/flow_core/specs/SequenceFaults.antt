@@ -23,7 +23,7 @@ place_fault n earlier (job ∷ jobs) = option_or (job_fault n earlier job) (plac
 abbrev pub sequence_fault : ℕ → List ℕ → Option SequenceFault
 sequence_fault n jobs = first_fault (fault_unless (length jobs == n) Length ∷ place_fault n [] jobs ∷ [])
 
--- a fault, want of memory aside
+-- a fault, unless memory ran out
 abbrev pub but_memory : SequenceFault → Option SequenceFault
 but_memory Memory = None
 but_memory fault = Some fault

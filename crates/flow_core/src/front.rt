@@ -12,7 +12,7 @@ use crate::sequence::Sequence;
 use std::alloc::AllocError;
 use std::marker::Model;
 
-/// A completion time for each machine.
+/// A completion time for each machine, in the unit of the instance's times.
 #[derive(Debug)]
 pub struct Front {
     times: [u64; MAX_MACHINES],
@@ -49,7 +49,7 @@ impl Front {
         }
     }
 
-    /// The completion time on a machine, counted from 1.
+    /// The completion time on a machine, which is one of `1..=MAX_MACHINES`.
     pub fn at(&self, machine: u16) -> u64
         requires from { 1 ≤ machine }
         requires to { machine ≤ most_machines }
@@ -59,7 +59,7 @@ impl Front {
     }
 }
 
-/// Turns the front of a list into that of the list with a job at its end.
+/// Turns the front of a list into that of the list with one of the instance's jobs at its end.
 pub fn front_push(instance: &Instance, front: &mut Front, job: u16)
     requires job_from { 1 ≤ job }
     requires job_to { job ≤ instance.now.jobs }
@@ -77,7 +77,7 @@ pub fn front_push(instance: &Instance, front: &mut Front, job: u16)
     }
 }
 
-/// The makespan of a sequence: the weight of the heaviest staircase path.
+/// The makespan of a sequence of all the instance's jobs: the weight of the heaviest staircase path.
 pub fn makespan(instance: &Instance, sequence: &Sequence) -> u64
     requires { length sequence.now ≡ instance.now.jobs }
     ensures { result ≡ span instance.now sequence.now }

@@ -53,7 +53,7 @@ impl Taillard {
         }
     }
 
-    /// The state.
+    /// The state, below 2147483647.
     pub fn state(&self) -> u32
         ensures value { result ≡ self.now }
         ensures small { result < modulus }

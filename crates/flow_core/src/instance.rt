@@ -29,7 +29,7 @@ pub enum InstanceFault {
     /// The seed of a generator is not in `1..=2147483646`.
     #[error("Seed")]
     Seed,
-    /// A growth was refused.
+    /// Memory ran out.
     #[error("Memory")]
     Memory,
 }
@@ -70,7 +70,8 @@ fn first_too_great(times: &[u32]) -> Option<usize>
 }
 
 impl Instance {
-    /// The instance with these times, machine by machine and for each machine job by job, or the first fault.
+    /// The instance of these times, machine by machine and for each machine job by job; or its first fault, or
+    /// `Memory`.
     pub fn new(
         alloc: Global,
         jobs: u32,

@@ -63,7 +63,7 @@ impl JobSet {
         set
     }
 
-    /// Puts a job in.
+    /// Puts a job of `1..=MAX_JOBS` in.
     pub fn insert(&mut self, job: u16)
         requires from { 1 ≤ job }
         requires to { job ≤ most_jobs }
@@ -73,7 +73,7 @@ impl JobSet {
         self.flags[job as usize - 1] = true;
     }
 
-    /// Takes a job out.
+    /// Takes a job of `1..=MAX_JOBS` out.
     pub fn remove(&mut self, job: u16)
         requires from { 1 ≤ job }
         requires to { job ≤ most_jobs }
@@ -83,7 +83,7 @@ impl JobSet {
         self.flags[job as usize - 1] = false;
     }
 
-    /// Whether a job is in.
+    /// Whether a job of `1..=MAX_JOBS` is in.
     pub fn contains(&self, job: u16) -> bool
         requires from { 1 ≤ job }
         requires to { job ≤ most_jobs }

@@ -9,7 +9,18 @@ ghost use Rattle.flow_core.specs.SequenceFaults.{sequence_fault};
 ghost use Rattle.flow_core.specs.Bound.{BoundIsAdmissible};
 ghost use Rattle.flow_core.specs.Text.{Reads};
 ghost use Rattle.flow_core.specs.TextFaults.{text_fault};
+ghost use Rattle.flow_core.specs.Limits.{most_jobs, most_machines, greatest_time, greatest_number, greatest_depth};
 ghost use Rattle.flow_core.specs.declared.text.block.Block.{Block};
+ghost use Rattle.flow_core.specs.declared.limits.TheConstants.{MAX_JOBS, MAX_MACHINES, MAX_TIME, MAX_NUMBER, MAX_DEPTH};
+
+/// The constants of the code are the limits of which the contracts speak.
+pub fn limits_are_those_stated()
+    ensures jobs { MAX_JOBS ≡ most_jobs }
+    ensures machines { MAX_MACHINES ≡ most_machines }
+    ensures time { MAX_TIME ≡ greatest_time }
+    ensures number { MAX_NUMBER ≡ greatest_number }
+    ensures depth { MAX_DEPTH ≡ greatest_depth }
+{}
 
 /// A completion time is the weight of a heaviest staircase path.
 pub fn completion_is_greatest()

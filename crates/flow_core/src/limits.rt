@@ -1,4 +1,4 @@
-//! The limits of instances and texts, each named once. `specs/Limits.antt` has the numbers of which the contracts speak.
+//! The limits of instances and texts, each named once. The contracts speak of the numbers in `specs/Limits.antt`.
 
 /// The most jobs of an instance.
 pub const MAX_JOBS: usize = 500;

@@ -25,7 +25,7 @@ pub enum SequenceFault {
     /// The job at this place, the first at fault, stands at an earlier place.
     #[error("Twice {0}")]
     Twice(usize),
-    /// A growth was refused.
+    /// Memory ran out.
     #[error("Memory")]
     Memory,
 }
@@ -74,7 +74,7 @@ fn first_job_at_fault(n: u16, jobs: &[u16]) -> Option<SequenceFault>
 }
 
 impl Sequence {
-    /// The sequence of these jobs, or the first fault.
+    /// The sequence of these jobs, or the first fault, or `Memory`.
     pub fn new(alloc: Global, instance: &Instance, jobs: &[u16]) -> Result<Sequence, SequenceFault>
         ensures value { IfOk result (λ sequence. sequence ≡ jobs.now) }
         ensures accepted { OnOk result (sequence_fault instance.now.jobs jobs.now ≡ None) }

@@ -150,15 +150,27 @@ fn blocks_in_sequence_are_read_in_order(rt: HostRuntime) -> Result<(), Fail> {
 fn repeated_text_is_read_as_so_many_blocks(rt: HostRuntime) -> Result<(), Fail> {
     let alloc = rt.alloc();
     let mut text = Vec::new(alloc);
-    for _ in 0..10u32 {
+    for _ in 0..9u32 {
         text.extend_from_slice(TWO_MACHINES_TEXT)?;
     }
+    text.extend_from_slice(b"a\n1 1 7 6 5\nb\n4\n")?;
     let blocks = read_blocks(alloc, text.as_slice())?;
     assert_eq!(rt; blocks.len(), 10);
+    let two = two_machines(alloc)?;
+    for block in blocks.iter().take(9) {
+        assert_eq!(rt; (block.seed, block.upper, block.lower), (0, 0, 0));
+        assert!(rt; is_same(&block.instance, &two));
+    }
+    let last = Instance::new(alloc, 1, 1, &[4])?;
+    for block in blocks.iter().skip(9) {
+        assert_eq!(rt; (block.seed, block.upper, block.lower), (7, 6, 5));
+        assert!(rt; is_same(&block.instance, &last));
+    }
     Ok(())
 }
 
-/// What is missing behind so many bytes of the text of the two machines: its head has 80 and 10 bytes, and its times end at 121.
+/// What is missing behind so many bytes of the text of the two machines: its head has 80 and 10 bytes, and its times
+/// end at 121.
 fn missing(length: usize, line: usize) -> TextFault {
     match length {
         0 => TextFault::NoBlock,

@@ -21,7 +21,7 @@ pub enum WriteFault {
 /// Why not all bytes were read.
 #[derive(Clone, Copy, Debug, PartialEq, Eq, Error)]
 pub enum ReadFault {
-    /// A growth was refused.
+    /// Memory ran out.
     #[error("Memory")]
     Memory,
     /// The source refused.

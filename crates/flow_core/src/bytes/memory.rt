@@ -10,7 +10,7 @@ use crate::bytes::fault::Refused;
 use std::alloc::Global;
 use std::marker::Model;
 
-/// Takes and keeps bytes up to a limit, and then refuses. A refused growth is a refusal too.
+/// Takes and keeps bytes up to a limit, and then refuses; it refuses also where memory ran out.
 #[derive(Debug, Drop)]
 pub struct MemorySink {
     bytes: Vec<u8>,
@@ -102,7 +102,8 @@ impl<'a> Model for MemorySource<'a> {
 }
 
 impl<'a> MemorySource<'a> {
-    /// A source of these bytes, which gives at most `piece` of them in a call, and refuses once `fail_after` went out.
+    /// A source of these bytes, which gives at most `piece` of them in a call, and refuses once `fail_after` of them
+    /// went out. A piece has at least 1 byte.
     pub fn new(bytes: &'a [u8], piece: usize, fail_after: Option<usize>) -> MemorySource<'a>
         requires { 1 ≤ piece }
         ensures { result ≡ record { bytes = bytes.entry.now; given = 0; piece = piece; fail_after = fail_after; ended = false; failed = false } }
@@ -132,6 +133,7 @@ impl<'a> Source for MemorySource<'a> {
         ensures ended { self.new.ended ≡ is_end result }
         ensures failed { self.new.failed ≡ (self.old.failed || is_err result) }
         ensures refuses { IsErr result ↔ (self.old.fail_after ≡ Some self.old.given) }
+        ensures untouched { IsErr result → buffer.new ≡ buffer.old }
         ensures ends { IfOk result (λ c. (c ≡ 0) ↔ (self.old.given ≡ length self.old.bytes)) }
         ensures piece { IfOk result (λ c. c ≤ self.old.piece) }
         ensures counts { IfOk result (λ c. self.new.given ≡ self.old.given + c) }

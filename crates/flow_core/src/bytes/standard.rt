@@ -9,10 +9,10 @@ use crate::bytes::fault::Refused;
 use std::io::{ErrorKind, Read, Write};
 use std::marker::Model;
 
-/// How often an interrupted read or write is tried, before it counts as refused.
+/// How often a read or write is tried that is interrupted each time, before that is a refusal.
 const TRIES: u32 = 1_000;
 
-/// Hands bytes to a writer. A write that takes none is a refusal.
+/// Hands bytes to a writer. A write that takes none or fails is a refusal; an interrupted one is tried again.
 #[derive(Drop)]
 pub struct StdSink<W> {
     writer: W,
@@ -75,7 +75,7 @@ impl<W: Write> Sink for StdSink<W> {
     }
 }
 
-/// Takes bytes from a reader.
+/// Takes bytes from a reader. A read that fails is a refusal; an interrupted one is tried again.
 #[derive(Drop)]
 pub struct StdSource<R> {
     reader: R,

@@ -29,8 +29,8 @@ pub fn put_all<S: Sink>(sink: &mut S, bytes: &[u8]) -> Result<(), WriteFault>
     Ok(())
 }
 
-/// Every byte that a source gives up to its end; or `Memory`; or `Device`, where the source refused; or `TooLong`, where
-/// more bytes came than the limit. It asks the source at most once more than the limit has bytes.
+/// Every byte that a source gives up to its end; or `Memory`; or `Device`, where the source refused; or `TooLong`,
+/// where more bytes came than the limit. It asks the source at most once more than the limit has bytes.
 pub fn read_all<S: Source>(
     alloc: Global,
     source: &mut S,

@@ -19,11 +19,11 @@ pub(crate) enum LineFault {
     Times,
 }
 
-/// The first fault of a text, with the number of its line, from 1. What is missing at the end of a text stands at the line
-/// behind its last.
+/// The first fault of a text, with the number of its line, from 1. What is missing at the end of a text stands at the
+/// line behind its last.
 #[derive(Clone, Copy, Debug, PartialEq, Eq, Error)]
 pub enum TextFault {
-    /// A growth was refused.
+    /// Memory ran out.
     #[error("Memory")]
     Memory,
     /// The text has blank lines alone, or none.

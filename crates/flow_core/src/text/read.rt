@@ -14,12 +14,12 @@ use crate::text::line::first_line;
 use crate::text::walk::{after_any_line, begin, finish};
 use std::alloc::Global;
 
-/// The blocks of a text, or its first fault.
+/// The blocks of a text in order, or its first fault, or `Memory`.
 pub fn read_blocks(alloc: Global, text: &[u8]) -> Result<Vec<Block>, TextFault>
     ensures value { IfOk result (λ blocks. Reads text.now blocks.items) }
     ensures accepted { OnOk result (text_fault text.now ≡ None) }
     ensures refused { IfErr result (λ fault. fault ≢ Memory → text_fault text.now ≡ Some fault) }
-    // A text that has a reading is refused for want of memory alone.
+    // A text that has a reading is refused only where memory ran out.
     ensures only { (blocks : List Block) → Reads text.now blocks → IfErr result (λ fault. fault ≡ Memory) }
 {
     walk_text(alloc, text)

@@ -72,7 +72,7 @@ fn push_times_label(out: &mut Vec<u8>) -> Result<(), AllocError>
     out.extend_from_slice(TIMES_LABEL)
 }
 
-/// The text of a block.
+/// The one text of a block, which reads as that block; or the error that memory ran out.
 pub fn block_text(alloc: Global, block: &Block) -> Result<Vec<u8>, AllocError>
     ensures value { IfOk result (λ text. text.items ≡ written block.now) }
     // It reads as that block alone.
