@@ -82,7 +82,7 @@ pub fn neh(alloc: Global, instance: &Instance) -> Result<(Sequence, u64), AllocE
     }
     match Sequence::new(alloc, instance, jobs.as_slice()) {
         Ok(sequence) => Ok((sequence, makespan)),
-        // The jobs are a sequence, so a growth was refused.
+        // The jobs are a sequence, so memory ran out.
         Err(_) => Err(AllocError),
     }
 }

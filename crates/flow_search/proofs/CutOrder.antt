@@ -1,16 +1,19 @@
--- A cut is in lexicographic order, and each sequence extends exactly one of its lists.
-use Rattle.std.proofs.Common.{◌≡◌, ℕ, zero, suc, ◌+◌, ◌-◌, ◌<◌, true, false, not, List, [], ◌∷◌, ◌++◌, length, take, slice_index_or, refl, ap, sym, ◌∙◌, inl, inr, arith, append_assoc}
-use Rattle.std.specs.List.{flat_map, AllPairs, AllByRecursion}
+-- A cut has all lists of its depth in lexicographic order, and each sequence extends exactly one of them.
+use Rattle.std.proofs.Common.{◌≡◌, ℕ, zero, suc, ◌+◌, ◌-◌, ◌<◌, ◌≤◌, true, false, not, ◌||◌, nat_eq, List, [], ◌∷◌, ◌++◌, length, take, slice_index_or, refl, ap, sym, subst, ◌∙◌, inl, inr, arith, append_assoc}
+use Rattle.std.specs.List.{flat_map, AllPairs, AllByRecursion, Contains}
 use Rattle.std.proofs.lemmas.List.{append-nil}
-use Rattle.std.proofs.lemmas.List.Elements.{All-from_recursion}
+use Rattle.std.proofs.lemmas.List.Elements.{All-from_recursion, recursion_from_All, All-contains_itself}
 use Rattle.std.proofs.lemmas.List.Kept.{AllPairs-cons}
-use Rattle.std.proofs.lemmas.Bool.{cases_order, false≢true}
-use Rattle.flow_core.specs.Sequences.{has, jobs_left, extensions, cut, Extends}
+use Rattle.std.proofs.lemmas.Bool.{cases_order, false≢true, or_left, or_right, eq-eqb}
+use Rattle.std.proofs.lemmas.Bool.Decides.{eqb_tells}
+use Rattle.flow_core.specs.Sequences.{has, jobs_left, AreDistinct, AreJobs, extensions, cut, Extends}
+use Rattle.flow_core.proofs.JobsLeft.{has-filter}
 use Rattle.flow_search.specs.Search.{comes_before}
-use Rattle.flow_search.specs.Cuts.{CutIsOrdered, CutParts}
-use Rattle.flow_search.proofs.Lists.{all-append, all-weaken, all-flat_map, Above, above-range}
+use Rattle.flow_search.specs.Cuts.{CutHasDepth, CutIsWhole, CutIsOrdered, CutParts}
+use Rattle.flow_search.proofs.Lists.{all-at, all-append, all-weaken, all-flat_map, Above, above-range}
 use Rattle.flow_search.proofs.Earlier.{before-less, before-self, all-extend}
-use Rattle.flow_search.proofs.LeastVerdict.{at-extension}
+use Rattle.flow_search.proofs.Walk.{Fresh}
+use Rattle.flow_search.proofs.LeastVerdict.{all-at-has, all-pieces, at-extension, cut-fresh}
 use Rattle.flow_search.proofs.Prefixes.{cut-prefixes}
 
 -- each list comes before all later ones
@@ -98,3 +101,40 @@ cut_parts n depth jobs short is =
         ]
       ];
     }
+
+pub cut_has_depth : CutHasDepth
+cut_has_depth n depth =
+    All-from_recursion (λ jobs. (length jobs ≡ depth) × AreJobs n jobs) (cut n depth)
+    (all-weaken (λ jobs. Fresh n jobs × (length jobs ≡ 0 + depth)) (λ jobs. (length jobs ≡ depth) × AreJobs n jobs) (cut n depth)
+    (λ jobs h. (omega (arith, h.1), record { range = All-from_recursion (λ job. (1 ≤ job) × (job ≤ n)) jobs h.0.0; distinct = h.0.1 }))
+    (cut-fresh n depth [] (tt, tt)))
+
+has-there : (jobs : List ℕ) (job : ℕ) (rest : List ℕ) → has (jobs ++ job ∷ rest) job ≡ true
+has-there [] job rest = or_left (nat_eq job job) (has rest job) (eq-eqb job job refl)
+has-there (x ∷ xs) job rest = or_right (nat_eq job x) (has (xs ++ job ∷ rest) job) (has-there xs job rest)
+
+-- no job of a list of distinct ones stands among those before it
+not-earlier : (jobs : List ℕ) (job : ℕ) (rest : List ℕ) → AreDistinct (jobs ++ job ∷ rest) → has jobs job ≡ false
+not-earlier [] job rest d = refl
+not-earlier (x ∷ xs) job rest d = elim (eqb_tells job x) [
+  | inl same ↦ absurd (false≢true (sym d.0 ∙ ap (has (xs ++ job ∷ rest)) (sym same.1) ∙ has-there xs job rest))
+  | inr other ↦ ap (λ b. b || has xs job) other.0 ∙ not-earlier xs job rest d.1
+]
+
+-- what holds of all extensions of a list holds of each list of distinct jobs that begins with it
+at-extension-of : (n : ℕ) (P : List ℕ → Type 0) (jobs rest : List ℕ) → AllByRecursion P (extensions n (length rest) jobs) → Fresh n (jobs ++ rest) → P (jobs ++ rest)
+at-extension-of n P jobs [] h f = subst P (sym (append-nil jobs)) h.0
+at-extension-of n P jobs (job ∷ rest) h f =
+    let range = all-at (λ job. (1 ≤ job) × (job ≤ n)) jobs job rest f.0 in
+    let free = has-filter (λ job. not (has jobs job)) n job (ap not (not-earlier jobs job rest f.1)) range.0 range.1 in
+    let each = all-pieces P (λ job. extensions n (length rest) (jobs ++ job ∷ [])) (jobs_left n jobs) h in
+    let below = all-at-has (λ job. AllByRecursion P (extensions n (length rest) (jobs ++ job ∷ []))) (jobs_left n jobs) job each free in
+    let same : (jobs ++ job ∷ []) ++ rest ≡ jobs ++ job ∷ rest = append_assoc jobs (job ∷ []) rest in
+    subst P same (at-extension-of n P (jobs ++ job ∷ []) rest below (subst (Fresh n) (sym same) f))
+
+pub cut_is_whole : CutIsWhole
+cut_is_whole n depth jobs size are =
+    let lists : List (List ℕ) = cut n depth in
+    at-extension-of n (Contains lists) [] jobs
+    (subst (λ d. AllByRecursion (Contains lists) (extensions n d [])) (sym size) (recursion_from_All (Contains lists) lists (All-contains_itself lists)))
+    (recursion_from_All (λ job. (1 ≤ job) × (job ≤ n)) jobs are.range, are.distinct)

@@ -1,7 +1,15 @@
--- What is known of a cut: its order, and that it parts the sequences.
-use Rattle.std.specs.Prelude.{ℕ, ◌≡◌, ◌<◌, ◌≤◌, true, List, [], length, slice_index_or, AllPairs}
-use Rattle.flow_core.specs.Sequences.{IsSequence, Extends, cut}
+-- What is known of a cut: which lists stand in it, their order, and that it parts the sequences.
+use Rattle.std.specs.Prelude.{ℕ, ◌≡◌, ◌<◌, ◌≤◌, true, List, [], length, slice_index_or, All, AllPairs, Contains}
+use Rattle.flow_core.specs.Sequences.{AreJobs, IsSequence, Extends, cut}
 use Rattle.flow_search.specs.Search.{comes_before}
+
+-- each list of a cut has as many distinct jobs of the instance as the cut is deep
+abbrev pub CutHasDepth : Type 0
+CutHasDepth = (n depth : ℕ) → All (λ jobs. (length jobs ≡ depth) × AreJobs n jobs) (cut n depth)
+
+-- a cut has every such list
+abbrev pub CutIsWhole : Type 0
+CutIsWhole = (n depth : ℕ) (jobs : List ℕ) → length jobs ≡ depth → AreJobs n jobs → Contains (cut n depth) jobs
 
 -- a cut is in lexicographic order, each list once
 abbrev pub CutIsOrdered : Type 0

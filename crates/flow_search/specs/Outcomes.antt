@@ -12,7 +12,7 @@ abbrev pub found_of : Best → Found
 found_of best = record { value = best.value; sequence = best.sequence }
 
 -- A lawful outcome of a prefix: its best and its tree, within the budget; or over the budget, where the tree is longer.
--- Want of memory says nothing, and the prefix is there.
+-- That memory ran out says nothing. No prefix of a plan is missing.
 abbrev pub IsLawful : Planned → ℕ → Outcome → Type 0
 IsLawful plan number (Done best text) =
     (option_map found_of best ≡ best_of plan number)

@@ -50,7 +50,7 @@ plan_fault shop options = first_fault (
     ∷ fault_unless (nat_le (length (cut shop.jobs options.depth)) most_prefixes) Prefixes
     ∷ [])
 
--- a fault, want of memory aside
+-- a fault of the instance and the options; none where memory ran out
 abbrev pub but_memory : PlanFault → Option PlanFault
 but_memory Memory = None
 but_memory fault = Some fault

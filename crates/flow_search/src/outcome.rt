@@ -15,7 +15,9 @@ use std::alloc::{AllocError, Global};
 /// A sequence below the starting makespan, with its own.
 #[derive(Debug, Drop)]
 pub struct Best {
+    /// The makespan of the sequence.
     pub value: u64,
+    /// The sequence.
     pub sequence: Sequence,
 }
 
@@ -26,7 +28,7 @@ pub enum Outcome {
     Done { best: Option<Best>, tree: Vec<u8> },
     /// The tree is longer than the budget.
     OverBudget,
-    /// A growth was refused.
+    /// Memory ran out.
     NoMemory,
     /// The plan has no such prefix.
     NoPrefix,
@@ -63,7 +65,7 @@ pub fn sequence_of(alloc: Global, instance: &Instance, jobs: &[u16]) -> Result<S
 {
     match Sequence::new(alloc, instance, jobs) {
         Ok(sequence) => Ok(sequence),
-        // Jobs that are a sequence have no fault but want of memory.
+        // The jobs are a sequence, so memory ran out.
         Err(_) => Err(AllocError),
     }
 }

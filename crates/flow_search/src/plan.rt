@@ -22,7 +22,7 @@ pub enum PlanFault {
     /// There are more than `MAX_PREFIXES` prefixes.
     #[error("Prefixes")]
     Prefixes,
-    /// A growth was refused.
+    /// Memory ran out.
     #[error("Memory")]
     Memory,
 }

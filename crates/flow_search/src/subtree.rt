@@ -16,7 +16,9 @@ use std::alloc::{AllocError, AllocFailed, Global};
 /// Why a search ended early.
 #[derive(Clone, Copy, Debug, PartialEq, Eq)]
 pub enum Stop {
+    /// The tree is longer than the budget.
     OverBudget,
+    /// Memory ran out.
     Memory,
 }
 

@@ -16,7 +16,9 @@ use std::alloc::{AllocError, Global};
 /// The trees of the first prefixes, and the first least of their bests.
 #[derive(Drop)]
 pub struct Tally {
+    /// The trees, by the numbers of their prefixes.
     pub trees: Vec<Vec<u8>>,
+    /// The first of the bests that none undercuts.
     pub best: Option<Best>,
 }
 

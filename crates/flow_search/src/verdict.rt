@@ -19,8 +19,11 @@ use thiserror::Error;
 /// The least makespan, a sequence that attains it, and the tree of each prefix.
 #[derive(Debug, Drop)]
 pub struct Verdict {
+    /// The least makespan.
     pub value: u64,
+    /// A sequence that attains it.
     pub sequence: Sequence,
+    /// The trees of the prefixes, by their numbers.
     pub trees: Vec<Vec<u8>>,
 }
 
@@ -30,7 +33,7 @@ pub enum RunFault {
     /// The tree of this prefix, by its number from 0, is longer than the budget, and none before it is.
     #[error("OverBudget {0}")]
     OverBudget(u32),
-    /// A growth was refused.
+    /// Memory ran out.
     #[error("Memory")]
     Memory,
 }
