@@ -53,7 +53,7 @@ no-value shop bytes End limits e = fault-lawless shop bytes End limits e
 abbrev pub refused : CheckFault → Result ℕ CheckFault
 refused fault = Err fault
 
--- a lawful certificate is refused for want of memory alone
+-- a lawful certificate is refused where memory ran out alone
 pub only-memory : (shop : Shop) (bytes : List ℕ) (fault : CheckFault) (value : ℕ) → IsOfNoValue shop bytes fault → IsCertificate shop bytes value → (refused fault ≡ Ok value) ⊎ (refused fault ≡ Err Memory)
 only-memory shop bytes Memory value none is = inr refl
 only-memory shop bytes Header value none is = absurd (none value is)

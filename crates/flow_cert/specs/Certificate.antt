@@ -1,4 +1,5 @@
--- Certificates: texts that prove a least makespan. A bound gives a number for an instance, a list of jobs and a machine.
+-- Certificates: texts that prove a least makespan. A bound gives a number for an instance, a list of jobs and a
+-- machine.
 use Rattle.std.specs.Prelude.{ℕ, zero, suc, ◌≡◌, ◌-◌, ◌^◌, ◌<◌, ◌≤◌, ◌⊎◌, List, [], ◌∷◌, ◌++◌, map, codes}
 use Rattle.std.specs.Fmt.{decimal}
 use Rattle.std.specs.List.{AllZip, concat, flat_map, join_with_byte}
@@ -8,8 +9,8 @@ use Rattle.flow_core.specs.Paths.{span}
 use Rattle.flow_core.specs.Sequences.{IsSequence, IsLeastMakespan, jobs_left, cut}
 use Rattle.flow_core.specs.Bound.{bound_at, letter}
 
--- a text is a tree that covers a value from a list on, with so many jobs left: a point where none is left, a letter for a bound,
--- or a plus before the trees of the next jobs in increasing order
+-- a text is a tree that covers a value from a list on, with so many jobs left: a point where none is left, a letter for
+-- a bound, or a plus before the trees of the next jobs in increasing order
 abbrev pub Covers : Shop → (Shop → List ℕ → ℕ → ℕ) → ℕ → ℕ → List ℕ → List ℕ → Type 0
 Covers shop bound value zero jobs text = (text ≡ 46 ∷ []) × (value ≤ span shop jobs)
 Covers shop bound value (suc left) jobs text =

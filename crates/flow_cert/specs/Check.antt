@@ -6,12 +6,12 @@ use Rattle.flow_cert.specs.Faults.{certificate_value}
 use Rattle.flow_cert.specs.declared.fault.CheckFault.{CheckFault}
 use Rattle.flow_cert.specs.declared.fault.CheckFault.TheVariants.{Memory}
 
--- a fault, want of memory aside, is the first of a text
+-- a fault is the first of a text, unless memory ran out
 abbrev pub IsFirstFault : Shop → List ℕ → CheckFault → Type 0
 IsFirstFault shop bytes Memory = Unit {0}
 IsFirstFault shop bytes fault = certificate_value shop bytes ≡ Err fault
 
--- where there is a fault, want of memory aside, the text is a lawful certificate of no value
+-- where there is a fault, the text is a lawful certificate of no value, unless memory ran out
 abbrev pub IsOfNoValue : Shop → List ℕ → CheckFault → Type 0
 IsOfNoValue shop bytes Memory = Unit {0}
 IsOfNoValue shop bytes fault = (value : ℕ) → ¬ IsCertificate shop bytes value

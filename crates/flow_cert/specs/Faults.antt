@@ -61,7 +61,8 @@ cut_fault known strong place rest = cond known (cond strong (Ok rest) (Err (Weak
 abbrev pub leaf_fault : Bool → Bool → ℕ → List ℕ → Result (List ℕ) CheckFault
 leaf_fault point high place rest = cond point (cond high (Ok rest) (Err (Low place))) (Err (Tree place))
 
--- what is left behind a tree that covers a value, from a list on with so many jobs left; or the fault of its first faulty byte
+-- what is left behind a tree that covers a value, from a list on with so many jobs left; or the fault of its first
+-- faulty byte
 abbrev pub read_tree : Shop → (Shop → List ℕ → ℕ → ℕ) → ℕ → ℕ → ℕ → List ℕ → List ℕ → Result (List ℕ) CheckFault
 read_tree shop bound value place zero jobs [] = Err (Tree place)
 read_tree shop bound value place zero jobs (byte ∷ rest) = leaf_fault (nat_eq byte 46) (nat_le value (span shop jobs)) place rest

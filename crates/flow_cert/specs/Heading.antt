@@ -10,7 +10,8 @@ use Rattle.flow_cert.specs.Faults.{is_digit}
 abbrev pub BeginsWithNumber : List ℕ → ℕ → ℕ → List ℕ → Type 0
 BeginsWithNumber text end number rest = (number < 2 ^ 64) × (text ≡ decimal number ++ end ∷ rest)
 
--- whether a byte is a further digit of a number below 2^64 without leading zeros, behind the value of earlier digits, if any
+-- whether a byte is a further digit of a number below 2^64 without leading zeros, behind the value of earlier digits,
+-- if any
 abbrev pub is_further : ℕ → Bool → ℕ → Bool
 is_further value started byte =
     is_digit byte && not (started && nat_eq value 0) && nat_lt (value * 10 + (byte - 48)) (2 ^ 64)

@@ -65,7 +65,7 @@ pub record AreKnown (shop : Shop) (list least second : List ℕ) : Type 0 where
   pub least_size : length least ≡ most_machines
   pub second_size : length second ≡ most_machines
 
--- a front and the times owed are those of a list with so many jobs left
+-- what is kept of a list with so many jobs left: its front, and the time of the jobs left on each machine
 pub record IsNode (shop : Shop) (list : List ℕ) (node : Node) (left : ℕ) : Type 0 where
   pub times : IsFrontOf shop list node.front
   pub owed : (machine : ℕ) → 1 ≤ machine → machine ≤ shop.machines →

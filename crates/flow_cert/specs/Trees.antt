@@ -5,7 +5,8 @@ use Rattle.flow_cert.specs.Faults.{cut_value, end_value}
 use Rattle.flow_cert.specs.declared.fault.CheckFault.{CheckFault}
 use Rattle.flow_cert.specs.declared.fault.CheckFault.TheVariants.{Memory}
 
--- where the last line begins behind the trees of the cut, which begin at a place of the text; or the first fault of the trees
+-- where the last line begins behind the trees of the cut, which begin at a place of the text; or the first fault of
+-- the trees
 abbrev pub TreesGive : Shop → ℕ → ℕ → ℕ → List ℕ → Result ℕ CheckFault → Type 0
 TreesGive shop depth value from bytes (Ok end) =
     (cut_value shop depth value (drop from bytes) ≡ end_value value (drop end bytes)) × (end ≤ length bytes)

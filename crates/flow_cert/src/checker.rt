@@ -23,8 +23,8 @@ fn is_ending(text: &[u8]) -> bool
     text == ENDING
 }
 
-/// The value of a lawful certificate, which is the instance's least makespan, or the first fault of the text. `Memory` only
-/// at a growth that was refused. Any lawful certificate is accepted, whoever made it.
+/// The value of a lawful certificate, which is the instance's least makespan, or the first fault of the text. Any
+/// lawful certificate is accepted, whoever made it; `Memory` only where memory ran out.
 pub fn check(alloc: Global, instance: &Instance, bytes: &[u8]) -> Result<u64, CheckFault>
     ensures value { IfOk result (λ value. IsCertificate instance.now bytes.now value) }
     ensures least { IfOk result (λ value. IsLeastMakespan instance.now value) }

@@ -9,7 +9,7 @@ use thiserror::Error;
 /// Why a text is no certificate: the first line at fault, and in a tree's line, counted from 1, its first faulty byte.
 #[derive(Clone, Copy, Debug, PartialEq, Eq, Error)]
 pub enum CheckFault {
-    /// A growth was refused.
+    /// Memory ran out.
     #[error("Memory")]
     Memory,
     /// The first line is not that of a certificate.

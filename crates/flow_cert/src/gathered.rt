@@ -65,8 +65,8 @@ impl Gathered {
         Ok(())
     }
 
-    /// Hands bytes on: they are gathered, and all is put where there is no room for them. Bytes for which there never is room
-    /// are put without a copy.
+    /// Hands bytes on: they are gathered, and all is put where there is no room for them. Bytes for which there never
+    /// is room are put without a copy.
     pub(crate) fn add<S: Sink>(&mut self, out: &mut S, bytes: &[u8]) -> Result<(), WriteFault>
         requires { S.has_failed out.old ≡ false }
         ensures failed { S.has_failed out.new ≡ is_err result }

@@ -15,11 +15,15 @@ use flow_core::{Front, Instance, JobSet, MAX_DEPTH, front_push};
 /// The first line, with its end.
 const TITLE: &[u8] = b"flowshop certificate 1\n";
 
-/// What the lines before the trees say, and the text that follows them.
+/// What the four lines before the trees say, once they are found without fault. The sequence is not kept: its makespan
+/// was compared with the value.
 #[derive(Clone, Copy)]
 pub(crate) struct Heading<'a> {
+    /// The depth of the cut: how many jobs each of its lists has. One tree follows for each list.
     pub(crate) depth: u16,
+    /// The value, which is the makespan of the sequence.
     pub(crate) value: u64,
+    /// The text that follows, from the first tree on.
     pub(crate) trees: &'a [u8],
 }
 

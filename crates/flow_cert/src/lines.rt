@@ -13,11 +13,14 @@ use crate::tree::{Frame, tree_end};
 /// A place in a text: a line, counted from 1, and where it begins.
 #[derive(Drop)]
 pub(crate) struct Spot {
+    /// The number of the line.
     pub(crate) line: usize,
+    /// Where it begins.
     pub(crate) at: usize,
 }
 
-/// Reads the lines of the prefixes that put so many more jobs behind a list, one tree in each.
+/// Reads the lines of the prefixes that put `more` jobs behind a list with `left` jobs left, one tree in each line, in
+/// order. The first of them is the line `line`, which begins at the place `from` of the text.
 pub(crate) fn lines_end(
     claim: &Claim,
     more: u16,

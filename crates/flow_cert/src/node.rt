@@ -13,24 +13,32 @@ ghost use Rattle.flow_cert.specs.Stack.{AreLinks, IsNode, IsAt, AreLows, IsChild
 use crate::claim::Claim;
 use flow_core::{Front, Instance, MAX_MACHINES, front_push};
 
-/// A list of jobs: its front, the time that each machine owes the jobs that are left, and for each machine the two least
-/// times that these jobs need behind it, once they were asked for. Until then the least is the greatest number.
+/// What is kept of a list of jobs: enough for its machine bounds and for those of its children. A job's tail behind a
+/// machine is its time on all later machines. The two least tails of a machine are found when its letter is first read
+/// at the list.
 #[derive(Drop)]
 pub(crate) struct Node {
+    /// The completion time of the list on each machine.
     front: Front,
+    /// The time of the jobs left on each machine, in all.
     owed: [u64; MAX_MACHINES],
+    /// The least tail of the jobs left behind each machine; the greatest number until it is found.
     least: [u32; MAX_MACHINES],
+    /// The second least, where the least was found. It is for the child that takes the job with the least.
     second: [u32; MAX_MACHINES],
 }
 
-/// The two least times that jobs which are left need behind a machine; the greatest number where there is none.
+/// The two least tails of the jobs left behind one machine, each the greatest number where there is no such job. Where
+/// two jobs have the least, both are the same.
 #[derive(Drop)]
 pub(crate) struct Lows {
+    /// The least.
     least: u32,
+    /// The second least.
     second: u32,
 }
 
-/// The time that a machine owes all jobs.
+/// The time of all jobs on a machine.
 fn time_of_all(instance: &Instance, machine: u16) -> u64
     requires from { 1 ≤ machine }
     requires to { machine ≤ instance.now.machines }
@@ -63,7 +71,7 @@ impl Node {
         }
     }
 
-    /// The list with a job at its end.
+    /// The list with one of its jobs left at its end.
     pub(crate) fn child(&self, claim: &Claim, job: u16) -> Self
         requires rows { AreRows claim.now.instance.now claim.now.rows.now }
         requires at { (list : List ℕ) × (left : ℕ) × IsNode claim.now.instance.now list self.now left × (has list job ≡ false) }
@@ -110,7 +118,7 @@ fn completion_of(claim: &Claim, front: &Front, job: u16, machine: u16) -> u64
     free
 }
 
-/// The two least times behind a machine.
+/// Finds the two least tails of the jobs left behind a machine.
 fn least_behind(claim: &Claim, links: &[u16], machine: u16) -> Lows
     requires rows { AreRows claim.now.instance.now claim.now.rows.now }
     requires links { (list : List ℕ) × AreLinks claim.now.instance.now.jobs list links.now }
@@ -135,7 +143,7 @@ fn least_behind(claim: &Claim, links: &[u16], machine: u16) -> Lows
     }
 }
 
-/// The two least times behind a machine, which the list keeps.
+/// The two least tails of the jobs left behind a machine: those that the list keeps, or else they are found and kept.
 fn lows_of(claim: &Claim, node: &mut Node, links: &[u16], machine: u16) -> Lows
     requires rows { AreRows claim.now.instance.now claim.now.rows.now }
     requires at { (list : List ℕ) × (left : ℕ) × IsAt claim.now.instance.now list node.old links.now left }

@@ -6,10 +6,12 @@ ghost use Rattle.flow_cert.specs.Rows.{IsRow, AreRows};
 use flow_core::{Instance, MAX_MACHINES};
 use std::alloc::{AllocError, Global};
 
-/// The times of a job on each machine, and the times that it needs behind each machine.
+/// The times of one job, with machine 1 first.
 #[derive(Drop)]
 pub(crate) struct Row {
+    /// Its time on each machine.
     pub(crate) times: [u32; MAX_MACHINES],
+    /// Its tail behind each machine: its time on all later machines.
     pub(crate) tails: [u32; MAX_MACHINES],
 }
 

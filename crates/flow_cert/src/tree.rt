@@ -1,4 +1,10 @@
-//! Reading one tree.
+//! Reading one tree, byte by byte.
+//!
+//! The tree of a list of jobs is a letter, a point, or a plus before the trees of the list's children. A child is the
+//! list with one of the jobs left at its end. The lists whose children are being read stand on a stack.
+//!
+//! The jobs left are kept in `links`: from a job left the link leads to the next greater one, from 0 to the least one,
+//! and from the greatest one to 0.
 
 ghost use Rattle.std.specs.Prelude.{◌≡◌, ℕ, ◌+◌, ◌-◌, ◌<◌, ◌≤◌, List, suc, length, drop, IfOk};
 ghost use Rattle.flow_core.specs.Bound.{bound_at};
@@ -10,15 +16,20 @@ use crate::claim::Claim;
 use crate::fault::CheckFault;
 use crate::node::{Node, bound, makespan_at};
 
-/// A list whose child is being read: the child's job, and the job that leads to it.
+/// An entry of the stack: a list, and which of its children has its tree read just now. Meanwhile the child's job is
+/// taken out of the links.
 #[derive(Drop)]
 pub(crate) struct Frame {
+    /// The list.
     node: Node,
+    /// The job that the child has at its end.
     job: u16,
+    /// The job left before it, or 0: its link leads to `job` again once the child's tree is read.
     last: u16,
 }
 
-/// Reads one byte of a tree at a list, or at its child: whether the trees of the children follow it.
+/// Reads the first byte of the tree of a list, or of its child, with so many jobs left: true for a plus, where the
+/// trees of the children follow, and false for a letter or a point, which is the whole tree.
 fn step(
     claim: &Claim,
     place: usize,
@@ -60,8 +71,8 @@ fn step(
     Ok(false)
 }
 
-/// Reads the trees of a list's children from a place on, and answers where the text goes on. Behind each child so many
-/// jobs are left.
+/// Reads the trees of a list's children, which begin at the place `from` of the text, and returns the place behind
+/// them. Each child has `below` jobs left. The stack is emptied first, and its room is used again for each tree.
 fn children_end(
     claim: &Claim,
     place: usize,
@@ -114,7 +125,8 @@ fn children_end(
     }
 }
 
-/// Reads the tree of a list from a place on, and answers where the text goes on.
+/// Reads the tree of a list with `left` jobs left, which begins at the place `from` of the text in line `place`, and
+/// returns the place behind it.
 pub(crate) fn tree_end(
     claim: &Claim,
     place: usize,

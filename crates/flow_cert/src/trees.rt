@@ -16,7 +16,7 @@ use std::alloc::{AllocError, Global};
 /// The line of the first tree, counted from 1.
 const FIRST_TREE: usize = 5;
 
-/// The links of the empty list: each job leads to the next.
+/// The links of the empty list: 0 leads to job 1, each job to the next, and the last one to 0.
 fn all_links(alloc: Global, jobs: u16) -> Result<Vec<u16>, AllocError>
     requires { jobs ≤ most_jobs }
     ensures { IfOk result (λ links. AreLinks jobs [] links.items) }
@@ -29,7 +29,8 @@ fn all_links(alloc: Global, jobs: u16) -> Result<Vec<u16>, AllocError>
     Ok(links)
 }
 
-/// Reads the trees of the cut at a depth, from the beginning of the fifth line on, and answers where the last line begins.
+/// Reads the trees of the cut at a depth, a line each, from the place `from` of the text on, where the fifth line
+/// begins. Returns the place where the last line begins.
 pub(crate) fn trees_end(
     alloc: Global,
     instance: &Instance,

@@ -74,8 +74,8 @@ fn add_trees<S: Sink>(
     Ok(())
 }
 
-/// Writes the certificate of a plan with a verdict, which has a tree for each prefix, into a sink that did not refuse yet.
-/// `Device` where the sink refused: then a proper prefix of the text was taken.
+/// Writes the certificate of a plan with a verdict, which has a tree for each prefix, into a sink that did not refuse
+/// yet. `Device` where the sink refused: then a proper prefix of the text was taken.
 pub fn write_certificate<S: Sink>(
     plan: &Plan,
     verdict: &Verdict,

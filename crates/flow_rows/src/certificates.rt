@@ -129,6 +129,219 @@ fn checker_names_first_fault(rt: HostRuntime) -> Result<(), Fail> {
     Ok(())
 }
 
+/// The lines of the certificate at depth 0, without their ends.
+const LINES: [&[u8]; 6] = [
+    b"flowshop certificate 1",
+    b"3 3 0",
+    b"12",
+    b"3 1 2",
+    b"+BC++.B",
+    b"end",
+];
+
+/// The certificate at depth 0 with other bytes as one of its lines, counted from 1.
+fn with_line(alloc: Global, changed: usize, bytes: &[u8]) -> Result<Vec<u8>, Fail> {
+    let mut text = Vec::new(alloc);
+    for (index, line) in LINES.iter().enumerate() {
+        let kept = if index + 1 == changed { bytes } else { line };
+        text.extend_from_slice(kept)?;
+        text.push(b'\n')?;
+    }
+    Ok(text)
+}
+
+#[test]
+fn checker_names_the_fault_of_each_line(rt: HostRuntime) -> Result<(), Fail> {
+    let alloc = rt.alloc();
+    let instance = three_machines(alloc)?;
+    for (index, line) in LINES.iter().enumerate() {
+        let text = with_line(alloc, index + 1, line)?;
+        assert_eq!(rt; text.as_slice(), AT_DEPTH_0.as_slice());
+    }
+    let rows: [(usize, &[u8], CheckFault); 42] = [
+        (1, b"", CheckFault::Header),
+        (1, b"flowshop certificate 2", CheckFault::Header),
+        (1, b"Flowshop certificate 1", CheckFault::Header),
+        (1, b"flowshop certificate 1 ", CheckFault::Header),
+        (1, b"flowshop certificate 1\r", CheckFault::Header),
+        (2, b"", CheckFault::Size),
+        (2, b"3 3", CheckFault::Size),
+        (2, b"3 3 0 0", CheckFault::Size),
+        (2, b"3 3 4", CheckFault::Size),
+        (2, b"2 3 0", CheckFault::Size),
+        (2, b"3 2 0", CheckFault::Size),
+        (2, b"03 3 0", CheckFault::Size),
+        (2, b"3 03 0", CheckFault::Size),
+        (2, b"3 3 00", CheckFault::Size),
+        (2, b"3  3 0", CheckFault::Size),
+        (2, b" 3 3 0", CheckFault::Size),
+        (2, b"3 3 0 ", CheckFault::Size),
+        (2, b"3 3 +0", CheckFault::Size),
+        (2, b"3 3 0\r", CheckFault::Size),
+        (3, b"", CheckFault::Value),
+        (3, b"012", CheckFault::Value),
+        (3, b"12 ", CheckFault::Value),
+        (3, b"12 12", CheckFault::Value),
+        (3, b"12\r", CheckFault::Value),
+        (3, b"18446744073709551616", CheckFault::Value),
+        (3, b"18446744073709551615", CheckFault::NotAttained),
+        (3, b"13", CheckFault::NotAttained),
+        (3, b"11", CheckFault::NotAttained),
+        (4, b"", CheckFault::Sequence),
+        (4, b"3 1", CheckFault::Sequence),
+        (4, b"3 1 2 2", CheckFault::Sequence),
+        (4, b"3 1 1", CheckFault::Sequence),
+        (4, b"3 1 0", CheckFault::Sequence),
+        (4, b"3 1 4", CheckFault::Sequence),
+        (4, b"3 1 02", CheckFault::Sequence),
+        (4, b"3  1 2", CheckFault::Sequence),
+        (4, b"3 1 2 ", CheckFault::Sequence),
+        (4, b"3 1 2\r", CheckFault::Sequence),
+        (4, b"1 2 3", CheckFault::NotAttained),
+        (6, b"", CheckFault::End),
+        (6, b"END", CheckFault::End),
+        (6, b"end\r", CheckFault::End),
+    ];
+    for (line, bytes, fault) in rows {
+        let text = with_line(alloc, line, bytes)?;
+        let found = check(alloc, &instance, text.as_slice());
+        assert_eq!(rt; found, Err(fault), "line {line} as {bytes:?}");
+    }
+    Ok(())
+}
+
+#[test]
+fn checker_names_first_faulty_byte_of_a_tree(rt: HostRuntime) -> Result<(), Fail> {
+    let alloc = rt.alloc();
+    let instance = three_machines(alloc)?;
+    let rows: [(&[u8], CheckFault); 20] = [
+        // The bound of machine 1 is 7 at the empty list, and 8 behind 3 2.
+        (b"A", CheckFault::Weak(5)),
+        (b"Ax", CheckFault::Weak(5)),
+        (b"xA", CheckFault::Tree(5)),
+        (b"+BAx", CheckFault::Weak(5)),
+        (b"+BxA", CheckFault::Tree(5)),
+        (b"+BC++.A", CheckFault::Weak(5)),
+        // No tree byte, and no machine of the instance.
+        (b"D", CheckFault::Tree(5)),
+        (b"@", CheckFault::Tree(5)),
+        (b"b", CheckFault::Tree(5)),
+        (b" +BC++.B", CheckFault::Tree(5)),
+        // A point where jobs are left; a plus and a letter where none is left.
+        (b".", CheckFault::Tree(5)),
+        (b"+BC+..", CheckFault::Tree(5)),
+        (b"+BC+++B", CheckFault::Tree(5)),
+        (b"+BC++BB", CheckFault::Tree(5)),
+        // The end of the line within a tree.
+        (b"", CheckFault::Tree(5)),
+        (b"+BC++.", CheckFault::Tree(5)),
+        // A byte behind a whole tree.
+        (b"+BC++.BA", CheckFault::Tree(5)),
+        (b"+BC++.B ", CheckFault::Tree(5)),
+        (b"+BC++.B\r", CheckFault::Tree(5)),
+        (b"+BC++.Bend", CheckFault::Tree(5)),
+    ];
+    for (tree, fault) in rows {
+        let text = with_line(alloc, 5, tree)?;
+        let found = check(alloc, &instance, text.as_slice());
+        assert_eq!(rt; found, Err(fault), "tree {tree:?}");
+    }
+    Ok(())
+}
+
+#[test]
+fn checker_names_first_line_at_fault(rt: HostRuntime) -> Result<(), Fail> {
+    let alloc = rt.alloc();
+    let instance = three_machines(alloc)?;
+    let rows: [(&[u8], CheckFault); 14] = [
+        (b"flowshop\n3 3\n012\n3 1\nx\nEND\n", CheckFault::Header),
+        (
+            b"flowshop certificate 1\n3 3\n012\n3 1\nx\nEND\n",
+            CheckFault::Size,
+        ),
+        (
+            b"flowshop certificate 1\n3 3 0\n012\n3 1\nx\nEND\n",
+            CheckFault::Value,
+        ),
+        (
+            b"flowshop certificate 1\n3 3 0\n12\n3 1\nx\nEND\n",
+            CheckFault::Sequence,
+        ),
+        (
+            b"flowshop certificate 1\n3 3 0\n12\n1 2 3\nx\nEND\n",
+            CheckFault::NotAttained,
+        ),
+        (
+            b"flowshop certificate 1\n3 3 0\n12\n3 1 2\nx\nEND\n",
+            CheckFault::Tree(5),
+        ),
+        // The sequence 3 1 2 has the makespan 12, which is below 13, and machine 1 has the bound 12 behind 3 1.
+        (
+            b"flowshop certificate 1\n3 3 0\n13\n2 1 3\n+BC++.x\nEND\n",
+            CheckFault::Low(5),
+        ),
+        (
+            b"flowshop certificate 1\n3 3 0\n13\n2 1 3\n+BC++x.\nEND\n",
+            CheckFault::Tree(5),
+        ),
+        (
+            b"flowshop certificate 1\n3 3 0\n13\n2 1 3\n+BC+A.B\nEND\n",
+            CheckFault::Weak(5),
+        ),
+        // At depth 3 the sequences stand in lexicographic order, and 3 1 2 is the fifth.
+        (
+            b"flowshop certificate 1\n3 3 3\n13\n2 1 3\n.\n.\n.\n.\n.\n.\nend\n",
+            CheckFault::Low(9),
+        ),
+        // Line ends that are missing.
+        (
+            b"flowshop certificate 1\n3 3 1\n12\n3 1 2\nBC\n++.B\nend\n",
+            CheckFault::Tree(5),
+        ),
+        (
+            b"flowshop certificate 1\n3 3 1\n12\n3 1 2\nB\nC\n++.Bend\n",
+            CheckFault::Tree(7),
+        ),
+        (
+            b"flowshop certificate 1\n3 3 1\n12\n3 1 2\nB\nC\n++.B",
+            CheckFault::Tree(7),
+        ),
+        (
+            b"flowshop certificate 1\n3 3 1\n12\n3 1 2\nB\nC\n++.B\nend",
+            CheckFault::End,
+        ),
+    ];
+    for (text, fault) in rows {
+        assert_eq!(rt; check(alloc, &instance, text), Err(fault));
+    }
+    Ok(())
+}
+
+#[test]
+fn checker_refuses_depths_past_the_jobs_and_past_three(rt: HostRuntime) -> Result<(), Fail> {
+    let alloc = rt.alloc();
+    let one = Instance::new(alloc, 1, 1, &[0])?;
+    let text = b"flowshop certificate 1\n1 1 1\n0\n1\n.\nend\n";
+    assert_eq!(rt; check(alloc, &one, text), Ok(0));
+    let text = b"flowshop certificate 1\n1 1 2\n0\n1\n.\nend\n";
+    assert_eq!(rt; check(alloc, &one, text), Err(CheckFault::Size));
+    let four = Instance::new(alloc, 4, 1, &[0; 4])?;
+    // 4 jobs have 24 lists of three, and as many of four.
+    for (depth, tree, answer) in [(3u32, b'A', Ok(0)), (4, b'.', Err(CheckFault::Size))] {
+        let mut text = Vec::new(alloc);
+        let sizes = format!(in alloc; "flowshop certificate 1\n4 1 {}\n", depth)?;
+        text.extend_from_slice(sizes.as_bytes())?;
+        text.extend_from_slice(b"0\n1 2 3 4\n")?;
+        for _ in 0..24u32 {
+            text.push(tree)?;
+            text.push(b'\n')?;
+        }
+        text.extend_from_slice(b"end\n")?;
+        assert_eq!(rt; check(alloc, &four, text.as_slice()), answer);
+    }
+    Ok(())
+}
+
 /// The fault of the first so many bytes of the certificate at depth 0.
 fn fault_of_prefix(length: usize) -> CheckFault {
     match length {
