@@ -30,9 +30,10 @@ pub(crate) struct StdInputs<'a, R: Input + Files> {
 }
 
 impl<'a, R: Input + Files> StdInputs<'a, R> {
-    /// Opens a folder three times and holds it, so that the descriptors 0, 1 and 2 are taken before any file is opened. Where
-    /// the program was started with one of them closed, that one is now the folder, from which no byte can be read and to which
-    /// none can be written. Otherwise the first file of a command would be taken for standard input, or for standard output.
+    /// Opens a folder three times and holds it, so that the descriptors 0, 1 and 2 are taken before any file is
+    /// opened. Where the program was started with one of them closed, that one is now the folder, from which no byte
+    /// can be read and to which none can be written. Without it the first file that a command opens would be taken for
+    /// standard input, standard output or standard error.
     pub(crate) fn new(rt: &'a R) -> Result<StdInputs<'a, R>, Stop> {
         Ok(StdInputs {
             rt,

@@ -31,22 +31,21 @@ pub(crate) const ROOM: usize = 100_000;
 /// How often a held prefix looks whether the others were reached.
 const TURNS: u64 = 1_000_000_000;
 
-pub(crate) const THREE_MACHINES: &[u8] =
-    b"number of jobs, number of machines, initial seed, upper bound and lower bound :\n3 3 0 0 0\nprocessing times :\n4 0 0\n0 8 2\n4 0 1\n";
+pub(crate) const THREE_MACHINES: &[u8] = b"a\n3 3 0 0 0\nb\n4 0 0\n0 8 2\n4 0 1\n";
 
-pub(crate) const TWO_MACHINES: &[u8] =
-    b"number of jobs, number of machines, initial seed, upper bound and lower bound :\n3 2 0 0 0\nprocessing times :\n3 1 2\n2 4 2\n";
+pub(crate) const TWO_MACHINES: &[u8] = b"a\n3 2 0 0 0\nb\n3 1 2\n2 4 2\n";
 
 /// One job on one machine, with time 0.
 const ONE_JOB: &[u8] = b"a\n1 1 0 0 0\nb\n0\n";
 
-/// Six jobs on three machines. All 720 sequences were tried apart from the program: the least makespan is 44, and that of
-/// the starting sequence is 46.
+/// Six jobs on three machines. All 720 sequences were tried apart from the program: the least makespan is 44, and
+/// that of the starting sequence is 46.
 const SIX_JOBS: &[u8] = b"a\n6 3 0 0 0\nb\n4 7 6 9 5 4\n1 2 9 6 3 9\n4 5 5 5 9 6\n";
 
 /// What `gen` writes for two jobs, two machines and seed 1.
 pub(crate) const GENERATED: &[u8] =
-    b"number of jobs, number of machines, initial seed, upper bound and lower bound :\n2 2 1 122 122\nprocessing times :\n1 14\n75 46\n";
+    b"number of jobs, number of machines, initial seed, upper bound and lower bound :\n\
+2 2 1 122 122\nprocessing times :\n1 14\n75 46\n";
 
 /// The certificate of the first text at depth 0.
 pub(crate) const DEPTH_0: &[u8] = b"flowshop certificate 1\n3 3 0\n12\n3 1 2\n+BC++.B\nend\n";
@@ -165,13 +164,13 @@ fn gen_writes_block_with_bounds(rt: HostRuntime) -> Result<(), Fail> {
     let alloc = rt.alloc();
     let mut out = MemorySink::new(alloc, ROOM);
     run_gen(alloc, 2, 2, 1, &mut out)?;
-    let text =
-        b"number of jobs, number of machines, initial seed, upper bound and lower bound :\n2 2 1 122 122\nprocessing times :\n1 14\n75 46\n";
+    let text = b"number of jobs, number of machines, initial seed, upper bound and lower bound :\n\
+2 2 1 122 122\nprocessing times :\n1 14\n75 46\n";
     assert!(rt; out.bytes() == text.as_slice());
     let mut out = MemorySink::new(alloc, ROOM);
     run_gen(alloc, 1, 1, 2_147_483_646, &mut out)?;
-    let text =
-        b"number of jobs, number of machines, initial seed, upper bound and lower bound :\n1 1 2147483646 99 99\nprocessing times :\n99\n";
+    let text = b"number of jobs, number of machines, initial seed, upper bound and lower bound :\n\
+1 1 2147483646 99 99\nprocessing times :\n99\n";
     assert!(rt; out.bytes() == text.as_slice());
     let mut out = MemorySink::new(alloc, ROOM);
     let ran = run_gen(alloc, 0, 1, 1, &mut out);
@@ -188,7 +187,9 @@ fn gen_writes_first_published_instance(rt: HostRuntime) -> Result<(), Fail> {
     let mut out = MemorySink::new(alloc, ROOM);
     run_gen(alloc, 20, 5, 873_654_221, &mut out)?;
     let Some(rest) = out.bytes().strip_prefix(
-        b"number of jobs, number of machines, initial seed, upper bound and lower bound :\n20 5 873654221 ".as_slice(),
+        b"number of jobs, number of machines, initial seed, upper bound and lower bound :\n\
+20 5 873654221 "
+            .as_slice(),
     )
     else {
         return Err(Fail::from("another head"));

@@ -1,6 +1,9 @@
 //! From the words of a command line to the run that they ask for.
 
-ghost use Rattle.std.specs.Prelude.{◌≡◌, false};
+ghost use Rattle.std.specs.Prelude.{◌≡◌, false, OnOk, IfErr};
+ghost use Rattle.flow_tool.specs.Answers.{AnswersAsked};
+ghost use Rattle.flow_tool.specs.Limits.{most_text};
+ghost use Rattle.flow_tool.specs.Runs.{Came, Ends, Wrote};
 
 use crate::checking::run_check;
 use crate::command::{OfBlock, Order, make_command, order_of};
@@ -105,6 +108,11 @@ fn obey_for_block<R: Threads + Wait + Sync, S: Source, K: Sink>(
 ) -> Result<(), ToolFault>
     requires text_works { S.has_failed text.old ≡ false }
     requires out_works { K.has_failed out.old ≡ false }
+    ensures written { OnOk result (Came most_text
+        (λ bytes. Wrote (AnswersAsked index what.now bytes) (K.taken out.old) (K.taken out.new))
+        (S.given text.old) (S.given text.new) (S.has_ended text.new)) }
+    ensures ended { IfErr result (Ends (out.new ≡ out.old) most_text (AnswersAsked index what.now)
+        (S.given text.old) (S.given text.new) (S.has_ended text.new) (K.taken out.old) (K.taken out.new)) }
 {
     match what {
         OfBlock::Span { jobs } => run_span(alloc, text, index, jobs.as_slice(), out),

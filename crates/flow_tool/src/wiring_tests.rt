@@ -34,8 +34,8 @@ const FILES: [(&str, &[u8]); 8] = [
     ("broken", b""),
 ];
 
-/// Files in memory. Standard input is the instance with two machines. A file whose name begins with `text` is there only for
-/// who opens it first.
+/// Files in memory. Standard input is the instance with two machines. A file whose name begins with `text` is there
+/// only for who opens it first.
 #[derive(Drop)]
 struct Named {
     has_opened: Cell<bool>,
@@ -117,7 +117,8 @@ fn each_command_writes_its_answer(rt: HostRuntime) -> Result<(), Fail> {
         ),
         (
             "gen 1 3 1",
-            b"number of jobs, number of machines, initial seed, upper bound and lower bound :\n1 3 1 90 90\nprocessing times :\n1\n14\n75\n",
+            b"number of jobs, number of machines, initial seed, upper bound and lower bound :\n\
+1 3 1 90 90\nprocessing times :\n1\n14\n75\n",
         ),
     ];
     for (line, bytes) in rows {
