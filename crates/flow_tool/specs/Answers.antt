@@ -1,5 +1,5 @@
 -- What a command answers for the bytes and numbers that it is given: the text that it writes, or its first refusal,
--- want of memory and devices aside.
+-- memory and devices aside.
 use Rattle.std.specs.Prelude.{◌≡◌, ℕ, ◌-◌, ◌≤◌, ◌<◌, ◌⊎◌, ◌++◌, List, [], ◌∷◌, length, codes, decimal, Some, None, Result, Ok, Err, slice_get}
 use Rattle.std.specs.List.{flat_map}
 use Rattle.flow_core.specs.Shop.{Shop}
@@ -25,6 +25,8 @@ use Rattle.flow_cert.specs.Faults.{certificate_value}
 use Rattle.flow_cert.specs.declared.fault.CheckFault.{CheckFault}
 use Rattle.flow_tool.specs.declared.fault.ToolFault.{ToolFault}
 use Rattle.flow_tool.specs.declared.fault.ToolFault.TheVariants as tool
+use Rattle.flow_tool.specs.declared.command.OfBlock.{OfBlock}
+use Rattle.flow_tool.specs.declared.command.OfBlock.TheVariants.{Span, Neh, Solve}
 
 -- an answer: a text, or a refusal
 abbrev pub Answer : Type 0
@@ -110,3 +112,9 @@ AnswersOptions shop (Err fault) answer = answer ≡ Err (tool.Choice fault)
 abbrev pub AnswersSolve : ℕ → ℕ → ℕ → ℕ → List ℕ → Answer → Type 0
 AnswersSolve index workers depth budget =
     AnswersFor index (λ block. AnswersOptions block.instance (options_or_fault workers depth budget))
+
+-- what is answered for a text, by what a command line asks for of one of its blocks
+abbrev pub AnswersAsked : ℕ → OfBlock → List ℕ → Answer → Type 0
+AnswersAsked index (Span jobs) = AnswersSpan index jobs.items
+AnswersAsked index Neh = AnswersNeh index
+AnswersAsked index (Solve workers depth budget) = AnswersSolve index workers depth budget

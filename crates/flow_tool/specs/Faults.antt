@@ -1,4 +1,4 @@
--- A fault of a layer, as a fault of the command: want of memory is the same in all.
+-- A fault of a layer, as a fault of the command: that memory ran out is the same in all.
 use Rattle.flow_core.specs.declared.bytes.fault.ReadFault.{ReadFault}
 use Rattle.flow_core.specs.declared.bytes.fault.ReadFault.TheVariants as read
 use Rattle.flow_core.specs.declared.text.fault.TextFault.{TextFault}

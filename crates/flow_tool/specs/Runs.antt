@@ -9,7 +9,7 @@ use Rattle.flow_core.specs.declared.bytes.fault.WriteFault.TheVariants as write
 use Rattle.flow_cert.specs.Certificate.{IsCertificate}
 use Rattle.flow_tool.specs.declared.fault.ToolFault.{ToolFault}
 use Rattle.flow_tool.specs.declared.fault.ToolFault.TheVariants as tool
-use Rattle.flow_tool.specs.Answers.{Answer}
+use Rattle.flow_tool.specs.Answers.{Answer, optimal_line}
 
 -- a source gave at most so many bytes and then its end, and this holds of the bytes
 abbrev pub Came : ℕ → (List ℕ → Type 0) → Option (List ℕ) → Option (List ℕ) → Bool → Type 0
@@ -23,7 +23,7 @@ Wrote Answers old new = (text : List ℕ) × Answers (Ok text) × Appends old ne
 abbrev pub WrotePart : (Answer → Type 0) → Option (List ℕ) → Option (List ℕ) → Type 0
 WrotePart Answers old new = (text : List ℕ) × Answers (Ok text) × AddsProperPrefix old new text
 
--- why a run stopped at a source: want of memory, a refusal of the source, more bytes than the limit, or what all its bytes say
+-- why a run stopped at a source: memory ran out, a refusal of the source, more bytes than the limit, or what all its bytes say
 abbrev pub StopsAt : ℕ → (List ℕ → ToolFault → Type 0) → Option (List ℕ) → Option (List ℕ) → Bool → ToolFault → Type 0
 StopsAt limit Refuses old new ended fault =
     (fault ≡ tool.Memory)
@@ -47,3 +47,7 @@ EndsAlone Untouched Answers taken takes fault =
 abbrev pub WroteCertificate : Shop → Option (List ℕ) → Option (List ℕ) → Type 0
 WroteCertificate shop old new =
     (certificate : List ℕ) × (value : ℕ) × Appends old new certificate × IsCertificate shop certificate value × IsLeastMakespan shop value
+
+-- a sink took the line of a value that is the least makespan of an instance
+abbrev pub WroteLeast : Shop → Option (List ℕ) → Option (List ℕ) → Type 0
+WroteLeast shop old new = (value : ℕ) × IsLeastMakespan shop value × Appends old new (optimal_line value)

@@ -1,15 +1,15 @@
 //! The command `check`.
 
 ghost use Rattle.std.specs.Prelude.{◌≡◌, ◌↔◌, ◌⊎◌, false, true, Ok, Err, IfOk, OnOk, IfErr, IsErrOf, List, ℕ};
+ghost use Rattle.flow_core.specs.Sequences.{IsLeastMakespan};
 ghost use Rattle.flow_core.specs.Bytes.{Grows};
 ghost use Rattle.flow_core.specs.declared.bytes.fault.ReadFault.TheVariants as read;
 ghost use Rattle.flow_core.specs.declared.bytes.fault.WriteFault.TheVariants as write;
 ghost use Rattle.flow_core.specs.declared.text.block.Block.{Block};
-ghost use Rattle.flow_tool.specs.Answers.{AnswersCheck, Picks};
-ghost use Rattle.flow_tool.specs.Runs.{Came, Ends, StopsAt, Wrote};
-ghost use Rattle.flow_tool.specs.Limits.{most_text};
+ghost use Rattle.flow_tool.specs.Answers.{AnswersCheck, Picks, optimal_line};
+ghost use Rattle.flow_tool.specs.Runs.{Came, Ends, StopsAt, Wrote, WroteLeast};
+ghost use Rattle.flow_tool.specs.Limits.{most_text, most_certificate};
 ghost use Rattle.flow_cert.specs.Check.{IsFirstFault};
-ghost use Rattle.flow_tool.specs.Limits.{most_certificate};
 
 use crate::fault::{ToolFault, of_check, of_read};
 use crate::lines::optimal_line;
@@ -24,6 +24,7 @@ pub(crate) const MAX_CERTIFICATE: usize = 1_000_000_000;
 /// The line of the value that a certificate proves least.
 fn checked_line(alloc: Global, instance: &Instance, bytes: &[u8]) -> Result<Vec<u8>, CheckFault>
     ensures line { IfOk result (λ line. AnswersCheck instance.now bytes.now (Ok line.items)) }
+    ensures least { IfOk result (λ line. (value : ℕ) × IsLeastMakespan instance.now value × (line.items ≡ optimal_line value)) }
     ensures refused { IfErr result (λ fault. IsFirstFault instance.now bytes.now fault) }
 {
     let value = check(alloc, instance, bytes)?;
@@ -39,8 +40,12 @@ fn check_certificate<C: Source, K: Sink>(
 ) -> Result<(), ToolFault>
     requires cert_works { C.has_failed cert.old ≡ false }
     requires out_works { K.has_failed out.old ≡ false }
-    ensures written { OnOk result (Came most_certificate (λ bytes. Wrote (AnswersCheck instance.now bytes) (K.taken out.old) (K.taken out.new)) (C.given cert.old) (C.given cert.new) (C.has_ended cert.new)) }
-    ensures ended { IfErr result (Ends (out.new ≡ out.old) most_certificate (AnswersCheck instance.now) (C.given cert.old) (C.given cert.new) (C.has_ended cert.new) (K.taken out.old) (K.taken out.new)) }
+    ensures written { OnOk result (Came most_certificate
+        (λ bytes. Wrote (AnswersCheck instance.now bytes) (K.taken out.old) (K.taken out.new))
+        (C.given cert.old) (C.given cert.new) (C.has_ended cert.new)) }
+    ensures least { OnOk result (WroteLeast instance.now (K.taken out.old) (K.taken out.new)) }
+    ensures ended { IfErr result (Ends (out.new ≡ out.old) most_certificate (AnswersCheck instance.now)
+        (C.given cert.old) (C.given cert.new) (C.has_ended cert.new) (K.taken out.old) (K.taken out.new)) }
     ensures read_device { IsErrOf result (ToolFault.Read read.Device) ↔ (C.has_failed cert.new ≡ true) }
     ensures write_device { IsErrOf result (ToolFault.Write write.Device) ↔ (K.has_failed out.new ≡ true) }
     ensures stands { Grows (C.given cert.old) (C.given cert.new) }
@@ -70,11 +75,22 @@ pub(crate) fn run_check<S: Source, C: Source, K: Sink>(
     requires file_works { S.has_failed file.old ≡ false }
     requires cert_works { C.has_failed cert.old ≡ false }
     requires out_works { K.has_failed out.old ≡ false }
-    ensures written { OnOk result (Came most_text (λ text. (block : Block) × Picks text index (Ok block) × Came most_certificate (λ bytes. Wrote (AnswersCheck block.instance bytes) (K.taken out.old) (K.taken out.new)) (C.given cert.old) (C.given cert.new) (C.has_ended cert.new)) (S.given file.old) (S.given file.new) (S.has_ended file.new)) }
-    ensures ended { IfErr result (λ fault.
-        ((out.new ≡ out.old) × (cert.new ≡ cert.old) × StopsAt most_text (λ text refusal. Picks text index (Err refusal)) (S.given file.old) (S.given file.new) (S.has_ended file.new) fault)
-        ⊎ Came most_text (λ text. (block : Block) × Picks text index (Ok block) × Ends (out.new ≡ out.old) most_certificate (AnswersCheck block.instance) (C.given cert.old) (C.given cert.new) (C.has_ended cert.new) (K.taken out.old) (K.taken out.new) fault) (S.given file.old) (S.given file.new) (S.has_ended file.new)) }
-    ensures read_device { IsErrOf result (ToolFault.Read read.Device) ↔ ((S.has_failed file.new ≡ true) ⊎ (C.has_failed cert.new ≡ true)) }
+    ensures written { OnOk result (Came most_text (λ text. (block : Block) × Picks text index (Ok block)
+        × Came most_certificate (λ bytes. Wrote (AnswersCheck block.instance bytes) (K.taken out.old) (K.taken out.new))
+        (C.given cert.old) (C.given cert.new) (C.has_ended cert.new))
+        (S.given file.old) (S.given file.new) (S.has_ended file.new)) }
+    ensures least { OnOk result (Came most_text (λ text.
+        (block : Block) × Picks text index (Ok block) × WroteLeast block.instance (K.taken out.old) (K.taken out.new))
+        (S.given file.old) (S.given file.new) (S.has_ended file.new)) }
+    ensures ended { IfErr result (λ fault. ((out.new ≡ out.old) × (cert.new ≡ cert.old)
+        × StopsAt most_text (λ text refusal. Picks text index (Err refusal))
+        (S.given file.old) (S.given file.new) (S.has_ended file.new) fault)
+        ⊎ Came most_text (λ text. (block : Block) × Picks text index (Ok block)
+        × Ends (out.new ≡ out.old) most_certificate (AnswersCheck block.instance)
+        (C.given cert.old) (C.given cert.new) (C.has_ended cert.new) (K.taken out.old) (K.taken out.new) fault)
+        (S.given file.old) (S.given file.new) (S.has_ended file.new)) }
+    ensures read_device { IsErrOf result (ToolFault.Read read.Device)
+        ↔ ((S.has_failed file.new ≡ true) ⊎ (C.has_failed cert.new ≡ true)) }
     ensures write_device { IsErrOf result (ToolFault.Write write.Device) ↔ (K.has_failed out.new ≡ true) }
     ensures stands { Grows (S.given file.old) (S.given file.new) }
     ensures cert_stands { Grows (C.given cert.old) (C.given cert.new) }

@@ -16,13 +16,19 @@ pub(crate) enum Order<'a> {
     OfBlock {
         file: &'a str,
         index: u32,
-        what: OfBlock<'a>,
+        what: OfBlock,
+    },
+    /// The value that a certificate proves least for that block.
+    Check {
+        file: &'a str,
+        index: u32,
+        cert: &'a str,
     },
 }
 
 /// What is asked for of a block.
 #[derive(Drop)]
-pub(crate) enum OfBlock<'a> {
+pub(crate) enum OfBlock {
     Span {
         jobs: Vec<u16>,
     },
@@ -31,9 +37,6 @@ pub(crate) enum OfBlock<'a> {
         workers: u32,
         depth: u32,
         budget: u32,
-    },
-    Check {
-        cert: &'a str,
     },
 }
 
@@ -176,7 +179,7 @@ fn gen_order<'a>(given: &ArgMatches<'a>) -> Option<Order<'a>> {
     })
 }
 
-fn block_order<'a>(given: &ArgMatches<'a>, what: OfBlock<'a>) -> Option<Order<'a>> {
+fn block_order<'a>(given: &ArgMatches<'a>, what: OfBlock) -> Option<Order<'a>> {
     Some(Order::OfBlock {
         file: given.get_str("FILE")?,
         index: given.get_one::<u32>("INDEX")?,
@@ -199,8 +202,11 @@ fn solve_order<'a>(given: &ArgMatches<'a>) -> Option<Order<'a>> {
 }
 
 fn check_order<'a>(given: &ArgMatches<'a>) -> Option<Order<'a>> {
-    let cert = given.get_str("CERT")?;
-    block_order(given, OfBlock::Check { cert })
+    Some(Order::Check {
+        file: given.get_str("FILE")?,
+        index: given.get_one::<u32>("INDEX")?,
+        cert: given.get_str("CERT")?,
+    })
 }
 
 fn jobs_of(alloc: Global, given: &ArgMatches) -> Result<Option<Vec<u16>>, AllocError> {

@@ -12,7 +12,7 @@ use thiserror::Error;
 /// Why a command refused, in the order in which it is tested; its text is the line on standard error.
 #[derive(Clone, Copy, Debug, PartialEq, Eq, Error)]
 pub(crate) enum ToolFault {
-    /// A growth was refused, in whatever layer.
+    /// Memory ran out, in whatever layer.
     #[error("refused memory")]
     Memory,
     /// A source refused, or gave more bytes than its limit.

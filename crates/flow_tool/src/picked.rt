@@ -21,8 +21,10 @@ pub(crate) fn read_block<S: Source>(
     index: u32,
 ) -> Result<Block, ToolFault>
     requires { S.has_failed file.old ≡ false }
-    ensures picked { IfOk result (λ block. Came most_text (λ text. Picks text index (Ok block)) (S.given file.old) (S.given file.new) (S.has_ended file.new)) }
-    ensures refused { IfErr result (λ fault. StopsAt most_text (λ text refusal. Picks text index (Err refusal)) (S.given file.old) (S.given file.new) (S.has_ended file.new) fault) }
+    ensures picked { IfOk result (λ block. Came most_text (λ text. Picks text index (Ok block))
+        (S.given file.old) (S.given file.new) (S.has_ended file.new)) }
+    ensures refused { IfErr result (λ fault. StopsAt most_text (λ text refusal. Picks text index (Err refusal))
+        (S.given file.old) (S.given file.new) (S.has_ended file.new) fault) }
     ensures device { IsErrOf result (ToolFault.Read Device) ↔ (S.has_failed file.new ≡ true) }
     ensures stands { Grows (S.given file.old) (S.given file.new) }
 {

@@ -12,7 +12,7 @@ pub(crate) enum Stop {
     /// The words are no command line.
     #[error("refused command line")]
     CommandLine,
-    /// A growth was refused while the command line was read.
+    /// Memory ran out while the command line was read.
     #[error("refused memory")]
     Memory,
     /// A file could not be opened.

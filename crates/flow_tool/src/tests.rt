@@ -3,14 +3,12 @@
 ghost use Rattle.std.specs.Prelude.{◌≡◌, ◌<◌, ◌||◌, None, false, length, IfOk, is_err};
 
 use crate::checking::run_check;
-use crate::command::{OfBlock, Order, make_command, order_of};
 use crate::fault::ToolFault;
 use crate::generated::run_gen;
 use crate::solving::run_solve;
 use crate::span::run_span;
 use crate::starting::run_neh;
 use crate::stop::Stop;
-use clap::error::ErrorKind;
 use flow_cert::CheckFault;
 use flow_core::{
     InstanceFault, MemorySink, MemorySource, ReadFault, Refused, SequenceFault, Source, TextFault,
@@ -28,32 +26,36 @@ use std::thread::Threads;
 const AMPLE: u32 = 1_000_000;
 
 /// How many bytes a sink takes where it is to take all.
-const ROOM: usize = 100_000;
+pub(crate) const ROOM: usize = 100_000;
 
 /// How often a held prefix looks whether the others were reached.
 const TURNS: u64 = 1_000_000_000;
 
-const THREE_MACHINES: &[u8] =
-    b"number of jobs, number of machines, initial seed, upper bound and lower bound :\n3 3 0 0 0\nprocessing times :\n4 0 0\n0 8 2\n4 0 1\n";
+pub(crate) const THREE_MACHINES: &[u8] = b"a\n3 3 0 0 0\nb\n4 0 0\n0 8 2\n4 0 1\n";
 
-const TWO_MACHINES: &[u8] =
-    b"number of jobs, number of machines, initial seed, upper bound and lower bound :\n3 2 0 0 0\nprocessing times :\n3 1 2\n2 4 2\n";
+pub(crate) const TWO_MACHINES: &[u8] = b"a\n3 2 0 0 0\nb\n3 1 2\n2 4 2\n";
 
 /// One job on one machine, with time 0.
 const ONE_JOB: &[u8] = b"a\n1 1 0 0 0\nb\n0\n";
 
+/// Six jobs on three machines. All 720 sequences were tried apart from the program: the least makespan is 44, and
+/// that of the starting sequence is 46.
+const SIX_JOBS: &[u8] = b"a\n6 3 0 0 0\nb\n4 7 6 9 5 4\n1 2 9 6 3 9\n4 5 5 5 9 6\n";
+
 /// What `gen` writes for two jobs, two machines and seed 1.
-const GENERATED: &[u8] =
-    b"number of jobs, number of machines, initial seed, upper bound and lower bound :\n2 2 1 122 122\nprocessing times :\n1 14\n75 46\n";
+pub(crate) const GENERATED: &[u8] =
+    b"number of jobs, number of machines, initial seed, upper bound and lower bound :\n\
+2 2 1 122 122\nprocessing times :\n1 14\n75 46\n";
 
 /// The certificate of the first text at depth 0.
-const DEPTH_0: &[u8] = b"flowshop certificate 1\n3 3 0\n12\n3 1 2\n+BC++.B\nend\n";
+pub(crate) const DEPTH_0: &[u8] = b"flowshop certificate 1\n3 3 0\n12\n3 1 2\n+BC++.B\nend\n";
 
 /// Its certificate at depth 1.
-const DEPTH_1: &[u8] = b"flowshop certificate 1\n3 3 1\n12\n3 1 2\nB\nC\n++.B\nend\n";
+pub(crate) const DEPTH_1: &[u8] = b"flowshop certificate 1\n3 3 1\n12\n3 1 2\nB\nC\n++.B\nend\n";
 
 /// Its certificate at depth 2.
-const DEPTH_2: &[u8] = b"flowshop certificate 1\n3 3 2\n12\n3 1 2\nB\nB\nC\nB\n+.\nB\nend\n";
+pub(crate) const DEPTH_2: &[u8] =
+    b"flowshop certificate 1\n3 3 2\n12\n3 1 2\nB\nB\nC\nB\n+.\nB\nend\n";
 
 /// Its certificate at depth 3.
 const DEPTH_3: &[u8] = b"flowshop certificate 1\n3 3 3\n12\n3 1 2\n.\n.\n.\n.\n.\n.\nend\n";
@@ -143,11 +145,14 @@ fn span_prints_makespan(rt: HostRuntime) -> Result<(), Fail> {
 #[test]
 fn span_finds_last_of_ten_blocks(rt: HostRuntime) -> Result<(), Fail> {
     let alloc = rt.alloc();
-    let mut text = Vec::new(alloc);
-    for _ in 0..10u32 {
-        text.extend_from_slice(TWO_MACHINES)?;
+    let mut text = Vec::from_slice(alloc, THREE_MACHINES)?;
+    for _ in 0..8u32 {
+        text.extend_from_slice(ONE_JOB)?;
     }
+    text.extend_from_slice(TWO_MACHINES)?;
     let text = text.as_slice();
+    assert!(rt; wrote(&span(alloc, text, 1, &[2, 3, 1]), b"makespan 15\n"));
+    assert!(rt; wrote(&span(alloc, text, 9, &[1]), b"makespan 0\n"));
     assert!(rt; wrote(&span(alloc, text, 10, &[2, 3, 1]), b"makespan 9\n"));
     assert!(rt; refused(&span(alloc, text, 11, &[2, 3, 1]), ToolFault::Index));
     assert!(rt; refused(&span(alloc, text, 0, &[2, 3, 1]), ToolFault::Index));
@@ -159,13 +164,13 @@ fn gen_writes_block_with_bounds(rt: HostRuntime) -> Result<(), Fail> {
     let alloc = rt.alloc();
     let mut out = MemorySink::new(alloc, ROOM);
     run_gen(alloc, 2, 2, 1, &mut out)?;
-    let text =
-        b"number of jobs, number of machines, initial seed, upper bound and lower bound :\n2 2 1 122 122\nprocessing times :\n1 14\n75 46\n";
+    let text = b"number of jobs, number of machines, initial seed, upper bound and lower bound :\n\
+2 2 1 122 122\nprocessing times :\n1 14\n75 46\n";
     assert!(rt; out.bytes() == text.as_slice());
     let mut out = MemorySink::new(alloc, ROOM);
     run_gen(alloc, 1, 1, 2_147_483_646, &mut out)?;
-    let text =
-        b"number of jobs, number of machines, initial seed, upper bound and lower bound :\n1 1 2147483646 99 99\nprocessing times :\n99\n";
+    let text = b"number of jobs, number of machines, initial seed, upper bound and lower bound :\n\
+1 1 2147483646 99 99\nprocessing times :\n99\n";
     assert!(rt; out.bytes() == text.as_slice());
     let mut out = MemorySink::new(alloc, ROOM);
     let ran = run_gen(alloc, 0, 1, 1, &mut out);
@@ -182,7 +187,9 @@ fn gen_writes_first_published_instance(rt: HostRuntime) -> Result<(), Fail> {
     let mut out = MemorySink::new(alloc, ROOM);
     run_gen(alloc, 20, 5, 873_654_221, &mut out)?;
     let Some(rest) = out.bytes().strip_prefix(
-        b"number of jobs, number of machines, initial seed, upper bound and lower bound :\n20 5 873654221 ".as_slice(),
+        b"number of jobs, number of machines, initial seed, upper bound and lower bound :\n\
+20 5 873654221 "
+            .as_slice(),
     )
     else {
         return Err(Fail::from("another head"));
@@ -251,11 +258,12 @@ fn solve_names_options_plan_and_budget(rt: HostRuntime) -> Result<(), Fail> {
 #[test]
 fn check_accepts_what_solve_wrote(rt: HostRuntime) -> Result<(), Fail> {
     let alloc = rt.alloc();
-    let texts: [(&[u8], u32, &[u8]); 4] = [
+    let texts: [(&[u8], u32, &[u8]); 5] = [
         (THREE_MACHINES, 3, b"optimal 12\n"),
         (TWO_MACHINES, 3, b"optimal 9\n"),
         (ONE_JOB, 1, b"optimal 0\n"),
         (GENERATED, 2, b"optimal 122\n"),
+        (SIX_JOBS, 2, b"optimal 44\n"),
     ];
     for (text, deepest, line) in texts {
         for depth in 0..deepest + 1 {
@@ -453,130 +461,6 @@ fn run_solve_starts_workers(rt: HostRuntime) -> Result<(), Fail> {
     Ok(())
 }
 
-/// The order of a command line, or what kind of fault it has.
-fn ordered<'a>(alloc: Global, words: &'a [&'a str]) -> Result<Option<Order<'a>>, ErrorKind> {
-    let command = make_command(alloc).map_err(|_| ErrorKind::OutOfMemory)?;
-    let matches = command
-        .try_get_matches_from(words)
-        .map_err(|error| error.kind())?;
-    order_of(alloc, &matches).map_err(|_| ErrorKind::OutOfMemory)
-}
-
-/// What is asked for of a block, where that is of this index of `FILE`.
-fn of_block<'a>(alloc: Global, words: &'a [&'a str], number: u32) -> Option<OfBlock<'a>> {
-    match ordered(alloc, words) {
-        Ok(Some(Order::OfBlock { file, index, what })) => {
-            if file == "FILE" && index == number {
-                return Some(what);
-            }
-            None
-        }
-        _ => None,
-    }
-}
-
-#[test]
-fn words_are_read_as_orders(rt: HostRuntime) -> Result<(), Fail> {
-    let alloc = rt.alloc();
-    let words = ["flowshop", "gen", "20", "5", "873654221"];
-    let order = ordered(alloc, &words);
-    assert!(rt;
-        matches!(
-            order,
-            Ok(Some(Order::Gen {
-                jobs: 20,
-                machines: 5,
-                seed: 873_654_221
-            }))
-        )
-    );
-    let words = ["flowshop", "neh", "FILE", "4294967295"];
-    assert!(rt; matches!(of_block(alloc, &words, u32::MAX), Some(OfBlock::Neh)));
-    let words = ["flowshop", "span", "FILE", "2", "3", "1", "65535"];
-    match of_block(alloc, &words, 2) {
-        Some(OfBlock::Span { jobs }) => assert!(rt; jobs.as_slice() == [3, 1, 65_535].as_slice()),
-        _ => assert!(rt; false),
-    }
-    let words = ["flowshop", "check", "FILE", "1", "CERTIFICATE"];
-    match of_block(alloc, &words, 1) {
-        Some(OfBlock::Check { cert }) => assert_eq!(rt; cert, "CERTIFICATE"),
-        _ => assert!(rt; false),
-    }
-    Ok(())
-}
-
-#[test]
-fn options_of_solve_have_their_defaults(rt: HostRuntime) -> Result<(), Fail> {
-    let alloc = rt.alloc();
-    let rows: [(&[&str], u32, u32, u32); 3] = [
-        (&["flowshop", "solve", "FILE", "1"], 1, 1, 1_000_000),
-        (
-            &["flowshop", "solve", "FILE", "1", "--depth", "2"],
-            1,
-            2,
-            1_000_000,
-        ),
-        (
-            &[
-                "flowshop",
-                "solve",
-                "FILE",
-                "1",
-                "--workers",
-                "3",
-                "--depth",
-                "2",
-                "--budget",
-                "4",
-            ],
-            3,
-            2,
-            4,
-        ),
-    ];
-    for (words, k, d, b) in rows {
-        match of_block(alloc, words, 1) {
-            Some(
-                OfBlock::Solve {
-                    workers,
-                    depth,
-                    budget,
-                },
-            ) => {
-                assert_eq!(rt; (workers, depth, budget), (k, d, b));
-            }
-            _ => assert!(rt; false),
-        }
-    }
-    Ok(())
-}
-
-#[test]
-fn other_words_are_refused(rt: HostRuntime) -> Result<(), Fail> {
-    let alloc = rt.alloc();
-    let rows: [&[&str]; 9] = [
-        &["flowshop"],
-        &["flowshop", "sort"],
-        &["flowshop", "span", "FILE", "1"],
-        &["flowshop", "span", "FILE", "1", "65536"],
-        &["flowshop", "span", "FILE", "4294967296", "1"],
-        &["flowshop", "neh", "FILE", "x"],
-        &["flowshop", "solve", "FILE", "1", "--workers", "-1"],
-        &["flowshop", "check", "FILE", "1"],
-        &["flowshop", "gen", "20", "5", "1", "1"],
-    ];
-    for words in rows {
-        match ordered(alloc, words) {
-            Err(ErrorKind::DisplayHelp) => assert!(rt; false),
-            Err(_) => {}
-            Ok(_) => assert!(rt; false),
-        }
-    }
-    let words = ["flowshop", "--help"];
-    assert!(rt; matches!(ordered(alloc, &words), Err(ErrorKind::DisplayHelp)));
-    Ok(())
-}
-
 #[test]
 fn stops_are_printed_with_their_status(rt: HostRuntime) -> Result<(), Fail> {
     let alloc = rt.alloc();
@@ -603,105 +487,99 @@ fn stops_are_printed_with_their_status(rt: HostRuntime) -> Result<(), Fail> {
 fn faults_are_printed_with_their_status(rt: HostRuntime) -> Result<(), Fail> {
     let alloc = rt.alloc();
     let rows = [
-        (ToolFault::Memory, "refused memory", 1),
-        (ToolFault::Read(ReadFault::Device), "failed read Device", 3),
-        (
-            ToolFault::Read(ReadFault::TooLong),
-            "failed read TooLong",
-            3,
-        ),
-        (
-            ToolFault::Text(TextFault::NoBlock),
-            "refused text NoBlock",
-            1,
-        ),
-        (
-            ToolFault::Text(TextFault::Times(9)),
-            "refused text Times 9",
-            1,
-        ),
-        (ToolFault::Index, "refused index", 1),
+        (ToolFault::Memory, "refused memory"),
+        (ToolFault::Read(ReadFault::Device), "failed read Device"),
+        (ToolFault::Read(ReadFault::TooLong), "failed read TooLong"),
+        (ToolFault::Index, "refused index"),
         (
             ToolFault::Sequence(SequenceFault::Length),
             "refused sequence Length",
-            1,
         ),
         (
             ToolFault::Sequence(SequenceFault::Job(3)),
             "refused sequence Job 3",
-            1,
         ),
         (
             ToolFault::Sequence(SequenceFault::Twice(2)),
             "refused sequence Twice 2",
-            1,
         ),
         (
             ToolFault::Instance(InstanceFault::Seed),
             "refused instance Seed",
-            1,
         ),
         (
             ToolFault::Instance(InstanceFault::Jobs),
             "refused instance Jobs",
-            1,
         ),
         (
             ToolFault::Instance(InstanceFault::Machines),
             "refused instance Machines",
-            1,
         ),
         (
             ToolFault::Choice(OptionFault::Workers),
             "refused option Workers",
-            1,
         ),
         (
             ToolFault::Choice(OptionFault::Depth),
             "refused option Depth",
-            1,
         ),
         (
             ToolFault::Choice(OptionFault::Budget),
             "refused option Budget",
-            1,
         ),
-        (ToolFault::Plan(PlanFault::Depth), "refused plan Depth", 1),
+        (ToolFault::Plan(PlanFault::Depth), "refused plan Depth"),
         (
             ToolFault::Plan(PlanFault::Prefixes),
             "refused plan Prefixes",
-            1,
         ),
-        (
-            ToolFault::Run(SolveFault::Threads),
-            "refused run Threads",
-            1,
-        ),
+        (ToolFault::Run(SolveFault::Threads), "refused run Threads"),
         (
             ToolFault::Run(SolveFault::OverBudget(2)),
             "refused run OverBudget 2",
-            1,
         ),
-        (
-            ToolFault::Certificate(CheckFault::NotAttained),
-            "refused certificate NotAttained",
-            1,
-        ),
-        (
-            ToolFault::Certificate(CheckFault::Weak(7)),
-            "refused certificate Weak 7",
-            1,
-        ),
-        (
-            ToolFault::Write(WriteFault::Device),
-            "failed write Device",
-            3,
-        ),
+        (ToolFault::Write(WriteFault::Device), "failed write Device"),
     ];
-    for (fault, line, status) in rows {
+    for (fault, line) in rows {
         let printed = format!(in alloc; "{}", fault)?;
         assert_eq!(rt; printed.as_str(), line);
-        assert_eq!(rt; fault.status(), status);
+        assert_eq!(rt; fault.status() == 3, line.starts_with("failed"));
+        assert_eq!(rt; fault.status() == 1, line.starts_with("refused"));
+    }
+    Ok(())
+}
+
+#[test]
+fn faults_of_texts_and_certificates_are_printed(rt: HostRuntime) -> Result<(), Fail> {
+    let alloc = rt.alloc();
+    let texts = [
+        (TextFault::NoBlock, "refused text NoBlock"),
+        (TextFault::Label(1), "refused text Label 1"),
+        (TextFault::Byte(2), "refused text Byte 2"),
+        (TextFault::Number(3), "refused text Number 3"),
+        (TextFault::Head(6), "refused text Head 6"),
+        (TextFault::Limits(4), "refused text Limits 4"),
+        (TextFault::Times(9), "refused text Times 9"),
+    ];
+    for (fault, line) in texts {
+        let printed = format!(in alloc; "{}", ToolFault::Text(fault))?;
+        assert_eq!(rt; printed.as_str(), line);
+        assert_eq!(rt; ToolFault::Text(fault).status(), 1);
+    }
+    let certificates = [
+        (CheckFault::Header, "refused certificate Header"),
+        (CheckFault::Size, "refused certificate Size"),
+        (CheckFault::Value, "refused certificate Value"),
+        (CheckFault::Sequence, "refused certificate Sequence"),
+        (CheckFault::NotAttained, "refused certificate NotAttained"),
+        (CheckFault::Tree(5), "refused certificate Tree 5"),
+        (CheckFault::Weak(7), "refused certificate Weak 7"),
+        (CheckFault::Low(5), "refused certificate Low 5"),
+        (CheckFault::End, "refused certificate End"),
+    ];
+    for (fault, line) in certificates {
+        let printed = format!(in alloc; "{}", ToolFault::Certificate(fault))?;
+        assert_eq!(rt; printed.as_str(), line);
+        assert_eq!(rt; ToolFault::Certificate(fault).status(), 1);
     }
     Ok(())
 }

@@ -1,0 +1,64 @@
+//! The inputs that a command line names.
+
+ghost use Rattle.std.specs.Prelude.{◌≡◌, false, IfOk, IfSome};
+
+use crate::stop::Stop;
+use flow_core::{Source, StdSource};
+use std::fs::File;
+use std::io::Input;
+use std::rt::Files;
+
+/// Gives standard input, and files by their names.
+pub(crate) trait Inputs {
+    type Standard: Source + Drop;
+
+    type File: Source + Drop;
+
+    fn standard(&self) -> Self::Standard
+        ensures { Self.Standard.has_failed result ≡ false };
+
+    /// The file of this name, opened for reading; none where it can't be opened.
+    fn open(&self, name: &str) -> Option<Self::File>
+        ensures { IfSome result (λ file. Self.File.has_failed file ≡ false) };
+}
+
+/// The system's.
+#[derive(Drop)]
+pub(crate) struct StdInputs<'a, R: Input + Files> {
+    rt: &'a R,
+    held: [R::File; 3],
+}
+
+impl<'a, R: Input + Files> StdInputs<'a, R> {
+    /// Opens a folder three times and holds it, so that the descriptors 0, 1 and 2 are taken before any file is
+    /// opened. Where the program was started with one of them closed, that one is now the folder, from which no byte
+    /// can be read and to which none can be written. Without it the first file that a command opens would be taken for
+    /// standard input, standard output or standard error.
+    pub(crate) fn new(rt: &'a R) -> Result<StdInputs<'a, R>, Stop> {
+        Ok(StdInputs {
+            rt,
+            held: [hold(rt)?, hold(rt)?, hold(rt)?],
+        })
+    }
+}
+
+fn hold<R: Files>(rt: &R) -> Result<R::File, Stop> {
+    File::open(rt, "/").map_err(|_| Stop::Open)
+}
+
+impl<'a, R: Input + Files> Inputs for StdInputs<'a, R> {
+    type Standard = StdSource<R::Reader>;
+
+    type File = StdSource<R::File>;
+
+    fn standard(&self) -> StdSource<R::Reader> {
+        StdSource::new(self.rt.reader())
+    }
+
+    fn open(&self, name: &str) -> Option<StdSource<R::File>> {
+        match File::open(self.rt, name) {
+            Ok(file) => Some(StdSource::new(file)),
+            Err(_) => None,
+        }
+    }
+}

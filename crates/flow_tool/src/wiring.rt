@@ -1,0 +1,144 @@
+//! From the words of a command line to the run that they ask for.
+
+ghost use Rattle.std.specs.Prelude.{◌≡◌, false, OnOk, IfErr};
+ghost use Rattle.flow_tool.specs.Answers.{AnswersAsked};
+ghost use Rattle.flow_tool.specs.Limits.{most_text};
+ghost use Rattle.flow_tool.specs.Runs.{Came, Ends, Wrote};
+
+use crate::checking::run_check;
+use crate::command::{OfBlock, Order, make_command, order_of};
+use crate::fault::ToolFault;
+use crate::generated::run_gen;
+use crate::inputs::Inputs;
+use crate::solving::run_solve;
+use crate::span::run_span;
+use crate::starting::run_neh;
+use crate::stop::Stop;
+use clap::Error;
+use clap::error::ErrorKind;
+use flow_core::{Sink, Source, put_all};
+use flow_pool::Open;
+use std::alloc::Global;
+use std::convert::AsStr;
+use std::sync::Wait;
+use std::thread::Threads;
+
+/// The word that stands for standard input in the place of a text's file.
+const STANDARD: &str = "stdin";
+
+/// Does what the words of a command line ask for. Help that was asked for is written too.
+pub(crate) fn run_words<R: Threads + Wait + Sync, I: Inputs, W: AsStr, K: Sink>(
+    rt: &R,
+    alloc: Global,
+    inputs: &I,
+    words: &[W],
+    out: &mut K,
+) -> Result<(), Stop>
+    requires { K.has_failed out.old ≡ false }
+{
+    let command = make_command(alloc).map_err(|_| Stop::Memory)?;
+    let matches = match command.try_get_matches_from(words) {
+        Ok(matches) => matches,
+        Err(error) => return refuse_words(alloc, &error, out),
+    };
+    match order_of(alloc, &matches) {
+        Ok(Some(order)) => obey(rt, alloc, inputs, &order, out),
+        Ok(None) => Err(Stop::CommandLine),
+        Err(_) => Err(Stop::Memory),
+    }
+}
+
+/// What is wrong with words that are no order, or the help that they ask for.
+fn refuse_words<K: Sink>(alloc: Global, error: &Error, out: &mut K) -> Result<(), Stop>
+    requires { K.has_failed out.old ≡ false }
+{
+    match error.kind() {
+        ErrorKind::DisplayHelp => {
+            let text = format!(in alloc; "{}", error).map_err(|_| Stop::Memory)?;
+            put_all(out, text.as_bytes()).map_err(|fault| Stop::Fault(ToolFault::Write(fault)))
+        }
+        ErrorKind::OutOfMemory => Err(Stop::Memory),
+        _ => Err(Stop::CommandLine),
+    }
+}
+
+/// Does what was asked for. Files are opened before anything is read.
+fn obey<R: Threads + Wait + Sync, I: Inputs, K: Sink>(
+    rt: &R,
+    alloc: Global,
+    inputs: &I,
+    order: &Order,
+    out: &mut K,
+) -> Result<(), Stop>
+    requires { K.has_failed out.old ≡ false }
+{
+    match order {
+        Order::Gen {
+            jobs,
+            machines,
+            seed,
+        } => run_gen(alloc, *jobs, *machines, *seed, out).map_err(Stop::Fault),
+        Order::OfBlock { file, index, what } => {
+            if *file == STANDARD {
+                let mut text = inputs.standard();
+                return obey_for_block(rt, alloc, &mut text, *index, what, out).map_err(Stop::Fault);
+            }
+            let mut text = inputs.open(*file).ok_or(Stop::Open)?;
+            obey_for_block(rt, alloc, &mut text, *index, what, out).map_err(Stop::Fault)
+        }
+        Order::Check { file, index, cert } => {
+            if *file == STANDARD {
+                let mut text = inputs.standard();
+                return check_named(alloc, inputs, &mut text, *index, *cert, out);
+            }
+            let mut text = inputs.open(*file).ok_or(Stop::Open)?;
+            check_named(alloc, inputs, &mut text, *index, *cert, out)
+        }
+    }
+}
+
+/// Does what was asked for, for the block that an index names.
+fn obey_for_block<R: Threads + Wait + Sync, S: Source, K: Sink>(
+    rt: &R,
+    alloc: Global,
+    text: &mut S,
+    index: u32,
+    what: &OfBlock,
+    out: &mut K,
+) -> Result<(), ToolFault>
+    requires text_works { S.has_failed text.old ≡ false }
+    requires out_works { K.has_failed out.old ≡ false }
+    ensures written { OnOk result (Came most_text
+        (λ bytes. Wrote (AnswersAsked index what.now bytes) (K.taken out.old) (K.taken out.new))
+        (S.given text.old) (S.given text.new) (S.has_ended text.new)) }
+    ensures ended { IfErr result (Ends (out.new ≡ out.old) most_text (AnswersAsked index what.now)
+        (S.given text.old) (S.given text.new) (S.has_ended text.new) (K.taken out.old) (K.taken out.new)) }
+{
+    match what {
+        OfBlock::Span { jobs } => run_span(alloc, text, index, jobs.as_slice(), out),
+        OfBlock::Neh => run_neh(alloc, text, index, out),
+        OfBlock::Solve {
+            workers,
+            depth,
+            budget,
+        } => run_solve(
+            rt, alloc, text, index, *workers, *depth, *budget, &Open, out,
+        ),
+    }
+}
+
+/// Checks the certificate in the file of this name.
+fn check_named<I: Inputs, S: Source, K: Sink>(
+    alloc: Global,
+    inputs: &I,
+    text: &mut S,
+    index: u32,
+    cert: &str,
+    out: &mut K,
+) -> Result<(), Stop>
+    requires text_works { S.has_failed text.old ≡ false }
+    requires out_works { K.has_failed out.old ≡ false }
+{
+    let mut cert = inputs.open(cert).ok_or(Stop::Open)?;
+    run_check(alloc, text, index, &mut cert, out).map_err(Stop::Fault)
+}
