@@ -54,7 +54,8 @@ fn load_of(
 /// Taillard's lower bound: no sequence has a smaller makespan.
 pub fn taillard_bound(instance: &Instance) -> u64
     ensures value { result ≡ taillard_bound instance.now }
-    ensures admissible { (sequence : List ℕ) → IsSequence instance.now.jobs sequence → result ≤ span instance.now sequence }
+    ensures admissible { (sequence : List ℕ) → IsSequence instance.now.jobs sequence →
+        result ≤ span instance.now sequence }
 {
     let mut totals = [0; MAX_JOBS];
     sum_times(instance, &mut totals, 1);

@@ -11,8 +11,10 @@ use flow_core::{Instance, MAX_JOBS};
 fn add_times(instance: &Instance, sums: &mut [u32; MAX_JOBS], machine: u16)
     requires from { 1 ≤ machine }
     requires to { machine ≤ instance.now.machines }
-    requires small { (job : ℕ) → 1 ≤ job → job ≤ instance.now.jobs → slice_index sums.old (job - 1) ≤ machine * greatest_time }
-    ensures { (job : ℕ) → 1 ≤ job → job ≤ instance.now.jobs → slice_index sums.new (job - 1) ≡ slice_index sums.old (job - 1) + time instance.now job machine }
+    requires small { (job : ℕ) → 1 ≤ job → job ≤ instance.now.jobs →
+        slice_index sums.old (job - 1) ≤ machine * greatest_time }
+    ensures { (job : ℕ) → 1 ≤ job → job ≤ instance.now.jobs →
+        slice_index sums.new (job - 1) ≡ slice_index sums.old (job - 1) + time instance.now job machine }
 {
     for job in 1..instance.jobs() + 1 {
         sums[job as usize - 1] += instance.time(job, machine);

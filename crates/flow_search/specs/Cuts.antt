@@ -20,7 +20,8 @@ pub record ExtendsOne (n depth : ℕ) (jobs : List ℕ) : Type 0 where
   pub number : ℕ
   pub low : number < length (cut n depth)
   pub extends : Extends jobs (slice_index_or (cut n depth) number [])
-  pub only : (other : ℕ) → other < length (cut n depth) → Extends jobs (slice_index_or (cut n depth) other []) → other ≡ number
+  pub only :
+      (other : ℕ) → other < length (cut n depth) → Extends jobs (slice_index_or (cut n depth) other []) → other ≡ number
 
 -- a cut parts the sequences
 abbrev pub CutParts : Type 0

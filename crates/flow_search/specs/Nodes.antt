@@ -47,7 +47,8 @@ pub record Wrote (budget byte : ℕ) (old new : Search) : Type 0 where
 
 -- the incumbent after one more sequence
 pub record Saw (span : ℕ) (old new : Search) : Type 0 where
-  pub incumbent : incumbent_of new ≡ cond (nat_lt span old.value) (span, Some (record { value = span; sequence = old.node.items })) (incumbent_of old)
+  pub incumbent : incumbent_of new
+      ≡ cond (nat_lt span old.value) (span, Some (record { value = span; sequence = old.node.items })) (incumbent_of old)
   pub tree : new.tree.items ≡ old.tree.items
   pub node : new.node.items ≡ old.node.items
   pub unscheduled : new.unscheduled ≡ old.unscheduled

@@ -25,7 +25,8 @@ IsLawful plan number NoPrefix = ⊥
 -- each outcome is a lawful one of the prefix of its place
 abbrev pub AreLawful : Planned → List Outcome → Type 0
 AreLawful plan outcomes =
-    (number : ℕ) (other : Outcome) → number < length outcomes → IsLawful plan number (slice_index_or outcomes number other)
+    (number : ℕ) (other : Outcome) → number < length outcomes →
+    IsLawful plan number (slice_index_or outcomes number other)
 
 -- the outcome is `Done`
 abbrev pub IsDone : Outcome → Type 0

@@ -43,4 +43,5 @@ pub record IsTally (plan : Planned) (count : ℕ) (tally : Tally) : Type 0 where
   pub trees : map (λ tree. tree.items) tally.trees.items ≡ take count (trees_of plan)
   pub within : AllByRecursion (λ text. length text ≤ plan.options.budget) (take count (trees_of plan))
   pub best : option_map found_of tally.best
-      ≡ first_least (λ f. f.value) (flat_map (λ prefix. option_to_list (best plan.shop plan.start.value prefix)) (take count (prefixes_of plan)))
+      ≡ first_least (λ f. f.value)
+      (flat_map (λ prefix. option_to_list (best plan.shop plan.start.value prefix)) (take count (prefixes_of plan)))

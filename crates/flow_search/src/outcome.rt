@@ -40,7 +40,8 @@ fn search_below(alloc: Global, plan: &Plan, number: u32) -> Result<Search, Stop>
     ensures best { IfOk result (λ search. found_if search ≡ best_of plan.now number) }
     ensures tree { IfOk result (λ search. search.tree.items ≡ tree_of plan.now number) }
     ensures within { IfOk result (λ search. length search.tree.items ≤ plan.now.options.budget) }
-    ensures sequence { IfOk result (λ search. search.improved ≡ true → IsSequence plan.now.shop.jobs search.best.items) }
+    ensures sequence { IfOk result (λ search. search.improved ≡ true →
+        IsSequence plan.now.shop.jobs search.best.items) }
     ensures over { result ≡ Err Stop.OverBudget → plan.now.options.budget < length (tree_of plan.now number) }
 {
     let instance = plan.instance();

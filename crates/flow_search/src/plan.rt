@@ -61,9 +61,17 @@ impl<'a> Model for Plan<'a> {
 
     ghost Value = { Planned };
 
-    ghost view = { λ p. record { shop = p.instance.now; start = record { value = p.start_value; sequence = p.start }; options = p.options } };
+    ghost view = { λ p. record {
+      shop = p.instance.now;
+      start = record { value = p.start_value; sequence = p.start };
+      options = p.options;
+    } };
 
-    ghost invariant = { λ p. IsStored (record { shop = p.instance.now; start = record { value = p.start_value; sequence = p.start }; options = p.options }) p.count p.lists.items };
+    ghost invariant = { λ p. IsStored (record {
+      shop = p.instance.now;
+      start = record { value = p.start_value; sequence = p.start };
+      options = p.options;
+    }) p.count p.lists.items };
 }
 
 impl<'a> Plan<'a> {

@@ -128,7 +128,8 @@ fn cutting_machine(
     requires some { 0 < length (members unscheduled.now) }
     requires jobs { (job : ℕ) → instance.now.jobs < job → contains unscheduled.now job ≡ false }
     requires within { IsWithinFront instance.now front.now }
-    ensures { result ≡ find (λ machine. nat_le value (machine_bound instance.now front.now (members unscheduled.now) machine)) (numbers 1 instance.now.machines) }
+    ensures { result ≡ find (λ machine. nat_le value
+        (machine_bound instance.now front.now (members unscheduled.now) machine)) (numbers 1 instance.now.machines) }
 {
     for machine in 1..instance.machines() + 1 {
         if value <= bound(instance, front, unscheduled, machine) {
@@ -148,7 +149,8 @@ pub fn explore(
 ) -> Result<(), Stop>
     requires { IsAt instance.now search.old.node.items front.now search.old.unscheduled count }
     ensures done { OnOk result (Walked instance.now budget count search.old search.new) }
-    ensures over { result ≡ Err Stop.OverBudget → budget < length search.old.tree.items + length (walked instance.now count search.old).0 }
+    ensures over { result ≡ Err Stop.OverBudget →
+        budget < length search.old.tree.items + length (walked instance.now count search.old).0 }
 {
     let machines = instance.machines();
     if count == 0 {

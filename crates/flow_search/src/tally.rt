@@ -46,8 +46,8 @@ impl Tally {
 
     /// Adds what the next prefix comes to.
     pub fn add(&mut self, best: Option<Best>, tree: Vec<u8>) -> Result<(), AllocError>
-        ensures { OnOk result ((plan : Planned) (number : ℕ) → number < length (prefixes_of plan) → IsTally plan number self.old →
-            IsLawful plan number (Done best tree) → IsTally plan (number + 1) self.new) }
+        ensures { OnOk result ((plan : Planned) (number : ℕ) → number < length (prefixes_of plan) →
+            IsTally plan number self.old → IsLawful plan number (Done best tree) → IsTally plan (number + 1) self.new) }
     {
         if undercuts(&best, &self.best) {
             self.best = best;

@@ -57,7 +57,8 @@ pub fn conclude(alloc: Global, plan: &Plan, outcomes: Vec<Outcome>) -> Result<Ve
     ensures within { OnOk result (first_over_budget plan.now ≡ None) }
     ensures over { (number : ℕ) → result ≡ Err (RunFault.OverBudget number) → first_over_budget plan.now ≡ Some number }
     ensures done { OnOk result (All IsDone outcomes.items) }
-    ensures refused { IfErr result (λ fault. (first_refusal 0 outcomes.items ≡ Some fault) ⊎ ((first_refusal 0 outcomes.items ≡ None) × (fault ≡ Memory))) }
+    ensures refused { IfErr result (λ fault. (first_refusal 0 outcomes.items ≡ Some fault)
+        ⊎ ((first_refusal 0 outcomes.items ≡ None) × (fault ≡ Memory))) }
 {
     let count = plan.prefixes();
     if let Some(fault) = refusal_among(&outcomes) {
