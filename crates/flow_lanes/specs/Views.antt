@@ -10,7 +10,10 @@ module _ {T : Type 0} where
   -- the end that pushes is the end that sends
   abbrev pub sending_end : Producer T Global AnyItems → SendingEnd T
   sending_end p = record {
-    lane = record { ring = record { words = p.end.words; slots = p.end.slots; names = p.end.names }; capacity = producer_capacity p };
+    lane = record {
+      ring = record { words = p.end.words; slots = p.end.slots; names = p.end.names };
+      capacity = producer_capacity p;
+    };
     sent = sent p;
     known_free = known_free p;
   }
@@ -18,7 +21,10 @@ module _ {T : Type 0} where
   -- the end that pops is the end that receives
   abbrev pub receiving_end : Consumer T Global AnyItems → ReceivingEnd T
   receiving_end c = record {
-    lane = record { ring = record { words = c.end.words; slots = c.end.slots; names = c.end.names }; capacity = consumer_capacity c };
+    lane = record {
+      ring = record { words = c.end.words; slots = c.end.slots; names = c.end.names };
+      capacity = consumer_capacity c;
+    };
     received = received c;
     known_items = known_items c;
   }

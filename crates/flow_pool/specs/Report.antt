@@ -20,7 +20,7 @@ pub record IsDoneAnswer (plan : Planned) (answer : Answer) : Type 0 where
   pub lawful : IsLawful plan answer.number answer.outcome
   pub done : IsDone answer.outcome
 
--- the settled lanes of a worker hold its tasks and a done, lawful answer to each prefix, and each lane has run_slots slots
+-- the settled lanes of a worker hold its tasks, and a done, lawful answer to each prefix; each has run_slots slots
 pub record IsWholeWork (plan : Planned) (worker : ℕ) (lanes : Settled Task × Settled Answer) : Type 0 where
   pub tasks : lanes.0.items ≡ tasks_of plan.options.workers (prefix_count plan) worker
   pub numbers : answered lanes.1.items ≡ share plan.options.workers (prefix_count plan) worker
@@ -32,7 +32,7 @@ pub record AreWholeWork (plan : Planned) (lanes : List (Settled Task × Settled 
   pub count : length lanes ≡ plan.options.workers
   pub each : (worker : ℕ) → worker < plan.options.workers → HoldsAt (IsWholeWork plan worker) lanes worker
 
--- a run over the budget names the first prefix whose tree is longer; of want of memory or of threads nothing is said
+-- a run over the budget names the first prefix whose tree is longer; where memory or threads ran out nothing is said
 abbrev pub IsSolveFault : Planned → SolveFault → Type 0
 IsSolveFault plan Memory = Unit {0}
 IsSolveFault plan Threads = Unit {0}

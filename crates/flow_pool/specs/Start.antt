@@ -14,7 +14,7 @@ pub record CanStart (workers : List WorkerEnds) (hubs : List HubEnds) : Type 0 w
   pub ready : All IsReadyHub hubs
   pub same : map hub_lanes hubs ≡ map worker_lanes workers
 
--- the workers have served, the hub has sent each its end and taken its answers, and these are the ends of the same lanes
+-- the workers have served, the hub has sent each its end and taken its answers; the ends are of the same lanes
 pub record HasEnded (gives : WorkerEnds → Type 0) (workers : List WorkerEnds) (hubs : List HubEnds) : Type 0 where
   pub lanes : map hub_lanes hubs ≡ map worker_lanes workers
   pub served : All gives workers

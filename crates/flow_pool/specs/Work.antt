@@ -45,7 +45,7 @@ pub record IsLawfulAnswer (plan : Planned) (answer : Answer) : Type 0 where
 abbrev pub answered : List Answer → List ℕ
 answered answers = map (λ answer. answer.number) answers
 
--- the answers fit the tasks: the tasks ask for the answered prefixes in order, then comes one end; and each answer is lawful
+-- the answers fit the tasks: these ask for the answered prefixes in order, then comes one end; each answer is lawful
 pub record Fit (plan : Planned) (tasks : List Task) (answers : List Answer) : Type 0 where
   pub asked : tasks ≡ asking (answered answers) ++ End ∷ []
   pub lawful : All (IsLawfulAnswer plan) answers
