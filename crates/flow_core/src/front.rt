@@ -65,7 +65,8 @@ pub fn front_push(instance: &Instance, front: &mut Front, job: u16)
     requires job_to { job ≤ instance.now.jobs }
     requires within { IsWithinFront instance.now front.old }
     // Whatever the list was.
-    ensures front { (jobs : List ℕ) → IsFrontOf instance.now jobs front.old → IsFrontOf instance.now (jobs ++ job ∷ []) front.new }
+    ensures front { (jobs : List ℕ) → IsFrontOf instance.now jobs front.old →
+        IsFrontOf instance.now (jobs ++ job ∷ []) front.new }
     ensures elsewhere { SameElsewhere instance.now front.old front.new }
 {
     let end = instance.machines() + 1;

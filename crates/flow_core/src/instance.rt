@@ -1,6 +1,7 @@
 //! An instance: the times of jobs on machines.
 
-ghost use Rattle.std.specs.Prelude.{◌≡◌, ℕ, ◌<◌, ◌≤◌, nat_lt, length, position, All, None, IfSome, IfNone, IfOk, OnOk, IfErr};
+ghost use Rattle.std.specs.Prelude.{◌≡◌, ℕ, ◌<◌, ◌≤◌, nat_lt, length, position, All, None, IfSome, IfNone, IfOk};
+ghost use Rattle.std.specs.Prelude.{OnOk, IfErr};
 ghost use Rattle.flow_core.specs.Shop.{IsWithinLimits, time};
 ghost use Rattle.flow_core.specs.InstanceFaults.{instance_fault, but_memory};
 ghost use Rattle.flow_core.specs.declared.instance.InstanceFault.TheVariants.{Memory};
@@ -78,7 +79,8 @@ impl Instance {
         machines: u32,
         times: &[u32],
     ) -> Result<Instance, InstanceFault>
-        ensures value { IfOk result (λ instance. instance ≡ record { jobs = jobs; machines = machines; times = times.now }) }
+        ensures value { IfOk result
+            (λ instance. instance ≡ record { jobs = jobs; machines = machines; times = times.now }) }
         ensures accepted { OnOk result (instance_fault jobs machines times.now ≡ None) }
         ensures refused { IfErr result (λ fault. instance_fault jobs machines times.now ≡ but_memory fault) }
     {

@@ -60,5 +60,6 @@ pub fn sequences_have_no_fault()
 pub fn texts_have_no_fault()
     ensures is { (text : List ℕ) → text_fault text ≡ None → (blocks : List Block) × Reads text blocks }
     ensures has { (text : List ℕ) (blocks : List Block) → Reads text blocks → text_fault text ≡ None }
-    ensures one { (text : List ℕ) (blocks others : List Block) → Reads text blocks → Reads text others → blocks ≡ others }
+    ensures one { (text : List ℕ) (blocks others : List Block) → Reads text blocks → Reads text others →
+        blocks ≡ others }
 {}

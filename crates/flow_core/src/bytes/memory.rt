@@ -1,6 +1,7 @@
 //! A sink and a source in memory.
 
-ghost use Rattle.std.specs.Prelude.{◌≡◌, ◌+◌, ◌-◌, ◌<◌, ◌≤◌, ◌↔◌, [], length, take, min, false, Some, IsErr, IfOk, is_err, ◌||◌};
+ghost use Rattle.std.specs.Prelude.{◌≡◌, ◌+◌, ◌-◌, ◌<◌, ◌≤◌, ◌↔◌, [], length, take, min, false, Some, IsErr, IfOk};
+ghost use Rattle.std.specs.Prelude.{is_err, ◌||◌};
 ghost use Rattle.std.specs.Io.KnownBytes.{WriteAppends};
 ghost use Rattle.std.specs.Option.{ForSome};
 ghost use Rattle.flow_core.specs.Bytes.{is_end};
@@ -96,9 +97,17 @@ impl<'a> Model for MemorySource<'a> {
 
     ghost Value = { Held };
 
-    ghost view = { λ s. record { bytes = s.bytes.now; given = s.given; piece = s.piece; fail_after = s.fail_after; ended = s.ended; failed = s.failed } };
+    ghost view = { λ s. record {
+      bytes = s.bytes.now;
+      given = s.given;
+      piece = s.piece;
+      fail_after = s.fail_after;
+      ended = s.ended;
+      failed = s.failed;
+    } };
 
-    ghost invariant = { λ s. (s.given ≤ length s.bytes.now) × (1 ≤ s.piece) × ForSome s.fail_after (λ most. s.given ≤ most) };
+    ghost invariant = { λ s. (s.given ≤ length s.bytes.now) × (1 ≤ s.piece)
+        × ForSome s.fail_after (λ most. s.given ≤ most) };
 }
 
 impl<'a> MemorySource<'a> {
@@ -106,7 +115,14 @@ impl<'a> MemorySource<'a> {
     /// went out. A piece has at least 1 byte.
     pub fn new(bytes: &'a [u8], piece: usize, fail_after: Option<usize>) -> MemorySource<'a>
         requires { 1 ≤ piece }
-        ensures { result ≡ record { bytes = bytes.entry.now; given = 0; piece = piece; fail_after = fail_after; ended = false; failed = false } }
+        ensures { result ≡ record {
+          bytes = bytes.entry.now;
+          given = 0;
+          piece = piece;
+          fail_after = fail_after;
+          ended = false;
+          failed = false;
+        } }
     {
         MemorySource {
             bytes,
@@ -138,7 +154,8 @@ impl<'a> Source for MemorySource<'a> {
         ensures piece { IfOk result (λ c. c ≤ self.old.piece) }
         ensures counts { IfOk result (λ c. self.new.given ≡ self.old.given + c) }
         ensures all { ForSome self.new.fail_after (λ most. self.new.given ≤ most) }
-        ensures keeps { (self.new.bytes ≡ self.old.bytes) × (self.new.piece ≡ self.old.piece) × (self.new.fail_after ≡ self.old.fail_after) }
+        ensures keeps { (self.new.bytes ≡ self.old.bytes) × (self.new.piece ≡ self.old.piece)
+            × (self.new.fail_after ≡ self.old.fail_after) }
     {
         let room = match self.fail_after {
             Some(most) => most - self.given,

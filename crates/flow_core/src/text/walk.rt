@@ -2,7 +2,8 @@
 
 ghost use Rattle.std.specs.Prelude.{◌≡◌, ◌++◌, true, false, length, MatchOption};
 ghost use Rattle.flow_core.specs.TextFaults.{is_head, are_times};
-ghost use Rattle.flow_core.specs.TextWalk.{state_of, start, after_label, after_head_numbers, after_times, after_numbers, after_line, at_end, sizes_of, sizes, SizesFit, Keeps, LineGives, TextGives};
+ghost use Rattle.flow_core.specs.TextWalk.{state_of, start, after_label, after_head_numbers, after_times};
+ghost use Rattle.flow_core.specs.TextWalk.{after_numbers, after_line, at_end, sizes_of, sizes, SizesFit, Keeps, LineGives, TextGives};
 
 use crate::instance::Instance;
 use crate::limits::{MAX_JOBS, MAX_MACHINES, MAX_TIME};
@@ -33,7 +34,8 @@ pub(crate) fn begin(alloc: Global) -> Progress
 /// The head that five numbers make, where it is within the limits.
 fn head_of(numbers: &[u32]) -> Option<Head>
     requires { length numbers.now ≡ 5 }
-    ensures { MatchOption result (is_head numbers.now ≡ false) (λ head. (is_head numbers.now ≡ true) × (sizes head ≡ sizes_of numbers.now)) }
+    ensures { MatchOption result (is_head numbers.now ≡ false) (λ head. (is_head numbers.now ≡ true)
+        × (sizes head ≡ sizes_of numbers.now)) }
 {
     let jobs = numbers[0];
     let machines = numbers[1];
