@@ -29,7 +29,8 @@ pub fn check(alloc: Global, instance: &Instance, bytes: &[u8]) -> Result<u64, Ch
     ensures value { IfOk result (λ value. IsCertificate instance.now bytes.now value) }
     ensures least { IfOk result (λ value. IsLeastMakespan instance.now value) }
     ensures sound { (value : ℕ) → IsCertificate instance.now bytes.now value → IsLeastMakespan instance.now value }
-    ensures lawful { (value : ℕ) → IsCertificate instance.now bytes.now value → (result ≡ Ok value) ⊎ (result ≡ Err Memory) }
+    ensures lawful { (value : ℕ) → IsCertificate instance.now bytes.now value →
+        (result ≡ Ok value) ⊎ (result ≡ Err Memory) }
     ensures fault { IfErr result (λ fault. IsFirstFault instance.now bytes.now fault) }
     ensures none { IfErr result (λ fault. IsOfNoValue instance.now bytes.now fault) }
 {

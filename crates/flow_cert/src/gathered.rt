@@ -1,6 +1,7 @@
 //! Bytes that are gathered before a sink takes them.
 
-ghost use Rattle.std.specs.Prelude.{◌≡◌, ℕ, ◌+◌, ◌≤◌, false, List, [], ◌∷◌, ◌++◌, length, take, decimal, is_err, OnOk, OnErr};
+ghost use Rattle.std.specs.Prelude.{◌≡◌, ℕ, ◌+◌, ◌≤◌, false, List, [], ◌∷◌, ◌++◌, length, take, decimal, is_err};
+ghost use Rattle.std.specs.Prelude.{OnOk, OnErr};
 ghost use Rattle.std.specs.Io.KnownBytes.{Appends};
 ghost use Rattle.flow_core.specs.Bytes.{AddsProperPrefix};
 ghost use Rattle.flow_cert.specs.Certificate.{line, spaced};
@@ -104,8 +105,10 @@ impl Gathered {
     ) -> Result<(), WriteFault>
         requires { S.has_failed out.old ≡ false }
         ensures failed { S.has_failed out.new ≡ is_err result }
-        ensures ok { OnOk result (HandsOn (S.taken out.old) (S.taken out.new) self.old (line (spaced numbers.now)) self.new) }
-        ensures err { OnErr result (AddsProperPrefix (S.taken out.old) (S.taken out.new) (self.old ++ line (spaced numbers.now))) }
+        ensures ok { OnOk result
+            (HandsOn (S.taken out.old) (S.taken out.new) self.old (line (spaced numbers.now)) self.new) }
+        ensures err { OnErr result
+            (AddsProperPrefix (S.taken out.old) (S.taken out.new) (self.old ++ line (spaced numbers.now))) }
     {
         let mut gap: &[u8] = b"";
         for number in numbers {

@@ -38,7 +38,8 @@ fn read_title(text: &[u8]) -> Option<&[u8]>
 /// The depth in the line of so many jobs and machines with which a text begins, and what follows that line.
 fn read_size(jobs: u16, machines: u16, text: &[u8]) -> Option<(u16, &[u8])>
     ensures found { IfSome result (λ r. BeginsWithSize jobs machines text.now r.0 r.1.now) }
-    ensures only { (depth : ℕ) (rest : List ℕ) → BeginsWithSize jobs machines text.now depth rest → IsSomeAnd result (λ r. (r.0 ≡ depth) × (r.1.now ≡ rest)) }
+    ensures only { (depth : ℕ) (rest : List ℕ) → BeginsWithSize jobs machines text.now depth rest →
+        IsSomeAnd result (λ r. (r.0 ≡ depth) × (r.1.now ≡ rest)) }
 {
     let (first, machines_text) = read_number(text, b' ')?;
     let (second, depth_text) = read_number(machines_text, b' ')?;
@@ -56,7 +57,8 @@ fn read_size(jobs: u16, machines: u16, text: &[u8]) -> Option<(u16, &[u8])>
 fn read_job(text: &[u8], end: u8, jobs: u16) -> Option<(u16, &[u8])>
     requires { end < 48 }
     ensures found { IfSome result (λ r. BeginsWithJob jobs text.now end r.0 r.1.now) }
-    ensures only { (job : ℕ) (rest : List ℕ) → BeginsWithJob jobs text.now end job rest → IsSomeAnd result (λ r. (r.0 ≡ job) × (r.1.now ≡ rest)) }
+    ensures only { (job : ℕ) (rest : List ℕ) → BeginsWithJob jobs text.now end job rest →
+        IsSomeAnd result (λ r. (r.0 ≡ job) × (r.1.now ≡ rest)) }
 {
     let (job, rest) = read_number(text, end)?;
     if job < 1 || job > u64::from(jobs) {
@@ -75,8 +77,10 @@ fn end_behind(place: u16, jobs: u16) -> u8
 
 /// The makespan of the sequence in the line with which a text begins, and what follows that line.
 fn read_sequence<'a>(instance: &Instance, text: &'a [u8]) -> Option<(u64, &'a [u8])>
-    ensures found { IfSome result (λ r. (jobs : List ℕ) × BeginsWithSequence instance.now.jobs text.now jobs r.1.now × (span instance.now jobs ≡ r.0)) }
-    ensures only { (jobs rest : List ℕ) → BeginsWithSequence instance.now.jobs text.now jobs rest → IsSomeAnd result (λ r. (r.0 ≡ span instance.now jobs) × (r.1.now ≡ rest)) }
+    ensures found { IfSome result (λ r. (jobs : List ℕ)
+        × BeginsWithSequence instance.now.jobs text.now jobs r.1.now × (span instance.now jobs ≡ r.0)) }
+    ensures only { (jobs rest : List ℕ) → BeginsWithSequence instance.now.jobs text.now jobs rest →
+        IsSomeAnd result (λ r. (r.0 ≡ span instance.now jobs) × (r.1.now ≡ rest)) }
 {
     let jobs = instance.jobs();
     let machines = instance.machines();
@@ -103,7 +107,9 @@ pub(crate) fn read_heading<'a>(
 ) -> Result<Heading<'a>, CheckFault>
     ensures limits { IsWithinLimits instance.now }
     ensures depth { IfOk result (λ heading. heading.depth ≤ instance.now.jobs) }
-    ensures found { IfOk result (λ heading. certificate_value instance.now text.now ≡ cut_value instance.now heading.depth heading.value heading.trees.now) }
+    ensures found { IfOk result
+        (λ heading. certificate_value instance.now text.now
+        ≡ cut_value instance.now heading.depth heading.value heading.trees.now) }
     ensures fault { IfErr result (λ fault. certificate_value instance.now text.now ≡ Err fault) }
 {
     let jobs = instance.jobs();

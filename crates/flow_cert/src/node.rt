@@ -74,10 +74,12 @@ impl Node {
     /// The list with one of its jobs left at its end.
     pub(crate) fn child(&self, claim: &Claim, job: u16) -> Self
         requires rows { AreRows claim.now.instance.now claim.now.rows.now }
-        requires at { (list : List ℕ) × (left : ℕ) × IsNode claim.now.instance.now list self.now left × (has list job ≡ false) }
+        requires at { (list : List ℕ) × (left : ℕ) × IsNode claim.now.instance.now list self.now left
+            × (has list job ≡ false) }
         requires from { 1 ≤ job }
         requires to { job ≤ claim.now.instance.now.jobs }
-        ensures { (list : List ℕ) (left : ℕ) → IsNode claim.now.instance.now list self.now (suc left) → has list job ≡ false →
+        ensures { (list : List ℕ) (left : ℕ) → IsNode claim.now.instance.now list self.now (suc left) →
+            has list job ≡ false →
             IsNode claim.now.instance.now (list ++ job ∷ []) result left }
     {
         let mut front = self.front;
@@ -124,7 +126,8 @@ fn least_behind(claim: &Claim, links: &[u16], machine: u16) -> Lows
     requires links { (list : List ℕ) × AreLinks claim.now.instance.now.jobs list links.now }
     requires from { 1 ≤ machine }
     requires to { machine ≤ claim.now.instance.now.machines }
-    ensures { (list : List ℕ) → AreLinks claim.now.instance.now.jobs list links.now → AreLows claim.now.instance.now list machine result }
+    ensures { (list : List ℕ) → AreLinks claim.now.instance.now.jobs list links.now →
+        AreLows claim.now.instance.now list machine result }
 {
     let place = machine as usize - 1;
     let mut least = u32::MAX;
@@ -149,8 +152,10 @@ fn lows_of(claim: &Claim, node: &mut Node, links: &[u16], machine: u16) -> Lows
     requires at { (list : List ℕ) × (left : ℕ) × IsAt claim.now.instance.now list node.old links.now left }
     requires from { 1 ≤ machine }
     requires to { machine ≤ claim.now.instance.now.machines }
-    ensures lows { (list : List ℕ) (left : ℕ) → IsAt claim.now.instance.now list node.old links.now left → AreLows claim.now.instance.now list machine result }
-    ensures kept { (list : List ℕ) (left : ℕ) → IsAt claim.now.instance.now list node.old links.now left → IsAt claim.now.instance.now list node.new links.now left }
+    ensures lows { (list : List ℕ) (left : ℕ) → IsAt claim.now.instance.now list node.old links.now left →
+        AreLows claim.now.instance.now list machine result }
+    ensures kept { (list : List ℕ) (left : ℕ) → IsAt claim.now.instance.now list node.old links.now left →
+        IsAt claim.now.instance.now list node.new links.now left }
 {
     let place = machine as usize - 1;
     let known = node.least[place];
@@ -169,7 +174,8 @@ fn lows_of(claim: &Claim, node: &mut Node, links: &[u16], machine: u16) -> Lows
 /// The completion time of a list, or of its child, on the last machine.
 pub(crate) fn makespan_at(claim: &Claim, node: &Node, child: Option<u16>) -> u64
     requires rows { AreRows claim.now.instance.now claim.now.rows.now }
-    requires at { (list : List ℕ) × (left : ℕ) × IsNode claim.now.instance.now list node.now left × IsChild claim.now.instance.now.jobs list child }
+    requires at { (list : List ℕ) × (left : ℕ) × IsNode claim.now.instance.now list node.now left
+        × IsChild claim.now.instance.now.jobs list child }
     ensures { (list : List ℕ) (left : ℕ) → IsNode claim.now.instance.now list node.now left →
         result ≡ completion claim.now.instance.now (grown list child) claim.now.instance.now.machines }
 {
@@ -189,11 +195,16 @@ pub(crate) fn bound(
     machine: u16,
 ) -> u64
     requires rows { AreRows claim.now.instance.now claim.now.rows.now }
-    requires at { (list : List ℕ) × (left : ℕ) × IsAt claim.now.instance.now list node.old links.now (left_before child (suc left)) × IsChild claim.now.instance.now.jobs list child }
+    requires at { (list : List ℕ) × (left : ℕ)
+        × IsAt claim.now.instance.now list node.old links.now (left_before child (suc left))
+        × IsChild claim.now.instance.now.jobs list child }
     requires from { 1 ≤ machine }
     requires to { machine ≤ claim.now.instance.now.machines }
-    ensures kept { (list : List ℕ) (left : ℕ) → IsAt claim.now.instance.now list node.old links.now left → IsAt claim.now.instance.now list node.new links.now left }
-    ensures value { (list : List ℕ) (left : ℕ) → IsAt claim.now.instance.now list node.old links.now (left_before child (suc left)) → IsChild claim.now.instance.now.jobs list child →
+    ensures kept { (list : List ℕ) (left : ℕ) → IsAt claim.now.instance.now list node.old links.now left →
+        IsAt claim.now.instance.now list node.new links.now left }
+    ensures value { (list : List ℕ) (left : ℕ) →
+        IsAt claim.now.instance.now list node.old links.now (left_before child (suc left)) →
+        IsChild claim.now.instance.now.jobs list child →
         result ≡ bound_at claim.now.instance.now (grown list child) machine }
 {
     let lows = lows_of(claim, node, links, machine);

@@ -20,7 +20,8 @@ fn with_digit(value: u64, started: bool, byte: u8) -> Option<u64>
 pub(crate) fn read_number(text: &[u8], end: u8) -> Option<(u64, &[u8])>
     requires { end < 48 }
     ensures found { IfSome result (λ r. BeginsWithNumber text.now end r.0 r.1.now) }
-    ensures only { (n : ℕ) (rest : List ℕ) → BeginsWithNumber text.now end n rest → IsSomeAnd result (λ r. (r.0 ≡ n) × (r.1.now ≡ rest)) }
+    ensures only { (n : ℕ) (rest : List ℕ) → BeginsWithNumber text.now end n rest →
+        IsSomeAnd result (λ r. (r.0 ≡ n) × (r.1.now ≡ rest)) }
 {
     let mut value: u64 = 0;
     for (index, &byte) in text.iter().enumerate() {

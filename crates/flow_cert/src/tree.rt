@@ -40,9 +40,14 @@ fn step(
     byte: u8,
 ) -> Result<bool, CheckFault>
     requires rows { AreRows claim.now.instance.now claim.now.rows.now }
-    requires at { (list : List ℕ) × IsAt claim.now.instance.now list node.old links.now (left_before child left) × IsChild claim.now.instance.now.jobs list child }
-    ensures kept { (list : List ℕ) (left_here : ℕ) → IsAt claim.now.instance.now list node.old links.now left_here → IsAt claim.now.instance.now list node.new links.now left_here }
-    ensures gives { (list : List ℕ) → IsAt claim.now.instance.now list node.old links.now (left_before child left) → IsChild claim.now.instance.now.jobs list child →
+    requires at { (list : List ℕ) × IsAt claim.now.instance.now list node.old links.now (left_before child left)
+        × IsChild claim.now.instance.now.jobs list child }
+    ensures kept { (list : List ℕ) (left_here : ℕ) →
+        IsAt claim.now.instance.now list node.old links.now left_here →
+        IsAt claim.now.instance.now list node.new links.now left_here }
+    ensures gives { (list : List ℕ) →
+        IsAt claim.now.instance.now list node.old links.now (left_before child left) →
+        IsChild claim.now.instance.now.jobs list child →
         StepGives claim.now.instance.now claim.now.value place left (grown list child) byte result }
 {
     let machines = claim.instance.machines();

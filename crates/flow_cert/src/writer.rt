@@ -18,8 +18,10 @@ use flow_search::{Plan, Verdict};
 fn add_sizes<S: Sink>(gathered: &mut Gathered, out: &mut S, plan: &Plan) -> Result<(), WriteFault>
     requires { S.has_failed out.old ≡ false }
     ensures failed { S.has_failed out.new ≡ is_err result }
-    ensures ok { OnOk result (HandsOn (S.taken out.old) (S.taken out.new) gathered.old (size_line plan.now) gathered.new) }
-    ensures err { OnErr result (AddsProperPrefix (S.taken out.old) (S.taken out.new) (gathered.old ++ size_line plan.now)) }
+    ensures ok { OnOk result
+        (HandsOn (S.taken out.old) (S.taken out.new) gathered.old (size_line plan.now) gathered.new) }
+    ensures err { OnErr result
+        (AddsProperPrefix (S.taken out.old) (S.taken out.new) (gathered.old ++ size_line plan.now)) }
 {
     let jobs = plan.instance().jobs();
     let machines = plan.instance().machines();
@@ -31,8 +33,10 @@ fn add_sizes<S: Sink>(gathered: &mut Gathered, out: &mut S, plan: &Plan) -> Resu
 fn add_value<S: Sink>(gathered: &mut Gathered, out: &mut S, value: u64) -> Result<(), WriteFault>
     requires { S.has_failed out.old ≡ false }
     ensures failed { S.has_failed out.new ≡ is_err result }
-    ensures ok { OnOk result (HandsOn (S.taken out.old) (S.taken out.new) gathered.old (line (decimal value)) gathered.new) }
-    ensures err { OnErr result (AddsProperPrefix (S.taken out.old) (S.taken out.new) (gathered.old ++ line (decimal value))) }
+    ensures ok { OnOk result
+        (HandsOn (S.taken out.old) (S.taken out.new) gathered.old (line (decimal value)) gathered.new) }
+    ensures err { OnErr result
+        (AddsProperPrefix (S.taken out.old) (S.taken out.new) (gathered.old ++ line (decimal value))) }
 {
     gathered.add_number(out, value)?;
     gathered.add(out, b"\n")
@@ -47,8 +51,10 @@ fn add_heading<S: Sink>(
 ) -> Result<(), WriteFault>
     requires { S.has_failed out.old ≡ false }
     ensures failed { S.has_failed out.new ≡ is_err result }
-    ensures ok { OnOk result (HandsOn (S.taken out.old) (S.taken out.new) gathered.old (heading_with plan.now verdict.now) gathered.new) }
-    ensures err { OnErr result (AddsProperPrefix (S.taken out.old) (S.taken out.new) (gathered.old ++ heading_with plan.now verdict.now)) }
+    ensures ok { OnOk result
+        (HandsOn (S.taken out.old) (S.taken out.new) gathered.old (heading_with plan.now verdict.now) gathered.new) }
+    ensures err { OnErr result
+        (AddsProperPrefix (S.taken out.old) (S.taken out.new) (gathered.old ++ heading_with plan.now verdict.now)) }
 {
     gathered.add(out, b"flowshop certificate 1\n")?;
     add_sizes(gathered, out, plan)?;
@@ -64,8 +70,12 @@ fn add_trees<S: Sink>(
 ) -> Result<(), WriteFault>
     requires { S.has_failed out.old ≡ false }
     ensures failed { S.has_failed out.new ≡ is_err result }
-    ensures ok { OnOk result (HandsOn (S.taken out.old) (S.taken out.new) gathered.old (flat_map line (map (λ tree. tree.items) trees.now)) gathered.new) }
-    ensures err { OnErr result (AddsProperPrefix (S.taken out.old) (S.taken out.new) (gathered.old ++ flat_map line (map (λ tree. tree.items) trees.now))) }
+    ensures ok { OnOk result
+        (HandsOn (S.taken out.old) (S.taken out.new)
+        gathered.old (flat_map line (map (λ tree. tree.items) trees.now)) gathered.new) }
+    ensures err { OnErr result
+        (AddsProperPrefix (S.taken out.old) (S.taken out.new) (gathered.old ++ flat_map line (map (λ tree. tree.items) trees.now)))
+        (AddsProperPrefix (S.taken out.old) (S.taken out.new) (gathered.old ++ flat_map line (map (λ tree. tree.items) trees.now))) }
 {
     for tree in trees {
         gathered.add(out, tree.as_slice())?;

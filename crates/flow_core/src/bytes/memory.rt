@@ -145,7 +145,8 @@ impl<'a> Source for MemorySource<'a> {
     fn get(&mut self, buffer: &mut [u8]) -> Result<usize, Refused>
         requires { 0 < length buffer.old }
         ensures count { IfOk result (λ c. c ≤ length buffer.old) }
-        ensures bytes { WriteAppends (Some (take self.old.given self.old.bytes)) (Some (take self.new.given self.new.bytes)) result buffer.new }
+        ensures bytes { WriteAppends (Some (take self.old.given self.old.bytes))
+            (Some (take self.new.given self.new.bytes)) result buffer.new }
         ensures ended { self.new.ended ≡ is_end result }
         ensures failed { self.new.failed ≡ (self.old.failed || is_err result) }
         ensures refuses { IsErr result ↔ (self.old.fail_after ≡ Some self.old.given) }
