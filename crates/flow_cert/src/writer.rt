@@ -74,8 +74,8 @@ fn add_trees<S: Sink>(
         (HandsOn (S.taken out.old) (S.taken out.new)
         gathered.old (flat_map line (map (λ tree. tree.items) trees.now)) gathered.new) }
     ensures err { OnErr result
-        (AddsProperPrefix (S.taken out.old) (S.taken out.new) (gathered.old ++ flat_map line (map (λ tree. tree.items) trees.now)))
-        (AddsProperPrefix (S.taken out.old) (S.taken out.new) (gathered.old ++ flat_map line (map (λ tree. tree.items) trees.now))) }
+        (AddsProperPrefix (S.taken out.old) (S.taken out.new)
+        (gathered.old ++ flat_map line (map (λ tree. tree.items) trees.now))) }
 {
     for tree in trees {
         gathered.add(out, tree.as_slice())?;
