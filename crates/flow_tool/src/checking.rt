@@ -24,7 +24,8 @@ pub(crate) const MAX_CERTIFICATE: usize = 1_000_000_000;
 /// The line of the value that a certificate proves least.
 fn checked_line(alloc: Global, instance: &Instance, bytes: &[u8]) -> Result<Vec<u8>, CheckFault>
     ensures line { IfOk result (λ line. AnswersCheck instance.now bytes.now (Ok line.items)) }
-    ensures least { IfOk result (λ line. (value : ℕ) × IsLeastMakespan instance.now value × (line.items ≡ optimal_line value)) }
+    ensures least { IfOk result (λ line.
+        (value : ℕ) × IsLeastMakespan instance.now value × (line.items ≡ optimal_line value)) }
     ensures refused { IfErr result (λ fault. IsFirstFault instance.now bytes.now fault) }
 {
     let value = check(alloc, instance, bytes)?;

@@ -37,7 +37,8 @@ pub(crate) fn run_gen<K: Sink>(
 ) -> Result<(), ToolFault>
     requires { K.has_failed out.old ≡ false }
     ensures written { OnOk result (Wrote (AnswersGen jobs machines seed) (K.taken out.old) (K.taken out.new)) }
-    ensures ended { IfErr result (EndsAlone (out.new ≡ out.old) (AnswersGen jobs machines seed) (K.taken out.old) (K.taken out.new)) }
+    ensures ended { IfErr result (EndsAlone (out.new ≡ out.old) (AnswersGen jobs machines seed)
+        (K.taken out.old) (K.taken out.new)) }
     ensures write_device { IsErrOf result (ToolFault.Write write.Device) ↔ (K.has_failed out.new ≡ true) }
 {
     let instance = match generate(alloc, jobs, machines, seed) {

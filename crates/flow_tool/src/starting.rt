@@ -34,7 +34,8 @@ pub(crate) fn run_neh<S: Source, K: Sink>(
 ) -> Result<(), ToolFault>
     requires file_works { S.has_failed file.old ≡ false }
     requires out_works { K.has_failed out.old ≡ false }
-    ensures written { OnOk result (Came most_text (λ text. Wrote (AnswersNeh index text) (K.taken out.old) (K.taken out.new))
+    ensures written { OnOk result (Came most_text
+        (λ text. Wrote (AnswersNeh index text) (K.taken out.old) (K.taken out.new))
         (S.given file.old) (S.given file.new) (S.has_ended file.new)) }
     ensures ended { IfErr result (Ends (out.new ≡ out.old) most_text (AnswersNeh index)
         (S.given file.old) (S.given file.new) (S.has_ended file.new) (K.taken out.old) (K.taken out.new)) }
