@@ -1,5 +1,5 @@
 -- What calls on sinks and sources do to lists of bytes. A list that is not known is `None`, and a clause then says nothing of it.
-use Rattle.std.specs.Prelude.{◌≡◌, ◌<◌, ℕ, Bool, false, List, Option, ◌++◌, length, Result, Ok, Err, ◌==◌}
+use Rattle.std.specs.Prelude.{◌≡◌, ◌<◌, ◌≤◌, ℕ, Bool, false, List, Option, ◌++◌, length, Result, Ok, Err, ◌==◌}
 use Rattle.std.specs.Io.KnownBytes.{Appends}
 
 -- an answer of no bytes is the end of the input
@@ -14,6 +14,10 @@ AddsProperPrefix old new bytes = (front : List ℕ) × (back : List ℕ) × (byt
 -- some bytes were added, and no byte was taken back
 abbrev pub Grows : Option (List ℕ) → Option (List ℕ) → Type 0
 Grows old new = (bytes : List ℕ) × Appends old new bytes
+
+-- at most this many bytes were added
+abbrev pub GrowsWithin : Option (List ℕ) → Option (List ℕ) → ℕ → Type 0
+GrowsWithin old new limit = (bytes : List ℕ) × (length bytes ≤ limit) × Appends old new bytes
 
 -- more than this many bytes were added
 abbrev pub GrowsBeyond : Option (List ℕ) → Option (List ℕ) → ℕ → Type 0

@@ -1,4 +1,4 @@
--- The limits of instances and of texts. The code has constants for them; the contracts speak of these numbers alone.
+-- The limits of instances and of texts. The contracts speak of these numbers alone, and not of the code's constants.
 use Rattle.std.specs.Prelude.{ℕ}
 
 -- the most jobs of an instance
@@ -13,7 +13,7 @@ most_machines = 20
 abbrev pub greatest_time : ℕ
 greatest_time = 99999
 
--- the greatest completion time at which a front takes another job; no list of an instance's jobs reaches it
+-- the greatest completion time at which a front takes another job; no list of distinct jobs of an instance reaches it
 abbrev pub greatest_completion : ℕ
 greatest_completion = 1000000000
 

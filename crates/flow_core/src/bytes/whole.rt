@@ -2,7 +2,7 @@
 
 ghost use Rattle.std.specs.Prelude.{◌≡◌, ◌<◌, ◌≤◌, ◌↔◌, false, true, [], vec_len, IfOk, OnOk, OnErr, IsErr, IsErrOf};
 ghost use Rattle.std.specs.Io.KnownBytes.{Appends};
-ghost use Rattle.flow_core.specs.Bytes.{AddsProperPrefix, Grows, GrowsBeyond};
+ghost use Rattle.flow_core.specs.Bytes.{AddsProperPrefix, Grows, GrowsWithin, GrowsBeyond};
 
 use crate::bytes::device::{Sink, Source};
 use crate::bytes::fault::{ReadFault, WriteFault};
@@ -40,6 +40,7 @@ pub fn read_all<S: Source>(
     ensures within { IfOk result (λ v. vec_len v ≤ limit) }
     ensures bytes { IfOk result (λ v. Appends (S.given source.old) (S.given source.new) v.items) }
     ensures ended { OnOk result (S.has_ended source.new ≡ true) }
+    ensures memory { IsErrOf result ReadFault.Memory → GrowsWithin (S.given source.old) (S.given source.new) limit }
     ensures too_long { IsErrOf result ReadFault.TooLong → GrowsBeyond (S.given source.old) (S.given source.new) limit }
     ensures device { IsErrOf result ReadFault.Device ↔ (S.has_failed source.new ≡ true) }
     ensures stands { Grows (S.given source.old) (S.given source.new) }
