@@ -366,7 +366,7 @@ fn checker_names_first_fault_of_each_prefix(rt: HostRuntime) -> Result<(), Fail>
 }
 
 #[test]
-fn checker_accepts_one_changed_byte(rt: HostRuntime) -> Result<(), Fail> {
+fn checker_accepts_one_of_all_changed_bytes(rt: HostRuntime) -> Result<(), Fail> {
     let alloc = rt.alloc();
     let instance = three_machines(alloc)?;
     let mut accepted: u64 = 0;
