@@ -21,7 +21,7 @@ solve-written index workers depth budget block options given gives ended taken t
 pub solve-ended : (Untouched : Type 0) (index workers depth budget : ℕ) (block : Block) (options : Choices) (given gives : Option (List ℕ)) (ended : Bool) (taken takes : Option (List ℕ)) (fault : ToolFault) → Ok options ≡ options_or_fault workers depth budget →
     Came most_text (λ text. Picks text index (Ok block)) given gives ended → EndsAlone Untouched (AnswersPlan block.instance options) taken takes fault →
     Ends Untouched most_text (AnswersSolve index workers depth budget) given gives ended taken takes fault
-solve-ended Untouched index workers depth budget block options given gives ended taken takes fault is came (inl (untouched, inl memory)) = inl (untouched, inl memory)
+solve-ended Untouched index workers depth budget block options given gives ended taken takes fault is came (inl (untouched, inl memory)) = inl (untouched, inl (memory, (came.0, came.1, came.2)))
 solve-ended Untouched index workers depth budget block options given gives ended taken takes fault is came (inl (untouched, inr answers)) =
     inl (untouched, inr (inr (inr (came.0, came.1, came.2, came.3, inl (block, came.4, options-answer block.instance _ options _ is answers)))))
 solve-ended Untouched index workers depth budget block options given gives ended taken takes fault is came (inr (writing, part)) =

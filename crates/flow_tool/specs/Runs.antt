@@ -3,7 +3,7 @@ use Rattle.std.specs.Prelude.{◌≡◌, ℕ, ◌≤◌, ◌⊎◌, Bool, true, 
 use Rattle.std.specs.Io.KnownBytes.{Appends}
 use Rattle.flow_core.specs.Shop.{Shop}
 use Rattle.flow_core.specs.Sequences.{IsLeastMakespan}
-use Rattle.flow_core.specs.Bytes.{AddsProperPrefix, GrowsBeyond}
+use Rattle.flow_core.specs.Bytes.{AddsProperPrefix, GrowsWithin, GrowsBeyond}
 use Rattle.flow_core.specs.declared.bytes.fault.ReadFault.TheVariants as read
 use Rattle.flow_core.specs.declared.bytes.fault.WriteFault.TheVariants as write
 use Rattle.flow_cert.specs.Certificate.{IsCertificate}
@@ -23,10 +23,11 @@ Wrote Answers old new = (text : List ℕ) × Answers (Ok text) × Appends old ne
 abbrev pub WrotePart : (Answer → Type 0) → Option (List ℕ) → Option (List ℕ) → Type 0
 WrotePart Answers old new = (text : List ℕ) × Answers (Ok text) × AddsProperPrefix old new text
 
--- why a run stopped at a source: memory ran out, a refusal of the source, more bytes than the limit, or what all its bytes say
+-- why a run stopped at a source: memory ran out, while the source had given no more bytes than the limit; a refusal of
+-- the source; more bytes than the limit; or what all its bytes say
 abbrev pub StopsAt : ℕ → (List ℕ → ToolFault → Type 0) → Option (List ℕ) → Option (List ℕ) → Bool → ToolFault → Type 0
 StopsAt limit Refuses old new ended fault =
-    (fault ≡ tool.Memory)
+    ((fault ≡ tool.Memory) × GrowsWithin old new limit)
     ⊎ (fault ≡ tool.Read read.Device)
     ⊎ ((fault ≡ tool.Read read.TooLong) × GrowsBeyond old new limit)
     ⊎ Came limit (λ bytes. Refuses bytes fault) old new ended

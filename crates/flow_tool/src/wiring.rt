@@ -1,9 +1,10 @@
 //! From the words of a command line to the run that they ask for.
 
-ghost use Rattle.std.specs.Prelude.{◌≡◌, false, OnOk, IfErr};
-ghost use Rattle.flow_tool.specs.Answers.{AnswersAsked};
+ghost use Rattle.std.specs.Prelude.{◌≡◌, false, Ok, OnOk, IfErr};
+ghost use Rattle.flow_core.specs.declared.text.block.Block.{Block};
+ghost use Rattle.flow_tool.specs.Answers.{AnswersAsked, Picks};
 ghost use Rattle.flow_tool.specs.Limits.{most_text};
-ghost use Rattle.flow_tool.specs.Runs.{Came, Ends, Wrote};
+ghost use Rattle.flow_tool.specs.Runs.{Came, Ends, Wrote, WroteLeast};
 
 use crate::checking::run_check;
 use crate::command::{OfBlock, Order, make_command, order_of};
@@ -138,6 +139,9 @@ fn check_named<I: Inputs, S: Source, K: Sink>(
 ) -> Result<(), Stop>
     requires text_works { S.has_failed text.old ≡ false }
     requires out_works { K.has_failed out.old ≡ false }
+    ensures least { OnOk result (Came most_text (λ bytes.
+        (block : Block) × Picks bytes index (Ok block) × WroteLeast block.instance (K.taken out.old) (K.taken out.new))
+        (S.given text.old) (S.given text.new) (S.has_ended text.new)) }
 {
     let mut cert = inputs.open(cert).ok_or(Stop::Open)?;
     run_check(alloc, text, index, &mut cert, out).map_err(Stop::Fault)

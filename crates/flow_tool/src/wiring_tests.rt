@@ -6,7 +6,7 @@ use crate::command::{OfBlock, Order, make_command, order_of};
 use crate::fault::ToolFault;
 use crate::inputs::Inputs;
 use crate::stop::Stop;
-use crate::tests::{DEPTH_0, DEPTH_1, DEPTH_2, GENERATED, ROOM, THREE_MACHINES, TWO_MACHINES};
+use crate::tests::{DEPTH_0, DEPTH_1, DEPTH_2, GENERATED, ROOM, THREE_MACHINES};
 use crate::wiring::run_words;
 use clap::error::ErrorKind;
 use flow_core::{MemorySink, MemorySource, WriteFault};
@@ -34,7 +34,7 @@ const FILES: [(&str, &[u8]); 8] = [
     ("broken", b""),
 ];
 
-/// Files in memory. Standard input is the instance with two machines. A file whose name begins with `text` is there
+/// Files in memory. Standard input is the text with two blocks. A file whose name begins with `text` is there
 /// only for who opens it first.
 #[derive(Drop)]
 struct Named {
@@ -47,7 +47,7 @@ impl Inputs for Named {
     type File = MemorySource<'static>;
 
     fn standard(&self) -> MemorySource<'static> {
-        MemorySource::new(TWO_MACHINES, 7, None)
+        MemorySource::new(BOTH, 7, None)
     }
 
     fn open(&self, name: &str) -> Option<MemorySource<'static>> {
@@ -100,17 +100,20 @@ fn run_line<R: Threads + Wait + Sync>(
 
 #[test]
 fn each_command_writes_its_answer(rt: HostRuntime) -> Result<(), Fail> {
-    let rows: [(&str, &[u8]); 12] = [
+    let rows: [(&str, &[u8]); 15] = [
         ("span stdin 1 2 3 1", b"makespan 9\n"),
+        ("span stdin 2 2 1 3", b"makespan 13\n"),
         ("span ./stdin 1 2 1 3", b"makespan 13\n"),
         ("span text_three 1 2 1 3", b"makespan 13\n"),
         ("span text_both 2 2 1 3", b"makespan 13\n"),
         ("gen 2 2 1", GENERATED),
         ("neh stdin 1", b"sequence 2 3 1\nmakespan 9\n"),
+        ("neh stdin 2", b"sequence 2 1 3\nmakespan 13\n"),
         ("neh text_both 1", b"sequence 2 3 1\nmakespan 9\n"),
         ("neh text_both 2", b"sequence 2 1 3\nmakespan 13\n"),
         ("solve text_three 1", DEPTH_1),
         ("solve text_both 2", DEPTH_1),
+        ("solve stdin 2", DEPTH_1),
         (
             "solve stdin 1",
             b"flowshop certificate 1\n3 2 1\n9\n2 3 1\nB\nB\nB\nend\n",
@@ -170,13 +173,27 @@ fn each_option_of_solve_has_its_effect(rt: HostRuntime) -> Result<(), Fail> {
 
 #[test]
 fn check_takes_each_file_by_its_name(rt: HostRuntime) -> Result<(), Fail> {
-    let rows: [(&str, &[u8], &str); 14] = [
+    let rows: [(&str, &[u8], &str); 25] = [
         ("check text_three 1 of_three", b"optimal 12\n", ""),
         ("check text_three 1 stdin", b"optimal 12\n", ""),
         ("check text_both 2 of_three", b"optimal 12\n", ""),
         ("check text_both 1 of_two", b"optimal 9\n", ""),
         ("check stdin 1 of_two", b"optimal 9\n", ""),
         ("check stdin 1 stdin", b"", "refused certificate Size"),
+        ("check stdin 2 of_three", b"optimal 12\n", ""),
+        ("check stdin 2 stdin", b"optimal 12\n", ""),
+        ("check stdin 2 of_two", b"", "refused certificate Size"),
+        (
+            "check text_both 1 of_three",
+            b"",
+            "refused certificate Size",
+        ),
+        ("check text_both 2 of_two", b"", "refused certificate Size"),
+        ("check text_both 0 of_three", b"", "refused index"),
+        ("check text_both 7 of_three", b"", "refused index"),
+        ("check stdin 0 of_two", b"", "refused index"),
+        ("check stdin 7 of_three", b"", "refused index"),
+        ("check of_two 1 of_two", b"", "refused text Head 4"),
         ("check text_three 1 of_two", b"", "refused certificate Size"),
         ("check text_three 1 missing", b"", "failed open"),
         ("check missing 1 of_three", b"", "failed open"),
@@ -184,6 +201,7 @@ fn check_takes_each_file_by_its_name(rt: HostRuntime) -> Result<(), Fail> {
         ("check text_broken 1 of_three", b"", "failed read Device"),
         ("check text_three 1 broken", b"", "failed read Device"),
         ("span missing 1 1", b"", "failed open"),
+        ("gen 501 1 1", b"", "refused instance Jobs"),
         ("sort text_three", b"", "refused command line"),
     ];
     for (line, bytes, refusal) in rows {
