@@ -1,3 +1,4 @@
 pub mod Totals
 pub mod Neh
 pub mod Taillard
+pub mod internal

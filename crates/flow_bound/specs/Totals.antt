@@ -1,11 +1,7 @@
+-- A job's total: its time on all machines.
 use Rattle.std.specs.Prelude.{ℕ, ◌≡◌, ◌-◌, ◌≤◌, List, slice_index}
 use Rattle.flow_core.specs.Shop.{Shop, time_between}
 
 -- a job's time on all machines
 abbrev pub total : Shop → ℕ → ℕ
 total shop job = time_between shop job 1 shop.machines
-
--- each job's time on the machines from one to another, that of job 1 first
-abbrev pub AreTimes : Shop → List ℕ → ℕ → ℕ → Type 0
-AreTimes shop times first last =
-    (job : ℕ) → 1 ≤ job → job ≤ shop.jobs → slice_index times (job - 1) ≡ time_between shop job first last

@@ -3,7 +3,7 @@
 ghost use Rattle.std.specs.Prelude.{◌≡◌, ℕ, ◌+◌, ◌-◌, ◌*◌, ◌≤◌, slice_index};
 ghost use Rattle.flow_core.specs.Limits.{greatest_time};
 ghost use Rattle.flow_core.specs.Shop.{time};
-ghost use Rattle.flow_bound.specs.Totals.{AreTimes};
+ghost use Rattle.flow_bound.specs.internal.Times.{AreTimes};
 
 use flow_core::{Instance, MAX_JOBS};
 

@@ -7,7 +7,7 @@ use Rattle.flow_core.specs.Sequences.{IsLeastMakespan}
 use Rattle.flow_cert.specs.Certificate.{IsCertificate, line, ending}
 use Rattle.flow_cert.specs.Check.{IsFirstFault, IsOfNoValue}
 use Rattle.flow_cert.specs.Faults.{certificate_value, cut_value, end_value}
-use Rattle.flow_cert.specs.Trees.{TreesGive}
+use Rattle.flow_cert.specs.internal.Trees.{TreesGive}
 use Rattle.flow_cert.specs.declared.fault.CheckFault.TheVariants.{Memory, Header, Size, Value, Sequence, NotAttained, Tree, Weak, Low, End}
 use Rattle.flow_cert.specs.declared.fault.CheckFault.{CheckFault}
 use Rattle.flow_cert.proofs.Exact.{value_is_exact}

@@ -14,7 +14,7 @@ use Rattle.flow_core.specs.declared.sequence.SequenceFault.{SequenceFault}
 use Rattle.flow_core.proofs.SequenceLemmas.{sequence-fault-none-is, is-fault-none}
 use Rattle.flow_cert.specs.Certificate.{line, spaced, title}
 use Rattle.flow_cert.specs.Faults.{header_value, size_value, value_value, sequence_value, cut_value, next_line, on_line, numbers_in}
-use Rattle.flow_cert.specs.Heading.{BeginsWithNumber, BeginsWithSize, BeginsWithSequence}
+use Rattle.flow_cert.specs.internal.Heading.{BeginsWithNumber, BeginsWithSize, BeginsWithSequence}
 use Rattle.flow_cert.specs.declared.fault.CheckFault.{CheckFault}
 use Rattle.flow_cert.specs.declared.fault.CheckFault.TheVariants.{Header, Size, Value, Sequence, NotAttained}
 use Rattle.flow_cert.proofs.Numbers.{Fit, numbers-sound, numbers-complete, spaced-plain}

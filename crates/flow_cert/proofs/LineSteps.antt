@@ -5,11 +5,11 @@ use Rattle.flow_core.specs.Shop.{Shop}
 use Rattle.flow_core.specs.Bound.{bound_at}
 use Rattle.flow_core.specs.Sequences.{has, extensions}
 use Rattle.flow_cert.specs.Faults.{trees_value}
-use Rattle.flow_cert.specs.Stack.{children, awaited, IsNext, IsPlace, IsNode, IsAt, LinesGive}
+use Rattle.flow_cert.specs.internal.Stack.{children, awaited, IsNext, IsPlace, IsNode, IsAt, LinesGive}
 use Rattle.flow_cert.specs.declared.fault.CheckFault.{CheckFault}
 use Rattle.flow_cert.specs.declared.fault.CheckFault.TheVariants.{Memory, Header, Size, Value, Sequence, NotAttained, Tree, Weak, Low, End}
-use Rattle.flow_cert.specs.declared.node.Node.{Node}
-use Rattle.flow_cert.specs.declared.lines.Spot.{Spot}
+use Rattle.flow_cert.specs.declared.reading.node.Node.{Node}
+use Rattle.flow_cert.specs.declared.reading.lines.Spot.{Spot}
 use Rattle.flow_cert.proofs.Links.{children-next, children-none, next-some, links-out}
 
 pub awaited-start : (n more : ℕ) (list : List ℕ) → more ≢ 0 → extensions n more list ≡ awaited n more list 1

@@ -6,7 +6,7 @@ use Rattle.std.proofs.lemmas.Fmt.{decimal_digit, decimal_step, decimal_by_steps}
 use Rattle.std.proofs.lemmas.Bool.{cases_Bool, eqb-true, eq-eqb, ne_eqb, false≢true, lt-ltb}
 use Rattle.std.proofs.lemmas.Option.{none-some}
 use Rattle.std.proofs.lemmas.Bool.Decides.{nat_tests}
-use Rattle.flow_cert.specs.Heading.{BeginsWithNumber, is_further}
+use Rattle.flow_cert.specs.internal.Heading.{BeginsWithNumber, is_further}
 
 abbrev chosen : Bool → Bool → ℕ → List ℕ → Option (ℕ × List ℕ) → Option (ℕ × List ℕ)
 chosen ends goes_on value rest next = cond ends (Some (value, rest)) (cond goes_on next None)

@@ -2,8 +2,8 @@
 use Rattle.std.proofs.Common.{◌≡◌, ℕ, zero, suc, ◌+◌, ◌-◌, ◌<◌, ◌≤◌, List, [], ◌∷◌, ◌++◌, length, slice_index_or, refl, ap, sym, ◌∙◌, subst, inl, inr, arith}
 use Rattle.std.proofs.lemmas.Bool.{cases_lt}
 use Rattle.flow_core.specs.Shop.{Shop}
-use Rattle.flow_cert.specs.Rows.{IsRow}
-use Rattle.flow_cert.specs.declared.rows.Row.{Row}
+use Rattle.flow_cert.specs.internal.Rows.{IsRow}
+use Rattle.flow_cert.specs.declared.reading.rows.Row.{Row}
 
 before-last : (xs : List Row) (x other : Row) (i : ℕ) → i < length xs → slice_index_or (xs ++ x ∷ []) i other ≡ slice_index_or xs i other
 before-last [] x other i h = absurd (omega arith)

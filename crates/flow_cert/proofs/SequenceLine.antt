@@ -13,7 +13,7 @@ use Rattle.flow_core.specs.JobSet.{contains}
 use Rattle.flow_core.specs.Sequences.{has, AreDistinct}
 use Rattle.flow_core.proofs.JobsLeft.{InRange, apart}
 use Rattle.flow_cert.specs.Certificate.{line, spaced}
-use Rattle.flow_cert.specs.Heading.{BeginsWithJob, BeginsWithSequence, end_of}
+use Rattle.flow_cert.specs.internal.Heading.{BeginsWithJob, BeginsWithSequence, end_of}
 
 -- numbers, each with the byte that ends it, where so many are still to come
 abbrev pub ended : ℕ → List ℕ → List ℕ

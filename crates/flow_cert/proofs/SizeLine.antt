@@ -3,7 +3,7 @@ use Rattle.std.proofs.Common.{◌≡◌, ℕ, ◌≤◌, ◌<◌, ◌^◌, List,
 use Rattle.std.specs.Fmt.{decimal}
 use Rattle.flow_core.specs.Limits.{greatest_depth}
 use Rattle.flow_cert.specs.Certificate.{line, spaced}
-use Rattle.flow_cert.specs.Heading.{BeginsWithNumber, BeginsWithSize}
+use Rattle.flow_cert.specs.internal.Heading.{BeginsWithNumber, BeginsWithSize}
 
 -- its three numbers, each with the byte that ends it
 pub size-parts : (a b d : ℕ) (rest : List ℕ) → line (spaced (a ∷ b ∷ d ∷ [])) ++ rest ≡ decimal a ++ 32 ∷ (decimal b ++ 32 ∷ (decimal d ++ 10 ∷ rest))

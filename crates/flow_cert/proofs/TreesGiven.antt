@@ -5,11 +5,11 @@ use Rattle.flow_core.specs.Shop.{Shop}
 use Rattle.flow_core.specs.Bound.{bound_at}
 use Rattle.flow_core.specs.Sequences.{cut}
 use Rattle.flow_cert.specs.Faults.{trees_value, cut_value}
-use Rattle.flow_cert.specs.Trees.{TreesGive}
-use Rattle.flow_cert.specs.Stack.{LinesGive}
+use Rattle.flow_cert.specs.internal.Trees.{TreesGive}
+use Rattle.flow_cert.specs.internal.Stack.{LinesGive}
 use Rattle.flow_cert.specs.declared.fault.CheckFault.{CheckFault}
 use Rattle.flow_cert.specs.declared.fault.CheckFault.TheVariants.{Memory, Header, Size, Value, Sequence, NotAttained, Tree, Weak, Low, End}
-use Rattle.flow_cert.specs.declared.lines.Spot.{Spot}
+use Rattle.flow_cert.specs.declared.reading.lines.Spot.{Spot}
 
 whole : (shop : Shop) (depth value from : ℕ) (bytes : List ℕ) → cut_value shop depth value (drop from bytes) ≡ trees_value shop bound_at value (shop.jobs - depth) (cut shop.jobs depth ++ []) 5 (drop from bytes)
 whole shop depth value from bytes = ap (λ ps. trees_value shop bound_at value (shop.jobs - depth) ps 5 (drop from bytes)) (sym (append-nil (cut shop.jobs depth)))

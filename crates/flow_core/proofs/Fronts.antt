@@ -1,3 +1,4 @@
+-- A front after one more job.
 use Rattle.std.proofs.Common.{◌≡◌, ℕ, zero, suc, ◌+◌, ◌-◌, ◌*◌, ◌<◌, ◌≤◌, max, List, [], ◌∷◌, ◌++◌, length, slice_index, replicate, refl, ap, sym, ◌∙◌, arith}
 use Rattle.std.proofs.Common.{inl, inr, ◌≢◌, set}
 use Rattle.std.proofs.lemmas.Bool.{cases_lt}

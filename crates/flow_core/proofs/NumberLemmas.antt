@@ -7,7 +7,7 @@ use Rattle.std.proofs.lemmas.Bool.Decides.{nat_tests}
 use Rattle.std.proofs.lemmas.List.{at_drop_more}
 use Rattle.std.proofs.lemmas.List.Folds.{list_all-append}
 use Rattle.flow_core.specs.Lines.{is_blank, is_plain, numbers_of, are_small}
-use Rattle.flow_core.specs.TextWalk.{line_numbers}
+use Rattle.flow_core.specs.internal.TextWalk.{line_numbers}
 use Rattle.flow_core.specs.Limits.{greatest_number}
 use Rattle.flow_core.specs.declared.text.fault.LineFault.TheVariants as line
 

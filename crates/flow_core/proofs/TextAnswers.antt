@@ -4,7 +4,7 @@ use Rattle.std.specs.Prelude.{◌≢◌, IfOk, OnOk, IfErr}
 use Rattle.flow_core.specs.Lines.{lines_of}
 use Rattle.flow_core.specs.Text.{Reads}
 use Rattle.flow_core.specs.TextFaults.{text_fault}
-use Rattle.flow_core.specs.TextWalk.{start, walk, TextGives}
+use Rattle.flow_core.specs.internal.TextWalk.{start, walk, TextGives}
 use Rattle.flow_core.specs.declared.text.block.Block.{Block}
 use Rattle.flow_core.specs.declared.text.fault.TextFault.{TextFault}
 use Rattle.flow_core.specs.declared.text.fault.TextFault.TheVariants as text

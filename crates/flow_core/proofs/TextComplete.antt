@@ -12,7 +12,7 @@ use Rattle.flow_core.specs.Shop.{Shop, IsWithinLimits}
 use Rattle.flow_core.specs.Limits.{greatest_time}
 use Rattle.std.specs.Char.{digit_value}
 use Rattle.std.proofs.lemmas.List.Elements.{recursion_from_All}
-use Rattle.flow_core.specs.TextWalk.{◌>>=◌, State, Sizes, sizes_of, start, walk, placed, at_end, after_line, after_label, after_numbers, after_head_numbers, after_times, line_numbers, block_of}
+use Rattle.flow_core.specs.internal.TextWalk.{◌>>=◌, State, Sizes, sizes_of, start, walk, placed, at_end, after_line, after_label, after_numbers, after_head_numbers, after_times, line_numbers, block_of}
 use Rattle.flow_core.specs.Text.{IsNumbers, IsBlock, AreGroups, Reads, head_of}
 use Rattle.flow_core.specs.declared.text.fault.LineFault.{LineFault}
 use Rattle.flow_core.specs.declared.text.fault.TextFault.TheVariants as text

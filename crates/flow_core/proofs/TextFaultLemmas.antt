@@ -8,7 +8,7 @@ use Rattle.std.proofs.lemmas.Bool.Decides.{nat_tests}
 use Rattle.flow_core.specs.Refusals.{fault_unless, first_fault}
 use Rattle.flow_core.specs.Lines.{lines_of, after_blanks, is_blank, is_digit, is_blank_line, is_label_line, is_plain, numbers_of, are_small}
 use Rattle.flow_core.specs.TextFaults.{labels, numbers_since, numbers_between, is_in_head, numbers_wanted, is_head, are_times, line_fault, end_fault, lines_fault, text_fault}
-use Rattle.flow_core.specs.TextWalk.{◌>>=◌, State, Sizes, sizes_of, start, walk, placed, at_line, at_end, after_line, after_label, after_numbers, after_head_numbers, after_times, line_numbers, block_of}
+use Rattle.flow_core.specs.internal.TextWalk.{◌>>=◌, State, Sizes, sizes_of, start, walk, placed, at_line, at_end, after_line, after_label, after_numbers, after_head_numbers, after_times, line_numbers, block_of}
 use Rattle.flow_core.specs.declared.text.block.Block.{Block}
 use Rattle.flow_core.specs.declared.text.fault.LineFault.{LineFault}
 use Rattle.flow_core.specs.declared.text.fault.LineFault.TheVariants as line

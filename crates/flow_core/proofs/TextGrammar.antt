@@ -9,7 +9,7 @@ use Rattle.std.specs.Prelude.{IfOk}
 use Rattle.flow_core.specs.TextFaults.{is_head}
 use Rattle.flow_core.specs.Limits.{greatest_number, greatest_time}
 use Rattle.std.proofs.lemmas.List.Elements.{All-from_recursion}
-use Rattle.flow_core.specs.TextWalk.{◌>>=◌, TextGives, SizesFit, Keeps, State, Sizes, sizes_of, start, walk, placed, at_end, after_line, after_label, after_numbers, after_head_numbers, after_times, line_numbers, block_of}
+use Rattle.flow_core.specs.internal.TextWalk.{◌>>=◌, TextGives, SizesFit, Keeps, State, Sizes, sizes_of, start, walk, placed, at_end, after_line, after_label, after_numbers, after_head_numbers, after_times, line_numbers, block_of}
 use Rattle.flow_core.specs.Text.{head_of, IsNumbers, IsBlock, AreGroups, Reads}
 use Rattle.flow_core.specs.declared.text.fault.LineFault.{LineFault}
 use Rattle.flow_core.specs.declared.text.fault.LineFault.TheVariants as line

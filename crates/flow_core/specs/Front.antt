@@ -1,3 +1,4 @@
+-- Fronts: when the last job of a list leaves each machine.
 use Rattle.std.specs.Prelude.{ℕ, ◌≡◌, ◌-◌, ◌<◌, ◌≤◌, List, slice_index}
 use Rattle.flow_core.specs.Limits.{greatest_completion}
 use Rattle.flow_core.specs.Shop.{Shop}

@@ -15,5 +15,5 @@ pub mod Devices
 pub mod Lines
 pub mod Text
 pub mod TextFaults
-pub mod TextWalk
 pub mod Written
+pub mod internal

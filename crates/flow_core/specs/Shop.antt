@@ -1,3 +1,4 @@
+-- Instances of the permutation flow shop, and their times.
 use Rattle.std.specs.Prelude.{ℕ, ◌≡◌, ◌+◌, ◌-◌, ◌*◌, ◌≤◌, List, length, slice_index, sum_by, All}
 use Rattle.std.specs.List.{range_with_len}
 use Rattle.flow_core.specs.Limits.{most_jobs, most_machines, greatest_time}

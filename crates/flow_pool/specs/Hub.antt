@@ -17,10 +17,6 @@ IsFreshHub hub = (hub.tasks.sent ≡ []) × (hub.answers.received ≡ [])
 abbrev pub hub_lanes : HubEnds → Lane × Lane
 hub_lanes hub = (hub.tasks.lane, hub.answers.lane)
 
--- how many slots these have
-abbrev pub hub_slots : HubEnds → ℕ × ℕ
-hub_slots hub = (hub.tasks.lane.capacity, hub.answers.lane.capacity)
-
 -- what was sent to each worker
 abbrev pub sent_lists : List HubEnds → List (List Task)
 sent_lists hubs = map (λ hub. hub.tasks.sent) hubs
@@ -32,12 +28,6 @@ received_lists hubs = map (λ hub. hub.answers.received) hubs
 -- each of k lanes has the answers of its turn
 abbrev pub all_dealt : ℕ → List Answer → List (List Answer)
 all_dealt k answers = by_lane k (λ lane. dealt k lane answers)
-
--- the hub has taken answers in turn, no more than a limit, and there is room for so many
-pub record HasTaken (hubs : List HubEnds) (answers : Vec Answer) (limit : ℕ) : Type 0 where
-  pub dealt : received_lists hubs ≡ all_dealt (length hubs) answers.items
-  pub few : vec_len answers ≤ limit
-  pub room : limit ≤ vec_capacity answers
 
 -- the hub may collect: it has fresh ends for each worker, and room for all answers
 pub record CanCollect (plan : Planned) (hubs : List HubEnds) (answers : Vec Answer) : Type 0 where

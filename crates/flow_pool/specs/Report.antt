@@ -37,8 +37,3 @@ abbrev pub IsSolveFault : Planned → SolveFault → Type 0
 IsSolveFault plan Memory = Unit {0}
 IsSolveFault plan Threads = Unit {0}
 IsSolveFault plan (OverBudget number) = first_over_budget plan ≡ Some number
-
--- how the fault of a verdict is named by a run
-abbrev pub solve_fault : RunFault → SolveFault
-solve_fault (run_fault.OverBudget number) = OverBudget number
-solve_fault run_fault.Memory = Memory

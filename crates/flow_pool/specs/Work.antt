@@ -18,10 +18,6 @@ share k n worker = filter (λ number. nat_eq (number % k) worker) (range_with_le
 abbrev pub asking : List ℕ → List Task
 asking numbers = map Prefix numbers
 
--- what a worker is asked of the first n prefixes
-abbrev pub asked : ℕ → ℕ → ℕ → List Task
-asked k n worker = asking (share k n worker)
-
 -- the tasks of one worker of k, where there are n prefixes: its share, and then one end
 abbrev pub tasks_of : ℕ → ℕ → ℕ → List Task
 tasks_of k n worker = asking (share k n worker) ++ End ∷ []
@@ -53,10 +49,6 @@ pub record Fit (plan : Planned) (tasks : List Task) (answers : List Answer) : Ty
 -- nothing went through a worker's ends yet
 abbrev pub IsFresh : WorkerEnds → Type 0
 IsFresh ends = (ends.tasks.received ≡ []) × (ends.answers.sent ≡ [])
-
--- a worker has served its lanes to the end
-abbrev pub IsServed : Planned → WorkerEnds → Type 0
-IsServed plan ends = Fit plan ends.tasks.received ends.answers.sent
 
 -- which lanes a worker's ends are of
 abbrev pub worker_lanes : WorkerEnds → Lane × Lane

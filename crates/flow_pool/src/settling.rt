@@ -3,8 +3,8 @@
 ghost use Rattle.std.specs.Prelude.{◌≡◌, ◌≤◌, [], All, map, vec_len, vec_capacity};
 ghost use Rattle.flow_pool.specs.Work.{worker_lanes};
 ghost use Rattle.flow_pool.specs.Hub.{hub_lanes, sent_lists, received_lists};
-ghost use Rattle.flow_pool.specs.Settling.{IsCollected, IsAnswered, pair_lanes, pair_tasks, pair_answers};
-ghost use Rattle.flow_pool.specs.Settling.{worker_answers, worker_tasks};
+ghost use Rattle.flow_pool.specs.internal.Settling.{IsCollected, IsAnswered, pair_lanes, pair_tasks, pair_answers};
+ghost use Rattle.flow_pool.specs.internal.Settling.{worker_answers, worker_tasks};
 
 use crate::{Answer, HubEnds, Task, WorkerEnds};
 use flow_lanes::{Settled, settle};

@@ -1,3 +1,4 @@
+-- What the code of the search does at a node is what the walk does.
 use Rattle.std.proofs.Common.{◌≡◌, ◌≢◌, ℕ, zero, suc, ◌+◌, ◌-◌, ◌<◌, ◌≤◌, Bool, true, false, cond, not, ◌||◌, nat_eq, nat_le, List, [], ◌∷◌, ◌++◌, Option, Some, None, length, map, set, slice_index, slice_index_or, slice_set, take, refl, ap, sym, subst, ◌∙◌, inl, inr, arith, append_assoc, length-append}
 use Rattle.std.specs.List.{filter, find, range_with_len, sum_by}
 use Rattle.std.proofs.lemmas.Bool.{cond-true, cond-false, eqb-false}
@@ -17,7 +18,7 @@ use Rattle.flow_core.proofs.Fronts.{front-within}
 use Rattle.flow_core.proofs.JobSetLemmas.{members-is}
 use Rattle.flow_core.proofs.Admissible.{front_of-is}
 use Rattle.flow_search.specs.Walk.{walk, walk_each}
-use Rattle.flow_search.specs.Nodes.{IsAt, Wrote, Entered, Left, Walked, walked, incumbent_of}
+use Rattle.flow_search.specs.internal.Nodes.{IsAt, Wrote, Entered, Left, Walked, walked, incumbent_of}
 use Rattle.flow_search.specs.declared.subtree.Search.{Search}
 use Rattle.flow_search.proofs.Walk.{Incumbent, Fresh, fresh-push, range-all, answer_of, has-at}
 use Rattle.flow_search.proofs.Lists.{find-some}

@@ -12,8 +12,9 @@ use Rattle.flow_core.specs.Bound.{bound_at}
 use Rattle.flow_core.proofs.Admissible.{bound_is_admissible}
 use Rattle.flow_search.specs.Search.{Found, tree, best}
 use Rattle.flow_search.specs.Walk.{walk}
-use Rattle.flow_search.specs.Plans.{Planned, IsPlan, IsStored, prefixes_of, prefix_of, best_of, tree_of}
-use Rattle.flow_search.specs.Nodes.{IsAt, IsFresh, Entered, Walked, walked, found_if, incumbent_of}
+use Rattle.flow_search.specs.Plans.{Planned, IsPlan, prefixes_of, prefix_of, best_of, tree_of}
+use Rattle.flow_search.specs.internal.Stored.{IsStored}
+use Rattle.flow_search.specs.internal.Nodes.{IsAt, IsFresh, Entered, Walked, walked, found_if, incumbent_of}
 use Rattle.flow_search.specs.declared.subtree.Search.{Search}
 use Rattle.flow_search.proofs.Walk.{Fresh, walk_is_tree}
 use Rattle.flow_search.proofs.LeastVerdict.{cut-fresh, best-is}

@@ -14,7 +14,8 @@ use Rattle.flow_core.specs.Bound.{bound_at}
 use Rattle.flow_search.specs.Search.{Found, tree, best}
 use Rattle.flow_search.specs.Plans.{Planned, IsPlan, prefixes_of, prefix_of, tree_of, best_of, trees_of, verdict_of}
 use Rattle.flow_search.specs.Outcomes.{IsLawful, AreLawful, IsDone, found_of, first_over_budget}
-use Rattle.flow_search.specs.Verdicts.{IsTally, undercuts, first_refusal}
+use Rattle.flow_search.specs.Verdicts.{first_refusal}
+use Rattle.flow_search.specs.internal.Tally.{IsTally, undercuts}
 use Rattle.flow_search.specs.declared.outcome.Best.{Best}
 use Rattle.flow_search.specs.declared.outcome.Outcome.{Outcome}
 use Rattle.flow_search.specs.declared.outcome.Outcome.TheVariants.{Done, NoMemory, NoPrefix}

@@ -5,5 +5,5 @@ pub mod Walk
 pub mod Plans
 pub mod Outcomes
 pub mod Verdicts
-pub mod Nodes
 pub mod Cuts
+pub mod internal

@@ -37,12 +37,6 @@ pub record IsPlan (plan : Planned) : Type 0 where
   pub deep : plan.options.depth ≤ plan.shop.jobs
   pub few : length (prefixes_of plan) ≤ most_prefixes
 
--- the prefixes of a plan, stored by their number and one after another
-pub record IsStored (plan : Planned) (count : ℕ) (lists : List ℕ) : Type 0 where
-  pub is_plan : IsPlan plan
-  pub count_is : count ≡ length (prefixes_of plan)
-  pub lists_are : lists ≡ concat (prefixes_of plan)
-
 -- why there is no plan of an instance and options, if there is none
 abbrev pub plan_fault : Shop → Choices → Option PlanFault
 plan_fault shop options = first_fault (

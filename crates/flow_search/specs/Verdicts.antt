@@ -31,17 +31,3 @@ refusal number outcome.NoPrefix = Some Memory
 abbrev pub first_refusal : ℕ → List Outcome → Option RunFault
 first_refusal number [] = None
 first_refusal number (first ∷ outcomes) = option_or (refusal number first) (first_refusal (number + 1) outcomes)
-
--- whether a best undercuts another; where one is missing the other is the lower
-abbrev pub undercuts : Option Best → Option Best → Bool
-undercuts None least = false
-undercuts (Some next) None = true
-undercuts (Some next) (Some least) = nat_lt next.value least.value
-
--- the trees of the first prefixes, all within the budget, and the first least of their bests
-pub record IsTally (plan : Planned) (count : ℕ) (tally : Tally) : Type 0 where
-  pub trees : map (λ tree. tree.items) tally.trees.items ≡ take count (trees_of plan)
-  pub within : AllByRecursion (λ text. length text ≤ plan.options.budget) (take count (trees_of plan))
-  pub best : option_map found_of tally.best
-      ≡ first_least (λ f. f.value)
-      (flat_map (λ prefix. option_to_list (best plan.shop plan.start.value prefix)) (take count (prefixes_of plan)))

@@ -4,7 +4,7 @@ ghost use Rattle.std.specs.Prelude.{◌≡◌, ℕ, ◌<◌, ◌≤◌, length, 
 ghost use Rattle.std.specs.Option.{option_map};
 ghost use Rattle.flow_core.specs.Sequences.{IsSequence};
 ghost use Rattle.flow_search.specs.Plans.{prefixes_of, tree_of, best_of};
-ghost use Rattle.flow_search.specs.Nodes.{found_if};
+ghost use Rattle.flow_search.specs.internal.Nodes.{found_if};
 ghost use Rattle.flow_search.specs.Outcomes.{IsLawful, found_of};
 
 use crate::plan::Plan;

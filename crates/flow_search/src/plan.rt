@@ -57,7 +57,8 @@ pub struct Plan<'a> {
 }
 
 impl<'a> Model for Plan<'a> {
-    ghost use Rattle.flow_search.specs.Plans.{Planned, IsStored};
+    ghost use Rattle.flow_search.specs.Plans.{Planned};
+    ghost use Rattle.flow_search.specs.internal.Stored.{IsStored};
 
     ghost Value = { Planned };
 

@@ -7,7 +7,7 @@ ghost use Rattle.flow_core.specs.Shop.{numbers};
 ghost use Rattle.flow_core.specs.Front.{IsWithinFront};
 ghost use Rattle.flow_core.specs.JobSet.{contains, members};
 ghost use Rattle.flow_core.specs.Bound.{machine_bound};
-ghost use Rattle.flow_search.specs.Nodes.{IsAt, IsFresh, Wrote, Saw, Entered, Left, Walked, walked};
+ghost use Rattle.flow_search.specs.internal.Nodes.{IsAt, IsFresh, Wrote, Saw, Entered, Left, Walked, walked};
 ghost use Rattle.flow_search.specs.declared.subtree.Stop.TheVariants.{Memory};
 
 use flow_bound::bound;

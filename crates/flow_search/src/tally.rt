@@ -5,7 +5,8 @@ ghost use Rattle.flow_core.specs.Paths.{span};
 ghost use Rattle.flow_core.specs.Sequences.{IsSequence, IsLeastMakespan};
 ghost use Rattle.flow_search.specs.Plans.{Planned, prefixes_of};
 ghost use Rattle.flow_search.specs.Outcomes.{IsLawful, first_over_budget};
-ghost use Rattle.flow_search.specs.Verdicts.{IsTally, IsVerdict, undercuts};
+ghost use Rattle.flow_search.specs.Verdicts.{IsVerdict};
+ghost use Rattle.flow_search.specs.internal.Tally.{IsTally, undercuts};
 ghost use Rattle.flow_search.specs.declared.outcome.Outcome.TheVariants.{Done};
 
 use crate::outcome::{Best, sequence_of};

@@ -25,8 +25,8 @@ use Rattle.flow_cert.specs.Faults.{certificate_value}
 use Rattle.flow_cert.specs.declared.fault.CheckFault.{CheckFault}
 use Rattle.flow_tool.specs.declared.fault.ToolFault.{ToolFault}
 use Rattle.flow_tool.specs.declared.fault.ToolFault.TheVariants as tool
-use Rattle.flow_tool.specs.declared.command.OfBlock.{OfBlock}
-use Rattle.flow_tool.specs.declared.command.OfBlock.TheVariants.{Span, Neh, Solve}
+use Rattle.flow_tool.specs.declared.command_line.OfBlock.{OfBlock}
+use Rattle.flow_tool.specs.declared.command_line.OfBlock.TheVariants.{Span, Neh, Solve}
 
 -- an answer: a text, or a refusal
 abbrev pub Answer : Type 0
@@ -112,9 +112,3 @@ AnswersOptions shop (Err fault) answer = answer ≡ Err (tool.Choice fault)
 abbrev pub AnswersSolve : ℕ → ℕ → ℕ → ℕ → List ℕ → Answer → Type 0
 AnswersSolve index workers depth budget =
     AnswersFor index (λ block. AnswersOptions block.instance (options_or_fault workers depth budget))
-
--- what is answered for a text, by what a command line asks for of one of its blocks
-abbrev pub AnswersAsked : ℕ → OfBlock → List ℕ → Answer → Type 0
-AnswersAsked index (Span jobs) = AnswersSpan index jobs.items
-AnswersAsked index Neh = AnswersNeh index
-AnswersAsked index (Solve workers depth budget) = AnswersSolve index workers depth budget

@@ -1,4 +1,4 @@
 pub mod Limits
 pub mod Answers
-pub mod Faults
 pub mod Runs
+pub mod internal

@@ -1,7 +1,7 @@
 //! Why a command refused.
 
 ghost use Rattle.std.specs.Prelude.{◌≡◌};
-ghost use Rattle.flow_tool.specs.Faults.{of_read, of_text, of_sequence, of_instance, of_plan, of_solve, of_check};
+ghost use Rattle.flow_tool.specs.internal.Faults.{of_read, of_text, of_sequence, of_instance, of_plan, of_solve, of_check};
 
 use flow_cert::CheckFault;
 use flow_core::{InstanceFault, ReadFault, SequenceFault, TextFault, WriteFault};

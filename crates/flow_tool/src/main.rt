@@ -1,22 +1,16 @@
 //! The program: one command, over files or standard input.
 #![tactic(auto)]
 
-mod checking;
-mod command;
+mod command_line;
+mod commands;
 mod fault;
-mod generated;
 mod inputs;
 mod lines;
 mod picked;
-mod solving;
-mod span;
-mod starting;
 mod stop;
 #[cfg(test)]
 mod tests;
 mod wiring;
-#[cfg(test)]
-mod wiring_tests;
 
 use flow_core::StdSink;
 use inputs::StdInputs;

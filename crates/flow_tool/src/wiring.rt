@@ -2,18 +2,19 @@
 
 ghost use Rattle.std.specs.Prelude.{◌≡◌, false, Ok, OnOk, IfErr};
 ghost use Rattle.flow_core.specs.declared.text.block.Block.{Block};
-ghost use Rattle.flow_tool.specs.Answers.{AnswersAsked, Picks};
+ghost use Rattle.flow_tool.specs.Answers.{Picks};
+ghost use Rattle.flow_tool.specs.internal.Asked.{AnswersAsked};
 ghost use Rattle.flow_tool.specs.Limits.{most_text};
 ghost use Rattle.flow_tool.specs.Runs.{Came, Ends, Wrote, WroteLeast};
 
-use crate::checking::run_check;
-use crate::command::{OfBlock, Order, make_command, order_of};
+use crate::commands::check::run_check;
+use crate::command_line::{OfBlock, Order, make_command, order_of};
 use crate::fault::ToolFault;
-use crate::generated::run_gen;
+use crate::commands::generate::run_gen;
 use crate::inputs::Inputs;
-use crate::solving::run_solve;
-use crate::span::run_span;
-use crate::starting::run_neh;
+use crate::commands::solve::run_solve;
+use crate::commands::span::run_span;
+use crate::commands::neh::run_neh;
 use crate::stop::Stop;
 use clap::Error;
 use clap::error::ErrorKind;

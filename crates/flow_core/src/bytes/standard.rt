@@ -20,7 +20,8 @@ pub struct StdSink<W> {
 }
 
 impl<W> Model for StdSink<W> {
-    ghost use Rattle.flow_core.specs.Devices.{Writing, writing_code};
+    ghost use Rattle.flow_core.specs.Devices.{Writing};
+    ghost use Rattle.flow_core.specs.internal.Codes.{writing_code};
 
     ghost Value = { Writing W };
 
@@ -84,7 +85,8 @@ pub struct StdSource<R> {
 }
 
 impl<R> Model for StdSource<R> {
-    ghost use Rattle.flow_core.specs.Devices.{Reading, reading_code};
+    ghost use Rattle.flow_core.specs.Devices.{Reading};
+    ghost use Rattle.flow_core.specs.internal.Codes.{reading_code};
 
     ghost Value = { Reading R };
 

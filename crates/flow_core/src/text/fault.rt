@@ -1,7 +1,7 @@
 //! What can be wrong with a text.
 
 ghost use Rattle.std.specs.Prelude.{◌≡◌};
-ghost use Rattle.flow_core.specs.TextWalk.{at_line};
+ghost use Rattle.flow_core.specs.internal.TextWalk.{at_line};
 ghost use Rattle.flow_core.specs.declared.text.fault.LineFault.TheVariants.{Memory};
 
 use std::alloc::{AllocError, AllocFailed};

@@ -4,7 +4,7 @@ ghost use Rattle.std.specs.Prelude.{◌≡◌, ◌+◌, ◌-◌, ◌*◌, ◌<�
 ghost use Rattle.std.specs.Char.{digit_value};
 ghost use Rattle.std.specs.Option.{SomeIff};
 ghost use Rattle.flow_core.specs.Lines.{lines_of, is_blank, is_digit, is_plain, after_blanks};
-ghost use Rattle.flow_core.specs.TextWalk.{line_numbers, LineGives, first};
+ghost use Rattle.flow_core.specs.internal.TextWalk.{line_numbers, LineGives, first};
 ghost use Rattle.flow_core.specs.Limits.{greatest_number};
 
 use crate::limits::MAX_NUMBER;
@@ -66,7 +66,7 @@ fn with_digit(number: u32, byte: u8) -> Option<u32>
 }
 
 /// Leaves the numbers of a line in `numbers`, or answers the first thing that is wrong with its bytes.
-#[tactic(auto, unfolding(crate::specs::TextWalk::line_numbers))]
+#[tactic(auto, unfolding(crate::specs::internal::TextWalk::line_numbers))]
 pub(crate) fn numbers_in(line: &[u8], numbers: &mut Vec<u32>) -> Result<(), LineFault>
     ensures { LineGives (λ _. numbers.new.items) result (line_numbers line.now) }
 {

@@ -4,7 +4,7 @@ ghost use Rattle.std.specs.Prelude.{◌≡◌, ◌≢◌, List, None, Some, IfOk
 ghost use Rattle.flow_core.specs.Lines.{lines_of};
 ghost use Rattle.flow_core.specs.Text.{Reads};
 ghost use Rattle.flow_core.specs.TextFaults.{text_fault};
-ghost use Rattle.flow_core.specs.TextWalk.{start, walk, TextGives};
+ghost use Rattle.flow_core.specs.internal.TextWalk.{start, walk, TextGives};
 ghost use Rattle.flow_core.specs.declared.text.block.Block.{Block};
 ghost use Rattle.flow_core.specs.declared.text.fault.TextFault.TheVariants.{Memory};
 
@@ -26,7 +26,7 @@ pub fn read_blocks(alloc: Global, text: &[u8]) -> Result<Vec<Block>, TextFault>
 }
 
 /// The same, by the states of the walk over the lines.
-#[tactic(auto, unfolding(crate::specs::TextWalk::walk))]
+#[tactic(auto, unfolding(crate::specs::internal::TextWalk::walk))]
 fn walk_text(alloc: Global, text: &[u8]) -> Result<Vec<Block>, TextFault>
     ensures { TextGives (λ blocks. blocks.items) result (walk start 0 (lines_of text.now)) }
 {

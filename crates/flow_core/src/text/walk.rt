@@ -2,8 +2,8 @@
 
 ghost use Rattle.std.specs.Prelude.{◌≡◌, ◌++◌, true, false, length, MatchOption};
 ghost use Rattle.flow_core.specs.TextFaults.{is_head, are_times};
-ghost use Rattle.flow_core.specs.TextWalk.{state_of, start, after_label, after_head_numbers, after_times};
-ghost use Rattle.flow_core.specs.TextWalk.{after_numbers, after_line, at_end, sizes_of, sizes, SizesFit, Keeps, LineGives, TextGives};
+ghost use Rattle.flow_core.specs.internal.TextWalk.{state_of, start, after_label, after_head_numbers, after_times};
+ghost use Rattle.flow_core.specs.internal.TextWalk.{after_numbers, after_line, at_end, sizes_of, sizes, SizesFit, Keeps, LineGives, TextGives};
 
 use crate::instance::Instance;
 use crate::limits::{MAX_JOBS, MAX_MACHINES, MAX_TIME};
@@ -57,7 +57,7 @@ fn head_of(numbers: &[u32]) -> Option<Head>
 }
 
 /// One more line, a label.
-#[tactic(auto, unfolding(crate::specs::TextWalk::after_label))]
+#[tactic(auto, unfolding(crate::specs::internal::TextWalk::after_label))]
 fn after_label_line(mut progress: Progress) -> Result<Progress, LineFault>
     ensures { LineGives state_of result (after_label (state_of progress)) }
 {
@@ -78,7 +78,7 @@ fn after_label_line(mut progress: Progress) -> Result<Progress, LineFault>
 }
 
 /// Some more numbers of a head.
-#[tactic(auto, unfolding(crate::specs::TextWalk::after_head_numbers))]
+#[tactic(auto, unfolding(crate::specs::internal::TextWalk::after_head_numbers))]
 fn with_head_numbers(mut progress: Progress, new: &[u32]) -> Result<Progress, LineFault>
     ensures { LineGives state_of result (after_head_numbers (state_of progress) (progress.numbers.items ++ new.now)) }
 {
@@ -109,7 +109,7 @@ fn are_within_limit(times: &[u32]) -> bool
 }
 
 /// Some more times of a block.
-#[tactic(auto, unfolding(crate::specs::TextWalk::after_times))]
+#[tactic(auto, unfolding(crate::specs::internal::TextWalk::after_times))]
 fn with_times(alloc: Global, mut progress: Progress, new: &[u32]) -> Result<Progress, LineFault>
     requires head { SizesFit (sizes progress.head) }
     requires times { are_times progress.numbers.items ≡ true }
@@ -140,7 +140,7 @@ fn with_times(alloc: Global, mut progress: Progress, new: &[u32]) -> Result<Prog
 }
 
 /// One more line, which begins with a digit. `numbers` is room for those of a line.
-#[tactic(auto, unfolding(crate::specs::TextWalk::after_numbers))]
+#[tactic(auto, unfolding(crate::specs::internal::TextWalk::after_numbers))]
 fn after_number_line(
     alloc: Global,
     progress: Progress,
@@ -165,7 +165,7 @@ fn after_number_line(
 }
 
 /// One more line. `numbers` is room for those of a line.
-#[tactic(auto, unfolding(crate::specs::TextWalk::after_line))]
+#[tactic(auto, unfolding(crate::specs::internal::TextWalk::after_line))]
 pub(crate) fn after_any_line(
     alloc: Global,
     progress: Progress,
@@ -188,7 +188,7 @@ pub(crate) fn after_any_line(
 }
 
 /// The blocks at the end of a text, or what is missing at the line behind it.
-#[tactic(auto, unfolding(crate::specs::TextWalk::at_end))]
+#[tactic(auto, unfolding(crate::specs::internal::TextWalk::at_end))]
 pub(crate) fn finish(progress: Progress, line: usize) -> Result<Vec<Block>, TextFault>
     ensures { TextGives (λ blocks. blocks.items) result (at_end (state_of progress) line) }
 {

@@ -1,5 +1,5 @@
 use Rattle.std.proofs.Common.{◌≡◌, ◌+◌, ◌-◌}
-use Rattle.flow_bound.specs.Totals.{AreTimes}
+use Rattle.flow_bound.specs.internal.Times.{AreTimes}
 use Rattle.flow_bound.proofs.sums.sum_times.Given as goal
 
 abbrev pub invariant-loop-machine : goal.invariant-loop-machine

@@ -1,7 +1,7 @@
 use Rattle.std.proofs.Common.{◌∙◌, ap}
 use Rattle.std.proofs.lemmas.Bool.{false≢true}
 use Rattle.flow_pool.specs.Work.{answered}
-use Rattle.flow_pool.specs.Settling.{ends_once}
+use Rattle.flow_pool.specs.internal.Settling.{ends_once}
 use Rattle.flow_pool.proofs.Settles.{ends_once-asking, prefix-ended}
 use Rattle.flow_pool.proofs.settling.settle_pair.Goals as goal
 

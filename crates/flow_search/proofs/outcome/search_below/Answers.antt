@@ -4,7 +4,7 @@ use Rattle.flow_core.specs.Front.{IsFrontOf, IsWithinFront}
 use Rattle.flow_core.specs.Bound.{bound_at}
 use Rattle.flow_search.specs.Search.{tree}
 use Rattle.flow_search.specs.Plans.{Planned, prefix_of, best_of, tree_of}
-use Rattle.flow_search.specs.Nodes.{walked, found_if}
+use Rattle.flow_search.specs.internal.Nodes.{walked, found_if}
 use Rattle.flow_search.specs.declared.subtree.Search.{Search}
 use Rattle.flow_search.specs.declared.subtree.Stop.{Stop}
 use Rattle.flow_search.specs.declared.subtree.Stop.TheVariants.{OverBudget}

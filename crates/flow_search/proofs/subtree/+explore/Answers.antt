@@ -3,7 +3,7 @@ use Rattle.std.proofs.lemmas.Result.{err_from_is_err_and}
 use Rattle.flow_core.specs.JobSet.{contains, members}
 use Rattle.flow_core.specs.Front.{IsFrontOf}
 use Rattle.flow_core.specs.Bound.{machine_bound}
-use Rattle.flow_search.specs.Nodes.{Walked}
+use Rattle.flow_search.specs.internal.Nodes.{Walked}
 use Rattle.flow_search.specs.declared.subtree.Stop.{Stop}
 use Rattle.flow_search.specs.declared.subtree.Stop.TheVariants.{OverBudget}
 use Rattle.flow_search.proofs.Nodes.{left-count, within-front, machine-is, cut-here, below-start, below-skip, below-take, below-over, child-at, child-jobs, Below}

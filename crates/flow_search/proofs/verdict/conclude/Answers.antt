@@ -3,7 +3,8 @@ use Rattle.std.specs.Vec.Iter.{into_iter_items}
 use Rattle.flow_search.specs.Outcomes.{IsLawful, IsDone}
 use Rattle.flow_search.specs.declared.outcome.Outcome.TheVariants.{Done}
 use Rattle.flow_search.specs.Plans.{prefixes_of}
-use Rattle.flow_search.specs.Verdicts.{first_refusal, IsTally}
+use Rattle.flow_search.specs.Verdicts.{first_refusal}
+use Rattle.flow_search.specs.internal.Tally.{IsTally}
 use Rattle.flow_search.specs.declared.verdict.RunFault.TheVariants.{OverBudget}
 use Rattle.flow_search.proofs.Tallies.{refusals, done-at, done-is, item-behind}
 use Rattle.flow_search.proofs.verdict.conclude.Goals as goal

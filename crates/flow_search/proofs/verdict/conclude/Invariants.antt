@@ -1,6 +1,6 @@
 use Rattle.std.proofs.Common.{◌≡◌, ◌++◌, length}
 use Rattle.std.specs.Vec.Iter.{into_iter_items, into_iter_len}
-use Rattle.flow_search.specs.Verdicts.{IsTally}
+use Rattle.flow_search.specs.internal.Tally.{IsTally}
 use Rattle.flow_search.proofs.verdict.conclude.Given as goal
 
 abbrev pub invariant-loop-outcome : goal.invariant-loop-outcome

@@ -1,5 +1,5 @@
 use Rattle.std.proofs.Common.{◌∙◌, ap, sym, arith}
-use Rattle.flow_core.specs.TextWalk.{state_of, walk}
+use Rattle.flow_core.specs.internal.TextWalk.{state_of, walk}
 use Rattle.flow_core.proofs.TextGrammar.{line-keeps, walk-more}
 use Rattle.flow_core.proofs.text.read.walk_text.Goals as goal
 

@@ -1,6 +1,6 @@
 use Rattle.std.proofs.Common.{◌≡◌, ◌≤◌, ◌+◌, length}
 use Rattle.flow_core.specs.Lines.{lines_of}
-use Rattle.flow_core.specs.TextWalk.{state_of, start, walk, Keeps}
+use Rattle.flow_core.specs.internal.TextWalk.{state_of, start, walk, Keeps}
 use Rattle.flow_core.proofs.text.read.walk_text.Given as goal
 
 -- the answer for the rest is the answer for the text

@@ -1,6 +1,7 @@
 use Rattle.std.proofs.Common.{◌≡◌, ◌+◌, ◌-◌, ◌*◌, ◌≤◌, length, take, drop, subst, ap, sym, ◌∙◌, arith}
 use Rattle.flow_core.specs.Sequences.{AreJobs}
-use Rattle.flow_search.specs.Plans.{Planned, IsStored, prefixes_of, prefix_of}
+use Rattle.flow_search.specs.Plans.{Planned, prefixes_of, prefix_of}
+use Rattle.flow_search.specs.internal.Stored.{IsStored}
 use Rattle.flow_search.proofs.CutLemmas.{joined-fits}
 use Rattle.flow_search.proofs.Prefixes.{IsPrefix, prefix-is, stored-size, stored-prefix}
 use Rattle.flow_search.proofs.plan.Plan.prefix.Goals as goal

@@ -1,6 +1,6 @@
 use Rattle.std.proofs.Common.{◌≡◌, true, false, cond, Option, [], ◌∷◌, ◌++◌, ap, sym, ◌∙◌}
 use Rattle.std.proofs.lemmas.Bool.{cond-true, cond-false}
-use Rattle.flow_search.specs.Verdicts.{undercuts}
+use Rattle.flow_search.specs.internal.Tally.{undercuts}
 use Rattle.flow_search.specs.declared.outcome.Best.{Best}
 use Rattle.flow_search.specs.declared.tally.Tally.{Tally}
 use Rattle.flow_search.proofs.Tallies.{tally-more}

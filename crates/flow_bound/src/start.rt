@@ -1,0 +1,4 @@
+//! The starting sequence.
+
+pub(crate) mod neh;
+mod order;

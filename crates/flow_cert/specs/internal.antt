@@ -1,0 +1,6 @@
+pub mod Heading
+pub mod Rows
+pub mod Trees
+pub mod Stack
+pub mod Gathered
+pub mod Lines

@@ -1,0 +1,15 @@
+-- The lines of a certificate before its trees, as they are written.
+use Rattle.std.specs.Prelude.{◌≡◌, ℕ, List, [], ◌∷◌, ◌++◌, length, map, decimal}
+use Rattle.flow_core.specs.Sequences.{IsLeastMakespan}
+use Rattle.flow_search.specs.Plans.{Planned, IsPlan, prefixes_of, trees_of, verdict_of}
+use Rattle.flow_search.specs.Verdicts.{IsVerdict}
+use Rattle.flow_search.specs.declared.verdict.Verdict.{Verdict}
+use Rattle.flow_cert.specs.Certificate.{line, spaced, title, certificate_text, IsCertificate}
+
+-- the line of a plan's sizes
+abbrev pub size_line : Planned → List ℕ
+size_line plan = line (spaced (plan.shop.jobs ∷ plan.shop.machines ∷ plan.options.depth ∷ []))
+
+-- the lines before the trees, of a plan with a verdict
+abbrev pub heading_with : Planned → Verdict → List ℕ
+heading_with plan verdict = line title ++ size_line plan ++ line (decimal verdict.value) ++ line (spaced verdict.sequence)

@@ -1,0 +1,222 @@
+//! The lists of jobs at which the trees are read, and their bounds.
+
+ghost use Rattle.std.specs.Prelude.{◌≡◌, ℕ, ◌+◌, ◌-◌, ◌*◌, ◌≤◌, ◌<◌, List, [], ◌∷◌, ◌++◌, sum_by, suc, false};
+ghost use Rattle.flow_core.specs.Limits.{most_jobs, most_machines, greatest_time, greatest_completion};
+ghost use Rattle.flow_core.specs.Shop.{time};
+ghost use Rattle.flow_core.specs.Paths.{completion};
+ghost use Rattle.flow_core.specs.Front.{IsFrontOf, IsWithinFront};
+ghost use Rattle.flow_core.specs.Sequences.{has, jobs_left};
+ghost use Rattle.flow_core.specs.Bound.{bound_at};
+ghost use Rattle.flow_cert.specs.internal.Rows.{AreRows};
+ghost use Rattle.flow_cert.specs.internal.Stack.{AreLinks, IsNode, IsAt, AreLows, IsChild, grown, left_before};
+
+use crate::reading::claim::Claim;
+use flow_core::{Front, Instance, MAX_MACHINES, front_push};
+
+/// What is kept of a list of jobs: enough for its machine bounds and for those of its children. A job's tail behind a
+/// machine is its time on all later machines. The two least tails of a machine are found when its letter is first read
+/// at the list.
+#[derive(Drop)]
+pub(crate) struct Node {
+    /// The completion time of the list on each machine.
+    front: Front,
+    /// The time of the jobs left on each machine, in all.
+    owed: [u64; MAX_MACHINES],
+    /// The least tail of the jobs left behind each machine; the greatest number until it is found.
+    least: [u32; MAX_MACHINES],
+    /// The second least, where the least was found. It is for the child that takes the job with the least.
+    second: [u32; MAX_MACHINES],
+}
+
+/// The two least tails of the jobs left behind one machine, each the greatest number where there is no such job. Where
+/// two jobs have the least, both are the same.
+#[derive(Drop)]
+pub(crate) struct Lows {
+    /// The least.
+    least: u32,
+    /// The second least.
+    second: u32,
+}
+
+/// The time of all jobs on a machine.
+fn time_of_all(instance: &Instance, machine: u16) -> u64
+    requires from { 1 ≤ machine }
+    requires to { machine ≤ instance.now.machines }
+    ensures value { result ≡ sum_by (λ job. time instance.now job machine) (jobs_left instance.now.jobs []) }
+{
+    let jobs = instance.jobs();
+    let mut total = 0;
+    for job in 1..jobs + 1 {
+        total += u64::from(instance.time(job, machine));
+    }
+    total
+}
+
+impl Node {
+    /// The empty list.
+    pub(crate) fn root(instance: &Instance) -> Self
+        ensures { IsNode instance.now [] result instance.now.jobs }
+    {
+        let machines = instance.machines();
+        let mut owed = [0; MAX_MACHINES];
+        for machine in 1..machines + 1 {
+            owed[machine as usize - 1] = time_of_all(instance, machine);
+        }
+        let front = Front::empty();
+        Node {
+            front,
+            owed,
+            least: [u32::MAX; MAX_MACHINES],
+            second: [u32::MAX; MAX_MACHINES],
+        }
+    }
+
+    /// The list with one of its jobs left at its end.
+    pub(crate) fn child(&self, claim: &Claim, job: u16) -> Self
+        requires rows { AreRows claim.now.instance.now claim.now.rows.now }
+        requires at { (list : List ℕ) × (left : ℕ) × IsNode claim.now.instance.now list self.now left
+            × (has list job ≡ false) }
+        requires from { 1 ≤ job }
+        requires to { job ≤ claim.now.instance.now.jobs }
+        ensures { (list : List ℕ) (left : ℕ) → IsNode claim.now.instance.now list self.now (suc left) →
+            has list job ≡ false →
+            IsNode claim.now.instance.now (list ++ job ∷ []) result left }
+    {
+        let mut front = self.front;
+        front_push(claim.instance, &mut front, job);
+        let mut owed = self.owed;
+        let row = &claim.rows[job as usize - 1];
+        let machines = claim.instance.machines();
+        for machine in 1..machines + 1 {
+            let place = machine as usize - 1;
+            owed[place] -= u64::from(row.times[place]);
+        }
+        Node {
+            front,
+            owed,
+            least: [u32::MAX; MAX_MACHINES],
+            second: [u32::MAX; MAX_MACHINES],
+        }
+    }
+}
+
+/// The completion time of a list with a job at its end.
+fn completion_of(claim: &Claim, front: &Front, job: u16, machine: u16) -> u64
+    requires rows { AreRows claim.now.instance.now claim.now.rows.now }
+    requires job_from { 1 ≤ job }
+    requires job_to { job ≤ claim.now.instance.now.jobs }
+    requires machine_to { machine ≤ claim.now.instance.now.machines }
+    requires within { IsWithinFront claim.now.instance.now front.now }
+    ensures value { (list : List ℕ) → IsFrontOf claim.now.instance.now list front.now →
+        result ≡ completion claim.now.instance.now (list ++ job ∷ []) machine }
+    ensures small { result ≤ greatest_completion + machine * greatest_time }
+{
+    let row = &claim.rows[job as usize - 1];
+    let mut free = 0;
+    for earlier in 1..machine + 1 {
+        let time = u64::from(row.times[earlier as usize - 1]);
+        free = front.at(earlier).max(free) + time;
+    }
+    free
+}
+
+/// Finds the two least tails of the jobs left behind a machine.
+fn least_behind(claim: &Claim, links: &[u16], machine: u16) -> Lows
+    requires rows { AreRows claim.now.instance.now claim.now.rows.now }
+    requires links { (list : List ℕ) × AreLinks claim.now.instance.now.jobs list links.now }
+    requires from { 1 ≤ machine }
+    requires to { machine ≤ claim.now.instance.now.machines }
+    ensures { (list : List ℕ) → AreLinks claim.now.instance.now.jobs list links.now →
+        AreLows claim.now.instance.now list machine result }
+{
+    let place = machine as usize - 1;
+    let mut least = u32::MAX;
+    let mut second = u32::MAX;
+    let mut last = 0;
+    'jobs: loop {
+        let job = links[last as usize];
+        if job == 0 {
+            return Lows { least, second };
+        }
+        let tail = claim.rows[job as usize - 1].tails[place];
+        second = second.min(least.max(tail));
+        least = least.min(tail);
+        last = job;
+        continue 'jobs;
+    }
+}
+
+/// The two least tails of the jobs left behind a machine: those that the list keeps, or else they are found and kept.
+fn lows_of(claim: &Claim, node: &mut Node, links: &[u16], machine: u16) -> Lows
+    requires rows { AreRows claim.now.instance.now claim.now.rows.now }
+    requires at { (list : List ℕ) × (left : ℕ) × IsAt claim.now.instance.now list node.old links.now left }
+    requires from { 1 ≤ machine }
+    requires to { machine ≤ claim.now.instance.now.machines }
+    ensures lows { (list : List ℕ) (left : ℕ) → IsAt claim.now.instance.now list node.old links.now left →
+        AreLows claim.now.instance.now list machine result }
+    ensures kept { (list : List ℕ) (left : ℕ) → IsAt claim.now.instance.now list node.old links.now left →
+        IsAt claim.now.instance.now list node.new links.now left }
+{
+    let place = machine as usize - 1;
+    let known = node.least[place];
+    if known != u32::MAX {
+        return Lows {
+            least: known,
+            second: node.second[place],
+        };
+    }
+    let lows = least_behind(claim, links, machine);
+    node.least[place] = lows.least;
+    node.second[place] = lows.second;
+    lows
+}
+
+/// The completion time of a list, or of its child, on the last machine.
+pub(crate) fn makespan_at(claim: &Claim, node: &Node, child: Option<u16>) -> u64
+    requires rows { AreRows claim.now.instance.now claim.now.rows.now }
+    requires at { (list : List ℕ) × (left : ℕ) × IsNode claim.now.instance.now list node.now left
+        × IsChild claim.now.instance.now.jobs list child }
+    ensures { (list : List ℕ) (left : ℕ) → IsNode claim.now.instance.now list node.now left →
+        result ≡ completion claim.now.instance.now (grown list child) claim.now.instance.now.machines }
+{
+    let machines = claim.instance.machines();
+    match child {
+        None => node.front.at(machines),
+        Some(job) => completion_of(claim, &node.front, job, machines),
+    }
+}
+
+/// The machine bound of a list, or of its child, that has jobs left.
+pub(crate) fn bound(
+    claim: &Claim,
+    node: &mut Node,
+    links: &[u16],
+    child: Option<u16>,
+    machine: u16,
+) -> u64
+    requires rows { AreRows claim.now.instance.now claim.now.rows.now }
+    requires at { (list : List ℕ) × (left : ℕ)
+        × IsAt claim.now.instance.now list node.old links.now (left_before child (suc left))
+        × IsChild claim.now.instance.now.jobs list child }
+    requires from { 1 ≤ machine }
+    requires to { machine ≤ claim.now.instance.now.machines }
+    ensures kept { (list : List ℕ) (left : ℕ) → IsAt claim.now.instance.now list node.old links.now left →
+        IsAt claim.now.instance.now list node.new links.now left }
+    ensures value { (list : List ℕ) (left : ℕ) →
+        IsAt claim.now.instance.now list node.old links.now (left_before child (suc left)) →
+        IsChild claim.now.instance.now.jobs list child →
+        result ≡ bound_at claim.now.instance.now (grown list child) machine }
+{
+    let lows = lows_of(claim, node, links, machine);
+    let place = machine as usize - 1;
+    match child {
+        None => node.front.at(machine) + node.owed[place] + u64::from(lows.least),
+        Some(job) => {
+            let row = &claim.rows[job as usize - 1];
+            let alone = row.tails[place] == lows.least;
+            let behind = if alone { lows.second } else { lows.least };
+            let owed = node.owed[place] - u64::from(row.times[place]);
+            completion_of(claim, &node.front, job, machine) + owed + u64::from(behind)
+        }
+    }
+}

@@ -1,0 +1,2 @@
+pub mod TextWalk
+pub mod Codes

@@ -1,0 +1,4 @@
+pub mod Hub
+pub mod Start
+pub mod Settling
+pub mod Faults

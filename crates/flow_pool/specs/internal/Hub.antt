@@ -1,0 +1,34 @@
+-- What the hub has done so far: what it sent, and what it took.
+use Rattle.std.specs.Prelude.{ℕ, ◌+◌, ◌%◌, List, [], ◌∷◌, ◌++◌, ◌==◌, if◌then◌else◌, map, slice_set, slice_index_or, ◌≡◌, ◌≤◌, length, All, vec_len, vec_capacity, ◌<◌, cond, nat_eq, filter}
+use Rattle.std.specs.List.{range_with_len}
+use Rattle.std.specs.Global.{Vec}
+use Rattle.flow_search.specs.Plans.{Planned, prefixes_of}
+use Rattle.flow_lanes.specs.Lane.{Lane}
+use Rattle.flow_pool.specs.declared.ends.Task.{Task}
+use Rattle.flow_pool.specs.declared.ends.Answer.{Answer}
+use Rattle.flow_pool.specs.declared.ends.HubEnds.{HubEnds}
+use Rattle.flow_pool.specs.Deal.{dealt, by_lane}
+use Rattle.flow_pool.specs.Work.{prefix_count, tasks_of, share, asking, Fit}
+use Rattle.flow_pool.specs.Hub.{received_lists, all_dealt}
+use Rattle.flow_search.specs.declared.outcome.Outcome.TheVariants.{NoPrefix}
+use Rattle.flow_search.specs.Outcomes.{IsLawful}
+use Rattle.flow_pool.specs.declared.ends.Task.TheVariants.{Prefix, End}
+use Rattle.flow_pool.specs.declared.ends.WorkerEnds.{WorkerEnds}
+
+-- what a worker is asked of the first n prefixes
+abbrev pub asked : ℕ → ℕ → ℕ → List Task
+asked k n worker = asking (share k n worker)
+
+-- with x at the end of one of the lists
+abbrev pub pushed_at : {X : Type 0} → ℕ → X → List (List X) → List (List X)
+pushed_at lane x lists = slice_set lists lane (slice_index_or lists lane [] ++ x ∷ [])
+
+-- how many slots these have
+abbrev pub hub_slots : HubEnds → ℕ × ℕ
+hub_slots hub = (hub.tasks.lane.capacity, hub.answers.lane.capacity)
+
+-- the hub has taken answers in turn, no more than a limit, and there is room for so many
+pub record HasTaken (hubs : List HubEnds) (answers : Vec Answer) (limit : ℕ) : Type 0 where
+  pub dealt : received_lists hubs ≡ all_dealt (length hubs) answers.items
+  pub few : vec_len answers ≤ limit
+  pub room : limit ≤ vec_capacity answers

@@ -1,0 +1,33 @@
+-- What is so when the workers are started, and once they have ended.
+use Rattle.std.specs.Prelude.{◌≡◌, ◌≤◌, List, length, map, All, ℕ, ◌+◌, ◌%◌, ◌<◌, cond, nat_eq, [], ◌∷◌, ◌++◌, filter}
+use Rattle.flow_search.specs.Limits.{most_workers}
+use Rattle.flow_pool.specs.declared.ends.HubEnds.{HubEnds}
+use Rattle.flow_pool.specs.declared.ends.WorkerEnds.{WorkerEnds}
+use Rattle.flow_pool.specs.Work.{IsFresh, worker_lanes, share, asking, Fit}
+use Rattle.flow_pool.specs.Hub.{hub_lanes}
+use Rattle.flow_pool.specs.internal.Settling.{IsReadyHub, IsCollected}
+use Rattle.std.specs.List.{range_with_len}
+use Rattle.flow_search.specs.declared.outcome.Outcome.TheVariants.{NoPrefix}
+use Rattle.flow_search.specs.Plans.{Planned, prefixes_of}
+use Rattle.flow_search.specs.Outcomes.{IsLawful}
+use Rattle.flow_pool.specs.declared.ends.Task.{Task}
+use Rattle.flow_pool.specs.declared.ends.Task.TheVariants.{Prefix, End}
+use Rattle.flow_pool.specs.declared.ends.Answer.{Answer}
+use Rattle.flow_lanes.specs.Lane.{Lane}
+
+-- a worker has served its lanes to the end
+abbrev pub IsServed : Planned → WorkerEnds → Type 0
+IsServed plan ends = Fit plan ends.tasks.received ends.answers.sent
+
+-- no more workers than the limit, with fresh ends; and the hub's ends of the same lanes, with room for a task
+pub record CanStart (workers : List WorkerEnds) (hubs : List HubEnds) : Type 0 where
+  pub count : length workers ≤ most_workers
+  pub fresh : All IsFresh workers
+  pub ready : All IsReadyHub hubs
+  pub same : map hub_lanes hubs ≡ map worker_lanes workers
+
+-- the workers have served, the hub has sent each its end and taken its answers; the ends are of the same lanes
+pub record HasEnded (gives : WorkerEnds → Type 0) (workers : List WorkerEnds) (hubs : List HubEnds) : Type 0 where
+  pub lanes : map hub_lanes hubs ≡ map worker_lanes workers
+  pub served : All gives workers
+  pub collected : All IsCollected hubs

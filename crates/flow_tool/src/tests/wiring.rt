@@ -1,0 +1,297 @@
+//! What the words of command lines come to, over inputs and a sink in memory.
+
+ghost use Rattle.std.specs.Prelude.{◌≡◌, false};
+
+use crate::command_line::{OfBlock, Order, make_command, order_of};
+use crate::fault::ToolFault;
+use crate::inputs::Inputs;
+use crate::stop::Stop;
+use crate::tests::commands::{DEPTH_0, DEPTH_1, DEPTH_2, GENERATED, ROOM, THREE_MACHINES};
+use crate::wiring::run_words;
+use clap::error::ErrorKind;
+use flow_core::{MemorySink, MemorySource, WriteFault};
+use std::alloc::{AllocError, Global};
+use std::cell::Cell;
+use std::sync::Wait;
+use std::test::Fail;
+use std::thread::Threads;
+
+/// The instance with two machines, and then that with three.
+const BOTH: &[u8] = b"a\n3 2 0 0 0\nb\n3 1 2\n2 4 2\na\n3 3 0 0 0\nb\n4 0 0\n0 8 2\n4 0 1\n";
+
+/// The certificate of the instance with two machines at depth 0.
+const OF_TWO_MACHINES: &[u8] = b"flowshop certificate 1\n3 2 0\n9\n2 3 1\n+BBB\nend\n";
+
+/// What each file holds. One that is broken refuses each call.
+const FILES: [(&str, &[u8]); 8] = [
+    ("text_three", THREE_MACHINES),
+    ("text_both", BOTH),
+    ("./stdin", THREE_MACHINES),
+    ("text_broken", b""),
+    ("of_three", DEPTH_0),
+    ("of_two", OF_TWO_MACHINES),
+    ("stdin", DEPTH_1),
+    ("broken", b""),
+];
+
+/// Files in memory. Standard input is the text with two blocks. A file whose name begins with `text` is there
+/// only for who opens it first.
+#[derive(Drop)]
+struct Named {
+    has_opened: Cell<bool>,
+}
+
+impl Inputs for Named {
+    type Standard = MemorySource<'static>;
+
+    type File = MemorySource<'static>;
+
+    fn standard(&self) -> MemorySource<'static> {
+        MemorySource::new(BOTH, 7, None)
+    }
+
+    fn open(&self, name: &str) -> Option<MemorySource<'static>> {
+        if self.has_opened.replace(true) && name.starts_with("text") {
+            return None;
+        }
+        for (known, bytes) in FILES {
+            if name == known {
+                let most = if name.ends_with("broken") {
+                    Some(0)
+                } else {
+                    None
+                };
+                return Some(MemorySource::new(bytes, 9, most));
+            }
+        }
+        None
+    }
+}
+
+/// The words of a command line, with the program's name before them.
+fn words_of<'a>(alloc: Global, line: &'a str) -> Result<Vec<&'a str>, AllocError> {
+    let mut words = Vec::new(alloc);
+    words.push("flowshop")?;
+    for word in line.split(' ') {
+        if !word.is_empty() {
+            words.push(word)?;
+        }
+    }
+    Ok(words)
+}
+
+/// Runs a command line: what it wrote, and its line on standard error.
+fn run_line<R: Threads + Wait + Sync>(
+    rt: &R,
+    alloc: Global,
+    line: &str,
+) -> Result<(MemorySink, String), AllocError> {
+    let words = words_of(alloc, line)?;
+    let inputs = Named {
+        has_opened: Cell::new(false),
+    };
+    let mut out = MemorySink::new(alloc, ROOM);
+    let said = match run_words(rt, alloc, &inputs, words.as_slice(), &mut out) {
+        Ok(()) => String::new(alloc),
+        Err(stop) => format!(in alloc; "{}", stop)?,
+    };
+    Ok((out, said))
+}
+
+#[test]
+fn each_command_writes_its_answer(rt: HostRuntime) -> Result<(), Fail> {
+    let rows: [(&str, &[u8]); 15] = [
+        ("span stdin 1 2 3 1", b"makespan 9\n"),
+        ("span stdin 2 2 1 3", b"makespan 13\n"),
+        ("span ./stdin 1 2 1 3", b"makespan 13\n"),
+        ("span text_three 1 2 1 3", b"makespan 13\n"),
+        ("span text_both 2 2 1 3", b"makespan 13\n"),
+        ("gen 2 2 1", GENERATED),
+        ("neh stdin 1", b"sequence 2 3 1\nmakespan 9\n"),
+        ("neh stdin 2", b"sequence 2 1 3\nmakespan 13\n"),
+        ("neh text_both 1", b"sequence 2 3 1\nmakespan 9\n"),
+        ("neh text_both 2", b"sequence 2 1 3\nmakespan 13\n"),
+        ("solve text_three 1", DEPTH_1),
+        ("solve text_both 2", DEPTH_1),
+        ("solve stdin 2", DEPTH_1),
+        (
+            "solve stdin 1",
+            b"flowshop certificate 1\n3 2 1\n9\n2 3 1\nB\nB\nB\nend\n",
+        ),
+        (
+            "gen 1 3 1",
+            b"number of jobs, number of machines, initial seed, upper bound and lower bound :\n\
+1 3 1 90 90\nprocessing times :\n1\n14\n75\n",
+        ),
+    ];
+    for (line, bytes) in rows {
+        let (out, said) = run_line(&rt, rt.alloc(), line)?;
+        assert_eq!(rt; said.as_str(), "", "after {line}");
+        assert!(rt; out.bytes() == bytes, "after {line}");
+    }
+    Ok(())
+}
+
+#[test]
+fn each_option_of_solve_has_its_effect(rt: HostRuntime) -> Result<(), Fail> {
+    let rows: [(&str, &[u8], &str); 14] = [
+        ("--workers 64", DEPTH_1, ""),
+        ("--workers 65", b"", "refused option Workers"),
+        ("--workers 0", b"", "refused option Workers"),
+        ("--depth 0", DEPTH_0, ""),
+        ("--depth 2", DEPTH_2, ""),
+        ("--depth 4", b"", "refused option Depth"),
+        ("--budget 4", DEPTH_1, ""),
+        ("--budget 3", b"", "refused run OverBudget 2"),
+        ("--budget 0", b"", "refused option Budget"),
+        ("--budget 100000001", b"", "refused option Budget"),
+        (
+            "--workers 3 --depth 2 --budget 1",
+            b"",
+            "refused run OverBudget 4",
+        ),
+        (
+            "--budget 1 --depth 2 --workers 3",
+            b"",
+            "refused run OverBudget 4",
+        ),
+        ("--workers 2 --depth 0 --budget 7", DEPTH_0, ""),
+        (
+            "--workers 65 --depth 4 --budget 0",
+            b"",
+            "refused option Workers",
+        ),
+    ];
+    for (options, bytes, refusal) in rows {
+        let line = format!(in rt.alloc(); "solve text_three 1 {options}")?;
+        let (out, said) = run_line(&rt, rt.alloc(), line.as_str())?;
+        assert_eq!(rt; said.as_str(), refusal, "after {line}");
+        assert!(rt; out.bytes() == bytes, "after {line}");
+    }
+    Ok(())
+}
+
+#[test]
+fn check_takes_each_file_by_its_name(rt: HostRuntime) -> Result<(), Fail> {
+    let rows: [(&str, &[u8], &str); 25] = [
+        ("check text_three 1 of_three", b"optimal 12\n", ""),
+        ("check text_three 1 stdin", b"optimal 12\n", ""),
+        ("check text_both 2 of_three", b"optimal 12\n", ""),
+        ("check text_both 1 of_two", b"optimal 9\n", ""),
+        ("check stdin 1 of_two", b"optimal 9\n", ""),
+        ("check stdin 1 stdin", b"", "refused certificate Size"),
+        ("check stdin 2 of_three", b"optimal 12\n", ""),
+        ("check stdin 2 stdin", b"optimal 12\n", ""),
+        ("check stdin 2 of_two", b"", "refused certificate Size"),
+        (
+            "check text_both 1 of_three",
+            b"",
+            "refused certificate Size",
+        ),
+        ("check text_both 2 of_two", b"", "refused certificate Size"),
+        ("check text_both 0 of_three", b"", "refused index"),
+        ("check text_both 7 of_three", b"", "refused index"),
+        ("check stdin 0 of_two", b"", "refused index"),
+        ("check stdin 7 of_three", b"", "refused index"),
+        ("check of_two 1 of_two", b"", "refused text Head 4"),
+        ("check text_three 1 of_two", b"", "refused certificate Size"),
+        ("check text_three 1 missing", b"", "failed open"),
+        ("check missing 1 of_three", b"", "failed open"),
+        ("check text_broken 1 missing", b"", "failed open"),
+        ("check text_broken 1 of_three", b"", "failed read Device"),
+        ("check text_three 1 broken", b"", "failed read Device"),
+        ("span missing 1 1", b"", "failed open"),
+        ("gen 501 1 1", b"", "refused instance Jobs"),
+        ("sort text_three", b"", "refused command line"),
+    ];
+    for (line, bytes, refusal) in rows {
+        let (out, said) = run_line(&rt, rt.alloc(), line)?;
+        assert_eq!(rt; said.as_str(), refusal, "after {line}");
+        assert!(rt; out.bytes() == bytes, "after {line}");
+    }
+    Ok(())
+}
+
+/// The order of a command line, or what kind of fault it has.
+fn ordered<'a>(alloc: Global, words: &'a [&'a str]) -> Result<Option<Order<'a>>, ErrorKind> {
+    let command = make_command(alloc).map_err(|_| ErrorKind::OutOfMemory)?;
+    let matches = command
+        .try_get_matches_from(words)
+        .map_err(|error| error.kind())?;
+    order_of(alloc, &matches).map_err(|_| ErrorKind::OutOfMemory)
+}
+
+#[test]
+fn words_are_read_as_orders(rt: HostRuntime) -> Result<(), Fail> {
+    let alloc = rt.alloc();
+    let words = words_of(alloc, "span FILE 4294967295 3 1 65535")?;
+    match ordered(alloc, words.as_slice()) {
+        Ok(
+            Some(
+                Order::OfBlock {
+                    file,
+                    index,
+                    what: OfBlock::Span { jobs },
+                },
+            ),
+        ) => {
+            assert_eq!(rt; file, "FILE");
+            assert_eq!(rt; index, u32::MAX);
+            assert!(rt; jobs.as_slice() == [3, 1, 65_535].as_slice());
+        }
+        _ => assert!(rt; false),
+    }
+    let words = words_of(alloc, "solve FILE 1 --depth 2")?;
+    let order = ordered(alloc, words.as_slice());
+    assert!(rt;
+        matches!(
+            order,
+            Ok(Some(Order::OfBlock {
+                what: OfBlock::Solve {
+                    workers: 1,
+                    depth: 2,
+                    budget: 1_000_000
+                },
+                ..
+            }))
+        )
+    );
+    Ok(())
+}
+
+#[test]
+fn other_words_are_refused(rt: HostRuntime) -> Result<(), Fail> {
+    let alloc = rt.alloc();
+    let lines = [
+        "",
+        "sort",
+        "span FILE 1",
+        "span FILE 1 65536",
+        "span FILE 4294967296 1",
+        "neh FILE x",
+        "solve FILE 1 --workers -1",
+        "check FILE 1",
+        "gen 20 5 1 1",
+    ];
+    for line in lines {
+        let words = words_of(alloc, line)?;
+        match ordered(alloc, words.as_slice()) {
+            Err(kind) => {
+                assert!(rt; kind != ErrorKind::DisplayHelp, "after {line}");
+                assert!(rt; kind != ErrorKind::OutOfMemory, "after {line}");
+            }
+            Ok(_) => assert!(rt; false, "after {line}"),
+        }
+    }
+    let inputs = Named {
+        has_opened: Cell::new(false),
+    };
+    let mut out = MemorySink::new(alloc, ROOM);
+    let words = words_of(alloc, "--help")?;
+    run_words(&rt, alloc, &inputs, words.as_slice(), &mut out)?;
+    assert!(rt; !out.bytes().is_empty());
+    let mut out = MemorySink::new(alloc, 10);
+    let ran = run_words(&rt, alloc, &inputs, words.as_slice(), &mut out);
+    assert_eq!(rt; ran, Err(Stop::Fault(ToolFault::Write(WriteFault::Device))));
+    Ok(())
+}
