@@ -15,3 +15,4 @@ pub mod TextComplete
 pub mod TextFaultLemmas
 pub mod TextAnswers
 pub mod TextWritten
+pub mod Turns

@@ -113,5 +113,6 @@ pub fn generate(
     for _ in 0..count {
         times.push_reserved(generator.next(LEAST_TIME, GREATEST_TIME));
     }
-    Ok(Instance::from_times(jobs as u16, machines as u16, times))
+    let times = times.as_slice();
+    Ok(Instance::from_times(alloc, jobs as u16, machines as u16, times)?)
 }

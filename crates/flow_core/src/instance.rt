@@ -1,11 +1,12 @@
 //! An instance: the times of jobs on machines.
 
-ghost use Rattle.std.specs.Prelude.{◌≡◌, ℕ, ◌<◌, ◌≤◌, nat_lt, length, position, All, None, IfSome, IfNone, IfOk};
+ghost use Rattle.std.specs.Prelude.{◌≡◌, ℕ, ◌*◌, ◌<◌, ◌≤◌, nat_lt, length, position, All, None, IfSome, IfNone, IfOk};
 ghost use Rattle.std.specs.Prelude.{OnOk, IfErr};
 ghost use Rattle.flow_core.specs.Shop.{IsWithinLimits, time};
 ghost use Rattle.flow_core.specs.InstanceFaults.{instance_fault, but_memory};
 ghost use Rattle.flow_core.specs.declared.instance.InstanceFault.TheVariants.{Memory};
 ghost use Rattle.flow_core.specs.Limits.{greatest_time};
+ghost use Rattle.flow_core.specs.internal.Turned.{turned};
 
 use crate::limits::{MAX_JOBS, MAX_MACHINES, MAX_TIME};
 use std::alloc::{AllocError, Global};
@@ -48,17 +49,42 @@ impl From<AllocError> for InstanceFault {
 pub struct Instance {
     jobs: u16,
     machines: u16,
-    times: Vec<u32>,
+    /// The times job by job, and for each job machine by machine, so that the times of a job stand side by side.
+    rows: Vec<u32>,
 }
 
 impl Model for Instance {
+    ghost use Rattle.std.specs.Prelude.{◌≡◌, ◌*◌, length};
     ghost use Rattle.flow_core.specs.Shop.{Shop, IsWithinLimits};
+    ghost use Rattle.flow_core.specs.internal.Turned.{turned};
 
     ghost Value = { Shop };
 
-    ghost view = { λ i. record { jobs = i.jobs; machines = i.machines; times = i.times.items } };
+    ghost view = { λ i.
+        record { jobs = i.jobs; machines = i.machines; times = turned i.jobs i.machines i.rows.items } };
 
-    ghost invariant = { λ i. IsWithinLimits (record { jobs = i.jobs; machines = i.machines; times = i.times.items }) };
+    ghost invariant = { λ i. IsWithinLimits
+        (record { jobs = i.jobs; machines = i.machines; times = turned i.jobs i.machines i.rows.items })
+        × (length i.rows.items ≡ i.jobs * i.machines) };
+}
+
+/// The numbers of `lists` lists of `each` numbers, which stand one after another, taken column by column.
+fn by_columns(
+    alloc: Global,
+    lists: usize,
+    each: usize,
+    numbers: &[u32],
+) -> Result<Vec<u32>, AllocError>
+    requires some { 0 < lists }
+    requires count { length numbers.now ≡ lists * each }
+    ensures { IfOk result (λ taken. taken.items ≡ turned lists each numbers.now) }
+{
+    let count = numbers.len();
+    let mut taken = Vec::with_capacity(alloc, count)?;
+    for place in 0..count {
+        taken.push_reserved(numbers[place % lists * each + place / lists]);
+    }
+    Ok(taken)
 }
 
 /// The index of the first time above the limit.
@@ -96,20 +122,25 @@ impl Instance {
         if let Some(index) = first_too_great(times) {
             return Err(InstanceFault::Time(index + 1));
         }
-        let times = Vec::from_slice(alloc, times)?;
-        Ok(Instance::from_times(jobs as u16, machines as u16, times))
+        Ok(Instance::from_times(alloc, jobs as u16, machines as u16, times)?)
     }
 
-    /// The instance with these times, which are known to be one.
-    pub(crate) fn from_times(jobs: u16, machines: u16, times: Vec<u32>) -> Instance
-        requires { IsWithinLimits (record { jobs = jobs; machines = machines; times = times.items }) }
-        ensures { result ≡ record { jobs = jobs; machines = machines; times = times.items } }
+    /// The instance with these times, machine by machine, which are known to be one.
+    pub(crate) fn from_times(
+        alloc: Global,
+        jobs: u16,
+        machines: u16,
+        times: &[u32],
+    ) -> Result<Instance, AllocError>
+        requires { IsWithinLimits (record { jobs = jobs; machines = machines; times = times.now }) }
+        ensures { IfOk result
+            (λ instance. instance ≡ record { jobs = jobs; machines = machines; times = times.now }) }
     {
-        Instance {
+        Ok(Instance {
             jobs,
             machines,
-            times,
-        }
+            rows: by_columns(alloc, machines as usize, jobs as usize, times)?,
+        })
     }
 
     /// How many jobs there are.
@@ -129,11 +160,16 @@ impl Instance {
     }
 
     /// The times, machine by machine and for each machine job by job.
-    pub(crate) fn times(&self) -> &[u32]
-        ensures value { result.now ≡ self.now.times }
+    pub(crate) fn times(&self, alloc: Global) -> Result<Vec<u32>, AllocError>
+        ensures value { IfOk result (λ times. times.items ≡ self.now.times) }
         ensures limits { IsWithinLimits self.now }
     {
-        self.times.as_slice()
+        by_columns(
+            alloc,
+            usize::from(self.jobs),
+            usize::from(self.machines),
+            self.rows.as_slice(),
+        )
     }
 
     /// The time of a job on a machine, both counted from 1.
@@ -145,7 +181,7 @@ impl Instance {
         ensures value { result ≡ time self.now job machine }
         ensures limit { result ≤ greatest_time }
     {
-        let place = (machine as usize - 1) * self.jobs as usize + (job as usize - 1);
-        self.times[place]
+        let place = (job as usize - 1) * self.machines as usize + (machine as usize - 1);
+        self.rows[place]
     }
 }

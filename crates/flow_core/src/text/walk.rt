@@ -128,13 +128,14 @@ fn with_times(alloc: Global, mut progress: Progress, new: &[u32]) -> Result<Prog
     if count < wanted {
         return Ok(progress);
     }
-    let times = std::mem::replace(&mut progress.numbers, Vec::new(alloc));
+    let times = progress.numbers.as_slice();
     progress.blocks.push(Block {
         seed: head.seed,
         upper: head.upper,
         lower: head.lower,
-        instance: Instance::from_times(head.jobs, head.machines, times),
+        instance: Instance::from_times(alloc, head.jobs, head.machines, times)?,
     })?;
+    progress.numbers.clear();
     progress.want = Want::FirstLabel;
     Ok(progress)
 }

@@ -85,7 +85,8 @@ pub fn block_text(alloc: Global, block: &Block) -> Result<Vec<u8>, AllocError>
     push_head_label(&mut out)?;
     push_head(&mut out, instance, block.seed, block.upper, block.lower)?;
     push_times_label(&mut out)?;
-    let times = instance.times();
+    let all_times = instance.times(alloc)?;
+    let times = all_times.as_slice();
     for machine in 0..machines {
         let from = machine * jobs;
         push_row(&mut out, &times[from..from + jobs])?;

@@ -1,4 +1,4 @@
-use Rattle.std.proofs.Common.{◌≡◌, arith, rules, sym, subst, ◌∷◌, [], List, ℕ}
+use Rattle.std.proofs.Common.{◌≡◌, arith, rules, sym, subst, ◌∙◌, ◌∷◌, [], List, ℕ}
 use Rattle.flow_core.specs.Written.{written}
 use Rattle.flow_core.specs.Text.{Reads}
 use Rattle.flow_core.proofs.TextWritten.{Reads-written, rows-push}
@@ -6,8 +6,8 @@ use Rattle.flow_core.proofs.text.write.block_text.Goals as goal
 
 pub loop-machine-preserved : goal.loop-machine-preserved
 loop-machine-preserved c =
-    rows-push c.args.block.now.instance c.loop-machine.machine c.jobs-jobs.result _ c.loop-machine.out.items _ c.times-times.result.now c.jobs-jobs.ensures.limits
-    (omega (arith, c.loop-machine-test.true, c.machines-machines.ensures.value)) c.jobs-jobs.ensures.value c.times-times.ensures.value c.loop-machine.invariant c.in_ok-push_row.ensures
+    rows-push c.args.block.now.instance c.loop-machine.machine c.jobs-jobs.result _ c.loop-machine.out.items _ c.as_slice-times.result.now c.jobs-jobs.ensures.limits
+    (omega (arith, c.loop-machine-test.true, c.machines-machines.ensures.value)) c.jobs-jobs.ensures.value (c.as_slice-times.ensures.value ∙ c.in_ok-all_times.ensures.value) c.loop-machine.invariant c.in_ok-push_row.ensures
 
 pub returns-clause-again : goal.returns-clause-again
 returns-clause-again c =
