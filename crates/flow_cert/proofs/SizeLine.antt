@@ -1,7 +1,7 @@
 -- The line of an instance's size and a depth.
 use Rattle.std.proofs.Common.{◌≡◌, ℕ, ◌≤◌, ◌<◌, ◌^◌, List, [], ◌∷◌, ◌++◌, ap, ◌∙◌, append_assoc, arith}
 use Rattle.std.specs.Fmt.{decimal}
-use Rattle.flow_core.specs.Limits.{greatest_depth}
+use Rattle.flow_search.specs.Limits.{greatest_depth}
 use Rattle.flow_cert.specs.Certificate.{line, spaced}
 use Rattle.flow_cert.specs.internal.Heading.{BeginsWithNumber, BeginsWithSize}
 

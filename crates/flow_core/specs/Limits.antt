@@ -1,4 +1,4 @@
--- The limits of instances and of texts. The contracts speak of these numbers alone, and not of the code's constants.
+-- The limits of instances and of texts. Contracts name these numbers, and not the code's constants.
 use Rattle.std.specs.Prelude.{ℕ}
 
 -- the most jobs of an instance
@@ -20,7 +20,3 @@ greatest_completion = 1000000000
 -- the greatest number in a benchmark text
 abbrev pub greatest_number : ℕ
 greatest_number = 4294967295
-
--- the greatest depth of a cut
-abbrev pub greatest_depth : ℕ
-greatest_depth = 3

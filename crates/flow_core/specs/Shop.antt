@@ -3,7 +3,7 @@ use Rattle.std.specs.Prelude.{ℕ, ◌≡◌, ◌+◌, ◌-◌, ◌*◌, ◌≤�
 use Rattle.std.specs.List.{range_with_len}
 use Rattle.flow_core.specs.Limits.{most_jobs, most_machines, greatest_time}
 
--- an instance: how many jobs and machines there are, and the times, machine by machine, of each machine job by job
+-- an instance: how many jobs and machines it has, and its times, machine by machine and for each machine job by job
 pub record Shop : Type 0 where
   pub jobs : ℕ
   pub machines : ℕ

@@ -12,7 +12,7 @@ use std::alloc::{AllocError, Global};
 use std::marker::Model;
 use thiserror::Error;
 
-/// Why numbers are no instance, in the order in which it is tested. `Seed` is an answer of `generate` alone.
+/// Why numbers are no instance, in the order of the tests. Only `generate` returns `Seed`.
 #[derive(Clone, Copy, Debug, PartialEq, Eq, Error)]
 pub enum InstanceFault {
     /// The number of jobs is not in `1..=MAX_JOBS`.
@@ -24,7 +24,7 @@ pub enum InstanceFault {
     /// There is not one time for each job and machine.
     #[error("Count")]
     Count,
-    /// The time at this place, from 1, is the first above `MAX_TIME`.
+    /// The time at this place, counted from 1, is the first above `MAX_TIME`.
     #[error("Time {0}")]
     Time(usize),
     /// The seed of a generator is not in `1..=2147483646`.
@@ -43,7 +43,7 @@ impl From<AllocError> for InstanceFault {
     }
 }
 
-/// The times of jobs on machines, within the limits.
+/// The time of each job on each machine, within the limits.
 #[derive(Debug, Drop)]
 pub struct Instance {
     jobs: u16,
@@ -71,7 +71,7 @@ fn first_too_great(times: &[u32]) -> Option<usize>
 }
 
 impl Instance {
-    /// The instance of these times, machine by machine and for each machine job by job; or its first fault, or
+    /// The instance of these times, machine by machine and for each machine job by job; or the first fault; or
     /// `Memory`.
     pub fn new(
         alloc: Global,
@@ -100,7 +100,7 @@ impl Instance {
         Ok(Instance::from_times(jobs as u16, machines as u16, times))
     }
 
-    /// The instance with these times, which are known to be one.
+    /// The instance of numbers that are known to be within the limits.
     pub(crate) fn from_times(jobs: u16, machines: u16, times: Vec<u32>) -> Instance
         requires { IsWithinLimits (record { jobs = jobs; machines = machines; times = times.items }) }
         ensures { result ≡ record { jobs = jobs; machines = machines; times = times.items } }

@@ -1,4 +1,4 @@
-//! The limits of instances and texts, each named once. The contracts speak of the numbers in `specs/Limits.antt`.
+//! The limits of instances and texts. The contracts name the numbers in `specs/Limits.antt`.
 
 /// The most jobs of an instance.
 pub const MAX_JOBS: usize = 500;
@@ -11,6 +11,3 @@ pub const MAX_TIME: u32 = 99_999;
 
 /// The greatest number in a benchmark text.
 pub const MAX_NUMBER: u32 = 4_294_967_295;
-
-/// The greatest depth of a cut.
-pub const MAX_DEPTH: u32 = 3;

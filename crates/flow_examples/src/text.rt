@@ -113,7 +113,8 @@ fn block_is_written_in_one_form_and_read_again(rt: HostRuntime) -> Result<(), Fa
     let text = block_text(alloc, &block)?;
     assert_eq!(rt;
         text.as_slice(),
-        b"number of jobs, number of machines, initial seed, upper bound and lower bound :\n2 2 1 122 122\nprocessing times :\n1 14\n75 46\n".as_slice()
+        b"number of jobs, number of machines, initial seed, upper bound and lower bound :\n\
+        2 2 1 122 122\nprocessing times :\n1 14\n75 46\n".as_slice()
     );
     let again = only_block(alloc, text.as_slice())?;
     assert_eq!(rt; (again.seed, again.upper, again.lower), (1, 122, 122));
@@ -169,8 +170,8 @@ fn repeated_text_is_read_as_so_many_blocks(rt: HostRuntime) -> Result<(), Fail> 
     Ok(())
 }
 
-/// What is missing behind so many bytes of the text of the two machines: its head has 80 and 10 bytes, and its times
-/// end at 121.
+/// The fault of the first bytes of the text with two machines, where there are `length` of them. The lines of the head
+/// have 80 and 10 bytes, and the times end with byte 121. The next line has the number `line`.
 fn missing(length: usize, line: usize) -> TextFault {
     match length {
         0 => TextFault::NoBlock,
@@ -181,14 +182,14 @@ fn missing(length: usize, line: usize) -> TextFault {
 }
 
 #[test]
-fn prefixes_of_a_text_miss_what_is_behind_them(rt: HostRuntime) -> Result<(), Fail> {
+fn prefixes_of_a_text_miss_the_rest(rt: HostRuntime) -> Result<(), Fail> {
     let alloc = rt.alloc();
     let whole = TWO_MACHINES_TEXT;
     assert_eq!(rt; whole.len(), 121);
     let mut line = 1usize;
     for length in 0..120usize {
         let prefix = &whole[..length];
-        // The number of lines plus 1.
+        // `line` is the number of lines of the prefix, plus 1.
         if length > 0 && (length == 1 || whole[length - 2] == b'\n') {
             line = line.wrapping_add(1);
         }

@@ -1,7 +1,7 @@
 -- What the lines before the trees begin with.
 use Rattle.std.specs.Prelude.{ℕ, ◌≡◌, ◌≤◌, ◌<◌, ◌+◌, ◌-◌, ◌*◌, ◌^◌, Bool, cond, ◌&&◌, not, nat_eq, nat_lt, List, [], ◌∷◌, ◌++◌}
 use Rattle.std.specs.Fmt.{decimal}
-use Rattle.flow_core.specs.Limits.{greatest_depth}
+use Rattle.flow_search.specs.Limits.{greatest_depth}
 use Rattle.flow_core.specs.Sequences.{IsSequence}
 use Rattle.flow_cert.specs.Certificate.{line, spaced}
 use Rattle.flow_cert.specs.Faults.{is_digit}

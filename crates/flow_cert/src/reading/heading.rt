@@ -10,7 +10,8 @@ ghost use Rattle.flow_cert.specs.internal.Heading.{BeginsWithJob, BeginsWithSize
 
 use crate::fault::CheckFault;
 use crate::reading::number::read_number;
-use flow_core::{Front, Instance, JobSet, MAX_DEPTH, front_push};
+use flow_core::{Front, Instance, JobSet, front_push};
+use flow_search::MAX_DEPTH;
 
 /// The first line, with its end.
 const TITLE: &[u8] = b"flowshop certificate 1\n";
