@@ -1,6 +1,5 @@
 -- What contracts see of the sinks and sources of this crate.
-use Rattle.std.specs.Prelude.{ℕ, Bool, List, Option, refl}
-use Rattle.std.specs.Coded.{Coded, code_by, coded×, coded_bool}
+use Rattle.std.specs.Prelude.{ℕ, Bool, List, Option}
 
 -- a sink in memory: the bytes that it took, how many it takes in all, and whether it refused
 pub record Kept : Type 0 where

@@ -1,2 +1,3 @@
 pub mod TextWalk
 pub mod Codes
+pub mod Same

@@ -2,7 +2,9 @@
 
 ghost use Rattle.std.specs.Prelude.{◌≡◌, ℕ, ◌<◌, ◌≤◌, nat_lt, length, position, All, None, IfSome, IfNone, IfOk};
 ghost use Rattle.std.specs.Prelude.{OnOk, IfErr};
-ghost use Rattle.flow_core.specs.Shop.{IsWithinLimits, time};
+ghost use Rattle.std.specs.Cmp.{partial_equiv_from_equiv};
+ghost use Rattle.flow_core.specs.Shop.{IsWithinLimits, time, is_same_shop};
+ghost use Rattle.flow_core.specs.internal.Same.{is_same_shop-equiv};
 ghost use Rattle.flow_core.specs.InstanceFaults.{instance_fault, but_memory};
 ghost use Rattle.flow_core.specs.declared.instance.InstanceFault.TheVariants.{Memory};
 ghost use Rattle.flow_core.specs.Limits.{greatest_time};
@@ -59,6 +61,20 @@ impl Model for Instance {
     ghost view = { λ i. record { jobs = i.jobs; machines = i.machines; times = i.times.items } };
 
     ghost invariant = { λ i. IsWithinLimits (record { jobs = i.jobs; machines = i.machines; times = i.times.items }) };
+}
+
+impl PartialEq for Instance {
+    ghost eq = { is_same_shop };
+
+    ghost laws = { partial_equiv_from_equiv is_same_shop-equiv };
+
+    fn eq(&self, other: &Instance) -> bool {
+        (self.jobs, self.machines) == (other.jobs, other.machines) && self.times == other.times
+    }
+}
+
+impl Eq for Instance {
+    ghost laws = { is_same_shop-equiv };
 }
 
 /// The index of the first time above the limit.

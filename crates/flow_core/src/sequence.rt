@@ -1,6 +1,8 @@
 //! A sequence: the jobs of an instance in some order.
 
-ghost use Rattle.std.specs.Prelude.{◌≡◌, ℕ, ◌≤◌, [], None, length, IfOk, OnOk, IfErr};
+ghost use Rattle.std.specs.Prelude.{◌≡◌, ℕ, ◌≤◌, nat_eq, [], None, length, IfOk, OnOk, IfErr};
+ghost use Rattle.std.specs.Cmp.{partial_equiv_from_equiv};
+ghost use Rattle.std.specs.Cmp.Lexicographic.{pointwise, nat_list_eq_equiv};
 ghost use Rattle.flow_core.specs.Sequences.{IsSequence};
 ghost use Rattle.flow_core.specs.SequenceFaults.{place_fault, sequence_fault, but_memory};
 ghost use Rattle.flow_core.specs.declared.sequence.SequenceFault.TheVariants.{Memory};
@@ -53,6 +55,20 @@ impl Model for Sequence {
     ghost view = { λ s. s.jobs.items };
 
     ghost invariant = { λ s. IsSequence (length s.jobs.items) s.jobs.items };
+}
+
+impl PartialEq for Sequence {
+    ghost eq = { pointwise nat_eq };
+
+    ghost laws = { partial_equiv_from_equiv nat_list_eq_equiv };
+
+    fn eq(&self, other: &Sequence) -> bool {
+        self.jobs == other.jobs
+    }
+}
+
+impl Eq for Sequence {
+    ghost laws = { nat_list_eq_equiv };
 }
 
 /// The fault of the first job that is not from 1 to `n`, or that stands at an earlier place too.

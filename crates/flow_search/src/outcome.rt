@@ -13,7 +13,7 @@ use flow_core::{Front, Instance, Sequence, front_push};
 use std::alloc::{AllocError, Global};
 
 /// The best sequence that extends a prefix. Its makespan is below that of the start.
-#[derive(Debug, Drop)]
+#[derive(Debug, PartialEq, Eq, Drop)]
 pub struct Best {
     /// The makespan of the sequence.
     pub value: u64,
@@ -22,7 +22,7 @@ pub struct Best {
 }
 
 /// How the search of a prefix ended.
-#[derive(Debug, Drop)]
+#[derive(Debug, PartialEq, Eq, Drop)]
 pub enum Outcome {
     /// The whole subtree was searched.
     Done {

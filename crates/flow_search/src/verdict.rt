@@ -17,7 +17,7 @@ use std::alloc::{AllocError, Global};
 use thiserror::Error;
 
 /// The least makespan, a sequence that attains it, and the tree of each prefix.
-#[derive(Debug, Drop)]
+#[derive(Debug, PartialEq, Eq, Drop)]
 pub struct Verdict {
     /// The least makespan.
     pub value: u64,

@@ -1,5 +1,5 @@
 -- The sinks and sources over writers and readers as plain values, which the kit asks of a view with a type parameter.
-use Rattle.std.specs.Prelude.{ℕ, Bool, List, Option, refl}
+use Rattle.std.specs.Prelude.{Bool, refl}
 use Rattle.std.specs.Coded.{Coded, code_by, coded×, coded_bool}
 use Rattle.flow_core.specs.Devices.{Writing, Reading}
 

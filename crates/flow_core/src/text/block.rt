@@ -3,7 +3,7 @@
 use crate::instance::Instance;
 
 /// An instance with a seed, and two bounds of its least makespan. Seed and bounds are what the text says, untested.
-#[derive(Debug, Drop)]
+#[derive(Debug, PartialEq, Eq, Drop)]
 pub struct Block {
     /// The seed from which the generator made the instance.
     pub seed: u32,

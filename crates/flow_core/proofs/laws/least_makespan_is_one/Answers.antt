@@ -1,4 +1,4 @@
-use Rattle.std.proofs.Common.{ℕ, ◌≡◌, ◌≤◌, subst, arith}
+use Rattle.std.proofs.Common.{ℕ, ◌≤◌, subst, arith}
 use Rattle.flow_core.specs.Shop.{Shop}
 use Rattle.flow_core.specs.Sequences.{IsLeastMakespan}
 use Rattle.flow_core.proofs.laws.least_makespan_is_one.Goals as goal
