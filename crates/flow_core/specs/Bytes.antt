@@ -1,15 +1,16 @@
--- What calls on sinks and sources do to lists of bytes. A list that is not known is `None`, and a clause then says nothing of it.
+-- What calls on sinks and sources do to lists of bytes. `None` is a list that is not known: nothing is said of it.
 use Rattle.std.specs.Prelude.{◌≡◌, ◌<◌, ◌≤◌, ℕ, Bool, false, List, Option, ◌++◌, length, Result, Ok, Err, ◌==◌}
 use Rattle.std.specs.Io.KnownBytes.{Appends}
 
--- an answer of no bytes is the end of the input
+-- whether a call found the end of the input: it returned 0
 abbrev pub is_end : {E : Type 0} → Result ℕ E → Bool
 is_end (Ok count) = count == 0
 is_end (Err e) = false
 
 -- a proper prefix of the bytes was added
 abbrev pub AddsProperPrefix : Option (List ℕ) → Option (List ℕ) → List ℕ → Type 0
-AddsProperPrefix old new bytes = (front : List ℕ) × (back : List ℕ) × (bytes ≡ front ++ back) × (0 < length back) × Appends old new front
+AddsProperPrefix old new bytes =
+    (front : List ℕ) × (back : List ℕ) × (bytes ≡ front ++ back) × (0 < length back) × Appends old new front
 
 -- some bytes were added, and no byte was taken back
 abbrev pub Grows : Option (List ℕ) → Option (List ℕ) → Type 0

@@ -1,4 +1,4 @@
--- What a contract sees of the sinks and sources of this crate.
+-- What contracts see of the sinks and sources of this crate.
 use Rattle.std.specs.Prelude.{ℕ, Bool, List, Option}
 
 -- a sink in memory: the bytes that it took, how many it takes in all, and whether it refused
@@ -7,8 +7,8 @@ pub record Kept : Type 0 where
   pub limit : ℕ
   pub failed : Bool
 
--- a source in memory: its bytes, how many of them it gave, how many it gives at most in a call and in all, whether its last
--- answer was the end, and whether it refused
+-- a source in memory: its bytes, how many of them it gave, the most that it gives in a call and in all, whether its
+-- last call found the end, and whether it refused
 pub record Held : Type 0 where
   pub bytes : List ℕ
   pub given : ℕ
@@ -22,7 +22,7 @@ pub record Writing (W : Type 0) : Type 0 where
   pub writer : W
   pub failed : Bool
 
--- a source over a reader, whether its last answer was the end, and whether it refused
+-- a source over a reader, whether its last call found the end, and whether it refused
 pub record Reading (R : Type 0) : Type 0 where
   pub reader : R
   pub ended : Bool

@@ -7,17 +7,19 @@ use Rattle.flow_core.specs.Limits.{most_jobs, most_machines}
 use Rattle.flow_core.specs.declared.instance.InstanceFault.{InstanceFault}
 use Rattle.flow_core.specs.declared.instance.InstanceFault.TheVariants.{Jobs, Machines, Seed}
 
--- the multiplier and the modulus of a step
+-- the multiplier of a step
 abbrev pub multiplier : ℕ
 multiplier = 16807
 
+-- the modulus of a step
 abbrev pub modulus : ℕ
 modulus = 2147483647
 
--- the least and the greatest time of a generated instance
+-- the least time of a generated instance
 abbrev pub least_drawn : ℕ
 least_drawn = 1
 
+-- the greatest time of a generated instance
 abbrev pub greatest_drawn : ℕ
 greatest_drawn = 99
 

@@ -1,4 +1,4 @@
--- What is no instance.
+-- Why numbers are no instance.
 use Rattle.std.specs.Prelude.{ℕ, ◌+◌, ◌*◌, ◌==◌, nat_lt, List, [], ◌∷◌, length, Option, Some, None, position}
 use Rattle.std.specs.Int.{is_in_range}
 use Rattle.std.specs.Option.{option_map}
@@ -7,7 +7,7 @@ use Rattle.flow_core.specs.Limits.{most_jobs, most_machines, greatest_time}
 use Rattle.flow_core.specs.declared.instance.InstanceFault.{InstanceFault}
 use Rattle.flow_core.specs.declared.instance.InstanceFault.TheVariants.{Jobs, Machines, Count, Time, Memory}
 
--- the first time that is too great, at its place in the list, from 1
+-- the fault of the first time that is too great, with its place in the list, counted from 1
 abbrev pub time_fault : List ℕ → Option InstanceFault
 time_fault times = option_map (λ index. Time (index + 1)) (position (λ time. nat_lt greatest_time time) times)
 
@@ -20,7 +20,7 @@ instance_fault jobs machines times = first_fault (
     ∷ time_fault times
     ∷ [])
 
--- a fault, unless memory ran out
+-- a fault of the numbers; none where memory ran out
 abbrev pub but_memory : InstanceFault → Option InstanceFault
 but_memory Memory = None
 but_memory fault = Some fault

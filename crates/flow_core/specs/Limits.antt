@@ -1,4 +1,4 @@
--- The limits of instances and of texts. The contracts speak of these numbers alone, and not of the code's constants.
+-- The limits of instances, of texts, and of the depth of a cut. Contracts name these numbers, and not the code's constants.
 use Rattle.std.specs.Prelude.{ℕ}
 
 -- the most jobs of an instance

@@ -1,4 +1,4 @@
--- The lines of a text, what a line is, and the numbers on it.
+-- The lines of a text, their kinds, and the numbers on them.
 use Rattle.std.specs.Prelude.{ℕ, Bool, true, false, not, ◌||◌, ◌&&◌, ◌==◌, nat_lt, nat_le, if◌then◌else◌, List, [], ◌∷◌, length, map, filter}
 use Rattle.std.specs.List.{list_all, onto_first, slice_split}
 use Rattle.std.specs.Str.Parse.{digits_value}
@@ -9,32 +9,32 @@ abbrev pub lines_of : List ℕ → List (List ℕ)
 lines_of [] = []
 lines_of (b ∷ bs) = if b == 10 then [] ∷ lines_of bs else onto_first b (lines_of bs)
 
--- a space, a tab or a CR
+-- whether a byte is a space, a tab or a CR
 abbrev pub is_blank : ℕ → Bool
 is_blank b = b == 32 || b == 9 || b == 13
 
--- a digit from 0 to 9
+-- whether a byte is a digit from 0 to 9
 abbrev pub is_digit : ℕ → Bool
 is_digit b = nat_le 48 b && nat_le b 57
 
--- what stands from the first byte on that is not a blank
+-- a line without the blanks at its front
 abbrev pub after_blanks : List ℕ → List ℕ
 after_blanks [] = []
 after_blanks (b ∷ bs) = if is_blank b then after_blanks bs else b ∷ bs
 
--- blanks alone, or nothing
+-- whether a line is empty, or has only blanks
 abbrev pub is_blank_line : List ℕ → Bool
 is_blank_line line = elim (after_blanks line) [ [] ↦ true | b ∷ bs ↦ false ]
 
--- the first byte that is not a blank is not a digit
+-- whether the first byte of a line that is not a blank is not a digit
 abbrev pub is_label_line : List ℕ → Bool
 is_label_line line = elim (after_blanks line) [ [] ↦ false | b ∷ bs ↦ not (is_digit b) ]
 
--- the first byte that is not a blank is a digit
+-- whether the first byte of a line that is not a blank is a digit
 abbrev pub is_number_line : List ℕ → Bool
 is_number_line line = elim (after_blanks line) [ [] ↦ false | b ∷ bs ↦ is_digit b ]
 
--- digits and blanks alone
+-- whether a line has only digits and blanks
 abbrev pub is_plain : List ℕ → Bool
 is_plain line = list_all (λ b. is_digit b || is_blank b) line
 

@@ -1,4 +1,4 @@
--- What a call refuses. Each fault has a function of the arguments that gives the first one, but for memory that ran out.
+-- How contracts say which fault a call returns: several tests in order, and the first that fails names it.
 use Rattle.std.specs.Prelude.{Bool, List, [], ◌∷◌, Option, Some, None, if◌then◌else◌}
 use Rattle.std.specs.Option.{option_or}
 
@@ -6,7 +6,7 @@ use Rattle.std.specs.Option.{option_or}
 abbrev pub fault_unless : {F : Type 0} → Bool → F → Option F
 fault_unless holds fault = if holds then None else Some fault
 
--- the first of some tests that found a fault
+-- the first fault that some tests found
 abbrev pub first_fault : {F : Type 0} → List (Option F) → Option F
 first_fault [] = None
 first_fault (test ∷ tests) = option_or test (first_fault tests)

@@ -1,13 +1,19 @@
 -- Instances of the permutation flow shop, and their times.
-use Rattle.std.specs.Prelude.{ℕ, ◌≡◌, ◌+◌, ◌-◌, ◌*◌, ◌≤◌, List, length, slice_index, sum_by, All}
+use Rattle.std.specs.Prelude.{ℕ, ◌≡◌, ◌+◌, ◌-◌, ◌*◌, ◌≤◌, Bool, ◌&&◌, nat_eq, List, length, slice_index, sum_by, All}
+use Rattle.std.specs.Cmp.Lexicographic.{pointwise}
 use Rattle.std.specs.List.{range_with_len}
 use Rattle.flow_core.specs.Limits.{most_jobs, most_machines, greatest_time}
 
--- an instance: how many jobs and machines there are, and the times, machine by machine, of each machine job by job
+-- an instance: how many jobs and machines it has, and its times, machine by machine and for each machine job by job
 pub record Shop : Type 0 where
   pub jobs : ℕ
   pub machines : ℕ
   pub times : List ℕ
+
+-- whether two instances have the same jobs, machines and times
+abbrev pub is_same_shop : Shop → Shop → Bool
+is_same_shop one other =
+    (nat_eq one.jobs other.jobs && nat_eq one.machines other.machines) && pointwise nat_eq one.times other.times
 
 -- the numbers from first to last; none where first is above last
 abbrev pub numbers : ℕ → ℕ → List ℕ

@@ -6,7 +6,7 @@ use Rattle.flow_core.specs.Lines.{lines_of, is_blank_line, is_label_line, is_num
 use Rattle.flow_core.specs.Limits.{greatest_number}
 use Rattle.flow_core.specs.declared.text.block.Block.{Block}
 
--- a number line of digits and blanks alone
+-- a number line that has only digits and blanks
 pub record IsNumbers (line : List ℕ) : Type 0 where
   pub number : is_number_line line ≡ true
   pub plain : is_plain line ≡ true
@@ -44,7 +44,7 @@ AreGroups [] (block ∷ blocks) = ⊥
 AreGroups (group ∷ groups) [] = ⊥
 AreGroups (group ∷ groups) (block ∷ blocks) = IsGroup group block × AreGroups groups blocks
 
--- the lines that are not blank are one or more groups, of these blocks in order
+-- the lines of a text that are not blank are one or more groups, and these are the blocks in order
 pub record Reads (text : List ℕ) (blocks : List Block) : Type 0 where
   pub groups : List (List (List ℕ))
   pub split : filter (λ line. not (is_blank_line line)) (lines_of text) ≡ flat_map (λ group. group) groups

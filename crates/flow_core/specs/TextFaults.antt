@@ -1,4 +1,4 @@
--- The first fault of a text. What is wanted at a line is decided by the lines before it alone, which are given latest first.
+-- The first fault of a text. The lines before a line decide what is wanted at it. They are given in reverse order.
 use Rattle.std.specs.Prelude.{ℕ, ◌+◌, ◌*◌, ◌%◌, Bool, true, not, ◌&&◌, ◌==◌, nat_lt, nat_le, if◌then◌else◌, List, [], ◌∷◌, ◌++◌, length, Option, None, Some, slice_index}
 use Rattle.std.specs.Int.{is_in_range}
 use Rattle.std.specs.List.{list_all}
@@ -28,26 +28,26 @@ numbers_between (line ∷ earlier) = if is_label_line line then numbers_since ea
 abbrev pub is_in_head : List (List ℕ) → Bool
 is_in_head earlier = labels earlier % 2 == 1
 
--- how many numbers stand behind the last label: the five of a head, or the times of its jobs on its machines
+-- how many numbers have to follow the last label: five in a head, and then a time for each job on each machine
 abbrev pub numbers_wanted : List (List ℕ) → ℕ
 numbers_wanted earlier =
     if labels earlier == 0 then 0
     else (if is_in_head earlier then 5
     else slice_index (numbers_between earlier) 0 * slice_index (numbers_between earlier) 1)
 
--- whether some of these are still wanted; if not, a label is
+-- whether more numbers are wanted; if not, a label is
 abbrev pub wants_numbers : List (List ℕ) → Bool
 wants_numbers earlier = nat_lt (length (numbers_since earlier)) (numbers_wanted earlier)
 
--- the number of the next line
+-- the number of the next line, counted from 1
 abbrev pub next_line : List (List ℕ) → ℕ
 next_line earlier = length earlier + 1
 
--- there are too few or too many numbers
+-- the fault of too few or too many numbers
 abbrev pub count_fault : List (List ℕ) → TextFault
 count_fault earlier = if is_in_head earlier then Head (next_line earlier) else Times (next_line earlier)
 
--- the jobs and machines of a whole head are within the limits
+-- whether the jobs and machines of a head are within the limits
 abbrev pub is_head : List ℕ → Bool
 is_head head = is_in_range 1 most_jobs (slice_index head 0) && is_in_range 1 most_machines (slice_index head 1)
 
@@ -55,13 +55,13 @@ is_head head = is_in_range 1 most_jobs (slice_index head 0) && is_in_range 1 mos
 abbrev pub are_times : List ℕ → Bool
 are_times times = list_all (λ time. nat_le time greatest_time) times
 
--- the numbers of a line keep the limits: those of a head once there are five, times at once
+-- whether the numbers of a line are within the limits: a head is tested once it has five numbers, times at each line
 abbrev pub keeps_limits : List (List ℕ) → List ℕ → Bool
 keeps_limits earlier new =
     if not (is_in_head earlier) then are_times new
     else (if length (numbers_since earlier ++ new) == 5 then is_head (numbers_since earlier ++ new) else true)
 
--- the fault of a line with these numbers, where numbers are wanted
+-- the fault of a number line with these new numbers, where numbers are wanted
 abbrev pub numbers_fault : List (List ℕ) → List ℕ → List ℕ → Option TextFault
 numbers_fault earlier line new = first_fault (
     fault_unless (is_plain line) (Byte (next_line earlier))
@@ -70,7 +70,7 @@ numbers_fault earlier line new = first_fault (
     ∷ fault_unless (keeps_limits earlier new) (Limits (next_line earlier))
     ∷ [])
 
--- the fault of a line behind others that have none
+-- the fault of a line after lines that have none
 abbrev pub line_fault : List (List ℕ) → List ℕ → Option TextFault
 line_fault earlier line =
     if is_blank_line line then None
@@ -78,7 +78,7 @@ line_fault earlier line =
     else (if wants_numbers earlier then numbers_fault earlier line (numbers_of line)
     else Some (Label (next_line earlier))))
 
--- the fault of a text that ends here
+-- the fault of a text that ends after these lines
 abbrev pub end_fault : List (List ℕ) → Option TextFault
 end_fault earlier = first_fault (
     fault_unless (not (labels earlier == 0)) NoBlock
@@ -86,7 +86,7 @@ end_fault earlier = first_fault (
     ∷ fault_unless (not (is_in_head earlier)) (Label (next_line earlier))
     ∷ [])
 
--- the first fault of some lines behind others that have none
+-- the first fault of some lines, and of the end, after lines that have none
 abbrev pub lines_fault : List (List ℕ) → List (List ℕ) → Option TextFault
 lines_fault earlier [] = end_fault earlier
 lines_fault earlier (line ∷ lines) = option_or (line_fault earlier line) (lines_fault (line ∷ earlier) lines)

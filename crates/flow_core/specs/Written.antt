@@ -4,7 +4,7 @@ use Rattle.flow_core.specs.Shop.{Shop, numbers, time}
 use Rattle.flow_core.specs.Text.{head_of}
 use Rattle.flow_core.specs.declared.text.block.Block.{Block}
 
--- numbers with a space between, and the end of the line
+-- a line of numbers: a space between each two, and LF at its end
 abbrev pub row_text : List ℕ → List ℕ
 row_text [] = 10 ∷ []
 row_text (n ∷ ns) = decimal n ++ flat_map (λ m. 32 ∷ decimal m) ns ++ 10 ∷ []
@@ -21,10 +21,11 @@ times_label = codes "processing times :\n"
 abbrev pub row : Shop → ℕ → List ℕ
 row shop machine = map (λ job. time shop job machine) (numbers 1 shop.jobs)
 
--- the rows of the machines from 1 to this one
+-- the lines of times of the machines from 1 to this one
 abbrev pub rows_text : Shop → ℕ → List ℕ
 rows_text shop machine = flat_map (λ k. row_text (row shop k)) (numbers 1 machine)
 
--- a label, the head, a label, and a row for each machine
+-- the text of a block: a label, the head, a label, and a line of times for each machine
 abbrev pub written : Block → List ℕ
-written block = head_label ++ row_text (head_of block) ++ times_label ++ rows_text block.instance block.instance.machines
+written block =
+    head_label ++ row_text (head_of block) ++ times_label ++ rows_text block.instance block.instance.machines

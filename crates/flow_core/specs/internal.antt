@@ -1,3 +1,4 @@
 pub mod TextWalk
 pub mod Codes
 pub mod Turned
+pub mod Same

@@ -9,11 +9,10 @@ ghost use Rattle.flow_core.specs.Limits.{most_machines};
 use crate::instance::Instance;
 use crate::limits::MAX_MACHINES;
 use crate::sequence::Sequence;
-use std::alloc::AllocError;
 use std::marker::Model;
 
 /// A completion time for each machine, in the unit of the instance's times.
-#[derive(Debug)]
+#[derive(Clone, Copy, Debug, PartialEq, Eq)]
 pub struct Front {
     times: [u64; MAX_MACHINES],
 }
@@ -28,18 +27,8 @@ impl Model for Front {
     ghost inverse = { λ times. record { times = times } };
 }
 
-impl Clone for Front {
-    fn clone(&self) -> Result<Self, AllocError>
-        ensures { result ≡ Ok self.now }
-    {
-        Ok(*self)
-    }
-}
-
-impl Copy for Front {}
-
 impl Front {
-    /// The front of the empty list, in every instance.
+    /// The front of the empty list, for every instance.
     pub fn empty() -> Self
         ensures front { (shop : Shop) → IsFrontOf shop [] result }
         ensures within { (shop : Shop) → IsWithinFront shop result }
@@ -59,12 +48,12 @@ impl Front {
     }
 }
 
-/// Turns the front of a list into that of the list with one of the instance's jobs at its end.
+/// Puts one of the instance's jobs at the end of a list: turns the front of the list into that of the longer list.
 pub fn front_push(instance: &Instance, front: &mut Front, job: u16)
     requires job_from { 1 ≤ job }
     requires job_to { job ≤ instance.now.jobs }
     requires within { IsWithinFront instance.now front.old }
-    // Whatever the list was.
+    // For every list that has this front.
     ensures front { (jobs : List ℕ) → IsFrontOf instance.now jobs front.old →
         IsFrontOf instance.now (jobs ++ job ∷ []) front.new }
     ensures elsewhere { SameElsewhere instance.now front.old front.new }

@@ -14,17 +14,17 @@ const MULTIPLIER: u32 = 16_807;
 
 const MODULUS: u32 = 2_147_483_647;
 
-/// The modulus divided by the multiplier.
+/// The modulus divided by the multiplier, rounded down.
 const QUOTIENT: u32 = 127_773;
 
-/// What the division leaves.
+/// The remainder of that division.
 const REMAINDER: u32 = 2_836;
 
 const LEAST_TIME: u32 = 1;
 
 const GREATEST_TIME: u32 = 99;
 
-/// A generator, seen as its state.
+/// A generator. A contract sees it as its state.
 #[derive(Debug, Drop)]
 pub struct Taillard {
     state: u32,
@@ -61,10 +61,10 @@ impl Taillard {
         self.state
     }
 
-    /// Makes one step, and draws the number from `low` to `high` for which the new state stands.
+    /// Makes one step, and returns the number from `low` to `high` that the new state stands for.
     pub fn next(&mut self, low: u32, high: u32) -> u32
         requires { low ≤ high }
-        // Whatever the seed was, and how many steps were made.
+        // For every seed, and every number of steps before this one.
         ensures state { (seed steps : ℕ) → self.old ≡ state_after seed steps → self.new ≡ state_after seed (steps + 1) }
         ensures number { result ≡ drawn low high self.new }
         ensures range { (low ≤ result) × (result ≤ high) }
@@ -74,7 +74,7 @@ impl Taillard {
         low + (u64::from(self.state) * width / u64::from(MODULUS)) as u32
     }
 
-    /// Multiplies the state by the multiplier, without a product above 32 bits.
+    /// Multiplies the state by the multiplier, modulo the modulus. No product needs more than 32 bits.
     fn step(&mut self)
         ensures { self.new ≡ state_after self.old 1 }
     {
@@ -88,7 +88,7 @@ impl Taillard {
     }
 }
 
-/// The instance of a seed, with times from 1 to 99; or `Jobs`, `Machines`, `Seed` or `Memory`, in this order.
+/// The instance of a seed, with times from 1 to 99; or `Jobs`, `Machines`, `Seed` or `Memory`, tested in this order.
 pub fn generate(
     alloc: Global,
     jobs: u32,

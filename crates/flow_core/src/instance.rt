@@ -2,7 +2,9 @@
 
 ghost use Rattle.std.specs.Prelude.{◌≡◌, ℕ, ◌*◌, ◌<◌, ◌≤◌, nat_lt, length, position, All, None, IfSome, IfNone, IfOk};
 ghost use Rattle.std.specs.Prelude.{OnOk, IfErr};
-ghost use Rattle.flow_core.specs.Shop.{IsWithinLimits, time};
+ghost use Rattle.std.specs.Cmp.{partial_equiv_from_equiv};
+ghost use Rattle.flow_core.specs.Shop.{IsWithinLimits, time, is_same_shop};
+ghost use Rattle.flow_core.specs.internal.Same.{is_same_shop-equiv};
 ghost use Rattle.flow_core.specs.InstanceFaults.{instance_fault, but_memory};
 ghost use Rattle.flow_core.specs.declared.instance.InstanceFault.TheVariants.{Memory};
 ghost use Rattle.flow_core.specs.Limits.{greatest_time};
@@ -13,7 +15,7 @@ use std::alloc::{AllocError, Global};
 use std::marker::Model;
 use thiserror::Error;
 
-/// Why numbers are no instance, in the order in which it is tested. `Seed` is an answer of `generate` alone.
+/// Why numbers are no instance, in the order of the tests. Only `generate` returns `Seed`.
 #[derive(Clone, Copy, Debug, PartialEq, Eq, Error)]
 pub enum InstanceFault {
     /// The number of jobs is not in `1..=MAX_JOBS`.
@@ -25,7 +27,7 @@ pub enum InstanceFault {
     /// There is not one time for each job and machine.
     #[error("Count")]
     Count,
-    /// The time at this place, from 1, is the first above `MAX_TIME`.
+    /// The time at this place, counted from 1, is the first above `MAX_TIME`.
     #[error("Time {0}")]
     Time(usize),
     /// The seed of a generator is not in `1..=2147483646`.
@@ -44,7 +46,7 @@ impl From<AllocError> for InstanceFault {
     }
 }
 
-/// The times of jobs on machines, within the limits.
+/// The time of each job on each machine, within the limits.
 #[derive(Debug, Drop)]
 pub struct Instance {
     jobs: u16,
@@ -87,6 +89,20 @@ fn by_columns(
     Ok(taken)
 }
 
+impl PartialEq for Instance {
+    ghost eq = { is_same_shop };
+
+    ghost laws = { partial_equiv_from_equiv is_same_shop-equiv };
+
+    fn eq(&self, other: &Instance) -> bool {
+        (self.jobs, self.machines) == (other.jobs, other.machines) && self.rows == other.rows
+    }
+}
+
+impl Eq for Instance {
+    ghost laws = { is_same_shop-equiv };
+}
+
 /// The index of the first time above the limit.
 fn first_too_great(times: &[u32]) -> Option<usize>
     ensures value { result ≡ position (λ time. nat_lt greatest_time time) times.now }
@@ -97,7 +113,7 @@ fn first_too_great(times: &[u32]) -> Option<usize>
 }
 
 impl Instance {
-    /// The instance of these times, machine by machine and for each machine job by job; or its first fault, or
+    /// The instance of these times, machine by machine and for each machine job by job; or the first fault; or
     /// `Memory`.
     pub fn new(
         alloc: Global,
@@ -125,7 +141,7 @@ impl Instance {
         Ok(Instance::from_times(alloc, jobs as u16, machines as u16, times)?)
     }
 
-    /// The instance with these times, machine by machine, which are known to be one.
+    /// The instance of numbers that are known to be within the limits; times machine by machine.
     pub(crate) fn from_times(
         alloc: Global,
         jobs: u16,

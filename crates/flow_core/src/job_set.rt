@@ -7,11 +7,10 @@ ghost use Rattle.flow_core.specs.Limits.{most_jobs};
 
 use crate::instance::Instance;
 use crate::limits::MAX_JOBS;
-use std::alloc::AllocError;
 use std::marker::Model;
 
-/// A set of job numbers from 1 to the most jobs of an instance.
-#[derive(Debug)]
+/// A set of jobs from `1..=MAX_JOBS`.
+#[derive(Clone, Copy, Debug, PartialEq, Eq)]
 pub struct JobSet {
     flags: [bool; MAX_JOBS],
 }
@@ -25,16 +24,6 @@ impl Model for JobSet {
 
     ghost inverse = { λ flags. record { flags = flags } };
 }
-
-impl Clone for JobSet {
-    fn clone(&self) -> Result<Self, AllocError>
-        ensures { result ≡ Ok self.now }
-    {
-        Ok(*self)
-    }
-}
-
-impl Copy for JobSet {}
 
 impl JobSet {
     /// The empty set.
@@ -63,7 +52,7 @@ impl JobSet {
         set
     }
 
-    /// Puts a job of `1..=MAX_JOBS` in.
+    /// Adds a job of `1..=MAX_JOBS`.
     pub fn insert(&mut self, job: u16)
         requires from { 1 ≤ job }
         requires to { job ≤ most_jobs }
@@ -73,7 +62,7 @@ impl JobSet {
         self.flags[job as usize - 1] = true;
     }
 
-    /// Takes a job of `1..=MAX_JOBS` out.
+    /// Removes a job of `1..=MAX_JOBS`.
     pub fn remove(&mut self, job: u16)
         requires from { 1 ≤ job }
         requires to { job ≤ most_jobs }
@@ -83,7 +72,7 @@ impl JobSet {
         self.flags[job as usize - 1] = false;
     }
 
-    /// Whether a job of `1..=MAX_JOBS` is in.
+    /// Whether a job of `1..=MAX_JOBS` is in the set.
     pub fn contains(&self, job: u16) -> bool
         requires from { 1 ≤ job }
         requires to { job ≤ most_jobs }
@@ -93,7 +82,7 @@ impl JobSet {
         self.flags[job as usize - 1]
     }
 
-    /// How many jobs are in.
+    /// How many jobs the set has.
     pub fn count(&self) -> u16
         ensures { result ≡ length (members self.now) }
     {

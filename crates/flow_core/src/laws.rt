@@ -3,7 +3,7 @@
 ghost use Rattle.std.specs.Prelude.{◌≡◌, ℕ, ◌+◌, ◌<◌, ◌≤◌, max, List, [], ◌∷◌, ◌++◌, length, None};
 ghost use Rattle.flow_core.specs.Shop.{Shop, IsWithinLimits, time};
 ghost use Rattle.flow_core.specs.Paths.{IsPath, weight, completion};
-ghost use Rattle.flow_core.specs.Sequences.{IsSequence};
+ghost use Rattle.flow_core.specs.Sequences.{IsSequence, IsLeastMakespan};
 ghost use Rattle.flow_core.specs.InstanceFaults.{instance_fault};
 ghost use Rattle.flow_core.specs.SequenceFaults.{sequence_fault};
 ghost use Rattle.flow_core.specs.Bound.{BoundIsAdmissible};
@@ -13,7 +13,7 @@ ghost use Rattle.flow_core.specs.Limits.{most_jobs, most_machines, greatest_time
 ghost use Rattle.flow_core.specs.declared.text.block.Block.{Block};
 ghost use Rattle.flow_core.specs.declared.limits.TheConstants.{MAX_JOBS, MAX_MACHINES, MAX_TIME, MAX_NUMBER, MAX_DEPTH};
 
-/// The constants of the code are the limits of which the contracts speak.
+/// The constants of the code are the limits that the contracts name.
 pub fn limits_are_those_stated()
     ensures jobs { MAX_JOBS ≡ most_jobs }
     ensures machines { MAX_MACHINES ≡ most_machines }
@@ -32,16 +32,22 @@ pub fn completion_is_greatest()
         weight shop jobs 1 machines ≤ completion shop jobs machine }
 {}
 
-/// A job starts on a machine once the job before it has left that machine, and it the machine before.
+/// A job starts on a machine when the job before it has left that machine, and it has itself left the machine before.
 pub fn completion_by_recurrence()
     ensures { (shop : Shop) (jobs : List ℕ) (job machine : ℕ) →
         completion shop (jobs ++ job ∷ []) (machine + 1)
-        ≡ max (completion shop jobs (machine + 1)) (completion shop (jobs ++ job ∷ []) machine) + time shop job (machine + 1) }
+        ≡ max (completion shop jobs (machine + 1)) (completion shop (jobs ++ job ∷ []) machine)
+        + time shop job (machine + 1) }
 {}
 
-/// No sequence that extends a list has a smaller makespan than the list's bound on any machine.
+/// The makespan of a sequence that extends a list is at least the list's bound on each machine.
 pub fn bound_is_admissible()
     ensures { BoundIsAdmissible }
+{}
+
+/// An instance has one least makespan.
+pub fn least_makespan_is_one()
+    ensures { (shop : Shop) (value other : ℕ) → IsLeastMakespan shop value → IsLeastMakespan shop other → value ≡ other }
 {}
 
 /// Numbers have no fault exactly where they are an instance within the limits.

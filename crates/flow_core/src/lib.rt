@@ -1,4 +1,5 @@
-//! The permutation flow shop: instances, sequences and completion times.
+//! The permutation flow shop: instances, sequences and completion times. Also benchmark text, and how bytes are read
+//! and written.
 #![tactic(auto)]
 
 mod bytes;
@@ -21,7 +22,7 @@ pub use instance::{Instance, InstanceFault};
 pub use job_set::JobSet;
 pub use laws::{
     bound_is_admissible, completion_by_recurrence, completion_is_greatest, instances_have_no_fault,
-    limits_are_those_stated, sequences_have_no_fault, texts_have_no_fault,
+    least_makespan_is_one, limits_are_those_stated, sequences_have_no_fault, texts_have_no_fault,
 };
 pub use limits::{MAX_DEPTH, MAX_JOBS, MAX_MACHINES, MAX_NUMBER, MAX_TIME};
 pub use sequence::{Sequence, SequenceFault};

@@ -1,6 +1,8 @@
 //! A sequence: the jobs of an instance in some order.
 
-ghost use Rattle.std.specs.Prelude.{◌≡◌, ℕ, ◌≤◌, [], None, length, IfOk, OnOk, IfErr};
+ghost use Rattle.std.specs.Prelude.{◌≡◌, ℕ, ◌≤◌, nat_eq, [], None, length, IfOk, OnOk, IfErr};
+ghost use Rattle.std.specs.Cmp.{partial_equiv_from_equiv};
+ghost use Rattle.std.specs.Cmp.Lexicographic.{pointwise, nat_list_eq_equiv};
 ghost use Rattle.flow_core.specs.Sequences.{IsSequence};
 ghost use Rattle.flow_core.specs.SequenceFaults.{place_fault, sequence_fault, but_memory};
 ghost use Rattle.flow_core.specs.declared.sequence.SequenceFault.TheVariants.{Memory};
@@ -13,16 +15,16 @@ use std::alloc::{AllocError, Global};
 use std::marker::Model;
 use thiserror::Error;
 
-/// Why a list is no sequence, in the order in which it is tested; places are counted from 1.
+/// Why a list is no sequence, in the order of the tests. Places are counted from 1.
 #[derive(Clone, Copy, Debug, PartialEq, Eq, Error)]
 pub enum SequenceFault {
     /// There are not as many jobs as the instance has.
     #[error("Length")]
     Length,
-    /// The job at this place, the first at fault, is none of the instance's.
+    /// The job at this place, the first at fault, is not one of the instance.
     #[error("Job {0}")]
     Job(usize),
-    /// The job at this place, the first at fault, stands at an earlier place.
+    /// The job at this place, the first at fault, stands at an earlier place too.
     #[error("Twice {0}")]
     Twice(usize),
     /// Memory ran out.
@@ -38,7 +40,7 @@ impl From<AllocError> for SequenceFault {
     }
 }
 
-/// The jobs from 1 to their number, each once.
+/// The jobs of an instance in some order, each once.
 #[derive(Debug, Drop)]
 pub struct Sequence {
     jobs: Vec<u16>,
@@ -55,7 +57,21 @@ impl Model for Sequence {
     ghost invariant = { λ s. IsSequence (length s.jobs.items) s.jobs.items };
 }
 
-/// The fault of the first job that is none of those from 1 to `n`, or stands at an earlier place.
+impl PartialEq for Sequence {
+    ghost eq = { pointwise nat_eq };
+
+    ghost laws = { partial_equiv_from_equiv nat_list_eq_equiv };
+
+    fn eq(&self, other: &Sequence) -> bool {
+        self.jobs == other.jobs
+    }
+}
+
+impl Eq for Sequence {
+    ghost laws = { nat_list_eq_equiv };
+}
+
+/// The fault of the first job that is not from 1 to `n`, or that stands at an earlier place too.
 fn first_job_at_fault(n: u16, jobs: &[u16]) -> Option<SequenceFault>
     requires { n ≤ most_jobs }
     ensures { result ≡ place_fault n [] jobs.now }
@@ -74,7 +90,7 @@ fn first_job_at_fault(n: u16, jobs: &[u16]) -> Option<SequenceFault>
 }
 
 impl Sequence {
-    /// The sequence of these jobs, or the first fault, or `Memory`.
+    /// The sequence of these jobs; or the first fault; or `Memory`.
     pub fn new(alloc: Global, instance: &Instance, jobs: &[u16]) -> Result<Sequence, SequenceFault>
         ensures value { IfOk result (λ sequence. sequence ≡ jobs.now) }
         ensures accepted { OnOk result (sequence_fault instance.now.jobs jobs.now ≡ None) }

@@ -35,7 +35,7 @@ fn node(instance: &Instance, jobs: &[u16]) -> Result<(Front, JobSet), Fail>
     Ok((front, left))
 }
 
-/// For each machine, when it is free and its bound.
+/// The completion time and the bound of each machine.
 fn times_and_bounds(
     alloc: Global,
     instance: &Instance,
@@ -53,7 +53,7 @@ fn times_and_bounds(
     Ok(found)
 }
 
-/// The same at a list.
+/// The completion time and the bound of each machine, at a list.
 fn table_row(alloc: Global, instance: &Instance, jobs: &[u16]) -> Result<Vec<(u64, u64)>, Fail> {
     let (front, left) = node(instance, jobs)?;
     Ok(times_and_bounds(alloc, instance, &front, &left)?)

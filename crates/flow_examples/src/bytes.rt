@@ -198,7 +198,7 @@ fn std_source_refuses_where_its_reader_fails(rt: HostRuntime) -> Result<(), Fail
     Ok(())
 }
 
-/// So many bytes, each other than the one before it.
+/// `count` bytes, each different from the one before it.
 fn many_bytes(alloc: Global, count: u32) -> Result<Vec<u8>, Fail> {
     let mut bytes = Vec::new(alloc);
     for index in 0..count {

@@ -44,7 +44,7 @@ fn checker_accepts_lawful_certificates(rt: HostRuntime) -> Result<(), Fail> {
     Ok(())
 }
 
-/// A certificate of 48 jobs on one machine with times 0, at depth 3, with so many trees.
+/// A certificate at depth 3 for 48 jobs on one machine with times 0. It has `trees` trees.
 fn of_48_jobs(alloc: Global, trees: u32) -> Result<Vec<u8>, Fail> {
     let mut text = Vec::new(alloc);
     text.extend_from_slice(b"flowshop certificate 1\n48 1 3\n0\n1")?;
@@ -77,54 +77,33 @@ fn checker_reads_more_trees_than_a_plan_may_have(rt: HostRuntime) -> Result<(), 
     Ok(())
 }
 
+/// The text whose first line is that of a certificate.
+fn titled(alloc: Global, rest: &[u8]) -> Result<Vec<u8>, Fail> {
+    let mut text = Vec::new(alloc);
+    text.extend_from_slice(b"flowshop certificate 1\n")?;
+    text.extend_from_slice(rest)?;
+    Ok(text)
+}
+
 #[test]
 fn checker_names_first_fault(rt: HostRuntime) -> Result<(), Fail> {
     let alloc = rt.alloc();
     let instance = three_machines(alloc)?;
     let rows: [(&[u8], CheckFault); 10] = [
-        (
-            b"flowshop certificate 1\n3 3 0\n13\n2 1 3\n+BC++.B\nend\n",
-            CheckFault::Low(5),
-        ),
-        (
-            b"flowshop certificate 1\n3 3 0\n12\n1 2 3\n+BC++.B\nend\n",
-            CheckFault::NotAttained,
-        ),
-        (
-            b"flowshop certificate 1\n3 3 0\n012\n3 1 2\n+BC++.B\nend\n",
-            CheckFault::Value,
-        ),
-        (
-            b"flowshop certificate 1\n3 3 1\n12\n3 1 2\nB\nC\n++.A\nend\n",
-            CheckFault::Weak(7),
-        ),
-        (
-            b"flowshop certificate 1\n3 3 1\n12\n3 1 2\nB\nC\nend\n",
-            CheckFault::Tree(7),
-        ),
-        (
-            b"flowshop certificate 1\n3 3 1\n12\n3 1 2\nB\nC\n++.B\n++.B\nend\n",
-            CheckFault::End,
-        ),
-        (
-            b"flowshop certificate 1\n3 3 1\n12\n3 1 2\nB\nC\n++.B\nend\nx",
-            CheckFault::End,
-        ),
-        (
-            b"flowshop certificate 1\n3 3 1\n12\n3 1 2\n+BC++.B\nend\n",
-            CheckFault::Weak(5),
-        ),
-        (
-            b"flowshop certificate 1\n3 3 0\n18446744073709551615\n3 1 2\n+BC++.B\nend\n",
-            CheckFault::NotAttained,
-        ),
-        (
-            b"flowshop certificate 1\n3 3 0\n18446744073709551616\n3 1 2\n+BC++.B\nend\n",
-            CheckFault::Value,
-        ),
+        (b"3 3 0\n13\n2 1 3\n+BC++.B\nend\n", CheckFault::Low(5)),
+        (b"3 3 0\n12\n1 2 3\n+BC++.B\nend\n", CheckFault::NotAttained),
+        (b"3 3 0\n012\n3 1 2\n+BC++.B\nend\n", CheckFault::Value),
+        (b"3 3 1\n12\n3 1 2\nB\nC\n++.A\nend\n", CheckFault::Weak(7)),
+        (b"3 3 1\n12\n3 1 2\nB\nC\nend\n", CheckFault::Tree(7)),
+        (b"3 3 1\n12\n3 1 2\nB\nC\n++.B\n++.B\nend\n", CheckFault::End),
+        (b"3 3 1\n12\n3 1 2\nB\nC\n++.B\nend\nx", CheckFault::End),
+        (b"3 3 1\n12\n3 1 2\n+BC++.B\nend\n", CheckFault::Weak(5)),
+        (b"3 3 0\n18446744073709551615\n3 1 2\n+BC++.B\nend\n", CheckFault::NotAttained),
+        (b"3 3 0\n18446744073709551616\n3 1 2\n+BC++.B\nend\n", CheckFault::Value),
     ];
-    for (text, fault) in rows {
-        assert_eq!(rt; check(alloc, &instance, text), Err(fault));
+    for (rest, fault) in rows {
+        let text = titled(alloc, rest)?;
+        assert_eq!(rt; check(alloc, &instance, text.as_slice()), Err(fault));
     }
     Ok(())
 }
@@ -151,14 +130,20 @@ fn with_line(alloc: Global, changed: usize, bytes: &[u8]) -> Result<Vec<u8>, Fai
 }
 
 #[test]
-fn checker_names_the_fault_of_each_line(rt: HostRuntime) -> Result<(), Fail> {
+fn lines_make_the_certificate(rt: HostRuntime) -> Result<(), Fail> {
     let alloc = rt.alloc();
-    let instance = three_machines(alloc)?;
     for (index, line) in LINES.iter().enumerate() {
         let text = with_line(alloc, index + 1, line)?;
         assert_eq!(rt; text.as_slice(), AT_DEPTH_0.as_slice());
     }
-    let rows: [(usize, &[u8], CheckFault); 42] = [
+    Ok(())
+}
+
+#[test]
+fn checker_names_faults_of_title_and_size(rt: HostRuntime) -> Result<(), Fail> {
+    let alloc = rt.alloc();
+    let instance = three_machines(alloc)?;
+    let rows: [(usize, &[u8], CheckFault); 19] = [
         (1, b"", CheckFault::Header),
         (1, b"flowshop certificate 2", CheckFault::Header),
         (1, b"Flowshop certificate 1", CheckFault::Header),
@@ -178,6 +163,20 @@ fn checker_names_the_fault_of_each_line(rt: HostRuntime) -> Result<(), Fail> {
         (2, b"3 3 0 ", CheckFault::Size),
         (2, b"3 3 +0", CheckFault::Size),
         (2, b"3 3 0\r", CheckFault::Size),
+    ];
+    for (line, bytes, fault) in rows {
+        let text = with_line(alloc, line, bytes)?;
+        let found = check(alloc, &instance, text.as_slice());
+        assert_eq!(rt; found, Err(fault), "line {line} as {bytes:?}");
+    }
+    Ok(())
+}
+
+#[test]
+fn checker_names_faults_of_value(rt: HostRuntime) -> Result<(), Fail> {
+    let alloc = rt.alloc();
+    let instance = three_machines(alloc)?;
+    let rows: [(usize, &[u8], CheckFault); 9] = [
         (3, b"", CheckFault::Value),
         (3, b"012", CheckFault::Value),
         (3, b"12 ", CheckFault::Value),
@@ -187,6 +186,20 @@ fn checker_names_the_fault_of_each_line(rt: HostRuntime) -> Result<(), Fail> {
         (3, b"18446744073709551615", CheckFault::NotAttained),
         (3, b"13", CheckFault::NotAttained),
         (3, b"11", CheckFault::NotAttained),
+    ];
+    for (line, bytes, fault) in rows {
+        let text = with_line(alloc, line, bytes)?;
+        let found = check(alloc, &instance, text.as_slice());
+        assert_eq!(rt; found, Err(fault), "line {line} as {bytes:?}");
+    }
+    Ok(())
+}
+
+#[test]
+fn checker_names_faults_of_sequence_and_end(rt: HostRuntime) -> Result<(), Fail> {
+    let alloc = rt.alloc();
+    let instance = three_machines(alloc)?;
+    let rows: [(usize, &[u8], CheckFault); 14] = [
         (4, b"", CheckFault::Sequence),
         (4, b"3 1", CheckFault::Sequence),
         (4, b"3 1 2 2", CheckFault::Sequence),
@@ -215,7 +228,7 @@ fn checker_names_first_faulty_byte_of_a_tree(rt: HostRuntime) -> Result<(), Fail
     let alloc = rt.alloc();
     let instance = three_machines(alloc)?;
     let rows: [(&[u8], CheckFault); 20] = [
-        // The bound of machine 1 is 7 at the empty list, and 8 behind 3 2.
+        // The bound of machine 1 is 7 at the empty list, and 8 at 3 2.
         (b"A", CheckFault::Weak(5)),
         (b"Ax", CheckFault::Weak(5)),
         (b"xA", CheckFault::Tree(5)),
@@ -235,7 +248,7 @@ fn checker_names_first_faulty_byte_of_a_tree(rt: HostRuntime) -> Result<(), Fail
         // The end of the line within a tree.
         (b"", CheckFault::Tree(5)),
         (b"+BC++.", CheckFault::Tree(5)),
-        // A byte behind a whole tree.
+        // A byte after a whole tree.
         (b"+BC++.BA", CheckFault::Tree(5)),
         (b"+BC++.B ", CheckFault::Tree(5)),
         (b"+BC++.B\r", CheckFault::Tree(5)),
@@ -253,66 +266,29 @@ fn checker_names_first_faulty_byte_of_a_tree(rt: HostRuntime) -> Result<(), Fail
 fn checker_names_first_line_at_fault(rt: HostRuntime) -> Result<(), Fail> {
     let alloc = rt.alloc();
     let instance = three_machines(alloc)?;
-    let rows: [(&[u8], CheckFault); 14] = [
-        (b"flowshop\n3 3\n012\n3 1\nx\nEND\n", CheckFault::Header),
-        (
-            b"flowshop certificate 1\n3 3\n012\n3 1\nx\nEND\n",
-            CheckFault::Size,
-        ),
-        (
-            b"flowshop certificate 1\n3 3 0\n012\n3 1\nx\nEND\n",
-            CheckFault::Value,
-        ),
-        (
-            b"flowshop certificate 1\n3 3 0\n12\n3 1\nx\nEND\n",
-            CheckFault::Sequence,
-        ),
-        (
-            b"flowshop certificate 1\n3 3 0\n12\n1 2 3\nx\nEND\n",
-            CheckFault::NotAttained,
-        ),
-        (
-            b"flowshop certificate 1\n3 3 0\n12\n3 1 2\nx\nEND\n",
-            CheckFault::Tree(5),
-        ),
-        // The sequence 3 1 2 has the makespan 12, which is below 13, and machine 1 has the bound 12 behind 3 1.
-        (
-            b"flowshop certificate 1\n3 3 0\n13\n2 1 3\n+BC++.x\nEND\n",
-            CheckFault::Low(5),
-        ),
-        (
-            b"flowshop certificate 1\n3 3 0\n13\n2 1 3\n+BC++x.\nEND\n",
-            CheckFault::Tree(5),
-        ),
-        (
-            b"flowshop certificate 1\n3 3 0\n13\n2 1 3\n+BC+A.B\nEND\n",
-            CheckFault::Weak(5),
-        ),
+    let found = check(alloc, &instance, b"flowshop\n3 3\n012\n3 1\nx\nEND\n");
+    assert_eq!(rt; found, Err(CheckFault::Header));
+    let rows: [(&[u8], CheckFault); 13] = [
+        (b"3 3\n012\n3 1\nx\nEND\n", CheckFault::Size),
+        (b"3 3 0\n012\n3 1\nx\nEND\n", CheckFault::Value),
+        (b"3 3 0\n12\n3 1\nx\nEND\n", CheckFault::Sequence),
+        (b"3 3 0\n12\n1 2 3\nx\nEND\n", CheckFault::NotAttained),
+        (b"3 3 0\n12\n3 1 2\nx\nEND\n", CheckFault::Tree(5)),
+        // The sequence 3 1 2 has the makespan 12, which is below 13, and machine 1 has the bound 12 at 3 1.
+        (b"3 3 0\n13\n2 1 3\n+BC++.x\nEND\n", CheckFault::Low(5)),
+        (b"3 3 0\n13\n2 1 3\n+BC++x.\nEND\n", CheckFault::Tree(5)),
+        (b"3 3 0\n13\n2 1 3\n+BC+A.B\nEND\n", CheckFault::Weak(5)),
         // At depth 3 the sequences stand in lexicographic order, and 3 1 2 is the fifth.
-        (
-            b"flowshop certificate 1\n3 3 3\n13\n2 1 3\n.\n.\n.\n.\n.\n.\nend\n",
-            CheckFault::Low(9),
-        ),
+        (b"3 3 3\n13\n2 1 3\n.\n.\n.\n.\n.\n.\nend\n", CheckFault::Low(9)),
         // Line ends that are missing.
-        (
-            b"flowshop certificate 1\n3 3 1\n12\n3 1 2\nBC\n++.B\nend\n",
-            CheckFault::Tree(5),
-        ),
-        (
-            b"flowshop certificate 1\n3 3 1\n12\n3 1 2\nB\nC\n++.Bend\n",
-            CheckFault::Tree(7),
-        ),
-        (
-            b"flowshop certificate 1\n3 3 1\n12\n3 1 2\nB\nC\n++.B",
-            CheckFault::Tree(7),
-        ),
-        (
-            b"flowshop certificate 1\n3 3 1\n12\n3 1 2\nB\nC\n++.B\nend",
-            CheckFault::End,
-        ),
+        (b"3 3 1\n12\n3 1 2\nBC\n++.B\nend\n", CheckFault::Tree(5)),
+        (b"3 3 1\n12\n3 1 2\nB\nC\n++.Bend\n", CheckFault::Tree(7)),
+        (b"3 3 1\n12\n3 1 2\nB\nC\n++.B", CheckFault::Tree(7)),
+        (b"3 3 1\n12\n3 1 2\nB\nC\n++.B\nend", CheckFault::End),
     ];
-    for (text, fault) in rows {
-        assert_eq!(rt; check(alloc, &instance, text), Err(fault));
+    for (rest, fault) in rows {
+        let text = titled(alloc, rest)?;
+        assert_eq!(rt; check(alloc, &instance, text.as_slice()), Err(fault));
     }
     Ok(())
 }
@@ -342,7 +318,7 @@ fn checker_refuses_depths_past_the_jobs_and_past_three(rt: HostRuntime) -> Resul
     Ok(())
 }
 
-/// The fault of the first so many bytes of the certificate at depth 0.
+/// The fault of the first bytes of the certificate at depth 0, where there are `length` of them.
 fn fault_of_prefix(length: usize) -> CheckFault {
     match length {
         0..=22 => CheckFault::Header,

@@ -1,4 +1,4 @@
-//! The two worked instances.
+//! The two instances that the tests use most.
 
 ghost use Rattle.std.specs.Prelude.{◌≡◌, IfOk};
 
@@ -19,6 +19,7 @@ pub(crate) fn two_machines(alloc: Global) -> Result<Instance, InstanceFault>
     Instance::new(alloc, 3, 2, &[3, 1, 2, 2, 4, 2])
 }
 
-/// The text of the second of them.
+/// The text of the instance with two machines.
 pub(crate) const TWO_MACHINES_TEXT: &[u8] =
-    b"number of jobs, number of machines, initial seed, upper bound and lower bound :\n3 2 0 0 0\nprocessing times :\n3 1 2\n2 4 2\n";
+    b"number of jobs, number of machines, initial seed, upper bound and lower bound :\n\
+    3 2 0 0 0\nprocessing times :\n3 1 2\n2 4 2\n";

@@ -1,4 +1,4 @@
-//! The worked rows and vectors, as tests over the public calls of the libraries.
+//! Worked examples, as tests of the public calls of the libraries.
 #![tactic(auto)]
 
 #[cfg(test)]

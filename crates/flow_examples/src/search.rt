@@ -13,7 +13,7 @@ use flow_search::{
 use std::alloc::{AllocError, Global};
 use std::test::Fail;
 
-/// The budget of a tree where none is to be refused.
+/// A budget that no tree exceeds.
 const AMPLE: u32 = 1_000_000;
 
 #[test]

@@ -5,21 +5,6 @@ use flow_core::{Block, Instance, TextFault, block_text, generate, read_blocks};
 use std::alloc::Global;
 use std::test::Fail;
 
-/// Whether two instances have the same jobs, machines and times.
-fn is_same(instance: &Instance, other: &Instance) -> bool {
-    if instance.jobs() != other.jobs() || instance.machines() != other.machines() {
-        return false;
-    }
-    for machine in 1..=instance.machines() {
-        for job in 1..=instance.jobs() {
-            if instance.time(job, machine) != other.time(job, machine) {
-                return false;
-            }
-        }
-    }
-    true
-}
-
 /// The only block of a text.
 fn only_block(alloc: Global, text: &[u8]) -> Result<Block, Fail> {
     let mut blocks = read_blocks(alloc, text)?;
@@ -44,7 +29,7 @@ fn lenient_text_is_read(rt: HostRuntime) -> Result<(), Fail> {
         b"number of jobs :\r\n  3\t2 7 9\r\n9\r\n\r\nprocessing times :\r\n3 1\r\n2 2\r\n4 2\r\n";
     let block = only_block(alloc, text)?;
     assert_eq!(rt; (block.seed, block.upper, block.lower), (7, 9, 9));
-    assert!(rt; is_same(&block.instance, &two_machines(alloc)?));
+    assert!(rt; block.instance == two_machines(alloc)?);
     Ok(())
 }
 
@@ -88,7 +73,7 @@ fn wild_numbers_are_named(rt: HostRuntime) -> Result<(), Fail> {
         (block.seed, block.upper, block.lower),
         (u32::MAX, u32::MAX, u32::MAX)
     );
-    assert!(rt; is_same(&block.instance, &Instance::new(alloc, 1, 1, &[5])?));
+    assert!(rt; block.instance == Instance::new(alloc, 1, 1, &[5])?);
     Ok(())
 }
 
@@ -97,7 +82,7 @@ fn leading_zeros_and_a_missing_line_end_are_read(rt: HostRuntime) -> Result<(), 
     let alloc = rt.alloc();
     let block = only_block(alloc, b"a\n1 1 1 1 1\nb\n05")?;
     assert_eq!(rt; (block.seed, block.upper, block.lower), (1, 1, 1));
-    assert!(rt; is_same(&block.instance, &Instance::new(alloc, 1, 1, &[5])?));
+    assert!(rt; block.instance == Instance::new(alloc, 1, 1, &[5])?);
     Ok(())
 }
 
@@ -113,11 +98,12 @@ fn block_is_written_in_one_form_and_read_again(rt: HostRuntime) -> Result<(), Fa
     let text = block_text(alloc, &block)?;
     assert_eq!(rt;
         text.as_slice(),
-        b"number of jobs, number of machines, initial seed, upper bound and lower bound :\n2 2 1 122 122\nprocessing times :\n1 14\n75 46\n".as_slice()
+        b"number of jobs, number of machines, initial seed, upper bound and lower bound :\n\
+        2 2 1 122 122\nprocessing times :\n1 14\n75 46\n".as_slice()
     );
     let again = only_block(alloc, text.as_slice())?;
     assert_eq!(rt; (again.seed, again.upper, again.lower), (1, 122, 122));
-    assert!(rt; is_same(&again.instance, &block.instance));
+    assert!(rt; again.instance == block.instance);
     Ok(())
 }
 
@@ -141,7 +127,7 @@ fn blocks_in_sequence_are_read_in_order(rt: HostRuntime) -> Result<(), Fail> {
     for block in &blocks {
         seed = seed.wrapping_add(1);
         assert_eq!(rt; (block.seed, block.upper, block.lower), (seed, 9, 8));
-        assert!(rt; is_same(&block.instance, &two), "block {seed}");
+        assert!(rt; block.instance == two, "block {seed}");
     }
     Ok(())
 }
@@ -159,18 +145,18 @@ fn repeated_text_is_read_as_so_many_blocks(rt: HostRuntime) -> Result<(), Fail> 
     let two = two_machines(alloc)?;
     for block in blocks.iter().take(9) {
         assert_eq!(rt; (block.seed, block.upper, block.lower), (0, 0, 0));
-        assert!(rt; is_same(&block.instance, &two));
+        assert!(rt; block.instance == two);
     }
     let last = Instance::new(alloc, 1, 1, &[4])?;
     for block in blocks.iter().skip(9) {
         assert_eq!(rt; (block.seed, block.upper, block.lower), (7, 6, 5));
-        assert!(rt; is_same(&block.instance, &last));
+        assert!(rt; block.instance == last);
     }
     Ok(())
 }
 
-/// What is missing behind so many bytes of the text of the two machines: its head has 80 and 10 bytes, and its times
-/// end at 121.
+/// The fault of the first bytes of the text with two machines, where there are `length` of them. The lines of the head
+/// have 80 and 10 bytes, and the times end with byte 121. The next line has the number `line`.
 fn missing(length: usize, line: usize) -> TextFault {
     match length {
         0 => TextFault::NoBlock,
@@ -181,14 +167,14 @@ fn missing(length: usize, line: usize) -> TextFault {
 }
 
 #[test]
-fn prefixes_of_a_text_miss_what_is_behind_them(rt: HostRuntime) -> Result<(), Fail> {
+fn prefixes_of_a_text_miss_the_rest(rt: HostRuntime) -> Result<(), Fail> {
     let alloc = rt.alloc();
     let whole = TWO_MACHINES_TEXT;
     assert_eq!(rt; whole.len(), 121);
     let mut line = 1usize;
     for length in 0..120usize {
         let prefix = &whole[..length];
-        // The number of lines plus 1.
+        // `line` is the number of lines of the prefix, plus 1.
         if length > 0 && (length == 1 || whole[length - 2] == b'\n') {
             line = line.wrapping_add(1);
         }
@@ -200,7 +186,7 @@ fn prefixes_of_a_text_miss_what_is_behind_them(rt: HostRuntime) -> Result<(), Fa
     }
     let block = only_block(alloc, &whole[..120])?;
     assert_eq!(rt; (block.seed, block.upper, block.lower), (0, 0, 0));
-    assert!(rt; is_same(&block.instance, &two_machines(alloc)?));
+    assert!(rt; block.instance == two_machines(alloc)?);
     Ok(())
 }
 

@@ -1,4 +1,4 @@
--- What a contract sees of the two ends of a lane, and of a lane that is settled.
+-- What contracts see of the two ends of a lane, and of a settled lane.
 use Rattle.std.specs.Prelude.{ℕ, List}
 use denote.RawPtr.{Ptr}
 use Rattle.rtrb.specs.Shared.{Names}
@@ -7,7 +7,7 @@ use Rattle.rtrb.specs.Shared.{Names}
 abbrev pub most_slots : ℕ
 most_slots = 100001
 
--- what tells one ring from another: where its words and its slots stand, and its names in proofs
+-- what identifies a ring: where its words and its slots are in memory, and its names in proofs
 pub record Ring : Type 0 where
   pub words : Ptr
   pub slots : Ptr
@@ -24,7 +24,7 @@ pub record SendingEnd (T : Type 0) : Type 0 where
   pub sent : List T
   pub known_free : ℕ
 
--- the end that receives: its lane, all items received so far in order, and the next ones as far as it knows them
+-- the end that receives: its lane, all items received so far in order, and the next items, as many as it knows
 pub record ReceivingEnd (T : Type 0) : Type 0 where
   pub lane : Lane
   pub received : List T

@@ -1,4 +1,4 @@
--- How the two ends of a ring are seen as the two ends of a lane.
+-- How contracts see the two ends of a ring: as the two ends of a lane.
 use Rattle.std.specs.declared.alloc.Global.{Global}
 use Rattle.rtrb.specs.Ring.{sent, known_free, producer_capacity, received, known_items, consumer_capacity}
 use Rattle.rtrb.specs.declared.producer.Producer.{Producer}

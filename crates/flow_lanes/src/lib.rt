@@ -1,5 +1,5 @@
-//! One-way bounded lanes from one thread to another, over the rings of `rtrb`. Each end is used by the thread that
-//! owns it, and can be moved to another. No call waits for the other end.
+//! Lanes: bounded queues from one thread to another, in one direction, over the rings of `rtrb`. The thread that owns
+//! an end uses it, and may give it to another thread. No call waits for the other end.
 #![tactic(auto)]
 
 ghost use Rattle.std.specs.Prelude.{◌≡◌, ◌≤◌, [], IfOk};
@@ -17,7 +17,7 @@ pub use sender::Sender;
 pub use settled::{Settled, settle};
 use std::alloc::{AllocError, Global};
 
-/// The two ends of a new lane with `capacity` slots, all free: 1 to 100,001 of them. Refused only where memory ran out.
+/// The two ends of a new, empty lane with `capacity` slots, 1 to 100,001. `AllocError` where memory ran out.
 pub fn lane<T: Send + Drop>(
     alloc: Global,
     capacity: usize,

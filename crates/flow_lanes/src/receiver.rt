@@ -5,7 +5,7 @@ ghost use mathlib.Core.List.{IsPrefix};
 use rtrb::Consumer;
 use std::marker::Model;
 
-/// The end of a lane that receives, with all that was received on it.
+/// The end of a lane that receives. A contract sees all that was received on it.
 #[derive(Drop)]
 pub struct Receiver<T> {
     pub(crate) consumer: Consumer<T>,
@@ -21,7 +21,7 @@ impl<T> Model for Receiver<T> {
 }
 
 impl<T> Receiver<T> {
-    /// How many items are known to be there now: that many receives succeed next.
+    /// How many items are known to be in the lane. The next receives, as many as these, succeed.
     pub fn ready(&mut self) -> usize
         ensures known { result ≡ length self.new.known_items }
         ensures same_lane { self.new.lane ≡ self.old.lane }
@@ -32,7 +32,7 @@ impl<T> Receiver<T> {
         self.consumer.slots()
     }
 
-    /// Receives the next item of what was sent. `None` changes nothing.
+    /// Receives the next item. Where it returns `None` nothing has changed.
     pub fn try_recv(&mut self) -> Option<T>
         ensures same_lane { self.new.lane ≡ self.old.lane }
         ensures at_the_end { IfSome result

@@ -4,7 +4,7 @@ ghost use Rattle.std.specs.Prelude.{◌≡◌, ◌+◌, ◌<◌, ◌≤◌, [], 
 use rtrb::{Producer, PushError};
 use std::marker::Model;
 
-/// The end of a lane that sends, with all that was sent on it.
+/// The end of a lane that sends. A contract sees all that was sent on it.
 #[derive(Drop)]
 pub struct Sender<T> {
     pub(crate) producer: Producer<T>,
@@ -20,7 +20,7 @@ impl<T> Model for Sender<T> {
 }
 
 impl<T> Sender<T> {
-    /// How many slots are known to be free now: that many sends succeed next.
+    /// How many slots are known to be free. The next sends, as many as these, succeed.
     pub fn room(&mut self) -> usize
         ensures known { self.new ≡ record self.old { known_free = result } }
         ensures forgets_none { self.old.known_free ≤ result }
@@ -29,7 +29,7 @@ impl<T> Sender<T> {
         self.producer.slots()
     }
 
-    /// Sends `item`, or hands it back where no slot is free; then nothing has changed.
+    /// Sends `item`. Where no slot is free it returns `item`, and changes nothing.
     pub fn try_send(&mut self, item: T) -> Result<(), T>
         ensures same_lane { self.new.lane ≡ self.old.lane }
         ensures at_the_end { OnOk result (self.new.sent ≡ self.old.sent ++ item ∷ []) }

@@ -1,11 +1,11 @@
-//! A lane whose two ends have come together, with nothing left in it.
+//! Lanes that are put away: both ends together, and no item left between them.
 ghost use Rattle.std.specs.Prelude.{◌≡◌, ◌+◌, ◌≤◌, ◌++◌, ◌↔◌, length, IsOk, IfOk, IfErr};
 ghost use mathlib.Core.List.{IsPrefix};
 
 use crate::{Receiver, Sender};
 use std::marker::Model;
 
-/// Both ends of a lane on which all that was sent was received. Nothing is sent or received after it.
+/// Both ends of a lane from which all was received that was sent. Nothing can be sent or received any more.
 #[derive(Drop)]
 pub struct Settled<T> {
     sender: Sender<T>,
@@ -23,8 +23,8 @@ impl<T> Model for Settled<T> {
     ghost invariant = { λ s. (s.receiver.lane ≡ s.sender.lane) × (s.receiver.received ≡ s.sender.sent) };
 }
 
-/// Puts both ends of a lane away, where all that was sent was received. Otherwise hands both back: their lists are as
-/// they were, and the receiver knows every item that still stands in the lane.
+/// Puts both ends of a lane away, where all was received that was sent. Otherwise returns both ends: what was sent and
+/// received is unchanged, and the receiver knows each item that is still in the lane.
 pub fn settle<T>(
     mut sender: Sender<T>,
     mut receiver: Receiver<T>,

@@ -1,4 +1,4 @@
-//! A lane worked through step by step in one thread, and a thousand items between two threads.
+//! A lane used step by step in one thread, and a thousand items sent from one thread to another.
 ghost use Rattle.std.specs.Prelude.{◌≡◌};
 
 use crate::{Receiver, Sender, lane, settle};
@@ -35,7 +35,7 @@ fn settle_hands_back_a_lane_with_an_item(rt: HostRuntime) -> Result<(), Fail> {
     Ok(())
 }
 
-// Sends the numbers from 1 to 1,000, each again until it is taken.
+// Sends the numbers from 1 to 1,000. Tries each again until the lane takes it.
 fn send_thousand<R: Wait>(rt: &R, mut sender: Sender<u32>) -> Sender<u32>
     ensures { result.lane ≡ sender.lane }
 {
@@ -52,7 +52,7 @@ fn send_thousand<R: Wait>(rt: &R, mut sender: Sender<u32>) -> Sender<u32>
     sender
 }
 
-// Receives 1,000 items, and says whether they are the numbers from 1 to 1,000 in order.
+// Receives 1,000 items, and returns whether they are the numbers from 1 to 1,000 in order.
 fn receive_thousand<R: Wait>(rt: &R, mut receiver: Receiver<u32>) -> (Receiver<u32>, bool)
     ensures { result.0.lane ≡ receiver.lane }
 {

@@ -1,4 +1,4 @@
--- What the hub does with its ends of the lanes.
+-- What the hub sends and receives through its ends of the lanes.
 use Rattle.std.specs.Prelude.{◌≡◌, ℕ, ◌≤◌, List, [], length, map, All, vec_len, vec_capacity}
 use Rattle.std.specs.Global.{Vec}
 use Rattle.flow_search.specs.Plans.{Planned}
@@ -9,11 +9,11 @@ use Rattle.flow_pool.specs.declared.ends.HubEnds.{HubEnds}
 use Rattle.flow_pool.specs.Deal.{dealt, by_lane}
 use Rattle.flow_pool.specs.Work.{prefix_count, tasks_of}
 
--- nothing went through the hub's ends yet
+-- nothing was sent or received through the hub's ends
 abbrev pub IsFreshHub : HubEnds → Type 0
 IsFreshHub hub = (hub.tasks.sent ≡ []) × (hub.answers.received ≡ [])
 
--- which lanes the hub's ends are of
+-- the two lanes of the hub's ends
 abbrev pub hub_lanes : HubEnds → Lane × Lane
 hub_lanes hub = (hub.tasks.lane, hub.answers.lane)
 
@@ -25,18 +25,18 @@ sent_lists hubs = map (λ hub. hub.tasks.sent) hubs
 abbrev pub received_lists : List HubEnds → List (List Answer)
 received_lists hubs = map (λ hub. hub.answers.received) hubs
 
--- each of k lanes has the answers of its turn
+-- the answers in turn on k lanes: for each lane its answers
 abbrev pub all_dealt : ℕ → List Answer → List (List Answer)
 all_dealt k answers = by_lane k (λ lane. dealt k lane answers)
 
--- the hub may collect: it has fresh ends for each worker, and room for all answers
+-- the hub may collect: it has fresh ends for each worker, no answer yet, and memory for all answers
 pub record CanCollect (plan : Planned) (hubs : List HubEnds) (answers : Vec Answer) : Type 0 where
   pub workers : length hubs ≡ plan.options.workers
   pub fresh : All IsFreshHub hubs
   pub empty : answers.items ≡ []
   pub room : prefix_count plan ≤ vec_capacity answers
 
--- the hub has collected: on the same lanes it sent each worker its tasks, and took all answers in turn
+-- the hub has collected: through the same lanes it sent each worker its tasks, and received all answers in turn
 pub record HasCollected (plan : Planned) (before after : List HubEnds) (answers : List Answer) : Type 0 where
   pub lanes : map hub_lanes after ≡ map hub_lanes before
   pub sent : sent_lists after ≡ by_lane plan.options.workers (tasks_of plan.options.workers (prefix_count plan))

@@ -1,4 +1,4 @@
--- What a run leaves of its lanes, and why it has no report.
+-- What the settled lanes of a run have carried, and why a run has no report.
 use Rattle.std.specs.Prelude.{◌≡◌, ℕ, ◌<◌, List, Some, length, All, HoldsAt}
 use Rattle.flow_search.specs.declared.verdict.RunFault.{RunFault}
 use Rattle.flow_search.specs.declared.verdict.RunFault.TheVariants as run_fault
@@ -11,7 +11,7 @@ use Rattle.flow_pool.specs.declared.whole_run.SolveFault.{SolveFault}
 use Rattle.flow_pool.specs.declared.whole_run.SolveFault.TheVariants.{Memory, Threads, OverBudget}
 use Rattle.flow_pool.specs.Work.{prefix_count, share, tasks_of, answered}
 
--- the slots of each lane of a run
+-- how many slots each lane of a run has
 abbrev pub run_slots : ℕ
 run_slots = 4
 
@@ -20,19 +20,19 @@ pub record IsDoneAnswer (plan : Planned) (answer : Answer) : Type 0 where
   pub lawful : IsLawful plan answer.number answer.outcome
   pub done : IsDone answer.outcome
 
--- the settled lanes of a worker hold its tasks, and a done, lawful answer to each prefix; each has run_slots slots
+-- the settled lanes of a worker carried its tasks, and a done and lawful answer to each prefix; each has run_slots slots
 pub record IsWholeWork (plan : Planned) (worker : ℕ) (lanes : Settled Task × Settled Answer) : Type 0 where
   pub tasks : lanes.0.items ≡ tasks_of plan.options.workers (prefix_count plan) worker
   pub numbers : answered lanes.1.items ≡ share plan.options.workers (prefix_count plan) worker
   pub answers : All (IsDoneAnswer plan) lanes.1.items
   pub slots : (lanes.0.lane.capacity ≡ run_slots) × (lanes.1.lane.capacity ≡ run_slots)
 
--- one pair of settled lanes for each worker in order
+-- there is one pair of settled lanes for each worker, in the order of the workers
 pub record AreWholeWork (plan : Planned) (lanes : List (Settled Task × Settled Answer)) : Type 0 where
   pub count : length lanes ≡ plan.options.workers
   pub each : (worker : ℕ) → worker < plan.options.workers → HoldsAt (IsWholeWork plan worker) lanes worker
 
--- a run over the budget names the first prefix whose tree is longer; where memory or threads ran out nothing is said
+-- `OverBudget` names the first prefix whose tree is longer than the budget; nothing is said of `Memory` and `Threads`
 abbrev pub IsSolveFault : Planned → SolveFault → Type 0
 IsSolveFault plan Memory = Unit {0}
 IsSolveFault plan Threads = Unit {0}

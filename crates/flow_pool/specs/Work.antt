@@ -1,4 +1,4 @@
--- What a worker is asked, and which answers fit.
+-- The tasks of a worker, and which answers fit them.
 use Rattle.std.specs.Prelude.{◌≡◌, ℕ, ◌+◌, ◌%◌, ◌<◌, ◌≤◌, cond, nat_eq, List, [], ◌∷◌, ◌++◌, length, map, filter, All}
 use Rattle.std.specs.List.{range_with_len}
 use Rattle.flow_search.specs.declared.outcome.Outcome.TheVariants.{NoPrefix}
@@ -10,7 +10,7 @@ use Rattle.flow_pool.specs.declared.ends.Answer.{Answer}
 use Rattle.flow_pool.specs.declared.ends.WorkerEnds.{WorkerEnds}
 use Rattle.flow_lanes.specs.Lane.{Lane}
 
--- which of n prefixes are one worker's of k: worker, worker + k, and so on
+-- the prefixes, of n, that one worker of k has to answer: worker, worker + k, and so on
 abbrev pub share : ℕ → ℕ → ℕ → List ℕ
 share k n worker = filter (λ number. nat_eq (number % k) worker) (range_with_len 0 n)
 
@@ -22,7 +22,7 @@ asking numbers = map Prefix numbers
 abbrev pub tasks_of : ℕ → ℕ → ℕ → List Task
 tasks_of k n worker = asking (share k n worker) ++ End ∷ []
 
--- how often a prefix is asked for
+-- how often the tasks ask for a prefix
 abbrev pub times_asked : ℕ → List Task → ℕ
 times_asked number [] = 0
 times_asked number (Prefix other ∷ tasks) = cond (nat_eq other number) 1 0 + times_asked number tasks
@@ -41,15 +41,15 @@ pub record IsLawfulAnswer (plan : Planned) (answer : Answer) : Type 0 where
 abbrev pub answered : List Answer → List ℕ
 answered answers = map (λ answer. answer.number) answers
 
--- the answers fit the tasks: these ask for the answered prefixes in order, then comes one end; each answer is lawful
+-- the answers fit the tasks: the tasks ask for the answered prefixes in order, and then end; each answer is lawful
 pub record Fit (plan : Planned) (tasks : List Task) (answers : List Answer) : Type 0 where
   pub asked : tasks ≡ asking (answered answers) ++ End ∷ []
   pub lawful : All (IsLawfulAnswer plan) answers
 
--- nothing went through a worker's ends yet
+-- nothing was sent or received through a worker's ends
 abbrev pub IsFresh : WorkerEnds → Type 0
 IsFresh ends = (ends.tasks.received ≡ []) × (ends.answers.sent ≡ [])
 
--- which lanes a worker's ends are of
+-- the two lanes of a worker's ends
 abbrev pub worker_lanes : WorkerEnds → Lane × Lane
 worker_lanes ends = (ends.tasks.lane, ends.answers.lane)

@@ -3,7 +3,7 @@
 ghost use Rattle.std.specs.Prelude.{◌≡◌, ◌≢◌, ℕ, ◌%◌, ◌<◌, ◌≤◌};
 ghost use Rattle.flow_pool.specs.Work.{tasks_of, times_asked};
 
-/// Each prefix stands among the tasks of one worker, once.
+/// Each prefix is a task of exactly one worker, and of that worker once.
 pub fn each_prefix_is_asked_once()
     ensures of_its_worker { (k n number : ℕ) → number < n →
         times_asked number (tasks_of k n (number % k)) ≡ 1 }

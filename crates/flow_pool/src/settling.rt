@@ -1,4 +1,4 @@
-//! How the lanes are put away, once the workers have ended.
+//! How the lanes are settled, once the workers have ended.
 
 ghost use Rattle.std.specs.Prelude.{◌≡◌, ◌≤◌, [], All, map, vec_len, vec_capacity};
 ghost use Rattle.flow_pool.specs.Work.{worker_lanes};
@@ -9,10 +9,10 @@ ghost use Rattle.flow_pool.specs.internal.Settling.{worker_answers, worker_tasks
 use crate::{Answer, HubEnds, Task, WorkerEnds};
 use flow_lanes::{Settled, settle};
 
-/// Both lanes of a worker, put away.
+/// The two settled lanes of a worker: that of its tasks and that of its answers.
 pub type LanePair = (Settled<Task>, Settled<Answer>);
 
-/// Settles both lanes of a worker that has answered all that it was asked.
+/// Settles both lanes of a worker that has answered each prefix it was sent.
 fn settle_pair(hub: HubEnds, worker: WorkerEnds) -> LanePair
     requires lanes { hub_lanes hub ≡ worker_lanes worker }
     requires hub { IsCollected hub }

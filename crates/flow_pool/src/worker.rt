@@ -10,7 +10,7 @@ use flow_search::{Outcome, Plan, answer};
 use std::alloc::Global;
 use std::sync::Wait;
 
-/// Waits for the next item of the lane.
+/// Waits for the next item of the lane, and returns it.
 fn receive<T>(rt: &impl Wait, lane: &mut Receiver<T>) -> T
     ensures lane { lane.new.lane ≡ lane.old.lane }
     ensures received { lane.new.received ≡ lane.old.received ++ result ∷ [] }
@@ -25,7 +25,7 @@ fn receive<T>(rt: &impl Wait, lane: &mut Receiver<T>) -> T
     unreachable!()
 }
 
-/// Waits until the item is in the lane.
+/// Sends the item, and waits until the lane has room for it.
 fn send<T>(rt: &impl Wait, lane: &mut Sender<T>, item: T)
     ensures lane { lane.new.lane ≡ lane.old.lane }
     ensures sent { lane.new.sent ≡ lane.old.sent ++ item ∷ [] }
@@ -42,7 +42,7 @@ fn send<T>(rt: &impl Wait, lane: &mut Sender<T>, item: T)
     unreachable!()
 }
 
-/// The answer to a prefix, by its number, which may be beyond the plan's.
+/// The answer to the prefix of a number; `NoPrefix` where the plan has none of this number.
 fn answer_to(alloc: Global, plan: &Plan, number: u32) -> Answer
     ensures number { result.number ≡ number }
     ensures lawful { IsLawfulAnswer plan.now result }
@@ -55,7 +55,8 @@ fn answer_to(alloc: Global, plan: &Plan, number: u32) -> Answer
     Answer { number, outcome }
 }
 
-/// Takes tasks up to and with the first `End` and no more, and answers each prefix in turn. The same ends come back.
+/// Receives tasks up to the first `End`, and no more, and answers each prefix before it receives the next. Returns the
+/// same ends. `lane` is the number that the gate is told.
 pub fn serve<R: Wait, G: Gate>(
     rt: &R,
     alloc: Global,

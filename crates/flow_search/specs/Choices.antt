@@ -1,9 +1,9 @@
--- How a run is made, and what numbers say so.
+-- The options of a run, and why numbers are no options.
 use Rattle.std.specs.Prelude.{ℕ, ◌≤◌, nat_le, [], ◌∷◌, Option, Some, None, Result, Ok, Err}
 use Rattle.std.specs.Int.{is_in_range}
 use Rattle.flow_core.specs.Refusals.{fault_unless, first_fault}
-use Rattle.flow_search.specs.Limits.{most_workers, greatest_budget}
 use Rattle.flow_core.specs.Limits.{greatest_depth}
+use Rattle.flow_search.specs.Limits.{most_workers, greatest_budget}
 use Rattle.flow_search.specs.declared.options.OptionFault.{OptionFault}
 use Rattle.flow_search.specs.declared.options.OptionFault.TheVariants.{Workers, Depth, Budget}
 
@@ -29,7 +29,7 @@ option_fault workers depth budget = first_fault (
     ∷ fault_unless (is_in_range 1 greatest_budget budget) Budget
     ∷ [])
 
--- the options of three numbers, or the first fault
+-- the options of three numbers; or the first fault
 abbrev pub options_or_fault : ℕ → ℕ → ℕ → Result Choices OptionFault
 options_or_fault workers depth budget =
     elim (option_fault workers depth budget) [

@@ -1,7 +1,7 @@
--- The limits of a run. The code has constants for them; the contracts speak of these numbers alone.
+-- The limits of a run. Contracts name these numbers, and not the code's constants.
 use Rattle.std.specs.Prelude.{ℕ}
 
--- the most workers
+-- the most workers of a run
 abbrev pub most_workers : ℕ
 most_workers = 64
 
@@ -9,6 +9,6 @@ most_workers = 64
 abbrev pub most_prefixes : ℕ
 most_prefixes = 100000
 
--- the most bytes that the tree of a prefix may be allowed
+-- the greatest budget: how many bytes the tree of a prefix may have
 abbrev pub greatest_budget : ℕ
 greatest_budget = 100000000

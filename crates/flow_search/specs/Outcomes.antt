@@ -1,4 +1,4 @@
--- What becomes of the prefixes of a plan.
+-- Outcomes of the prefixes of a plan, and when they are lawful.
 use Rattle.std.specs.Prelude.{ℕ, ◌≡◌, ◌<◌, ◌≤◌, nat_lt, List, length, position, slice_index_or, Option}
 use Rattle.std.specs.Option.{option_map}
 use Rattle.flow_search.specs.Search.{Found}
@@ -7,12 +7,12 @@ use Rattle.flow_search.specs.declared.outcome.Best.{Best}
 use Rattle.flow_search.specs.declared.outcome.Outcome.{Outcome}
 use Rattle.flow_search.specs.declared.outcome.Outcome.TheVariants.{Done, OverBudget, NoMemory, NoPrefix}
 
--- a sequence with its makespan, as the definitions have it
+-- a best, as the definitions speak of it: a sequence with its makespan
 abbrev pub found_of : Best → Found
 found_of best = record { value = best.value; sequence = best.sequence }
 
--- A lawful outcome of a prefix: its best and its tree, within the budget; or over the budget, where the tree is longer.
--- That memory ran out says nothing. No prefix of a plan is missing.
+-- An outcome of a prefix is lawful in these cases. `Done` has the best and the tree of the prefix, and the tree is within
+-- the budget. `OverBudget`: the tree is longer than the budget. `NoMemory` is always lawful, and `NoPrefix` never.
 abbrev pub IsLawful : Planned → ℕ → Outcome → Type 0
 IsLawful plan number (Done best text) =
     (option_map found_of best ≡ best_of plan number)
@@ -22,7 +22,7 @@ IsLawful plan number OverBudget = plan.options.budget < length (tree_of plan num
 IsLawful plan number NoMemory = Unit {0}
 IsLawful plan number NoPrefix = ⊥
 
--- each outcome is a lawful one of the prefix of its place
+-- each outcome is lawful for the prefix whose number is its place
 abbrev pub AreLawful : Planned → List Outcome → Type 0
 AreLawful plan outcomes =
     (number : ℕ) (other : Outcome) → number < length outcomes →
@@ -35,6 +35,6 @@ IsDone OverBudget = ⊥
 IsDone NoMemory = ⊥
 IsDone NoPrefix = ⊥
 
--- the least number whose tree is longer than the budget, if there is one
+-- the first prefix whose tree is longer than the budget, by its number; none where each tree is within it
 abbrev pub first_over_budget : Planned → Option ℕ
 first_over_budget plan = position (λ text. nat_lt plan.options.budget (length text)) (trees_of plan)

@@ -1,4 +1,4 @@
--- What is searched, from where, and in which parts.
+-- Plans: an instance, a starting sequence, options, and the prefixes into which the search is divided.
 use Rattle.std.specs.Prelude.{ℕ, ◌≡◌, ◌≤◌, nat_le, List, [], ◌∷◌, length, slice_index_or, Option, Some, None}
 use Rattle.std.specs.List.{concat}
 use Rattle.flow_core.specs.Refusals.{fault_unless, first_fault}
@@ -23,7 +23,7 @@ pub record Planned : Type 0 where
 abbrev pub prefixes_of : Planned → List (List ℕ)
 prefixes_of plan = cut plan.shop.jobs plan.options.depth
 
--- the prefix of a number, or no job where there is none
+-- the prefix of a number; the empty list where there is none
 abbrev pub prefix_of : Planned → ℕ → List ℕ
 prefix_of plan number = slice_index_or (prefixes_of plan) number []
 
@@ -57,7 +57,7 @@ tree_of plan number = tree plan.shop bound_at plan.start.value (prefix_of plan n
 abbrev pub best_of : Planned → ℕ → Option Found
 best_of plan number = best plan.shop plan.start.value (prefix_of plan number)
 
--- the trees of a plan, by the numbers of their prefixes
+-- the trees of a plan, in the order of their prefixes
 abbrev pub trees_of : Planned → List (List ℕ)
 trees_of plan = trees plan.shop bound_at plan.start.value plan.options.depth
 

@@ -1,4 +1,4 @@
--- What a run comes to.
+-- The verdict of a run, and why there is none.
 use Rattle.std.specs.Prelude.{ℕ, ◌≡◌, ◌+◌, ◌≤◌, Bool, true, false, nat_lt, List, [], ◌∷◌, map, length, take, Option, Some, None}
 use Rattle.std.specs.Option.{option_map, option_or, option_to_list}
 use Rattle.std.specs.List.{flat_map, AllByRecursion}
@@ -14,20 +14,20 @@ use Rattle.flow_search.specs.declared.verdict.Verdict.{Verdict}
 use Rattle.flow_search.specs.declared.verdict.RunFault.{RunFault}
 use Rattle.flow_search.specs.declared.verdict.RunFault.TheVariants.{OverBudget, Memory}
 
--- a verdict is that of a plan, with the plan's trees
+-- a verdict is that of a plan, with its trees
 pub record IsVerdict (plan : Planned) (verdict : Verdict) : Type 0 where
   pub value : verdict.value ≡ (verdict_of plan).value
   pub sequence : verdict.sequence ≡ (verdict_of plan).sequence
   pub trees : map (λ tree. tree.items) verdict.trees.items ≡ trees_of plan
 
--- the refusal of an outcome, by its number, if it is not done
+-- the fault of the outcome of this number; none where it is done
 abbrev pub refusal : ℕ → Outcome → Option RunFault
 refusal number (outcome.Done best tree) = None
 refusal number outcome.OverBudget = Some (OverBudget number)
 refusal number outcome.NoMemory = Some Memory
 refusal number outcome.NoPrefix = Some Memory
 
--- the refusal of the first outcome that is not done, where the outcomes are numbered from a number on
+-- the fault of the first outcome that is not done, where the outcomes are numbered from this number on
 abbrev pub first_refusal : ℕ → List Outcome → Option RunFault
 first_refusal number [] = None
 first_refusal number (first ∷ outcomes) = option_or (refusal number first) (first_refusal (number + 1) outcomes)

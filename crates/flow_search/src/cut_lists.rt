@@ -1,4 +1,4 @@
-//! The cut: how many lists it has, and the lists one after another.
+//! The cut: the number of its lists, and the lists one after another.
 
 ghost use Rattle.std.specs.Prelude.{◌≡◌, ℕ, ◌<◌, ◌≤◌, ◌++◌, length, IfSome, IfNone, OnOk};
 ghost use Rattle.std.specs.List.{concat};
@@ -9,7 +9,7 @@ ghost use Rattle.flow_core.specs.Sequences.{has, extensions, cut};
 use crate::limits::MAX_PREFIXES;
 use std::alloc::AllocError;
 
-/// How many lists the cut has, where they are no more than the prefixes of a plan may be.
+/// How many lists the cut has; `None` where there are more than `MAX_PREFIXES`.
 pub fn prefix_count(jobs: u16, depth: u32) -> Option<u32>
     requires deep { depth ≤ jobs }
     requires limit { jobs ≤ most_jobs }
@@ -34,7 +34,7 @@ fn holds(jobs: &[u16], job: u16) -> bool
     jobs.iter().any(|other| job == *other)
 }
 
-/// Puts the lists that put so many more distinct jobs behind a list, one after another, behind what is there.
+/// Appends to `lists`, one after another, the lists that begin with `list` and have `more` further jobs, none twice.
 pub fn extend(
     jobs: u16,
     more: u32,

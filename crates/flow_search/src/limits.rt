@@ -1,4 +1,4 @@
-//! The limits of a run, each named once. `specs/Limits.antt` has the numbers of which the contracts speak.
+//! The limits of a run. The contracts name the numbers in `specs/Limits.antt`.
 
 /// The most workers of a run.
 pub const MAX_WORKERS: u32 = 64;
@@ -6,5 +6,5 @@ pub const MAX_WORKERS: u32 = 64;
 /// The most prefixes of a plan.
 pub const MAX_PREFIXES: u32 = 100_000;
 
-/// The most bytes that the tree of a prefix may be allowed.
+/// The greatest budget: how many bytes the tree of a prefix may have.
 pub const MAX_BUDGET: u32 = 100_000_000;

@@ -1,15 +1,14 @@
-//! How a run is made.
+//! The options of a run.
 
 ghost use Rattle.std.specs.Prelude.{◌≡◌};
 ghost use Rattle.flow_search.specs.Choices.{AreWithinLimits, options_or_fault};
 
 use crate::limits::{MAX_BUDGET, MAX_WORKERS};
 use flow_core::MAX_DEPTH;
-use std::alloc::AllocError;
 use std::marker::Model;
 use thiserror::Error;
 
-/// Why numbers are no options, in the order in which it is tested.
+/// Why numbers are no options, in the order of the tests.
 #[derive(Clone, Copy, Debug, PartialEq, Eq, Error)]
 pub enum OptionFault {
     /// The number of workers is not in `1..=MAX_WORKERS`.
@@ -24,7 +23,7 @@ pub enum OptionFault {
 }
 
 /// How many workers a run has, the depth of its cut, and how many bytes a tree may have.
-#[derive(Debug)]
+#[derive(Clone, Copy, Debug, PartialEq, Eq)]
 pub struct Options {
     workers: u32,
     depth: u32,
@@ -43,18 +42,8 @@ impl Model for Options {
     ghost inverse = { λ c. record { workers = c.workers; depth = c.depth; budget = c.budget } };
 }
 
-impl Clone for Options {
-    fn clone(&self) -> Result<Self, AllocError>
-        ensures { result ≡ Ok self.now }
-    {
-        Ok(*self)
-    }
-}
-
-impl Copy for Options {}
-
 impl Options {
-    /// The options of three numbers, or the first fault.
+    /// The options of three numbers; or the first fault.
     pub fn new(workers: u32, depth: u32, budget: u32) -> Result<Options, OptionFault>
         ensures { result ≡ options_or_fault workers depth budget }
     {

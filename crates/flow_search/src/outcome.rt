@@ -1,4 +1,4 @@
-//! The outcome of a prefix.
+//! The outcome of a prefix: how its search ended.
 
 ghost use Rattle.std.specs.Prelude.{◌≡◌, ℕ, ◌<◌, ◌≤◌, length, true, IfOk};
 ghost use Rattle.std.specs.Option.{option_map};
@@ -12,8 +12,8 @@ use crate::subtree::{Search, Stop, explore};
 use flow_core::{Front, Instance, Sequence, front_push};
 use std::alloc::{AllocError, Global};
 
-/// A sequence below the starting makespan, with its own.
-#[derive(Debug, Drop)]
+/// The best sequence that extends a prefix. Its makespan is below that of the start.
+#[derive(Debug, PartialEq, Eq, Drop)]
 pub struct Best {
     /// The makespan of the sequence.
     pub value: u64,
@@ -21,11 +21,16 @@ pub struct Best {
     pub sequence: Sequence,
 }
 
-/// What became of a prefix.
-#[derive(Debug, Drop)]
+/// How the search of a prefix ended.
+#[derive(Debug, PartialEq, Eq, Drop)]
 pub enum Outcome {
-    /// The best of the prefix, and its tree.
-    Done { best: Option<Best>, tree: Vec<u8> },
+    /// The whole subtree was searched.
+    Done {
+        /// The best of the prefix; `None` where no sequence has a smaller makespan than the start.
+        best: Option<Best>,
+        /// The tree of the prefix.
+        tree: Vec<u8>,
+    },
     /// The tree is longer than the budget.
     OverBudget,
     /// Memory ran out.
@@ -34,7 +39,7 @@ pub enum Outcome {
     NoPrefix,
 }
 
-/// The search of the whole subtree of a prefix.
+/// Searches the subtree of a prefix.
 fn search_below(alloc: Global, plan: &Plan, number: u32) -> Result<Search, Stop>
     requires { number < length (prefixes_of plan.now) }
     ensures best { IfOk result (λ search. found_if search ≡ best_of plan.now number) }
@@ -59,7 +64,7 @@ fn search_below(alloc: Global, plan: &Plan, number: u32) -> Result<Search, Stop>
     Ok(search)
 }
 
-/// The sequence of these jobs, which are known to be one.
+/// The sequence of jobs that are known to be a sequence.
 pub fn sequence_of(alloc: Global, instance: &Instance, jobs: &[u16]) -> Result<Sequence, AllocError>
     requires { IsSequence instance.now.jobs jobs.now }
     ensures { IfOk result (λ sequence. sequence ≡ jobs.now) }
@@ -90,7 +95,7 @@ fn best_found(
     }))
 }
 
-/// The outcome of a prefix, by its number from 0: its best and its tree, where the budget has room for the tree.
+/// The outcome of the prefix of a number, counted from 0.
 pub fn answer(alloc: Global, plan: &Plan, number: u32) -> Outcome
     requires { number < length (prefixes_of plan.now) }
     ensures { IsLawful plan.now number result }

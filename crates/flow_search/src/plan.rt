@@ -1,4 +1,4 @@
-//! Plans: what is searched, from where, and the prefixes that part the search.
+//! Plans: an instance, its starting sequence, the options, and the prefixes into which the search is divided.
 
 ghost use Rattle.std.specs.Prelude.{◌≡◌, ℕ, ◌<◌, ◌≤◌, None, length, IfOk, OnOk, IfErr};
 ghost use Rattle.flow_core.specs.Sequences.{AreJobs};
@@ -13,7 +13,7 @@ use std::alloc::{AllocError, AllocFailed, Global};
 use std::marker::Model;
 use thiserror::Error;
 
-/// Why nothing can be planned, in the order in which it is tested.
+/// Why there is no plan, in the order of the tests.
 #[derive(Clone, Copy, Debug, PartialEq, Eq, Error)]
 pub enum PlanFault {
     /// The depth is above the number of jobs.
@@ -52,7 +52,7 @@ pub struct Plan<'a> {
     start_value: u64,
     /// How many prefixes there are.
     count: u32,
-    /// The prefixes, one after another.
+    /// The jobs of the prefixes, one prefix after another.
     lists: Vec<u16>,
 }
 
@@ -100,7 +100,7 @@ impl<'a> Plan<'a> {
         self.count
     }
 
-    /// A prefix, by its number from 0.
+    /// The prefix of a number, counted from 0.
     pub fn prefix(&self, number: u32) -> &[u16]
         requires { number < length (prefixes_of self.now) }
         ensures value { result.now ≡ prefix_of self.now number }
@@ -130,7 +130,7 @@ impl<'a> Plan<'a> {
     }
 }
 
-/// The plan of an instance and options, or the first fault.
+/// The plan of an instance and options; or the first fault; or `Memory`.
 pub fn prepare<'a>(
     alloc: Global,
     instance: &'a Instance,

@@ -1,4 +1,4 @@
-//! The search of the subtree of a prefix.
+//! How the subtree of a prefix is searched.
 
 ghost use Rattle.std.specs.Prelude.{◌≡◌, ℕ, ◌+◌, ◌<◌, ◌≤◌, List, ◌++◌, ◌∷◌, [], length, find, nat_le, false, IfOk};
 ghost use Rattle.std.specs.Prelude.{OnOk};
@@ -39,25 +39,25 @@ impl<T: Drop> From<AllocFailed<T>> for Stop {
     }
 }
 
-/// A search: the node where it stands, its incumbent, and what it wrote.
+/// The state of a search: its node, its incumbent, and the tree that it wrote.
 #[derive(Drop)]
 pub struct Search {
-    /// The jobs of the node.
+    /// The jobs of the node, in order.
     pub node: Vec<u16>,
-    /// The jobs that are left.
+    /// The jobs that the node leaves.
     pub unscheduled: JobSet,
-    /// The makespan that a sequence has to undercut.
+    /// The makespan of the incumbent.
     pub value: u64,
-    /// Whether a sequence undercut the starting makespan.
+    /// Whether a sequence with a smaller makespan than the start was found.
     pub improved: bool,
-    /// The last sequence that did.
+    /// The last such sequence, which is the incumbent.
     pub best: Vec<u16>,
     /// The tree so far.
     pub tree: Vec<u8>,
 }
 
 impl Search {
-    /// The search at the node of the empty list, with room for the jobs of a sequence.
+    /// The search at the node of the empty list, with memory for the jobs of a sequence.
     pub fn new(alloc: Global, instance: &Instance, start: u64) -> Result<Search, AllocError>
         ensures { IfOk result (λ search. IsFresh instance.now start search) }
     {
@@ -72,7 +72,7 @@ impl Search {
         })
     }
 
-    /// Puts a byte behind the tree, where the budget has room for it.
+    /// Appends a byte to the tree. `OverBudget` where the tree is as long as the budget.
     fn write(&mut self, budget: usize, byte: u8) -> Result<(), Stop>
         ensures done { OnOk result (Wrote budget byte self.old self.new) }
         ensures over { result ≡ Err Stop.OverBudget → budget ≤ length self.old.tree.items }
@@ -84,7 +84,7 @@ impl Search {
         Ok(())
     }
 
-    /// Takes the sequence of the node as the best, where its makespan undercuts the incumbent.
+    /// Makes the sequence of the node the incumbent, where its makespan is smaller.
     fn see(&mut self, value: u64) -> Result<(), AllocError>
         ensures { OnOk result (Saw value self.old self.new) }
     {
@@ -97,7 +97,7 @@ impl Search {
         Ok(())
     }
 
-    /// Goes to the node with a job more.
+    /// Goes to the child node of a job.
     pub fn enter(&mut self, job: u16) -> Result<(), AllocFailed<u16>>
         requires from { 1 ≤ job }
         requires to { job ≤ most_jobs }
@@ -108,7 +108,7 @@ impl Search {
         Ok(())
     }
 
-    /// Goes back to the node without its last job.
+    /// Goes back from the child node of a job.
     fn leave(&mut self, job: u16)
         requires from { 1 ≤ job }
         requires to { job ≤ most_jobs }
@@ -119,7 +119,7 @@ impl Search {
     }
 }
 
-/// The first machine whose bound reaches a value.
+/// The first machine whose bound is at least a value.
 fn cutting_machine(
     instance: &Instance,
     front: &Front,
@@ -140,7 +140,7 @@ fn cutting_machine(
     None
 }
 
-/// Walks the subtree of the node where the search stands, with so many jobs left.
+/// Searches the subtree of the node, which leaves `count` jobs.
 pub fn explore(
     instance: &Instance,
     budget: usize,

@@ -1,4 +1,4 @@
-//! What the first prefixes of a plan come to.
+//! The results of the first prefixes of a plan, put together prefix by prefix.
 
 ghost use Rattle.std.specs.Prelude.{◌≡◌, ℕ, ◌+◌, ◌<◌, length, IfOk, OnOk};
 ghost use Rattle.flow_core.specs.Paths.{span};
@@ -14,16 +14,16 @@ use crate::plan::Plan;
 use crate::verdict::Verdict;
 use std::alloc::{AllocError, Global};
 
-/// The trees of the first prefixes, and the first least of their bests.
+/// The trees of the first prefixes, and the least of their bests.
 #[derive(Drop)]
 pub struct Tally {
-    /// The trees, by the numbers of their prefixes.
+    /// The trees, in the order of their prefixes.
     pub trees: Vec<Vec<u8>>,
-    /// The first of the bests that none undercuts.
+    /// The least of the bests, on ties the first; `None` where no prefix has one.
     pub best: Option<Best>,
 }
 
-/// Whether a best undercuts another; where one is missing the other is the lower.
+/// Whether the next best has a smaller makespan than the least so far. A best is smaller than none.
 fn undercuts(next: &Option<Best>, least: &Option<Best>) -> bool
     ensures { result ≡ undercuts next.now least.now }
 {
@@ -45,7 +45,7 @@ impl Tally {
         })
     }
 
-    /// Adds what the next prefix comes to.
+    /// Adds the best and the tree of the next prefix.
     pub fn add(&mut self, best: Option<Best>, tree: Vec<u8>) -> Result<(), AllocError>
         ensures { OnOk result ((plan : Planned) (number : ℕ) → number < length (prefixes_of plan) →
             IsTally plan number self.old → IsLawful plan number (Done best tree) → IsTally plan (number + 1) self.new) }
@@ -57,7 +57,7 @@ impl Tally {
         Ok(())
     }
 
-    /// The verdict, once all prefixes are in.
+    /// The verdict, from a tally of all prefixes.
     pub fn verdict(self, alloc: Global, plan: &Plan) -> Result<Verdict, AllocError>
         requires { IsTally plan.now (length (prefixes_of plan.now)) self }
         ensures verdict { IfOk result (λ verdict. IsVerdict plan.now verdict) }

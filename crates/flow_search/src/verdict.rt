@@ -1,4 +1,4 @@
-//! The verdict of a plan.
+//! The verdict of a plan, from the outcomes of its prefixes.
 
 ghost use Rattle.std.specs.Prelude.{◌≡◌, ℕ, ◌≤◌, ◌⊎◌, length, vec_len, None, Some, IfOk, OnOk, IfErr, All};
 ghost use Rattle.flow_search.specs.Limits.{most_prefixes};
@@ -17,20 +17,20 @@ use std::alloc::{AllocError, Global};
 use thiserror::Error;
 
 /// The least makespan, a sequence that attains it, and the tree of each prefix.
-#[derive(Debug, Drop)]
+#[derive(Debug, PartialEq, Eq, Drop)]
 pub struct Verdict {
     /// The least makespan.
     pub value: u64,
     /// A sequence that attains it.
     pub sequence: Sequence,
-    /// The trees of the prefixes, by their numbers.
+    /// The tree of each prefix, in the order of the prefixes.
     pub trees: Vec<Vec<u8>>,
 }
 
 /// Why a run has no verdict.
 #[derive(Clone, Copy, Debug, PartialEq, Eq, Error)]
 pub enum RunFault {
-    /// The tree of this prefix, by its number from 0, is longer than the budget, and none before it is.
+    /// The tree of this prefix, counted from 0, is the first that is longer than the budget.
     #[error("OverBudget {0}")]
     OverBudget(u32),
     /// Memory ran out.
@@ -46,7 +46,7 @@ impl From<AllocError> for RunFault {
     }
 }
 
-/// The verdict of a plan, by the outcomes of all its prefixes in order. The first that is not done decides a refusal.
+/// The verdict of a plan, from the outcomes of all its prefixes in order. The first that is not `Done` decides the fault.
 pub fn conclude(alloc: Global, plan: &Plan, outcomes: Vec<Outcome>) -> Result<Verdict, RunFault>
     requires count { vec_len outcomes ≡ length (prefixes_of plan.now) }
     requires lawful { AreLawful plan.now outcomes.items }
@@ -74,7 +74,7 @@ pub fn conclude(alloc: Global, plan: &Plan, outcomes: Vec<Outcome>) -> Result<Ve
     Ok(verdict)
 }
 
-/// The verdict of a plan, on one thread. It ends at the first outcome that is not done.
+/// Solves a plan on one thread, prefix by prefix. It ends at the first outcome that is not `Done`.
 pub fn solve_plain(alloc: Global, plan: &Plan) -> Result<Verdict, RunFault>
     ensures verdict { IfOk result (λ verdict. IsVerdict plan.now verdict) }
     ensures least { IfOk result (λ verdict. IsLeastMakespan plan.now.shop verdict.value) }
@@ -96,7 +96,7 @@ pub fn solve_plain(alloc: Global, plan: &Plan) -> Result<Verdict, RunFault>
     Ok(verdict)
 }
 
-/// The fault of the first outcome that is not done.
+/// The fault of the first outcome that is not `Done`.
 fn refusal_among(outcomes: &[Outcome]) -> Option<RunFault>
     requires { length outcomes.now ≤ most_prefixes }
     ensures { result ≡ first_refusal 0 outcomes.now }

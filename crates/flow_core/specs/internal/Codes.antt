@@ -5,7 +5,9 @@ use Rattle.flow_core.specs.Devices.{Writing, Reading}
 
 -- a sink over a writer is told apart by the writer and by whether it refused
 abbrev pub writing_code : {W : Type 0} → Coded W → Coded (Writing W)
-writing_code {W} w = code_by (W × Bool) (coded× w coded_bool) (λ s. (s.writer, s.failed)) (λ p. record { writer = p.0; failed = p.1 }) (λ _. refl)
+writing_code {W} w =
+    code_by (W × Bool) (coded× w coded_bool) (λ s. (s.writer, s.failed))
+    (λ p. record { writer = p.0; failed = p.1 }) (λ _. refl)
 
 -- a source over a reader is told apart by the reader, and by whether its last answer was the end and whether it refused
 abbrev pub reading_code : {R : Type 0} → Coded R → Coded (Reading R)

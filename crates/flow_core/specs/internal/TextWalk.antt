@@ -1,5 +1,5 @@
--- The states in which a text is read line by line. Only private functions speak of them: which blocks a text reads as and
--- what its first fault is stand in Text and TextFaults.
+-- The states in which a text is read line by line. Only contracts of private functions speak of them: which blocks a
+-- text reads as stands in Text, and what its first fault is in TextFaults.
 use Rattle.std.specs.Prelude.{◌≡◌, ℕ, ◌+◌, ◌*◌, ◌≤◌, true, not, ◌==◌, nat_lt, if◌then◌else◌, List, [], ◌∷◌, ◌++◌, length, Option, None, Some, Result, Ok, Err, slice_index}
 use Rattle.flow_core.specs.Lines.{after_blanks, is_digit, is_plain, numbers_of, are_small}
 use Rattle.flow_core.specs.TextFaults.{is_head, are_times}
@@ -14,7 +14,7 @@ use Rattle.flow_core.specs.declared.text.progress.Want.TheVariants.{FirstLabel, 
 use Rattle.flow_core.specs.declared.text.progress.Progress.{Progress}
 use Rattle.flow_core.specs.declared.text.progress.Head.{Head}
 
--- the answer of a second step on what the first one gave, or the fault of the first
+-- what a second step returns for the value of the first, or the fault of the first
 infixl 10 ◌>>=◌
 abbrev pub ◌>>=◌ : {A B E : Type 0} → Result A E → (A → Result B E) → Result B E
 (Ok x) >>= f = f x
@@ -59,7 +59,13 @@ sizes h = record { jobs = h.jobs; machines = h.machines; seed = h.seed; upper = 
 
 -- the first five numbers of a list as a head
 abbrev pub sizes_of : List ℕ → Sizes
-sizes_of ns = record { jobs = slice_index ns 0; machines = slice_index ns 1; seed = slice_index ns 2; upper = slice_index ns 3; lower = slice_index ns 4 }
+sizes_of ns = record {
+  jobs = slice_index ns 0;
+  machines = slice_index ns 1;
+  seed = slice_index ns 2;
+  upper = slice_index ns 3;
+  lower = slice_index ns 4;
+}
 
 -- the head of a block keeps the limits
 pub record SizesFit (h : Sizes) : Type 0 where
@@ -84,9 +90,14 @@ state_of p = record { want = p.want; numbers = p.numbers.items; head = sizes p.h
 
 -- the state before the first line
 abbrev pub start : State
-start = record { want = FirstLabel; numbers = []; head = record { jobs = 1; machines = 1; seed = 0; upper = 0; lower = 0 }; blocks = [] }
+start = record {
+  want = FirstLabel;
+  numbers = [];
+  head = record { jobs = 1; machines = 1; seed = 0; upper = 0; lower = 0 };
+  blocks = [];
+}
 
--- the limits that were tested so far
+-- what the tests so far have shown
 abbrev pub Keeps : State → Type 0
 Keeps s = elim s.want [
   | FirstLabel ↦ Unit {0}
@@ -97,11 +108,18 @@ Keeps s = elim s.want [
 
 -- a number line's numbers, or what is wrong with its bytes
 unfoldable pub line_numbers : List ℕ → Result (List ℕ) LineFault
-line_numbers l = if not (is_plain l) then Err line.Byte else (if not (are_small (numbers_of l)) then Err line.Number else Ok (numbers_of l))
+line_numbers l =
+    if not (is_plain l) then Err line.Byte
+    else (if not (are_small (numbers_of l)) then Err line.Number else Ok (numbers_of l))
 
 -- the block of a head and its times
 abbrev pub block_of : Sizes → List ℕ → Block
-block_of head times = record { seed = head.seed; upper = head.upper; lower = head.lower; instance = record { jobs = head.jobs; machines = head.machines; times = times } }
+block_of head times = record {
+  seed = head.seed;
+  upper = head.upper;
+  lower = head.lower;
+  instance = record { jobs = head.jobs; machines = head.machines; times = times };
+}
 
 -- the state after a label line, or its fault
 unfoldable pub after_label : State → Result State LineFault
@@ -118,7 +136,7 @@ after_head_numbers s ns = if nat_lt 5 (length ns) then Err line.Head
     else (if nat_lt (length ns) 5 then Ok (record s { numbers = ns })
     else (if is_head ns then Ok (record s { want = SecondLabel; numbers = []; head = sizes_of ns }) else Err line.Limits))
 
--- the state when the times of a block so far are all these, the new ones of the last line among them, or the fault
+-- the state when all times of a block so far are these, the new ones of the last line included, or the fault
 unfoldable pub after_times : State → List ℕ → List ℕ → Result State LineFault
 after_times s new all = let wanted = s.head.jobs * s.head.machines in
     if nat_lt wanted (length all) then Err line.Times
@@ -152,7 +170,7 @@ at_line line.Head n = text.Head n
 at_line line.Limits n = text.Limits n
 at_line line.Times n = text.Times n
 
--- the answer at the end of a text, whose next line would have this number
+-- what is returned at the end of a text, where the next line would have this number
 unfoldable pub at_end : State → ℕ → Result (List Block) TextFault
 at_end s n = elim s.want [
   | FirstLabel ↦ if length s.blocks == 0 then Err text.NoBlock else Ok s.blocks
@@ -161,12 +179,12 @@ at_end s n = elim s.want [
   | Times ↦ Err (text.Times n)
 ]
 
--- the answer of a line, with the number of the line at its fault
+-- what a line gives, with the number of the line at its fault
 abbrev pub placed : ℕ → Result State LineFault → Result State TextFault
 placed n (Ok s) = Ok s
 placed n (Err e) = Err (at_line e n)
 
--- the answer for the lines behind n lines
+-- what is returned for the lines after n lines
 unfoldable pub walk : State → ℕ → List (List ℕ) → Result (List Block) TextFault
 walk s n [] = at_end s (n + 1)
 walk s n (l ∷ ls) = placed (n + 1) (after_line s l) >>= λ t. walk t (n + 1) ls

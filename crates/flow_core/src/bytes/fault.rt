@@ -6,7 +6,7 @@ ghost use Rattle.flow_core.specs.declared.bytes.fault.ReadFault.TheVariants.{Mem
 use std::alloc::AllocError;
 use thiserror::Error;
 
-/// A device moved no byte, and has failed from then on.
+/// A device moved no byte. Its `failed` returns true from then on.
 #[derive(Clone, Copy, Debug, PartialEq, Eq)]
 pub struct Refused;
 

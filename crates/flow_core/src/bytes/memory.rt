@@ -11,7 +11,7 @@ use crate::bytes::fault::Refused;
 use std::alloc::Global;
 use std::marker::Model;
 
-/// Takes and keeps bytes up to a limit, and then refuses; it refuses also where memory ran out.
+/// Keeps the bytes that are put into it. Refuses once it has as many as its limit, and where memory ran out.
 #[derive(Debug, Drop)]
 pub struct MemorySink {
     bytes: Vec<u8>,
@@ -31,7 +31,7 @@ impl Model for MemorySink {
 }
 
 impl MemorySink {
-    /// A sink that takes `limit` bytes in all, and took none.
+    /// An empty sink, which takes `limit` bytes in all.
     pub fn new(alloc: Global, limit: usize) -> MemorySink
         ensures { result ≡ record { bytes = []; limit = limit; failed = false } }
     {
@@ -79,7 +79,7 @@ impl Sink for MemorySink {
     }
 }
 
-/// Gives the bytes of a slice in order, in pieces, and refuses once some of them went out.
+/// Gives the bytes of a slice in order, in pieces. It may refuse after some of them.
 #[derive(Debug, Drop)]
 pub struct MemorySource<'a> {
     bytes: &'a [u8],
@@ -111,8 +111,8 @@ impl<'a> Model for MemorySource<'a> {
 }
 
 impl<'a> MemorySource<'a> {
-    /// A source of these bytes, which gives at most `piece` of them in a call, and refuses once `fail_after` of them
-    /// went out. A piece has at least 1 byte.
+    /// A source of these bytes. In a call it gives at most `piece` of them, which is 1 or more. It refuses once it gave
+    /// `fail_after` of them; with `None` it never refuses.
     pub fn new(bytes: &'a [u8], piece: usize, fail_after: Option<usize>) -> MemorySource<'a>
         requires { 1 ≤ piece }
         ensures { result ≡ record {

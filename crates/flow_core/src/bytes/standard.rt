@@ -1,4 +1,4 @@
-//! A sink and a source over the library's writers and readers.
+//! A sink over a writer of the standard library, and a source over a reader.
 
 ghost use Rattle.std.specs.Prelude.{◌≡◌, ◌<◌, ◌≤◌, ◌||◌, false, None, length, IfOk, is_err};
 ghost use Rattle.std.specs.Io.KnownBytes.{WriteAppends, ReadConsumes};
@@ -9,10 +9,10 @@ use crate::bytes::fault::Refused;
 use std::io::{ErrorKind, Read, Write};
 use std::marker::Model;
 
-/// How often a read or write is tried that is interrupted each time, before that is a refusal.
+/// How often a read or write is tried that is interrupted each time. After the last try it is refused.
 const TRIES: u32 = 1_000;
 
-/// Hands bytes to a writer. A write that takes none or fails is a refusal; an interrupted one is tried again.
+/// A sink over a writer. It refuses where a write takes no byte or fails. An interrupted write is tried again.
 #[derive(Drop)]
 pub struct StdSink<W> {
     writer: W,
@@ -43,7 +43,7 @@ impl<W: Write> StdSink<W> {
 }
 
 impl<W: Write> Sink for StdSink<W> {
-    // What a writer kept is not known of a file or a terminal.
+    // What a file or a terminal keeps is not known.
     ghost taken = { λ _. None };
 
     ghost has_failed = { λ s. s.failed };
@@ -76,7 +76,7 @@ impl<W: Write> Sink for StdSink<W> {
     }
 }
 
-/// Takes bytes from a reader. A read that fails is a refusal; an interrupted one is tried again.
+/// A source over a reader. It refuses where a read fails. An interrupted read is tried again.
 #[derive(Drop)]
 pub struct StdSource<R> {
     reader: R,

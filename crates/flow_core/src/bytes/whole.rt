@@ -1,4 +1,4 @@
-//! Moving all bytes.
+//! Calls that write all bytes, and that read all bytes.
 
 ghost use Rattle.std.specs.Prelude.{◌≡◌, ◌<◌, ◌≤◌, ◌↔◌, false, true, [], vec_len, IfOk, OnOk, OnErr, IsErr, IsErrOf};
 ghost use Rattle.std.specs.Io.KnownBytes.{Appends};
@@ -8,10 +8,10 @@ use crate::bytes::device::{Sink, Source};
 use crate::bytes::fault::{ReadFault, WriteFault};
 use std::alloc::Global;
 
-/// How many bytes a source is asked for at once.
+/// The most bytes that one call of a source is asked for.
 const PIECE: usize = 65_536;
 
-/// Puts every byte. `Device` where the sink refused: then a proper prefix of the bytes was taken.
+/// Writes all bytes. `Device` where the sink refused; then it took some first bytes, and not all.
 pub fn put_all<S: Sink>(sink: &mut S, bytes: &[u8]) -> Result<(), WriteFault>
     requires { S.has_failed sink.old ≡ false }
     ensures device { IsErr result ↔ (S.has_failed sink.new ≡ true) }
@@ -29,8 +29,8 @@ pub fn put_all<S: Sink>(sink: &mut S, bytes: &[u8]) -> Result<(), WriteFault>
     Ok(())
 }
 
-/// Every byte that a source gives up to its end; or `Memory`; or `Device`, where the source refused; or `TooLong`,
-/// where more bytes came than the limit. It asks the source at most once more than the limit has bytes.
+/// All bytes that a source gives up to its end. `Device` where the source refused, `TooLong` where it gave more bytes
+/// than the limit, `Memory` where memory ran out. It calls the source at most `limit + 1` times.
 pub fn read_all<S: Source>(
     alloc: Global,
     source: &mut S,

@@ -2,15 +2,15 @@
 
 use crate::instance::Instance;
 
-/// An instance, the seed that it was made from, and bounds of its least makespan; these are kept as read.
-#[derive(Debug, Drop)]
+/// An instance with a seed, and two bounds of its least makespan. Seed and bounds are what the text says, untested.
+#[derive(Debug, PartialEq, Eq, Drop)]
 pub struct Block {
-    /// The seed of the generator.
+    /// The seed from which the generator made the instance.
     pub seed: u32,
-    /// The upper bound.
+    /// The upper bound of the least makespan.
     pub upper: u32,
-    /// The lower bound.
+    /// The lower bound of the least makespan.
     pub lower: u32,
-    /// The instance.
+    /// The jobs, the machines and the times.
     pub instance: Instance,
 }

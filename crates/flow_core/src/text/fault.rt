@@ -19,17 +19,17 @@ pub(crate) enum LineFault {
     Times,
 }
 
-/// The first fault of a text, with the number of its line, from 1. What is missing at the end of a text stands at the
-/// line behind its last.
+/// The first fault of a text, with the number of its line, counted from 1. What is missing at the end has the number of
+/// the line after the last.
 #[derive(Clone, Copy, Debug, PartialEq, Eq, Error)]
 pub enum TextFault {
     /// Memory ran out.
     #[error("Memory")]
     Memory,
-    /// The text has blank lines alone, or none.
+    /// The text has no line, or only blank ones.
     #[error("NoBlock")]
     NoBlock,
-    /// A label line is wanted.
+    /// A label line is wanted, and there is none.
     #[error("Label {0}")]
     Label(usize),
     /// A byte of a number line is neither a digit nor a blank.
@@ -41,10 +41,11 @@ pub enum TextFault {
     /// The head of a block has fewer or more than five numbers.
     #[error("Head {0}")]
     Head(usize),
-    /// The jobs or machines of a head are not in `1..=MAX_JOBS` or `1..=MAX_MACHINES`, or a time is above `MAX_TIME`.
+    /// The jobs of a head are not in `1..=MAX_JOBS`, its machines are not in `1..=MAX_MACHINES`, or a time is above
+    /// `MAX_TIME`.
     #[error("Limits {0}")]
     Limits(usize),
-    /// There are fewer or more times than one for each job and machine.
+    /// There is not one time for each job and machine.
     #[error("Times {0}")]
     Times(usize),
 }

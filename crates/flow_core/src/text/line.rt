@@ -1,4 +1,4 @@
-//! One line: where it ends, what it is, and its numbers.
+//! One line of a text: where it ends, its first byte that is not blank, and its numbers.
 
 ghost use Rattle.std.specs.Prelude.{◌≡◌, ◌+◌, ◌-◌, ◌*◌, ◌<◌, ◌≤◌, ◌∷◌, length, IsTrue};
 ghost use Rattle.std.specs.Char.{digit_value};
@@ -17,7 +17,7 @@ fn is_blank_byte(byte: u8) -> bool
     byte == b' ' || byte == b'\t' || byte == b'\r'
 }
 
-/// Whether a line has digits and blanks alone.
+/// Whether a line has only digits and blanks.
 fn is_plain_line(line: &[u8]) -> bool
     ensures { result ≡ is_plain line.now }
 {
@@ -25,7 +25,7 @@ fn is_plain_line(line: &[u8]) -> bool
         .all(|byte| byte.is_ascii_digit() || is_blank_byte(*byte))
 }
 
-/// The first line of a text that is not empty, and the text behind its end.
+/// The first line of a text that is not empty, without its end; and the text after it.
 pub(crate) fn first_line(text: &[u8]) -> (&[u8], &[u8])
     requires { 0 < length text.now }
     ensures lines { lines_of text.now ≡ result.0.now ∷ lines_of result.1.now }
@@ -40,7 +40,7 @@ pub(crate) fn first_line(text: &[u8]) -> (&[u8], &[u8])
     text.split_at(text.len())
 }
 
-/// The first byte that is no blank.
+/// The first byte that is not blank.
 pub(crate) fn first_solid(line: &[u8]) -> Option<u8>
     ensures { result ≡ first (after_blanks line.now) }
 {
@@ -52,7 +52,7 @@ pub(crate) fn first_solid(line: &[u8]) -> Option<u8>
     None
 }
 
-/// The number with one more digit, where it still may stand in a text.
+/// The number with one more digit; `None` where that is above `MAX_NUMBER`.
 fn with_digit(number: u32, byte: u8) -> Option<u32>
     requires { IsTrue (is_digit byte) }
     ensures { SomeIff result (number * 10 + digit_value byte ≤ greatest_number) (number * 10 + digit_value byte) }
@@ -65,7 +65,8 @@ fn with_digit(number: u32, byte: u8) -> Option<u32>
     }
 }
 
-/// Leaves the numbers of a line in `numbers`, or answers the first thing that is wrong with its bytes.
+/// Puts the numbers of a line into `numbers`, in place of what it held. Otherwise returns `Byte`, `Number` or `Memory`;
+/// `Byte` comes before `Number`.
 #[tactic(auto, unfolding(crate::specs::internal::TextWalk::line_numbers))]
 pub(crate) fn numbers_in(line: &[u8], numbers: &mut Vec<u32>) -> Result<(), LineFault>
     ensures { LineGives (λ _. numbers.new.items) result (line_numbers line.now) }

@@ -1,8 +1,8 @@
-//! How far a text was read.
+//! What was read of a text so far.
 
 use crate::text::block::Block;
 
-/// What is wanted at a line.
+/// What is wanted at the next line.
 #[derive(Clone, Copy, Debug, PartialEq, Eq)]
 pub(crate) enum Want {
     FirstLabel,
@@ -21,7 +21,7 @@ pub(crate) struct Head {
     pub(crate) lower: u32,
 }
 
-/// What is wanted, the numbers since the last label line, the head of the block, and the blocks before it.
+/// What is wanted next, the numbers since the last label line, the head of the block, and the blocks before it.
 #[derive(Drop)]
 pub(crate) struct Progress {
     pub(crate) want: Want,

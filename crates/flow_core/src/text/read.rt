@@ -1,4 +1,4 @@
-//! Reading a whole text.
+//! How a whole text is read.
 
 ghost use Rattle.std.specs.Prelude.{◌≡◌, ◌≢◌, List, None, Some, IfOk, OnOk, IfErr};
 ghost use Rattle.flow_core.specs.Lines.{lines_of};
@@ -14,7 +14,7 @@ use crate::text::line::first_line;
 use crate::text::walk::{after_any_line, begin, finish};
 use std::alloc::Global;
 
-/// The blocks of a text in order, or its first fault, or `Memory`.
+/// The blocks of a text in order; or its first fault; or `Memory`.
 pub fn read_blocks(alloc: Global, text: &[u8]) -> Result<Vec<Block>, TextFault>
     ensures value { IfOk result (λ blocks. Reads text.now blocks.items) }
     ensures accepted { OnOk result (text_fault text.now ≡ None) }
@@ -25,7 +25,7 @@ pub fn read_blocks(alloc: Global, text: &[u8]) -> Result<Vec<Block>, TextFault>
     walk_text(alloc, text)
 }
 
-/// The same, by the states of the walk over the lines.
+/// Reads the text line by line. The contract speaks of the states between the lines.
 #[tactic(auto, unfolding(crate::specs::internal::TextWalk::walk))]
 fn walk_text(alloc: Global, text: &[u8]) -> Result<Vec<Block>, TextFault>
     ensures { TextGives (λ blocks. blocks.items) result (walk start 0 (lines_of text.now)) }

@@ -1,9 +1,10 @@
-//! The reading of a text line by line.
+//! What each line of a text adds to the progress of its reading.
 
 ghost use Rattle.std.specs.Prelude.{◌≡◌, ◌++◌, true, false, length, MatchOption};
 ghost use Rattle.flow_core.specs.TextFaults.{is_head, are_times};
 ghost use Rattle.flow_core.specs.internal.TextWalk.{state_of, start, after_label, after_head_numbers, after_times};
-ghost use Rattle.flow_core.specs.internal.TextWalk.{after_numbers, after_line, at_end, sizes_of, sizes, SizesFit, Keeps, LineGives, TextGives};
+ghost use Rattle.flow_core.specs.internal.TextWalk.{after_numbers, after_line, at_end, sizes_of, sizes, SizesFit, Keeps};
+ghost use Rattle.flow_core.specs.internal.TextWalk.{LineGives, TextGives};
 
 use crate::instance::Instance;
 use crate::limits::{MAX_JOBS, MAX_MACHINES, MAX_TIME};
@@ -13,7 +14,7 @@ use crate::text::line::{first_solid, numbers_in};
 use crate::text::progress::{Head, Progress, Want};
 use std::alloc::Global;
 
-/// Nothing was read yet.
+/// The progress before the first line.
 pub(crate) fn begin(alloc: Global) -> Progress
     ensures { state_of result ≡ start }
 {
@@ -31,7 +32,7 @@ pub(crate) fn begin(alloc: Global) -> Progress
     }
 }
 
-/// The head that five numbers make, where it is within the limits.
+/// The head of five numbers; `None` where it is not within the limits.
 fn head_of(numbers: &[u32]) -> Option<Head>
     requires { length numbers.now ≡ 5 }
     ensures { MatchOption result (is_head numbers.now ≡ false) (λ head. (is_head numbers.now ≡ true)
@@ -56,7 +57,7 @@ fn head_of(numbers: &[u32]) -> Option<Head>
     }
 }
 
-/// One more line, a label.
+/// The progress after a label line; or the line's fault.
 #[tactic(auto, unfolding(crate::specs::internal::TextWalk::after_label))]
 fn after_label_line(mut progress: Progress) -> Result<Progress, LineFault>
     ensures { LineGives state_of result (after_label (state_of progress)) }
@@ -77,7 +78,7 @@ fn after_label_line(mut progress: Progress) -> Result<Progress, LineFault>
     }
 }
 
-/// Some more numbers of a head.
+/// The progress after more numbers of a head; or the fault of their line.
 #[tactic(auto, unfolding(crate::specs::internal::TextWalk::after_head_numbers))]
 fn with_head_numbers(mut progress: Progress, new: &[u32]) -> Result<Progress, LineFault>
     ensures { LineGives state_of result (after_head_numbers (state_of progress) (progress.numbers.items ++ new.now)) }
@@ -108,7 +109,7 @@ fn are_within_limit(times: &[u32]) -> bool
     times.iter().all(|time| *time <= MAX_TIME)
 }
 
-/// Some more times of a block.
+/// The progress after more times of a block; or the fault of their line.
 #[tactic(auto, unfolding(crate::specs::internal::TextWalk::after_times))]
 fn with_times(alloc: Global, mut progress: Progress, new: &[u32]) -> Result<Progress, LineFault>
     requires head { SizesFit (sizes progress.head) }
@@ -140,7 +141,7 @@ fn with_times(alloc: Global, mut progress: Progress, new: &[u32]) -> Result<Prog
     Ok(progress)
 }
 
-/// One more line, which begins with a digit. `numbers` is room for those of a line.
+/// The progress after a number line; or the line's fault. `numbers` is a buffer for the line's numbers.
 #[tactic(auto, unfolding(crate::specs::internal::TextWalk::after_numbers))]
 fn after_number_line(
     alloc: Global,
@@ -165,7 +166,7 @@ fn after_number_line(
     }
 }
 
-/// One more line. `numbers` is room for those of a line.
+/// The progress after a line; or the line's fault. `numbers` is a buffer for the line's numbers.
 #[tactic(auto, unfolding(crate::specs::internal::TextWalk::after_line))]
 pub(crate) fn after_any_line(
     alloc: Global,
@@ -188,7 +189,7 @@ pub(crate) fn after_any_line(
     }
 }
 
-/// The blocks at the end of a text, or what is missing at the line behind it.
+/// The blocks of a text that ends before the line of this number; or the fault that something is missing there.
 #[tactic(auto, unfolding(crate::specs::internal::TextWalk::at_end))]
 pub(crate) fn finish(progress: Progress, line: usize) -> Result<Vec<Block>, TextFault>
     ensures { TextGives (λ blocks. blocks.items) result (at_end (state_of progress) line) }

@@ -1,4 +1,4 @@
-//! Writing a block.
+//! How a block is written.
 
 ghost use Rattle.std.specs.Prelude.{◌≡◌, ◌<◌, ◌≤◌, ◌++◌, ◌∷◌, [], length, OnOk, IfOk, decimal};
 ghost use Rattle.flow_core.specs.Text.{Reads};
@@ -16,7 +16,7 @@ const HEAD_LABEL: &[u8] =
 
 const TIMES_LABEL: &[u8] = b"processing times :\n";
 
-/// A number without leading zeros.
+/// Appends a number without leading zeros.
 fn push_number(out: &mut Vec<u8>, number: u32) -> Result<(), AllocError>
     ensures { OnOk result (out.new.items ≡ out.old.items ++ decimal number) }
 {
@@ -24,7 +24,7 @@ fn push_number(out: &mut Vec<u8>, number: u32) -> Result<(), AllocError>
     out.extend_from_slice(buffer.format(number).as_bytes())
 }
 
-/// Numbers with a space between, and the end of the line.
+/// Appends numbers with a space between each two, and the end of the line.
 fn push_row(out: &mut Vec<u8>, numbers: &[u32]) -> Result<(), AllocError>
     requires { 0 < length numbers.now }
     ensures { OnOk result (out.new.items ≡ out.old.items ++ row_text numbers.now) }
@@ -39,7 +39,7 @@ fn push_row(out: &mut Vec<u8>, numbers: &[u32]) -> Result<(), AllocError>
     Ok(())
 }
 
-/// The line with the head of a block.
+/// Appends the head of a block: a line of five numbers.
 fn push_head(
     out: &mut Vec<u8>,
     instance: &Instance,
@@ -56,7 +56,7 @@ fn push_head(
     push_row(out, &[jobs, machines, seed, upper, lower])
 }
 
-/// The label of a head.
+/// Appends the label line of a head.
 #[tactic(auto, unfolding(crate::specs::Written::head_label))]
 fn push_head_label(out: &mut Vec<u8>) -> Result<(), AllocError>
     ensures { OnOk result (out.new.items ≡ out.old.items ++ head_label) }
@@ -64,7 +64,7 @@ fn push_head_label(out: &mut Vec<u8>) -> Result<(), AllocError>
     out.extend_from_slice(HEAD_LABEL)
 }
 
-/// The label of the times.
+/// Appends the label line of the times.
 #[tactic(auto, unfolding(crate::specs::Written::times_label))]
 fn push_times_label(out: &mut Vec<u8>) -> Result<(), AllocError>
     ensures { OnOk result (out.new.items ≡ out.old.items ++ times_label) }
@@ -72,7 +72,7 @@ fn push_times_label(out: &mut Vec<u8>) -> Result<(), AllocError>
     out.extend_from_slice(TIMES_LABEL)
 }
 
-/// The one text of a block, which reads as that block; or the error that memory ran out.
+/// The text of a block; `AllocError` where memory ran out.
 pub fn block_text(alloc: Global, block: &Block) -> Result<Vec<u8>, AllocError>
     ensures value { IfOk result (λ text. text.items ≡ written block.now) }
     // It reads as that block alone.

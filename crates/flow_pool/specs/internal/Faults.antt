@@ -1,4 +1,4 @@
--- Why a run has no report, where it has no verdict.
+-- The fault of a run that has no verdict.
 use Rattle.std.specs.Prelude.{◌≡◌, ℕ, ◌<◌, List, Some, length, All, HoldsAt}
 use Rattle.flow_search.specs.declared.verdict.RunFault.{RunFault}
 use Rattle.flow_search.specs.declared.verdict.RunFault.TheVariants as run_fault
@@ -11,7 +11,7 @@ use Rattle.flow_pool.specs.declared.whole_run.SolveFault.{SolveFault}
 use Rattle.flow_pool.specs.declared.whole_run.SolveFault.TheVariants.{Memory, Threads, OverBudget}
 use Rattle.flow_pool.specs.Work.{prefix_count, share, tasks_of, answered}
 
--- how the fault of a verdict is named by a run
+-- the fault of a run, from the fault of its verdict
 abbrev pub solve_fault : RunFault → SolveFault
 solve_fault (run_fault.OverBudget number) = OverBudget number
 solve_fault run_fault.Memory = Memory

@@ -1,4 +1,4 @@
--- What the hub has done so far: what it sent, and what it took.
+-- What the hub has sent and received so far.
 use Rattle.std.specs.Prelude.{ℕ, ◌+◌, ◌%◌, List, [], ◌∷◌, ◌++◌, ◌==◌, if◌then◌else◌, map, slice_set, slice_index_or, ◌≡◌, ◌≤◌, length, All, vec_len, vec_capacity, ◌<◌, cond, nat_eq, filter}
 use Rattle.std.specs.List.{range_with_len}
 use Rattle.std.specs.Global.{Vec}
@@ -15,19 +15,19 @@ use Rattle.flow_search.specs.Outcomes.{IsLawful}
 use Rattle.flow_pool.specs.declared.ends.Task.TheVariants.{Prefix, End}
 use Rattle.flow_pool.specs.declared.ends.WorkerEnds.{WorkerEnds}
 
--- what a worker is asked of the first n prefixes
+-- the tasks of a worker among the first n prefixes
 abbrev pub asked : ℕ → ℕ → ℕ → List Task
 asked k n worker = asking (share k n worker)
 
--- with x at the end of one of the lists
+-- some lists with x at the end of one of them
 abbrev pub pushed_at : {X : Type 0} → ℕ → X → List (List X) → List (List X)
 pushed_at lane x lists = slice_set lists lane (slice_index_or lists lane [] ++ x ∷ [])
 
--- how many slots these have
+-- how many slots the two lanes have
 abbrev pub hub_slots : HubEnds → ℕ × ℕ
 hub_slots hub = (hub.tasks.lane.capacity, hub.answers.lane.capacity)
 
--- the hub has taken answers in turn, no more than a limit, and there is room for so many
+-- the hub has received answers in turn, no more than a limit, and has memory for as many as the limit
 pub record HasTaken (hubs : List HubEnds) (answers : Vec Answer) (limit : ℕ) : Type 0 where
   pub dealt : received_lists hubs ≡ all_dealt (length hubs) answers.items
   pub few : vec_len answers ≤ limit

@@ -1,4 +1,4 @@
--- When lanes can be put away, and what is seen of them.
+-- When lanes can be settled, and what a pair of settled lanes has carried.
 use Rattle.std.specs.Prelude.{◌≡◌, ◌+◌, ◌<◌, Bool, true, false, List, [], ◌∷◌, ◌++◌, length}
 use Rattle.flow_lanes.specs.Lane.{Lane}
 use Rattle.flow_lanes.specs.declared.settled.Settled.{Settled}
@@ -9,33 +9,33 @@ use Rattle.flow_pool.specs.declared.ends.HubEnds.{HubEnds}
 use Rattle.flow_pool.specs.declared.ends.WorkerEnds.{WorkerEnds}
 use Rattle.flow_pool.specs.Work.{answered, asking}
 
--- there is one end, and it stands last
+-- the tasks have one end, which is the last
 abbrev pub ends_once : List Task → Bool
 ends_once [] = false
 ends_once (Prefix number ∷ tasks) = ends_once tasks
 ends_once (End ∷ []) = true
 ends_once (End ∷ task ∷ tasks) = false
 
--- nothing went through the hub's ends yet, and they have room for a task
+-- nothing was sent or received through the hub's ends, and they have room for a task
 pub record IsReadyHub (hub : HubEnds) : Type 0 where
   pub sent : hub.tasks.sent ≡ []
   pub received : hub.answers.received ≡ []
   pub room : 0 < hub.tasks.known_free
 
--- the hub has sent its one end, and taken as many answers as it sent prefixes
+-- the hub has sent one end, and received as many answers as it sent prefixes
 pub record IsCollected (hub : HubEnds) : Type 0 where
   pub ends : ends_once hub.tasks.sent ≡ true
   pub count : length hub.tasks.sent ≡ length hub.answers.received + 1
 
--- the worker has sent one answer for each prefix that it was asked, and has its end
+-- the worker has sent one answer for each prefix that it received, in order, and then received an end
 abbrev pub IsAnswered : WorkerEnds → Type 0
 IsAnswered ends = ends.tasks.received ≡ asking (answered ends.answers.sent) ++ End ∷ []
 
--- what a worker received
+-- the tasks that a worker received
 abbrev pub worker_tasks : WorkerEnds → List Task
 worker_tasks ends = ends.tasks.received
 
--- what a worker sent
+-- the answers that a worker sent
 abbrev pub worker_answers : WorkerEnds → List Answer
 worker_answers ends = ends.answers.sent
 
@@ -43,10 +43,10 @@ worker_answers ends = ends.answers.sent
 abbrev pub pair_lanes : Settled Task × Settled Answer → Lane × Lane
 pair_lanes pair = (pair.0.lane, pair.1.lane)
 
--- the tasks that went through them
+-- the tasks that went through these lanes
 abbrev pub pair_tasks : Settled Task × Settled Answer → List Task
 pair_tasks pair = pair.0.items
 
--- the answers that went through them
+-- the answers that went through these lanes
 abbrev pub pair_answers : Settled Task × Settled Answer → List Answer
 pair_answers pair = pair.1.items

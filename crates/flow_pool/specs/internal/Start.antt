@@ -1,4 +1,4 @@
--- What is so when the workers are started, and once they have ended.
+-- What holds before the workers are started, and after they have ended.
 use Rattle.std.specs.Prelude.{◌≡◌, ◌≤◌, List, length, map, All, ℕ, ◌+◌, ◌%◌, ◌<◌, cond, nat_eq, [], ◌∷◌, ◌++◌, filter}
 use Rattle.flow_search.specs.Limits.{most_workers}
 use Rattle.flow_pool.specs.declared.ends.HubEnds.{HubEnds}
@@ -15,18 +15,18 @@ use Rattle.flow_pool.specs.declared.ends.Task.TheVariants.{Prefix, End}
 use Rattle.flow_pool.specs.declared.ends.Answer.{Answer}
 use Rattle.flow_lanes.specs.Lane.{Lane}
 
--- a worker has served its lanes to the end
+-- a worker has answered all its tasks
 abbrev pub IsServed : Planned → WorkerEnds → Type 0
 IsServed plan ends = Fit plan ends.tasks.received ends.answers.sent
 
--- no more workers than the limit, with fresh ends; and the hub's ends of the same lanes, with room for a task
+-- there are no more workers than the limit, their ends are fresh, and the hub's ends of the same lanes have room for a task
 pub record CanStart (workers : List WorkerEnds) (hubs : List HubEnds) : Type 0 where
   pub count : length workers ≤ most_workers
   pub fresh : All IsFresh workers
   pub ready : All IsReadyHub hubs
   pub same : map hub_lanes hubs ≡ map worker_lanes workers
 
--- the workers have served, the hub has sent each its end and taken its answers; the ends are of the same lanes
+-- the workers have answered, and the hub has sent each an end and received its answers; the ends are of the same lanes
 pub record HasEnded (gives : WorkerEnds → Type 0) (workers : List WorkerEnds) (hubs : List HubEnds) : Type 0 where
   pub lanes : map hub_lanes hubs ≡ map worker_lanes workers
   pub served : All gives workers

@@ -14,7 +14,7 @@ use Rattle.flow_search.specs.declared.plan.PlanFault.{PlanFault}
 use Rattle.flow_search.specs.declared.plan.PlanFault.TheVariants.{Depth, Prefixes, Memory}
 use Rattle.flow_search.specs.Plans.{Planned, prefixes_of, IsPlan}
 
--- the prefixes of a plan, stored by their number and one after another
+-- what is stored of the prefixes of a plan: how many there are, and their jobs, one prefix after another
 pub record IsStored (plan : Planned) (count : ℕ) (lists : List ℕ) : Type 0 where
   pub is_plan : IsPlan plan
   pub count_is : count ≡ length (prefixes_of plan)

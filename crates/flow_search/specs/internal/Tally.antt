@@ -1,4 +1,4 @@
--- What the first prefixes of a plan have come to.
+-- The tally of the first prefixes of a plan.
 use Rattle.std.specs.Prelude.{ℕ, ◌≡◌, ◌+◌, ◌≤◌, Bool, true, false, nat_lt, List, [], ◌∷◌, map, length, take, Option, Some, None}
 use Rattle.std.specs.Option.{option_map, option_or, option_to_list}
 use Rattle.std.specs.List.{flat_map, AllByRecursion}
@@ -14,13 +14,13 @@ use Rattle.flow_search.specs.declared.verdict.Verdict.{Verdict}
 use Rattle.flow_search.specs.declared.verdict.RunFault.{RunFault}
 use Rattle.flow_search.specs.declared.verdict.RunFault.TheVariants.{OverBudget, Memory}
 
--- whether a best undercuts another; where one is missing the other is the lower
+-- whether the next best has a smaller makespan than the least so far; a best is smaller than none
 abbrev pub undercuts : Option Best → Option Best → Bool
 undercuts None least = false
 undercuts (Some next) None = true
 undercuts (Some next) (Some least) = nat_lt next.value least.value
 
--- the trees of the first prefixes, all within the budget, and the first least of their bests
+-- a tally of the first prefixes: their trees, all within the budget, and the least of their bests, on ties the first
 pub record IsTally (plan : Planned) (count : ℕ) (tally : Tally) : Type 0 where
   pub trees : map (λ tree. tree.items) tally.trees.items ≡ take count (trees_of plan)
   pub within : AllByRecursion (λ text. length text ≤ plan.options.budget) (take count (trees_of plan))
