@@ -1,8 +1,10 @@
 -- Times that are taken column by column, and back.
-use Rattle.std.proofs.Common.{◌≡◌, ℕ, ◌+◌, ◌-◌, ◌*◌, ◌/◌, ◌%◌, ◌<◌, ◌≤◌, List, length, slice_index, subst, ap, sym, ◌∙◌, arith}
+use Rattle.std.proofs.Common.{◌≡◌, Bool, true, false, ◌&&◌, nat_eq, refl, ℕ, ◌+◌, ◌-◌, ◌*◌, ◌/◌, ◌%◌, ◌<◌, ◌≤◌, List, length, slice_index, subst, ap, sym, ◌∙◌, arith}
 use Rattle.std.proofs.Math.Nat.{mod-lt, div-lt_iff_lt-mul, mul-le-mul_right, mul_comm, add-mul}
 use Rattle.std.proofs.lemmas.Nat.{mod-mul-add, div-mul-add, div-add-mod'}
 use Rattle.std.proofs.lemmas.List.{ext_get_or}
+use Rattle.std.proofs.lemmas.Bool.{eqb-true, false≢true}
+use Rattle.std.specs.Cmp.Lexicographic.{pointwise, bytes_decides}
 use Rattle.std.proofs.lemmas.List.FromFn.{get_or-map-range_with_len, length-map-range_with_len}
 use Rattle.flow_core.specs.Shop.{Shop, time}
 use Rattle.flow_core.specs.internal.Turned.{turned}
@@ -70,3 +72,37 @@ row-within jobs machines job machine from to first last =
     mul-le-mul_right machines (let h : job - 1 + 1 ≤ jobs = omega arith in h) in
     let one : (job - 1 + 1) * machines ≡ (job - 1) * machines + 1 * machines = add-mul (job - 1) 1 machines in
     omega (arith, rows, one)
+
+-- two truth values are one where each is true with the other
+both-ways : (p q : Bool) → (p ≡ true → q ≡ true) → (q ≡ true → p ≡ true) → p ≡ q
+both-ways true q onward back = sym (onward refl)
+both-ways false true onward back = back refl
+both-ways false false onward back = refl
+
+-- rows are the same exactly where their times are
+pub turned-same : (n m : ℕ) (xs ys : List ℕ) → 0 < m → length xs ≡ n * m → length ys ≡ n * m →
+    pointwise nat_eq xs ys ≡ pointwise nat_eq (turned n m xs) (turned n m ys)
+turned-same n m xs ys some xs_count ys_count =
+    let back : (zs : List ℕ) → length zs ≡ n * m → turned m n (turned n m zs) ≡ zs =
+    λ zs count. turned-twice m n zs some (count ∙ mul_comm n m) in
+    both-ways (pointwise nat_eq xs ys) (pointwise nat_eq (turned n m xs) (turned n m ys))
+    (λ same. (bytes_decides (turned n m xs) (turned n m ys)).1 (ap (turned n m) ((bytes_decides xs ys).0 same)))
+    (λ same. (bytes_decides xs ys).1
+    (sym (back xs xs_count) ∙ ap (turned m n) ((bytes_decides (turned n m xs) (turned n m ys)).0 same) ∙ back ys ys_count))
+
+both-true : (p q : Bool) → (p && q) ≡ true → (p ≡ true) × (q ≡ true)
+both-true true q h = (refl, h)
+both-true false q h = absurd (false≢true h)
+
+-- whether two instances are the same, where their sizes are
+pub same-sizes : (n m k l : ℕ) (xs ys : List ℕ) → (nat_eq n k && nat_eq m l) ≡ true → 0 < m →
+    length xs ≡ n * m → length ys ≡ k * l →
+    pointwise nat_eq xs ys ≡ (nat_eq n k && nat_eq m l) && pointwise nat_eq (turned n m xs) (turned k l ys)
+same-sizes n m k l xs ys tests some xs_count ys_count =
+    let both = both-true (nat_eq n k) (nat_eq m l) tests in
+    let jobs = eqb-true n k both.0 in
+    let machines = eqb-true m l both.1 in
+    turned-same n m xs ys some xs_count (rw (jobs, machines) ys_count)
+    ∙ ap (λ b. pointwise nat_eq (turned n m xs) (turned b m ys)) jobs
+    ∙ ap (λ b. pointwise nat_eq (turned n m xs) (turned k b ys)) machines
+    ∙ ap (λ b. b && pointwise nat_eq (turned n m xs) (turned k l ys)) (sym tests)
