@@ -1,18 +1,21 @@
 -- The first node of a subtree.
-use Rattle.std.proofs.Common.{◌≡◌, ◌≢◌, ℕ, zero, suc, ◌+◌, ◌-◌, ◌<◌, ◌≤◌, Bool, true, false, cond, not, ◌||◌, nat_eq, List, [], ◌∷◌, length, slice_index, slice_index_or, set, refl, ap, sym, ◌∙◌, subst, inl, inr, arith}
+use Rattle.std.proofs.Common.{◌≡◌, ◌≢◌, ℕ, zero, suc, ◌+◌, ◌-◌, ◌<◌, ◌≤◌, Bool, true, false, cond, not, ◌||◌, nat_eq, List, [], ◌∷◌, ◌++◌, length, length-append, append_assoc, take, slice_index, slice_index_or, set, refl, ap, sym, ◌∙◌, subst, inl, inr, arith}
 use Rattle.std.specs.List.{filter, range_with_len, sum_by}
 use Rattle.std.proofs.lemmas.Bool.{cases_lt, false≢true, eq-eqb, or_left, or_right, not-true}
 use Rattle.std.proofs.lemmas.Bool.Decides.{eqb_tells}
-use Rattle.std.proofs.lemmas.List.{get_or-set_other, get_or-set_same}
+use Rattle.std.proofs.lemmas.List.{get_or-set_other, get_or-set_same, take_more_set, length-take, append-nil}
 use Rattle.std.proofs.lemmas.List.Sums.{sum_by-cons}
-use Rattle.flow_core.specs.Shop.{Shop, time, time_between}
+use Rattle.flow_core.specs.Shop.{Shop, numbers, time, time_between}
+use Rattle.flow_core.specs.JobSet.{contains}
 use Rattle.flow_core.specs.Sequences.{has}
+use Rattle.flow_search.specs.internal.Nodes.{IsAt}
 use Rattle.flow_search.specs.declared.lanes.group.TheConstants.{GONE}
 use Rattle.flow_search.specs.declared.lanes.group.Row.{Row}
 use Rattle.flow_search.specs.declared.lanes.group.Group.{Group}
 use Rattle.flow_search.specs.declared.lanes.group.Frame.{Frame}
 use Rattle.flow_search.specs.internal.Lanes.{IsLaneLeft, IsFrameOf, IsRowOf, IsSmallRow}
 use Rattle.flow_search.specs.internal.Lanes.{AreJobsOf, IsFew}
+use Rattle.flow_search.proofs.Nodes.{filter-here, left-count, left-is, members-are, numbers-none}
 use Rattle.flow_search.proofs.JobsTaken.{filter-has, left-here}
 
 -- a list has what stands at each place, and nothing else
@@ -139,4 +142,49 @@ entered shop list front jobs group frame machine is e done lanes left gone =
       order = λ lane other here there less.
           let whole : Increases 1 jobs = subst (Increases 1) (sym is.left) (increases-filter (λ k. not (has list k)) 1 (shop.jobs + 1 - 1)) in
           omega (arith, job lane here, job other there, increases-order 1 jobs lane other whole less (filled other there));
+    }
+
+-- the jobs that pass a test, gathered in increasing order: one more, and none more
+pub gathered-more : (p : ℕ → Bool) (made : List ℕ) (count job n : ℕ) → length made ≡ 8 → count ≤ 8 → length (filter p (numbers 1 n)) ≤ 8 →
+    job ≤ n → p job ≡ true → take count made ++ filter p (numbers job n) ≡ filter p (numbers 1 n) →
+    (count < 8) × (take (count + 1) (set made count job) ++ filter p (numbers (job + 1) n) ≡ filter p (numbers 1 n))
+gathered-more p made count job n size few all to pass so_far =
+    let here : filter p (numbers job n) ≡ job ∷ filter p (numbers (job + 1) n) = filter-here p job n to pass in
+    let room : count < 8 =
+    omega (arith, few, all, size, length-take count made, ap length so_far, length-append (take count made) (filter p (numbers job n)), ap length here) in (
+      room,
+      ap (λ xs. xs ++ filter p (numbers (job + 1) n)) (take_more_set made count job (omega (arith, size, room)))
+      ∙ append_assoc (take count made) (job ∷ []) (filter p (numbers (job + 1) n))
+      ∙ ap (λ xs. take count made ++ xs) (sym here)
+      ∙ so_far,
+    )
+
+pub gathered-all : (p : ℕ → Bool) (made : List ℕ) (count job n : ℕ) → job ≡ n + 1 → length made ≡ 8 → count ≤ 8 →
+    take count made ++ filter p (numbers job n) ≡ filter p (numbers 1 n) →
+    take (length (filter p (numbers 1 n))) made ≡ filter p (numbers 1 n)
+gathered-all p made count job n end size few so_far =
+    let none : filter p (numbers job n) ≡ [] = ap (λ k. filter p (numbers k n)) end ∙ ap (filter p) (numbers-none n) in
+    let all : take count made ≡ filter p (numbers 1 n) = sym (append-nil (take count made)) ∙ ap (λ xs. take count made ++ xs) (sym none) ∙ so_far in
+    let long : length (filter p (numbers 1 n)) ≡ count = omega (arith, ap length all, length-take count made, size, few) in
+    ap (λ k. take k made) long ∙ all
+
+-- how many jobs are left at a node
+pub count-is : (shop : Shop) (node front : List ℕ) (unscheduled : List Bool) (count : ℕ) → IsAt shop node front unscheduled count →
+    length (filter (contains unscheduled) (numbers 1 shop.jobs)) ≡ count
+count-is shop node front unscheduled count at =
+    ap length (left-is shop node front unscheduled count at ∙ sym (members-are shop node front unscheduled count at))
+    ∙ left-count shop node front unscheduled count at
+
+-- the jobs that were gathered at a node
+pub few-at : (shop : Shop) (node front : List ℕ) (unscheduled : List Bool) (count : ℕ) (made : List ℕ) → IsAt shop node front unscheduled count → count ≤ 8 →
+    take (length (filter (contains unscheduled) (numbers 1 shop.jobs))) made ≡ filter (contains unscheduled) (numbers 1 shop.jobs) →
+    IsFew shop node front (take count made)
+few-at shop node front unscheduled count made at few is =
+    let size = count-is shop node front unscheduled count at in
+    let all : take count made ≡ filter (contains unscheduled) (numbers 1 shop.jobs) = ap (λ k. take k made) (sym size) ∙ is in
+    record {
+      few = omega (arith, ap length all, size, few);
+      left = all ∙ left-is shop node front unscheduled count at;
+      count = omega (arith, ap length all, size, at.whole);
+      times = at.is_front;
     }

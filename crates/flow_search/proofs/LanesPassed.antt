@@ -1,16 +1,16 @@
 -- One machine of the pass over a node's children.
-use Rattle.std.proofs.Common.{◌≡◌, ◌≢◌, ◌⊎◌, ℕ, zero, suc, ◌+◌, ◌-◌, ◌*◌, ◌<◌, ◌≤◌, max, Bool, true, false, cond, List, [], ◌∷◌, ◌++◌, length, map, slice_index, slice_index_or, replicate, set, refl, ap, sym, ◌∙◌, subst, inl, inr, arith}
+use Rattle.std.proofs.Common.{◌≡◌, ◌≢◌, ◌⊎◌, ℕ, zero, suc, ◌+◌, ◌-◌, ◌*◌, ◌<◌, ◌≤◌, max, Bool, true, false, cond, not, List, [], ◌∷◌, ◌++◌, length, map, slice_index, slice_index_or, replicate, set, refl, ap, sym, ◌∙◌, subst, inl, inr, arith}
 use Rattle.std.specs.List.{sum_by}
 use Rattle.std.proofs.lemmas.Bool.{cases_lt, cases_order}
 use Rattle.std.proofs.lemmas.List.{get_or-set_other, get_or-set_same}
-use Rattle.flow_core.specs.Limits.{greatest_time, greatest_completion}
+use Rattle.flow_core.specs.Limits.{most_jobs, greatest_time, greatest_completion}
 use Rattle.flow_core.specs.Shop.{Shop, time, time_between, IsWithinLimits}
 use Rattle.flow_core.specs.Least.{least}
 use Rattle.flow_core.specs.Paths.{completion}
-use Rattle.flow_core.specs.Sequences.{jobs_left}
+use Rattle.flow_core.specs.Sequences.{has, jobs_left}
 use Rattle.flow_core.specs.Bound.{bound_at}
 use Rattle.flow_core.proofs.Recurrence.{completion-push, completion-after}
-use Rattle.flow_core.proofs.Fronts.{front-within}
+use Rattle.flow_core.proofs.Fronts.{front-within, time-small}
 use Rattle.flow_core.proofs.Admissible.{front_of-is}
 use Rattle.flow_core.proofs.JobsLeft.{kept, kept-more}
 use Rattle.flow_search.specs.declared.lanes.group.TheConstants.{GONE}
@@ -156,6 +156,15 @@ kept-small f p most (suc n) small = omega (arith, kept-more f p n, kept-small f 
     one : (b : Bool) (v : ℕ) → cond b v 0 ≤ v
     one true v = omega arith
     one false v = omega arith
+
+-- a lane's bound is below the limit of u32
+pub sum-small : (shop : Shop) (list : List ℕ) (group : Group) (frame : Frame) (place : ℕ) → IsWithinLimits shop →
+    IsFrameOf shop list group frame → place < shop.machines → slice_index frame.sum place ≤ most_jobs * greatest_time
+sum-small shop list group frame place limits at to =
+    let e : place + 1 - 1 ≡ place = omega arith in
+    let owed = sym (ap (slice_index frame.sum) e) ∙ at.owed (place + 1) (omega arith) (omega (arith, to)) in
+    let small = kept-small (λ job. time shop job (place + 1)) (λ job. not (has list job)) greatest_time shop.jobs (λ job. time-small shop job (place + 1) limits) in
+    omega (arith, owed, small, limits.jobs)
 
 -- a machine's time fits
 pub front-small : (shop : Shop) (list : List ℕ) (group : Group) (frame : Frame) (place : ℕ) → IsWithinLimits shop → IsFrameOf shop list group frame → place < shop.machines → slice_index frame.front place ≤ greatest_completion

@@ -7,4 +7,4 @@ mod numbers;
 
 pub(crate) use entry::enter_few;
 pub(crate) use group::{Frame, Group, Row};
-pub(crate) use letters::{letters_of_eight, open_child};
+pub(crate) use letters::{letters_of_eight, open_child, renew_letters};

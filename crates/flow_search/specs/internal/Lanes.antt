@@ -1,5 +1,5 @@
 -- The jobs of a node with at most eight jobs left, side by side in eight lanes.
-use Rattle.std.specs.Prelude.{ℕ, ◌≡◌, ◌≢◌, ◌⊎◌, ◌+◌, ◌-◌, ◌<◌, ◌≤◌, false, List, [], ◌∷◌, ◌++◌, slice_index, slice_index_or, sum_by, length, filter, nat_eq}
+use Rattle.std.specs.Prelude.{ℕ, ◌≡◌, ◌≢◌, ◌⊎◌, ◌+◌, ◌-◌, ◌<◌, ◌≤◌, false, List, [], ◌∷◌, ◌++◌, slice_index, slice_index_or, sum_by, length, filter, nat_eq, Option}
 use Rattle.std.specs.List.{range_with_len}
 use Rattle.flow_core.specs.Limits.{greatest_time}
 use Rattle.flow_core.specs.Shop.{Shop, time, time_between}
@@ -7,6 +7,10 @@ use Rattle.flow_core.specs.Paths.{completion}
 use Rattle.flow_core.specs.Front.{IsFrontOf}
 use Rattle.flow_core.specs.Sequences.{has, jobs_left}
 use Rattle.flow_core.specs.Bound.{bound_at}
+use Rattle.flow_search.specs.Search.{Found}
+use Rattle.flow_search.specs.Walk.{walk, walk_each}
+use Rattle.flow_search.specs.internal.Nodes.{incumbent_of}
+use Rattle.flow_search.specs.declared.subtree.Search.{Search}
 use Rattle.flow_search.specs.declared.lanes.group.TheConstants.{GONE}
 use Rattle.flow_search.specs.declared.lanes.group.Row.{Row}
 use Rattle.flow_search.specs.declared.lanes.group.Group.{Group}
@@ -84,6 +88,26 @@ pub record IsLetter (shop : Shop) (list : List ℕ) (limit machines letter : ℕ
   pub above : (machine : ℕ) → 1 ≤ machine → machine ≤ letter → bound_at shop list machine < limit
   pub cut : letter < machines → limit ≤ bound_at shop list (letter + 1)
 
+-- each child that leaves a job has its letter for a limit
+abbrev pub AreLetters : Shop → List ℕ → Group → ℕ → Frame → Type 0
+AreLetters shop list group limit frame =
+    (lane other : ℕ) → IsLaneLeft frame lane → IsLaneLeft frame other → other ≢ lane →
+    IsLetter shop (child list group lane) limit shop.machines (slice_index frame.letters lane)
+
 -- the lanes whose jobs are left, in increasing order, from a lane on
 abbrev pub lanes_from : Frame → ℕ → List ℕ
 lanes_from frame lane = filter (λ lane. nat_eq (slice_index frame.gone lane) 0) (range_with_len lane (8 - lane))
+
+-- the walk's text stands behind the tree, within the budget, and its incumbent is there
+pub record Made (budget : ℕ) (walk : List ℕ × (ℕ × Option Found)) (old new : Search) : Type 0 where
+  pub tree : new.tree.items ≡ old.tree.items ++ walk.0
+  pub incumbent : incumbent_of new ≡ walk.1
+  pub node : new.node.items ≡ old.node.items
+  pub unscheduled : new.unscheduled ≡ old.unscheduled
+  pub within : length new.tree.items ≤ budget
+
+-- what the walks of the children give, with so many jobs left at each
+abbrev pub children_walked : Shop → ℕ → Search → List ℕ × (ℕ × Option Found)
+children_walked shop left search =
+    walk_each (λ job. walk shop bound_at left (search.node.items ++ job ∷ []))
+    (jobs_left shop.jobs search.node.items) (incumbent_of search)

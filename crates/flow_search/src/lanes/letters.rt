@@ -1,26 +1,28 @@
 //! The letters of all children of a node, in one pass over the machines.
 
-ghost use Rattle.std.specs.Prelude.{◌≡◌, ◌≢◌, ℕ, ◌+◌, ◌<◌, ◌≤◌, List, slice_index, slice_set};
+ghost use Rattle.std.specs.Prelude.{◌≡◌, ℕ, ◌+◌, ◌<◌, ◌≤◌, List, slice_index, slice_set};
 ghost use Rattle.flow_search.specs.declared.lanes.group.TheConstants.{GONE};
-ghost use Rattle.flow_search.specs.internal.Lanes.{IsLaneLeft, IsFrameOf, IsOpened, IsLetter, child};
+ghost use Rattle.flow_search.specs.internal.Lanes.{IsLaneLeft, IsFrameOf, IsOpened, AreLetters, child};
 
 use crate::lanes::group::{Frame, GONE, Group};
 use crate::lanes::numbers::{at_least, below, greater, others, sums};
 use flow_core::Instance;
 
 /// Computes when each child leaves each machine, and its letter: how many machines there are before the first whose bound
-/// reaches the limit.
+/// reaches a value.
 #[inline(never)]
-pub fn letters_of_eight(instance: &Instance, group: &Group, frame: &mut Frame, limit: u32)
+pub fn letters_of_eight(instance: &Instance, group: &Group, frame: &mut Frame, value: u64)
     requires { (list : List ℕ) × IsFrameOf instance.now list group.now frame.old }
     ensures front { frame.new.front ≡ frame.old.front }
     ensures sum { frame.new.sum ≡ frame.old.sum }
     ensures gone { frame.new.gone ≡ frame.old.gone }
     ensures opened { (list : List ℕ) → IsFrameOf instance.now list group.now frame.old → IsOpened instance.now list group.now frame.new }
-    ensures letters { (list : List ℕ) (lane other : ℕ) → IsFrameOf instance.now list group.now frame.old → IsLaneLeft frame.old lane → IsLaneLeft frame.old other → other ≢ lane →
-        IsLetter instance.now (child list group.now lane) limit instance.now.machines (slice_index frame.new.letters lane) }
+    ensures letters { (list : List ℕ) → IsFrameOf instance.now list group.now frame.old →
+        AreLetters instance.now list group.now value frame.new }
 {
     let machines = instance.machines() as usize;
+    // No bound is so great.
+    let limit = value.min(u64::from(u32::MAX)) as u32;
     let gone = frame.gone;
     let mut free = [0u32; 8];
     let mut uncut = [1u32; 8];
@@ -37,6 +39,22 @@ pub fn letters_of_eight(instance: &Instance, group: &Group, frame: &mut Frame, l
         frame.free[place] = free;
     }
     frame.letters = letters;
+}
+
+/// Makes the letters of an opened node anew, where its letters are those of another value.
+#[inline(always)]
+pub fn renew_letters(instance: &Instance, group: &Group, frame: &mut Frame, made_for: u64, value: u64)
+    requires { (list : List ℕ) × IsOpened instance.now list group.now frame.old }
+    ensures gone { frame.new.gone ≡ frame.old.gone }
+    ensures opened { (list : List ℕ) → IsOpened instance.now list group.now frame.old →
+        IsOpened instance.now list group.now frame.new }
+    ensures letters { (list : List ℕ) → IsOpened instance.now list group.now frame.old →
+        AreLetters instance.now list group.now made_for frame.old →
+        AreLetters instance.now list group.now value frame.new }
+{
+    if value != made_for {
+        letters_of_eight(instance, group, frame, value);
+    }
 }
 
 /// Makes the node of a child: its front is what the pass over its parent left.

@@ -1,11 +1,11 @@
-use Rattle.std.proofs.Common.{rules, ◌≡◌, ℕ, ◌+◌, ◌<◌, ◌≤◌, max, List, [], slice_index, refl, ap, ◌∙◌, subst, inl, inr, arith}
+use Rattle.std.proofs.Common.{rules, ◌≡◌, ℕ, ◌+◌, ◌<◌, ◌≤◌, max, List, [], slice_index, refl, ap, sym, ◌∙◌, subst, inl, inr, arith}
 use Rattle.std.proofs.lemmas.Bool.{cases_lt}
 use Rattle.std.proofs.lemmas.List.{length-set}
 use Rattle.flow_core.specs.Limits.{most_machines}
 use Rattle.flow_core.specs.Shop.{Shop}
 use Rattle.flow_core.specs.Paths.{completion}
 use Rattle.flow_search.specs.internal.Lanes.{IsLaneLeft, IsFrameOf, IsLetter, child, job_of}
-use Rattle.flow_search.proofs.LanesPassed.{all-same, passed-start, passed-more, free-none, free-is, bound-is, start-small, behind-small, row-small, done-more}
+use Rattle.flow_search.proofs.LanesPassed.{all-same, passed-start, passed-more, free-none, free-is, bound-is, start-small, behind-small, sum-small, row-small, done-more}
 use Rattle.flow_search.proofs.LanesOpened.{opened-same}
 use Rattle.flow_search.proofs.lanes.letters.letters_of_eight.Goals as goal
 
@@ -20,7 +20,7 @@ loop-place-init c = record {
   uncut_small = λ lane low. omega (arith, all-same 8 1 lane low);
   free = λ list lane at here. all-same 8 0 lane here.within ∙ free-none c.args.instance.now list (job_of c.args.group.now lane);
   passed = λ list lane other at here there differ.
-      passed-start c.args.instance.now (child list c.args.group.now lane) c.args.limit _ _ (all-same 8 0 lane here.within) (all-same 8 1 lane here.within);
+      passed-start c.args.instance.now (child list c.args.group.now lane) c.args.value _ _ (all-same 8 0 lane here.within) (all-same 8 1 lane here.within);
   done = λ list place lane at here h. absurd (omega (arith, h));
 }
 
@@ -91,10 +91,15 @@ loop-place-preserved c =
           let bound = bound-is shop list c.args.group.now c.args.frame.now (record { time = []; tail = [] }) lane other place (slice_index c.loop-place.free lane) (slice_index c.at_least-start.result lane) (slice_index c.others-behind.result lane) c.greater.result
           at here there differ to (c.loop-place.invariant.free list lane at here) (start lane here.within) c.greater.ensures.each (c.others-behind.ensures.each lane here.within) in
           let whole = c.sums.ensures.each lane here.within in
-          passed-more shop (child list c.args.group.now lane) c.args.limit place (slice_index c.loop-place.letters lane) (slice_index c.loop-place.uncut lane) (slice_index c.below-uncut.result lane) (slice_index c.sums-letters.result lane)
+          let begins = start-small shop c.requires.0 c.args.group.now c.args.frame.now place (slice_index c.loop-place.free lane) (slice_index c.at_least-start.result lane)
+          c.machines-machines.ensures.limits c.requires.1 to (c.loop-place.invariant.free_small lane here.within) (start lane here.within) in
+          let after = behind-small shop c.requires.0 c.args.group.now c.args.frame.now (record { time = []; tail = [] }) place lane (slice_index c.others-behind.result lane) c.greater.result
+          c.requires.1 to c.greater.ensures.each (c.others-behind.ensures.each lane here.within) in
+          let owed = sum-small shop c.requires.0 c.args.group.now c.args.frame.now place c.machines-machines.ensures.limits c.requires.1 to in
+          passed-more shop (child list c.args.group.now lane) c.args.value place (slice_index c.loop-place.letters lane) (slice_index c.loop-place.uncut lane) (slice_index c.below-uncut.result lane) (slice_index c.sums-letters.result lane)
           (c.loop-place.invariant.passed list lane other at here there differ)
-          (λ under. c.below-uncut.ensures.kept lane here.within (omega (arith, under, bound, whole, sum, c.saturating_sub-room.ensures)))
-          (λ over. c.below-uncut.ensures.cut lane here.within (omega (arith, over, bound, whole, sum, c.saturating_sub-room.ensures)))
+          (λ under. c.below-uncut.ensures.kept lane here.within (omega (arith, under, bound, whole, sum, begins, after, owed, to, most, c.saturating_sub-room.ensures, c.min-limit.ensures)))
+          (λ over. c.below-uncut.ensures.cut lane here.within (omega (arith, over, bound, whole, sum, c.saturating_sub-room.ensures, c.min-limit.ensures)))
           (c.sums-letters.ensures.each lane here.within);
       done = λ list there lane at here low.
           done-more (λ k times. slice_index times lane ≡ completion shop (child list c.args.group.now lane) (k + 1)) c.loop-place.frame.free place c.sums-free.result
@@ -102,10 +107,13 @@ loop-place-preserved c =
     }
 
 pub returns-clause-letters : goal.returns-clause-letters
-returns-clause-letters c list lane other at here there differ =
+returns-clause-letters c list at lane other here there differ =
     let e : c.loop-place.place ≡ c.args.instance.now.machines = omega (arith, c.loop-place-test.false, c.loop-place.auto.place-end, c.machines-machines.ensures.value) in
-    subst (λ m. IsLetter c.args.instance.now (child list c.args.group.now lane) c.args.limit m (slice_index c.loop-place.letters lane)) e
-    (c.loop-place.invariant.passed list lane other at here there differ).is
+    let back : (k : ℕ) → slice_index c.loop-place.frame.gone k ≡ 0 → slice_index c.args.frame.now.gone k ≡ 0 =
+    λ k left. sym (ap (λ g. slice_index g k) c.loop-place.invariant.gone) ∙ left in
+    subst (λ m. IsLetter c.args.instance.now (child list c.args.group.now lane) c.args.value m (slice_index c.loop-place.letters lane)) e
+    (c.loop-place.invariant.passed list lane other at
+    (record { within = here.within; left = back lane here.left }) (record { within = there.within; left = back other there.left }) differ).is
 
 pub returns-clause-opened : goal.returns-clause-opened
 returns-clause-opened c list at =
