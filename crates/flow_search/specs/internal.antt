@@ -1,3 +1,4 @@
 pub mod Nodes
 pub mod Tally
 pub mod Stored
+pub mod Lanes

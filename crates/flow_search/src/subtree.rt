@@ -10,6 +10,7 @@ ghost use Rattle.flow_core.specs.Bound.{machine_bound};
 ghost use Rattle.flow_search.specs.internal.Nodes.{IsAt, IsFresh, Wrote, Saw, Entered, Left, Walked, walked};
 ghost use Rattle.flow_search.specs.declared.subtree.Stop.TheVariants.{Memory};
 
+use crate::few::walk_few;
 use flow_bound::bound;
 use flow_core::{Front, Instance, JobSet, front_push};
 use std::alloc::{AllocError, AllocFailed, Global};
@@ -73,7 +74,7 @@ impl Search {
     }
 
     /// Appends a byte to the tree. `OverBudget` where the tree is as long as the budget.
-    fn write(&mut self, budget: usize, byte: u8) -> Result<(), Stop>
+    pub fn write(&mut self, budget: usize, byte: u8) -> Result<(), Stop>
         ensures done { OnOk result (Wrote budget byte self.old self.new) }
         ensures over { result ≡ Err Stop.OverBudget → budget ≤ length self.old.tree.items }
     {
@@ -85,7 +86,7 @@ impl Search {
     }
 
     /// Makes the sequence of the node the incumbent, where its makespan is smaller.
-    fn see(&mut self, value: u64) -> Result<(), AllocError>
+    pub fn see(&mut self, value: u64) -> Result<(), AllocError>
         ensures { OnOk result (Saw value self.old self.new) }
     {
         if value < self.value {
@@ -164,6 +165,10 @@ pub fn explore(
         return Ok(());
     }
     search.write(budget, b'+')?;
+    if count <= 8 {
+        walk_few(instance, budget, front, count, search)?;
+        return Ok(());
+    }
     let below = count - 1;
     for job in 1..instance.jobs() + 1 {
         if search.unscheduled.contains(job) {

@@ -7,6 +7,7 @@ use Rattle.flow_search.specs.internal.Nodes.{Walked}
 use Rattle.flow_search.specs.declared.subtree.Stop.{Stop}
 use Rattle.flow_search.specs.declared.subtree.Stop.TheVariants.{OverBudget}
 use Rattle.flow_search.proofs.Nodes.{left-count, within-front, machine-is, cut-here, below-start, below-skip, below-take, below-over, child-at, child-jobs, Below}
+use Rattle.flow_search.proofs.LanesWalked.{uncut-found, node-done, node-over}
 use Rattle.flow_search.proofs.subtree.+explore.Goals as goal
 use Rattle.flow_search.proofs.subtree.+explore.Goals.{then-contains+in_ok-enter+in_ok-explore, else-contains}
 
@@ -35,6 +36,21 @@ pub returns-in-Some-clause-done : goal.returns-in-Some-clause-done
 returns-in-Some-clause-done t c =
     cut-here c.args.instance.now c.args.front.now c.args.budget c.args.count (c.args.count - 1) c.in-Some.machine c.args.search.now c.write-in-Some.new.self
     c.requires (omega arith) c.in-Some.ensures c.in_ok-write-2.ensures.done
+
+pub returns-in_err-walk_few-clause-over : goal.returns-in_err-walk_few-clause-over
+returns-in_err-walk_few-clause-over t c e =
+    let p = err_from_is_err_and c.from_residual-in_err-walk_few.result c.from_residual-in_err-walk_few.ensures.1 in
+    let put : Stop → Result (Unit {0}) Stop = λ stop. Err stop in
+    let same : put c.in_err-walk_few.field-0.0 ≡ put OverBudget = ap put (sym p.2) ∙ sym p.1 ∙ e in
+    node-over c.args.instance.now c.args.budget c.args.count c.args.search.now c.write-2.new.self
+    (uncut-found c.args.instance.now c.args.front.now c.args.count c.args.search.now (omega arith) c.requires c.in_default.ensures)
+    c.in_ok-write-3.ensures.done (c.in_err-walk_few.ensures.over same)
+
+pub returns-then-count-le8-clause-done : goal.returns-then-count-le8-clause-done
+returns-then-count-le8-clause-done t c =
+    node-done c.args.instance.now c.args.budget c.args.count c.args.search.now c.write-2.new.self c.walk_few.new.search
+    (uncut-found c.args.instance.now c.args.front.now c.args.count c.args.search.now (omega arith) c.requires c.in_default.ensures)
+    c.in_ok-write-3.ensures.done c.in_ok-walk_few.ensures.done
 
 pub loop-job-init : goal.loop-job-init
 loop-job-init t c =

@@ -1,0 +1,90 @@
+//! Eight numbers side by side. The loops are short, so that the compiler packs them.
+
+ghost use Rattle.std.specs.Prelude.{◌≡◌, ℕ, ◌+◌, ◌<◌, ◌≤◌, max, length, slice_index};
+ghost use Rattle.flow_search.specs.internal.Lanes.{IsLeastOfOthers};
+
+/// For each lane the least number of the other lanes.
+#[inline(always)]
+pub(crate) fn others(numbers: &[u32; 8]) -> [u32; 8]
+    ensures size { length result ≡ 8 }
+    ensures each { (lane : ℕ) → lane < 8 → IsLeastOfOthers numbers.now lane (slice_index result lane) }
+{
+    let pair_0 = numbers[0].min(numbers[4]);
+    let pair_1 = numbers[1].min(numbers[5]);
+    let pair_2 = numbers[2].min(numbers[6]);
+    let pair_3 = numbers[3].min(numbers[7]);
+    let low = pair_0.min(pair_1);
+    let high = pair_2.min(pair_3);
+    let far_0 = pair_1.min(high);
+    let far_1 = pair_0.min(high);
+    let far_2 = pair_3.min(low);
+    let far_3 = pair_2.min(low);
+    [
+        numbers[4].min(far_0),
+        numbers[5].min(far_1),
+        numbers[6].min(far_2),
+        numbers[7].min(far_3),
+        numbers[0].min(far_0),
+        numbers[1].min(far_1),
+        numbers[2].min(far_2),
+        numbers[3].min(far_3),
+    ]
+}
+
+/// In each lane the number, or one that is the same for all where that is greater.
+#[inline(always)]
+pub(crate) fn at_least(numbers: &[u32; 8], least: u32) -> [u32; 8]
+    ensures size { length result ≡ 8 }
+    ensures each { (lane : ℕ) → lane < 8 → slice_index result lane ≡ max (slice_index numbers.now lane) least }
+{
+    let mut made = [0u32; 8];
+    for lane in 0..8usize {
+        made[lane] = numbers[lane].max(least);
+    }
+    made
+}
+
+/// The greater number in each lane.
+#[inline(always)]
+pub(crate) fn greater(numbers: &[u32; 8], others: &[u32; 8]) -> [u32; 8]
+    ensures size { length result ≡ 8 }
+    ensures each { (lane : ℕ) → lane < 8 → slice_index result lane ≡ max (slice_index numbers.now lane) (slice_index others.now lane) }
+{
+    let mut made = [0u32; 8];
+    for lane in 0..8usize {
+        made[lane] = numbers[lane].max(others[lane]);
+    }
+    made
+}
+
+/// The sum in each lane.
+#[inline(always)]
+pub(crate) fn sums(numbers: &[u32; 8], others: &[u32; 8]) -> [u32; 8]
+    requires fits { (lane : ℕ) → lane < 8 → slice_index numbers.now lane + slice_index others.now lane ≤ u32.MAX }
+    ensures size { length result ≡ 8 }
+    ensures each { (lane : ℕ) → lane < 8 → slice_index result lane ≡ slice_index numbers.now lane + slice_index others.now lane }
+{
+    let mut made = [0u32; 8];
+    for lane in 0..8usize {
+        made[lane] = numbers[lane] + others[lane];
+    }
+    made
+}
+
+/// The flags, without those of the lanes whose number reaches a limit.
+#[inline(always)]
+pub(crate) fn below(flags: &[u32; 8], numbers: &[u32; 8], limit: u32) -> [u32; 8]
+    ensures size { length result ≡ 8 }
+    ensures kept { (lane : ℕ) → lane < 8 → slice_index numbers.now lane < limit → slice_index result lane ≡ slice_index flags.now lane }
+    ensures cut { (lane : ℕ) → lane < 8 → limit ≤ slice_index numbers.now lane → slice_index result lane ≡ 0 }
+{
+    let mut made = [0u32; 8];
+    for lane in 0..8usize {
+        made[lane] = if numbers[lane] < limit {
+            flags[lane]
+        } else {
+            0
+        };
+    }
+    made
+}
