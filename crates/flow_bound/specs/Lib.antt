@@ -1,4 +1,5 @@
 pub mod Totals
 pub mod Neh
 pub mod Taillard
+pub mod Rest
 pub mod internal

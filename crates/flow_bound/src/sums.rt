@@ -1,18 +1,18 @@
 //! Each job's time on several machines.
 
 ghost use Rattle.std.specs.Prelude.{◌≡◌, ℕ, ◌+◌, ◌-◌, ◌*◌, ◌≤◌, slice_index};
-ghost use Rattle.flow_core.specs.Limits.{greatest_time};
+ghost use Rattle.flow_core.specs.Limits.{most_machines, greatest_time};
 ghost use Rattle.flow_core.specs.Shop.{time};
 ghost use Rattle.flow_bound.specs.internal.Times.{AreTimes};
 
 use flow_core::{Instance, MAX_JOBS};
 
 /// Adds each job's time on a machine to its sum.
-fn add_times(instance: &Instance, sums: &mut [u32; MAX_JOBS], machine: u16)
+pub(crate) fn add_times(instance: &Instance, sums: &mut [u32; MAX_JOBS], machine: u16)
     requires from { 1 ≤ machine }
     requires to { machine ≤ instance.now.machines }
     requires small { (job : ℕ) → 1 ≤ job → job ≤ instance.now.jobs →
-        slice_index sums.old (job - 1) ≤ machine * greatest_time }
+        slice_index sums.old (job - 1) ≤ most_machines * greatest_time }
     ensures { (job : ℕ) → 1 ≤ job → job ≤ instance.now.jobs →
         slice_index sums.new (job - 1) ≡ slice_index sums.old (job - 1) + time instance.now job machine }
 {

@@ -5,7 +5,7 @@ ghost use Rattle.flow_core.specs.Front.{IsWithinFront};
 ghost use Rattle.flow_core.specs.JobSet.{contains, members};
 
 use crate::instances::{three_machines, two_machines};
-use flow_bound::{bound, neh, taillard_bound};
+use flow_bound::{Rest, bound, neh, taillard_bound};
 use flow_core::{Front, Instance, JobSet, front_push, generate};
 use std::alloc::{AllocError, Global};
 use std::test::Fail;
@@ -102,6 +102,44 @@ fn bounds_of_two_machines_are_the_worked_ones(rt: HostRuntime) -> Result<(), Fai
             "at {jobs:?}"
         );
     }
+    Ok(())
+}
+
+/// For each machine, a rest's sum and least tail, and its bound behind a front.
+fn sums_tails_and_bounds(
+    alloc: Global,
+    rest: &Rest,
+    front: &Front,
+) -> Result<Vec<(u32, u32, u64)>, AllocError>
+    requires machines { rest.now.machines ≡ 3 }
+    requires within { (place : ℕ) → place < 3 → slice_index front.now place ≤ greatest_completion }
+{
+    let mut found = Vec::new(alloc);
+    for machine in 1..4 {
+        found.push((
+            rest.sum(machine),
+            rest.tail(machine),
+            rest.bound(front, machine),
+        ))?;
+    }
+    Ok(found)
+}
+
+#[test]
+fn rests_of_three_machines_are_the_worked_ones(rt: HostRuntime) -> Result<(), Fail> {
+    let alloc = rt.alloc();
+    let instance = three_machines(alloc)?;
+    let mut left = JobSet::all(&instance);
+    let mut front = Front::empty();
+    let all = Rest::of(&instance, &left);
+    let row = sums_tails_and_bounds(alloc, &all, &front)?;
+    assert_eq!(rt; row.as_slice(), [(4, 3, 7), (10, 0, 10), (5, 0, 5)].as_slice());
+    left.remove(3);
+    front_push(&instance, &mut front, 3);
+    let rest = all.step(&instance, &left, 3);
+    let row = sums_tails_and_bounds(alloc, &rest, &front)?;
+    assert_eq!(rt; row.as_slice(), [(4, 4, 8), (8, 0, 10), (4, 0, 7)].as_slice());
+    assert_eq!(rt; rest, Rest::of(&instance, &left));
     Ok(())
 }
 

@@ -1,4 +1,5 @@
-use Rattle.std.proofs.Common.{◌+◌, ◌-◌, ap, sym, ◌∙◌, arith}
+use Rattle.std.proofs.Common.{◌+◌, ◌-◌, ◌≤◌, ap, sym, ◌∙◌, arith}
+use Rattle.flow_core.specs.Limits.{most_machines}
 use Rattle.flow_core.proofs.Recurrence.{time_between-none}
 use Rattle.flow_bound.proofs.Steps.{time_between-step, time_between-small}
 use Rattle.flow_bound.proofs.sums.sum_times.Goals as goal
@@ -11,8 +12,10 @@ loop-machine-init c = record {
 
 pub add_times-requires-clause-small : goal.add_times-requires-clause-small
 add_times-requires-clause-small c job from to =
+    let most : c.args.instance.now.machines ≤ most_machines = c.machines-end.ensures.limits.machines in
     omega (
       arith,
+      most,
       c.loop-machine.invariant.sums job from to,
       time_between-small c.args.instance.now job c.args.first (c.loop-machine.machine - 1) c.requires.from c.machines-end.ensures.limits,
     )

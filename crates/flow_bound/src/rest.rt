@@ -1,0 +1,220 @@
+//! The rest of a set of jobs: what each machine still owes them.
+
+ghost use Rattle.std.specs.Prelude.{◌≡◌, ℕ, ◌+◌, ◌-◌, ◌<◌, ◌≤◌, List, Bool, length, slice_index, slice_set, sum_by, true, false};
+ghost use Rattle.flow_core.specs.Limits.{greatest_completion};
+ghost use Rattle.flow_core.specs.Shop.{Shop, time, time_between};
+ghost use Rattle.flow_core.specs.Paths.{span};
+ghost use Rattle.flow_core.specs.Front.{IsFrontOf};
+ghost use Rattle.flow_core.specs.JobSet.{contains, members};
+ghost use Rattle.flow_core.specs.Sequences.{jobs_left, IsSequence, Extends};
+ghost use Rattle.flow_core.specs.Bound.{machine_bound};
+ghost use Rattle.flow_bound.specs.Rest.{IsRestOf, least_tail};
+ghost use Rattle.flow_bound.specs.internal.Times.{AreTimes};
+
+use crate::sums::add_times;
+use flow_core::{Front, Instance, JobSet, MAX_JOBS, MAX_MACHINES};
+use std::alloc::AllocError;
+use std::marker::Model;
+
+/// What each machine of an instance owes a set of jobs. It stores no set.
+#[derive(Debug, PartialEq)]
+pub struct Rest {
+    /// The number of machines.
+    machines: u16,
+    /// For each machine, the time of all jobs of the set on it.
+    sums: [u32; MAX_MACHINES],
+    /// For each machine, the least tail of a job of the set: its time on all later machines.
+    tails: [u32; MAX_MACHINES],
+}
+
+impl Model for Rest {
+    ghost use Rattle.std.specs.Prelude.{◌≤◌};
+    ghost use Rattle.flow_core.specs.Limits.{most_machines};
+    ghost use Rattle.flow_bound.specs.Rest.{Owed};
+
+    ghost Value = { Owed };
+
+    ghost view = { λ r. record { machines = r.machines; sums = r.sums; tails = r.tails } };
+
+    ghost inverse = { λ o. record { machines = o.machines; sums = o.sums; tails = o.tails } };
+
+    ghost invariant = { λ r. r.machines ≤ most_machines };
+}
+
+impl Clone for Rest {
+    fn clone(&self) -> Result<Self, AllocError>
+        ensures { result ≡ Ok self.now }
+    {
+        Ok(*self)
+    }
+}
+
+impl Copy for Rest {}
+
+/// The time of all jobs of a set on a machine.
+fn sum_of(instance: &Instance, set: &JobSet, machine: u16) -> u32
+    requires from { 1 ≤ machine }
+    requires to { machine ≤ instance.now.machines }
+    requires jobs { (job : ℕ) → instance.now.jobs < job → contains set.now job ≡ false }
+    ensures { result ≡ sum_by (λ job. time instance.now job machine) (members set.now) }
+{
+    let mut sum = 0;
+    for job in 1..instance.jobs() + 1 {
+        if set.contains(job) {
+            sum += instance.time(job, machine);
+        }
+    }
+    sum
+}
+
+/// The least tail of a set of jobs, among the tails of all jobs.
+fn least_of(instance: &Instance, set: &JobSet, tails: &[u32; MAX_JOBS], machine: u16) -> u32
+    requires tails { AreTimes instance.now tails.now (machine + 1) instance.now.machines }
+    requires some { 0 < length (members set.now) }
+    requires jobs { (job : ℕ) → instance.now.jobs < job → contains set.now job ≡ false }
+    ensures { result ≡ least_tail instance.now (members set.now) machine }
+{
+    let mut least = u32::MAX;
+    for job in 1..instance.jobs() + 1 {
+        if set.contains(job) {
+            least = least.min(tails[job as usize - 1]);
+        }
+    }
+    least
+}
+
+/// The tail of a job behind a machine.
+fn tail_of(instance: &Instance, job: u16, machine: u16) -> u32
+    requires job_from { 1 ≤ job }
+    requires job_to { job ≤ instance.now.jobs }
+    requires to { machine ≤ instance.now.machines }
+    ensures { result ≡ time_between instance.now job (machine + 1) instance.now.machines }
+{
+    let end = instance.machines() + 1;
+    let mut tail = 0;
+    for later in machine + 1..end {
+        tail += instance.time(job, later);
+    }
+    tail
+}
+
+/// The least tail of a set of jobs behind a machine, where none is below `floor`.
+fn least_above(instance: &Instance, set: &JobSet, machine: u16, floor: u32) -> u32
+    requires to { machine ≤ instance.now.machines }
+    requires some { 0 < length (members set.now) }
+    requires jobs { (job : ℕ) → instance.now.jobs < job → contains set.now job ≡ false }
+    requires floor { floor ≤ least_tail instance.now (members set.now) machine }
+    ensures { result ≡ least_tail instance.now (members set.now) machine }
+{
+    let mut least = u32::MAX;
+    for job in 1..instance.jobs() + 1 {
+        if set.contains(job) {
+            let tail = tail_of(instance, job, machine);
+            if tail == floor {
+                return floor;
+            }
+            least = least.min(tail);
+        }
+    }
+    least
+}
+
+impl Rest {
+    /// The rest of a set of jobs.
+    pub fn of(instance: &Instance, set: &JobSet) -> Rest
+        requires some { 0 < length (members set.now) }
+        requires jobs { (job : ℕ) → instance.now.jobs < job → contains set.now job ≡ false }
+        ensures rest { IsRestOf instance.now (members set.now) result }
+    {
+        let machines = instance.machines();
+        let mut sums = [0; MAX_MACHINES];
+        let mut tails = [0; MAX_MACHINES];
+        let mut behind = [0; MAX_JOBS];
+        let mut machine = machines;
+        while machine > 0 {
+            let place = machine as usize - 1;
+            sums[place] = sum_of(instance, set, machine);
+            tails[place] = least_of(instance, set, &behind, machine);
+            add_times(instance, &mut behind, machine);
+            machine -= 1;
+        }
+        Rest {
+            machines,
+            sums,
+            tails,
+        }
+    }
+
+    /// The rest of a set of jobs, where this is the rest of that set with one job more. It looks for a new least tail
+    /// only where that job has the least.
+    pub fn step(&self, instance: &Instance, after: &JobSet, job: u16) -> Rest
+        requires job_from { 1 ≤ job }
+        requires job_to { job ≤ instance.now.jobs }
+        requires out { contains after.now job ≡ false }
+        requires some { 0 < length (members after.now) }
+        requires jobs { (job : ℕ) → instance.now.jobs < job → contains after.now job ≡ false }
+        requires rest { IsRestOf instance.now (members (slice_set after.now (job - 1) true)) self.now }
+        ensures rest { IsRestOf instance.now (members after.now) result }
+    {
+        let machines = instance.machines();
+        prove!(!after.contains(job));
+        let mut sums = self.sums;
+        let mut tails = self.tails;
+        let mut behind = 0;
+        let mut machine = machines;
+        while machine > 0 {
+            let place = machine as usize - 1;
+            let time = instance.time(job, machine);
+            sums[place] = self.sums[place] - time;
+            let least = self.tails[place];
+            tails[place] = if behind == least {
+                least_above(instance, after, machine, least)
+            } else {
+                least
+            };
+            behind += time;
+            machine -= 1;
+        }
+        Rest {
+            machines,
+            sums,
+            tails,
+        }
+    }
+
+    /// The time of all jobs of the set on a machine.
+    pub fn sum(&self, machine: u16) -> u32
+        requires from { 1 ≤ machine }
+        requires to { machine ≤ self.now.machines }
+        ensures { result ≡ slice_index self.now.sums (machine - 1) }
+    {
+        self.sums[machine as usize - 1]
+    }
+
+    /// The least tail of a job of the set behind a machine: its time on all later machines.
+    pub fn tail(&self, machine: u16) -> u32
+        requires from { 1 ≤ machine }
+        requires to { machine ≤ self.now.machines }
+        ensures { result ≡ slice_index self.now.tails (machine - 1) }
+    {
+        self.tails[machine as usize - 1]
+    }
+
+    /// The machine bound of a front and each set of jobs of which this is the rest. Where the front is that of a list,
+    /// and the set has the jobs that the list leaves, no sequence that extends the list has a smaller makespan.
+    pub fn bound(&self, front: &Front, machine: u16) -> u64
+        requires from { 1 ≤ machine }
+        requires to { machine ≤ self.now.machines }
+        requires within { (place : ℕ) → place < self.now.machines → slice_index front.now place ≤ greatest_completion }
+        ensures value { (shop : Shop) (jobs : List ℕ) → IsRestOf shop jobs self.now →
+            result ≡ machine_bound shop front.now jobs machine }
+        ensures admissible { (shop : Shop) (scheduled sequence : List ℕ) →
+            IsRestOf shop (jobs_left shop.jobs scheduled) self.now → 0 < length (jobs_left shop.jobs scheduled) →
+            IsFrontOf shop scheduled front.now → IsSequence shop.jobs sequence → Extends sequence scheduled →
+            result ≤ span shop sequence }
+    {
+        let place = machine as usize - 1;
+        let owed = u64::from(self.sums[place]) + u64::from(self.tails[place]);
+        front.at(machine) + owed
+    }
+}
