@@ -1,4 +1,5 @@
 pub mod Totals
 pub mod Neh
+pub mod Insertion
 pub mod Taillard
 pub mod internal
