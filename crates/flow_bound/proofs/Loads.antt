@@ -31,7 +31,7 @@ least-all f n job low high =
     least-le f (numbers 1 n) job (ap (λ xs. has xs job) (sym (left-all n)) ∙ has-filter (λ job. true) n job refl low high)
 
 -- a machine is never free earlier for more jobs
-completed-grows : (shop : Shop) (free : ℕ → ℕ) (jobs : List ℕ) (machine : ℕ) → 1 ≤ machine → free machine ≤ completed shop free jobs machine
+pub completed-grows : (shop : Shop) (free : ℕ → ℕ) (jobs : List ℕ) (machine : ℕ) → 1 ≤ machine → free machine ≤ completed shop free jobs machine
 completed-grows shop free [] machine low = omega arith
 completed-grows shop free (j ∷ js) machine low =
     omega (arith, after-here shop free j machine low, completed-grows shop (after shop free j) js machine low)

@@ -1,5 +1,6 @@
 pub mod Totals
 pub mod Neh
+pub mod Insertion
 pub mod Taillard
 pub mod Rest
 pub mod internal

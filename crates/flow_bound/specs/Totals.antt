@@ -1,5 +1,5 @@
 -- A job's total: its time on all machines.
-use Rattle.std.specs.Prelude.{ℕ, ◌≡◌, ◌-◌, ◌≤◌, List, slice_index}
+use Rattle.std.specs.Prelude.{ℕ}
 use Rattle.flow_core.specs.Shop.{Shop, time_between}
 
 -- a job's time on all machines

@@ -1,4 +1,6 @@
 //! The starting sequence.
 
+pub(crate) mod insertion;
 pub(crate) mod neh;
 mod order;
+mod rows;

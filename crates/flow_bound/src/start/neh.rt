@@ -1,14 +1,15 @@
 //! The starting sequence of Nawaz, Enscore and Ham.
 
-ghost use Rattle.std.specs.Prelude.{◌≡◌, ℕ, ◌+◌, ◌-◌, ◌<◌, ◌≤◌, length, take, insert, All, IfOk};
-ghost use Rattle.flow_core.specs.Shop.{IsWithinLimits};
+ghost use Rattle.std.specs.Prelude.{◌≡◌, ℕ, ◌<◌, ◌≤◌, length, insert, slice_index, All, IfOk};
 ghost use Rattle.flow_core.specs.Paths.{span};
-ghost use Rattle.flow_core.specs.Front.{IsFrontOf};
 ghost use Rattle.flow_core.specs.Sequences.{IsSequence};
 ghost use Rattle.flow_bound.specs.Neh.{IsNeh, inserted};
+ghost use Rattle.flow_bound.specs.internal.Rows.{AreRows};
 
+use crate::start::insertion::fill_spans;
 use crate::start::order::by_total;
-use flow_core::{Front, Instance, Sequence, front_push};
+use crate::start::rows::{Row, all_rows};
+use flow_core::{Instance, MAX_MACHINES, Sequence};
 use std::alloc::{AllocError, Global};
 
 /// A place in a list, counted from 0, and the makespan with a job put in there.
@@ -18,52 +19,49 @@ struct Place {
     makespan: u64,
 }
 
-/// The makespan of some jobs with one more put in at a place, from the front of the jobs before it.
-fn makespan_with(instance: &Instance, jobs: &[u16], index: usize, before: &Front, job: u16) -> u64
-    requires within { index ≤ length jobs.now }
-    requires short { length jobs.now < instance.now.jobs }
-    requires jobs { All (λ job. (1 ≤ job) × (job ≤ instance.now.jobs)) jobs.now }
-    requires front { IsFrontOf instance.now (take index jobs.now) before.now }
-    requires job_from { 1 ≤ job }
-    requires job_to { job ≤ instance.now.jobs }
-    ensures value { result ≡ span instance.now (insert jobs.now index job) }
-    ensures limits { IsWithinLimits instance.now }
+/// The earliest place of the least of several makespans.
+fn earliest_least(spans: &[u64]) -> usize
+    requires some { 0 < length spans.now }
+    ensures within { result < length spans.now }
+    ensures least { (place : ℕ) → place < length spans.now →
+        slice_index spans.now result ≤ slice_index spans.now place }
+    ensures earliest { (place : ℕ) → place < result → slice_index spans.now result < slice_index spans.now place }
 {
-    let machines = instance.machines();
-    let mut front = *before;
-    front_push(instance, &mut front, job);
-    for later in &jobs[index..] {
-        front_push(instance, &mut front, *later);
+    let mut best = 0;
+    for (place, makespan) in spans.iter().enumerate() {
+        if *makespan < spans[best] {
+            best = place;
+        }
     }
-    front.at(machines)
+    best
 }
 
 /// The earliest place at which a job put in among others gives the least makespan.
-fn best_place(instance: &Instance, jobs: &[u16], job: u16) -> Place
+fn best_place(
+    instance: &Instance,
+    rows: &[Row],
+    jobs: &[u16],
+    job: u16,
+    tails: &mut [Row],
+    spans: &mut [u64],
+) -> Place
+    requires rows { AreRows instance.now rows.now }
     requires short { length jobs.now < instance.now.jobs }
     requires jobs { All (λ job. (1 ≤ job) × (job ≤ instance.now.jobs)) jobs.now }
     requires job_from { 1 ≤ job }
     requires job_to { job ≤ instance.now.jobs }
+    requires tails_room { length jobs.now < length tails.old }
+    requires spans_room { length jobs.now < length spans.old }
     ensures within { result.index ≤ length jobs.now }
     ensures list { insert jobs.now result.index job ≡ inserted instance.now jobs.now job }
     ensures makespan { result.makespan ≡ span instance.now (insert jobs.now result.index job) }
 {
-    let mut before = Front::empty();
-    let mut best = Place {
-        index: 0,
-        makespan: makespan_with(instance, jobs, 0, &before, job),
-    };
-    for (index, earlier) in jobs.iter().enumerate() {
-        front_push(instance, &mut before, *earlier);
-        let makespan = makespan_with(instance, jobs, index + 1, &before, job);
-        if makespan < best.makespan {
-            best = Place {
-                index: index + 1,
-                makespan,
-            };
-        }
+    fill_spans(instance, rows, jobs, job, tails, spans);
+    let index = earliest_least(&spans[..jobs.len() + 1]);
+    Place {
+        index,
+        makespan: spans[index],
     }
-    best
 }
 
 /// The starting sequence and its makespan: jobs by decreasing total time, each put in at the earliest best place.
@@ -73,10 +71,20 @@ pub fn neh(alloc: Global, instance: &Instance) -> Result<(Sequence, u64), AllocE
     ensures each { IfOk result (λ start. IsSequence instance.now.jobs start.0) }
 {
     let order = by_total(alloc, instance)?;
+    let rows = all_rows(alloc, instance)?;
+    let mut tails = vec![in alloc; [0; MAX_MACHINES]; order.len() + 1]?;
+    let mut spans = vec![in alloc; 0; order.len() + 1]?;
     let mut jobs = Vec::with_capacity(alloc, order.len())?;
     let mut makespan = 0;
     for job in order.as_slice() {
-        let best = best_place(instance, jobs.as_slice(), *job);
+        let best = best_place(
+            instance,
+            rows.as_slice(),
+            jobs.as_slice(),
+            *job,
+            tails.as_mut_slice(),
+            spans.as_mut_slice(),
+        );
         jobs.insert(best.index, *job)?;
         makespan = best.makespan;
     }

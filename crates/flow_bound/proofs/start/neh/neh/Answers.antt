@@ -15,6 +15,8 @@ loop-job-init c =
       list = none;
       makespan = sym (ap (span shop) none ∙ span-none shop);
       count = c.in_ok-jobs.ensures.len;
+      tails = omega (arith, c.as_slice-job-items.ensures.len, c.len.ensures, c.in_ok-tails.ensures.len);
+      spans = omega (arith, c.as_slice-job-items.ensures.len, c.len-2.ensures, c.in_ok-spans.ensures.len);
       each = subst (AreJobs shop.jobs) (sym none) (jobs-none shop.jobs);
       same = λ job. ap (λ xs. has xs job) none;
     }
@@ -29,7 +31,7 @@ loop-job-preserved c =
     let index = c.loop-job.job-index in
     let job : ℕ = slice_index_or items index 0 in
     let jobs : List ℕ = c.loop-job.jobs.items in
-    let now : c.as_slice.result.now ≡ jobs = c.as_slice.ensures.value in
+    let now : c.as_slice-in-loop-job.result.now ≡ jobs = c.as_slice-in-loop-job.ensures.value in
     let at = c.best_place-best.result.index in
     let before = c.loop-job.invariant in
     let new : c.insert.new.self.items ≡ insert jobs at job = c.in_ok-insert.ensures.items in
@@ -45,6 +47,8 @@ loop-job-preserved c =
           ∙ sym (all_inserted-push shop [] (take index items) job) ∙ ap (all_inserted shop []) more;
       makespan = makespan ∙ ap (span shop) (sym new);
       count = omega (arith, c.in_ok-insert.ensures.len, before.count);
+      tails = omega (arith, before.tails);
+      spans = omega (arith, before.spans);
       each = subst (AreJobs shop.jobs) (sym new) (jobs-insert shop.jobs jobs at job before.each range.0 range.1 fresh);
       same = λ k. ap (λ xs. has xs k) new ∙ has-more jobs (take index items) at job k (before.same k) ∙ ap (λ xs. has xs k) more;
     }

@@ -1,4 +1,4 @@
-use Rattle.std.proofs.Common.{◌≡◌, ℕ, [], take, vec_len}
+use Rattle.std.proofs.Common.{◌≡◌, ℕ, ◌<◌, [], length, take, vec_len}
 use Rattle.flow_core.specs.Paths.{span}
 use Rattle.flow_core.specs.Sequences.{has, AreJobs}
 use Rattle.flow_bound.specs.Neh.{all_inserted}
@@ -10,6 +10,8 @@ invariant-loop-job l = record {
   list : l.jobs.items ≡ all_inserted l.instance [] (take l.job-index l.job-items);
   makespan : l.makespan ≡ span l.instance l.jobs.items;
   count : vec_len l.jobs ≡ l.job-index;
+  tails : length l.job-items < vec_len l.tails;
+  spans : length l.job-items < vec_len l.spans;
   each : AreJobs l.instance.jobs l.jobs.items;
   same : (job : ℕ) → has l.jobs.items job ≡ has (take l.job-index l.job-items) job;
 }

@@ -1,0 +1,212 @@
+-- The makespan of a list with a job between two others is that of its heads and tails, and tails go by a recurrence.
+use Rattle.std.proofs.Common.{◌≡◌, ℕ, zero, suc, ◌+◌, ◌-◌, ◌<◌, ◌≤◌, max, List, [], ◌∷◌, ◌++◌, length, drop, map, slice_index, replicate, refl, ap, sym, ◌∙◌, inl, inr, arith}
+use Rattle.std.specs.List.{range_with_len, sum_by}
+use Rattle.std.proofs.lemmas.Bool.{cases_lt}
+use Rattle.std.proofs.lemmas.List.{length-replicate, drop_all}
+use Rattle.std.proofs.lemmas.List.Sums.{sum_by-cons}
+use Rattle.flow_core.specs.Limits.{most_jobs, most_machines}
+use Rattle.flow_core.specs.Shop.{Shop, numbers, time, time_between, IsWithinLimits}
+use Rattle.flow_core.specs.Least.{greatest}
+use Rattle.flow_core.specs.Paths.{IsPath, weight, completion, span}
+use Rattle.flow_core.specs.Front.{IsFrontOf, IsWithinFront}
+use Rattle.flow_core.proofs.Extremes.{range-le-greatest, greatest-range-le}
+use Rattle.flow_core.proofs.Recurrence.{after, completed, completion-is, completion-after, after-same, time_between-none, weight-le-completed, completed-attained, path-up, path-le-greatest, greatest-path-le}
+use Rattle.flow_core.proofs.Admissible.{completed-append, after-later}
+use Rattle.flow_core.proofs.Fronts.{free_at, completion-small}
+use Rattle.flow_bound.specs.Insertion.{tail, SpanIsOfHeadsAndTails}
+use Rattle.flow_bound.specs.internal.Rows.{AreTails}
+use Rattle.flow_bound.proofs.Loads.{completed-grows}
+use Rattle.flow_bound.proofs.Running.{zeros}
+
+-- no path is heavier than the tail
+weight-le-tail : (shop : Shop) (jobs machines : List ℕ) (machine : ℕ) → length machines ≡ length jobs → IsPath machine machines shop.machines → weight shop jobs machine machines ≤ tail shop jobs machine
+unfolding tail
+weight-le-tail shop jobs machines machine e path = path-le-greatest (weight shop jobs machine) (length jobs) machines machine shop.machines e path
+
+-- and the tail is below each bound on the paths
+tail-le : (shop : Shop) (jobs : List ℕ) (machine bound : ℕ) → ((machines : List ℕ) → length machines ≡ length jobs → IsPath machine machines shop.machines → weight shop jobs machine machines ≤ bound) → tail shop jobs machine ≤ bound
+unfolding tail
+tail-le shop jobs machine bound each = greatest-path-le (weight shop jobs machine) (length jobs) machine shop.machines bound each
+
+-- if each machine is free at its time, the jobs behind take their tail
+free-and-tail : (shop : Shop) (free : ℕ → ℕ) (jobs : List ℕ) (machine : ℕ) → 1 ≤ machine → free machine ≤ completed shop free jobs shop.machines → free machine + tail shop jobs machine ≤ completed shop free jobs shop.machines
+free-and-tail shop free jobs machine low before =
+    let behind = tail-le shop jobs machine (completed shop free jobs shop.machines - free machine)
+    (λ machines e path. omega (arith, weight-le-completed shop free jobs machines machine shop.machines low e path)) in
+    omega (arith, before, behind)
+
+-- a job's head on a machine comes before the end
+head-before : (shop : Shop) (free : ℕ → ℕ) (job : ℕ) (jobs : List ℕ) (machine : ℕ) → machine ≤ shop.machines → 1 ≤ shop.machines → after shop free job machine ≤ completed shop (after shop free job) jobs shop.machines
+head-before shop free job jobs machine high some =
+    omega (arith, after-later shop free job machine shop.machines high, completed-grows shop (after shop free job) jobs shop.machines some)
+
+completed-none : (shop : Shop) (free : ℕ → ℕ) (jobs : List ℕ) → free 0 ≡ 0 → completed shop free jobs 0 ≡ 0
+completed-none shop free [] z = z
+completed-none shop free (job ∷ jobs) z = completed-none shop (after shop free job) jobs refl
+
+-- the end is the greatest of the heads and tails
+end-is-greatest : (shop : Shop) (free head : ℕ → ℕ) (job : ℕ) (jobs : List ℕ) → ((machine : ℕ) → head machine ≡ after shop free job machine) →
+    completed shop (after shop free job) jobs shop.machines ≡ greatest (map (λ machine. head machine + tail shop jobs machine) (numbers 1 shop.machines))
+end-is-greatest shop free head job jobs heads =
+    elim (cases_lt 0 shop.machines) [
+      | inl some ↦
+          let path = completed-attained shop (after shop free job) jobs shop.machines some in
+          let high : path.0 ≤ shop.machines = path-up path.1 path.0 shop.machines path.4 in
+          let heavy = weight-le-tail shop jobs path.1 path.0 path.3 path.4 in
+          let above = range-le-greatest value 1 (shop.machines + 1 - 1) path.0 path.2 (omega (arith, high)) in
+          let below = greatest-range-le value 1 (shop.machines + 1 - 1) (completed shop (after shop free job) jobs shop.machines)
+          (λ machine low top. omega (arith, heads machine, free-and-tail shop (after shop free job) jobs machine low (head-before shop free job jobs machine (omega arith) some))) in
+          omega (arith, above, below, heavy, path.5, heads path.0)
+      | inr none ↦
+          let e : shop.machines ≡ 0 = omega arith in
+          ap (completed shop (after shop free job) jobs) e
+          ∙ completed-none shop (after shop free job) jobs refl
+          ∙ sym (ap (λ last. greatest (map value (numbers 1 last))) e)
+    ]
+  where
+    value : ℕ → ℕ
+    value machine = head machine + tail shop jobs machine
+
+pub span-is-of-heads-and-tails : SpanIsOfHeadsAndTails
+span-is-of-heads-and-tails shop front back job =
+    completion-is shop (front ++ job ∷ back) shop.machines
+    ∙ ap (λ free. free shop.machines) (completed-append shop (λ _. 0) front (job ∷ back))
+    ∙ end-is-greatest shop (completed shop (λ _. 0) front) (completion shop (front ++ job ∷ [])) job back (completion-after shop front job)
+
+-- the empty list has no tail
+pub tail-none : (shop : Shop) (machine : ℕ) → tail shop [] machine ≡ 0
+tail-none shop machine = let none = tail-le shop [] machine 0 (λ machines e path. omega arith) in omega (arith, none)
+
+-- nor has any list behind the last machine
+pub tail-past : (shop : Shop) (job : ℕ) (jobs : List ℕ) → tail shop (job ∷ jobs) (shop.machines + 1) ≡ 0
+tail-past shop job jobs = let none = tail-le shop (job ∷ jobs) (shop.machines + 1) 0 no_path in omega (arith, none)
+  where
+    no_path : (machines : List ℕ) → length machines ≡ suc (length jobs) → IsPath (shop.machines + 1) machines shop.machines → weight shop (job ∷ jobs) (shop.machines + 1) machines ≤ 0
+    no_path [] e path = absurd (omega arith)
+    no_path (b ∷ bs) e path = absurd (omega (arith, path.0, path-up bs b shop.machines path.1))
+
+-- the time on the first of several machines
+time_between-first : (shop : Shop) (job a b : ℕ) → a ≤ b → time_between shop job a b ≡ time shop job a + time_between shop job (a + 1) b
+time_between-first shop job a b h =
+    let some : b + 1 - a ≡ suc (b - a) = omega arith in
+    let rest : b - a ≡ b + 1 - (a + 1) = omega arith in
+    ap (λ n. sum_by (time shop job) (range_with_len a n)) some
+    ∙ sum_by-cons (time shop job) a (range_with_len (a + 1) (b - a))
+    ∙ ap (λ n. time shop job a + sum_by (time shop job) (range_with_len (a + 1) n)) rest
+
+-- a path that stays on a machine
+stays : (n machine : ℕ) → IsPath machine (replicate n machine) machine
+stays zero machine = refl
+stays (suc n) machine = (omega arith, stays n machine)
+
+-- a tail has the time of its first job
+time-le-tail : (shop : Shop) (job : ℕ) (jobs : List ℕ) (machine : ℕ) → machine ≤ shop.machines → time shop job machine ≤ tail shop (job ∷ jobs) machine
+time-le-tail shop job jobs machine high =
+    omega (
+      arith,
+      weight-le-tail shop (job ∷ jobs) (shop.machines ∷ replicate (length jobs) shop.machines) machine
+          (ap suc (length-replicate (length jobs) shop.machines)) (high, stays (length jobs) shop.machines),
+      time_between-first shop job machine shop.machines high,
+    )
+
+module _ (shop : Shop) (job : ℕ) (jobs : List ℕ) (machine : ℕ) (high : machine ≤ shop.machines) where
+  -- the first job leaves the path at its first machine, or later
+  below-step : (machines : List ℕ) → length machines ≡ suc (length jobs) → IsPath machine machines shop.machines →
+      weight shop (job ∷ jobs) machine machines ≤ max (tail shop jobs machine) (tail shop (job ∷ jobs) (machine + 1)) + time shop job machine
+  below-step [] e path = absurd (omega arith)
+  below-step (b ∷ bs) e path =
+      let first = time_between-first shop job machine b path.0 in
+      elim (cases_lt machine b) [
+        | inl later ↦ omega (arith, first, weight-le-tail shop (job ∷ jobs) (b ∷ bs) (machine + 1) e (omega arith, path.1))
+        | inr not_later ↦
+            let here : machine ≡ b = omega (arith, path.0) in
+            let same : tail shop jobs machine ≡ tail shop jobs b = ap (tail shop jobs) here in
+            let none : time_between shop job (machine + 1) b ≡ 0 = time_between-none shop job (machine + 1) b (omega arith) in
+            omega (arith, first, none, same, weight-le-tail shop jobs bs b (omega arith) path.1)
+      ]
+
+  above-here : tail shop jobs machine ≤ tail shop (job ∷ jobs) machine - time shop job machine
+  above-here = tail-le shop jobs machine (tail shop (job ∷ jobs) machine - time shop job machine)
+      (λ machines e path. omega (
+        arith,
+        weight-le-tail shop (job ∷ jobs) (machine ∷ machines) machine (ap suc e) (omega arith, path),
+        time_between-first shop job machine machine (omega arith),
+        time_between-none shop job (machine + 1) machine (omega arith),
+      ))
+
+  above-later : tail shop (job ∷ jobs) (machine + 1) ≤ tail shop (job ∷ jobs) machine - time shop job machine
+  above-later = tail-le shop (job ∷ jobs) (machine + 1) (tail shop (job ∷ jobs) machine - time shop job machine) later
+    where
+      later : (machines : List ℕ) → length machines ≡ suc (length jobs) → IsPath (machine + 1) machines shop.machines →
+          weight shop (job ∷ jobs) (machine + 1) machines ≤ tail shop (job ∷ jobs) machine - time shop job machine
+      later [] e path = absurd (omega arith)
+      later (b ∷ bs) e path =
+          let low : machine ≤ b = omega (arith, path.0) in
+          omega (arith, weight-le-tail shop (job ∷ jobs) (b ∷ bs) machine e (low, path.1), time_between-first shop job machine b low)
+
+  -- a tail from the tail of the jobs behind, and from that of the next machine
+  pub tail-step : tail shop (job ∷ jobs) machine ≡ max (tail shop jobs machine) (tail shop (job ∷ jobs) (machine + 1)) + time shop job machine
+  tail-step =
+      let below = tail-le shop (job ∷ jobs) machine (max (tail shop jobs machine) (tail shop (job ∷ jobs) (machine + 1)) + time shop job machine) below-step in
+      omega (arith, below, above-here, above-later, time-le-tail shop job jobs machine high)
+
+-- a tail is no longer than the makespan with a job before it
+tail-le-span : (shop : Shop) (jobs : List ℕ) (machine : ℕ) → 1 ≤ machine → machine ≤ shop.machines → tail shop jobs machine ≤ span shop (0 ∷ jobs)
+tail-le-span shop jobs machine low high =
+    omega (
+      arith,
+      completion-is shop (0 ∷ jobs) shop.machines,
+      free-and-tail shop (after shop (λ _. 0) 0) jobs machine low (head-before shop (λ _. 0) 0 jobs machine high (omega arith)),
+    )
+
+-- the tails of a list that is shorter than a sequence
+pub tails-within : (shop : Shop) (jobs tails : List ℕ) → IsWithinLimits shop → length jobs < shop.jobs → AreTails shop jobs tails → IsWithinFront shop tails
+tails-within shop jobs tails limits short are place within =
+    let here : slice_index tails (place + 1 - 1) ≡ tail shop jobs (place + 1) = are (place + 1) (omega arith) (omega arith) in
+    let same : slice_index tails (place + 1 - 1) ≡ slice_index tails place = ap (slice_index tails) (omega arith) in
+    let jobs_limit : shop.jobs ≤ most_jobs = limits.jobs in
+    let machines_limit : shop.machines ≤ most_machines = limits.machines in
+    omega (
+      arith,
+      here,
+      same,
+      tail-le-span shop jobs (place + 1) (omega arith) (omega arith),
+      completion-small shop (0 ∷ jobs) shop.machines limits,
+    )
+
+-- two functions that agree on a range have the same greatest value there
+greatest-le : (f g : ℕ → ℕ) (last : ℕ) → ((k : ℕ) → 1 ≤ k → k ≤ last → f k ≡ g k) → greatest (map f (numbers 1 last)) ≤ greatest (map g (numbers 1 last))
+greatest-le f g last same =
+    greatest-range-le f 1 (last + 1 - 1) (greatest (map g (numbers 1 last)))
+    (λ k low high. omega (arith, same k low (omega arith), range-le-greatest g 1 (last + 1 - 1) k low high))
+
+-- the makespan from the heads of the jobs before and the tails of those behind
+pub between-is : (shop : Shop) (front back heads tails : List ℕ) (job most : ℕ) → IsFrontOf shop front heads → AreTails shop back tails →
+    most ≡ greatest (map (λ machine. after shop (free_at heads) job machine + free_at tails machine) (numbers 1 shop.machines)) →
+    most ≡ span shop (front ++ job ∷ back)
+between-is shop front back heads tails job most is_front are_tails is =
+    let below = greatest-le given wanted shop.machines same in
+    let above = greatest-le wanted given shop.machines (λ k low high. sym (same k low high)) in
+    let law = span-is-of-heads-and-tails shop front back job in
+    omega (arith, is, below, above, law)
+  where
+    given : ℕ → ℕ
+    given machine = after shop (free_at heads) job machine + free_at tails machine
+
+    wanted : ℕ → ℕ
+    wanted machine = completion shop (front ++ job ∷ []) machine + tail shop back machine
+
+    same : (machine : ℕ) → 1 ≤ machine → machine ≤ shop.machines → given machine ≡ wanted machine
+    same machine low high =
+        omega (
+          arith,
+          after-same shop job (free_at heads) (completed shop (λ _. 0) front) machine
+              (λ k from to. is_front k from (omega arith) ∙ completion-is shop front k),
+          completion-after shop front job machine,
+          are_tails machine low high,
+        )
+
+-- behind the last job there is no tail
+pub tails-end : (shop : Shop) (jobs : List ℕ) (place : ℕ) → length jobs ≤ place → AreTails shop (drop place jobs) (replicate most_machines 0)
+tails-end shop jobs place past machine low high =
+    zeros most_machines (machine - 1) ∙ sym (tail-none shop machine) ∙ sym (ap (λ js. tail shop js machine) (drop_all place jobs past))

@@ -1,0 +1,18 @@
+-- The makespan of a list with a job between two others: from the job's heads, and from the tails behind it.
+use Rattle.std.specs.Prelude.{ℕ, ◌≡◌, ◌+◌, List, [], ◌∷◌, ◌++◌, length, map}
+use Rattle.flow_core.specs.Shop.{Shop, numbers}
+use Rattle.flow_core.specs.Least.{greatest}
+use Rattle.flow_core.specs.Paths.{weight, paths, completion, span}
+
+-- the tail of a list from a machine: the greatest weight of a path over the list from there to the last machine
+unfoldable pub tail : Shop → List ℕ → ℕ → ℕ
+tail shop jobs machine = greatest (map (weight shop jobs machine) (paths (length jobs) machine shop.machines))
+
+-- the makespan of a list is the greatest, over the machines, of the head of a job there, which is its completion time,
+-- and the tail of the jobs behind it from there
+abbrev pub SpanIsOfHeadsAndTails : Type 0
+SpanIsOfHeadsAndTails =
+    (shop : Shop) (front back : List ℕ) (job : ℕ) →
+    span shop (front ++ job ∷ back)
+    ≡ greatest
+    (map (λ machine. completion shop (front ++ job ∷ []) machine + tail shop back machine) (numbers 1 shop.machines))

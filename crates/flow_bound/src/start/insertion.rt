@@ -1,0 +1,143 @@
+//! The makespans of a partial sequence with a job put in at each place.
+
+ghost use Rattle.std.specs.Prelude.{◌≡◌, ℕ, ◌+◌, ◌<◌, ◌≤◌, List, [], ◌∷◌, ◌++◌, length, drop, insert, All};
+ghost use Rattle.std.specs.Prelude.{slice_index, slice_index_or, vec_len, IfOk, false};
+ghost use Rattle.flow_core.specs.Shop.{IsWithinLimits};
+ghost use Rattle.flow_core.specs.Paths.{span};
+ghost use Rattle.flow_core.specs.Front.{IsFrontOf, IsWithinFront};
+ghost use Rattle.flow_core.specs.Sequences.{has, AreJobs};
+ghost use Rattle.flow_bound.specs.internal.Rows.{AreRows, AreTails};
+
+use crate::start::rows::{Row, all_rows};
+use flow_core::{Instance, MAX_MACHINES};
+use std::alloc::{AllocError, Global};
+
+/// Turns the heads of a list, its completion times, into those of the list with one more job at its end.
+fn push_heads(instance: &Instance, rows: &[Row], heads: &mut Row, job: u16)
+    requires rows { AreRows instance.now rows.now }
+    requires job_from { 1 ≤ job }
+    requires job_to { job ≤ instance.now.jobs }
+    requires within { IsWithinFront instance.now heads.old }
+    ensures { (jobs : List ℕ) → IsFrontOf instance.now jobs heads.old →
+        IsFrontOf instance.now (jobs ++ job ∷ []) heads.new }
+{
+    let times = &rows[job as usize - 1];
+    let mut free = 0;
+    for machine in 1..instance.machines() + 1 {
+        let place = machine as usize - 1;
+        free = heads[place].max(free) + times[place];
+        heads[place] = free;
+    }
+}
+
+/// Turns the tails of a list into those of the list with one more job before it.
+fn push_tails(instance: &Instance, rows: &[Row], tails: &mut Row, job: u16)
+    requires rows { AreRows instance.now rows.now }
+    requires job_from { 1 ≤ job }
+    requires job_to { job ≤ instance.now.jobs }
+    requires within { IsWithinFront instance.now tails.old }
+    ensures { (jobs : List ℕ) → AreTails instance.now jobs tails.old → AreTails instance.now (job ∷ jobs) tails.new }
+{
+    let times = &rows[job as usize - 1];
+    let mut behind = 0;
+    for place in (0..instance.machines() as usize).rev() {
+        behind = tails[place].max(behind) + times[place];
+        tails[place] = behind;
+    }
+}
+
+/// The makespan with a job between two lists, from the heads of the first and the tails of the second.
+fn span_between(instance: &Instance, rows: &[Row], heads: &Row, job: u16, tails: &Row) -> u64
+    requires rows { AreRows instance.now rows.now }
+    requires job_from { 1 ≤ job }
+    requires job_to { job ≤ instance.now.jobs }
+    requires heads { IsWithinFront instance.now heads.now }
+    requires tails { IsWithinFront instance.now tails.now }
+    ensures { (front back : List ℕ) → IsFrontOf instance.now front heads.now → AreTails instance.now back tails.now →
+        result ≡ span instance.now (front ++ job ∷ back) }
+{
+    let times = &rows[job as usize - 1];
+    let mut head: u32 = 0;
+    let mut most: u32 = 0;
+    for machine in 1..instance.machines() + 1 {
+        let place = machine as usize - 1;
+        head = heads[place].max(head) + times[place];
+        most = most.max(head + tails[place]);
+    }
+    u64::from(most)
+}
+
+/// Writes the tails of the jobs behind each place of a partial sequence.
+fn fill_tails(instance: &Instance, rows: &[Row], partial: &[u16], tails: &mut [Row])
+    requires rows { AreRows instance.now rows.now }
+    requires short { length partial.now < instance.now.jobs }
+    requires jobs { All (λ job. (1 ≤ job) × (job ≤ instance.now.jobs)) partial.now }
+    requires room { length partial.now < length tails.old }
+    ensures { (place : ℕ) → place ≤ length partial.now →
+        AreTails instance.now (drop place partial.now) (slice_index_or tails.new place []) }
+{
+    let mut behind = [0; MAX_MACHINES];
+    tails[partial.len()] = behind;
+    for place in (0..partial.len()).rev() {
+        push_tails(instance, rows, &mut behind, partial[place]);
+        tails[place] = behind;
+    }
+}
+
+/// Writes the makespan with a job put in at each place of a partial sequence. The tails are room to compute in.
+pub(crate) fn fill_spans(
+    instance: &Instance,
+    rows: &[Row],
+    partial: &[u16],
+    job: u16,
+    tails: &mut [Row],
+    spans: &mut [u64],
+)
+    requires rows { AreRows instance.now rows.now }
+    requires short { length partial.now < instance.now.jobs }
+    requires jobs { All (λ job. (1 ≤ job) × (job ≤ instance.now.jobs)) partial.now }
+    requires job_from { 1 ≤ job }
+    requires job_to { job ≤ instance.now.jobs }
+    requires tails_room { length partial.now < length tails.old }
+    requires spans_room { length partial.now < length spans.old }
+    ensures { (place : ℕ) → place ≤ length partial.now →
+        slice_index spans.new place ≡ span instance.now (insert partial.now place job) }
+{
+    fill_tails(instance, rows, partial, tails);
+    let mut heads = [0; MAX_MACHINES];
+    spans[0] = span_between(instance, rows, &heads, job, &tails[0]);
+    for (index, earlier) in partial.iter().enumerate() {
+        push_heads(instance, rows, &mut heads, *earlier);
+        spans[index + 1] = span_between(instance, rows, &heads, job, &tails[index + 1]);
+    }
+}
+
+/// The makespan of a partial sequence with a job put in at each place: entry `i` is that behind its first `i` jobs.
+pub fn insertion_spans(
+    alloc: Global,
+    instance: &Instance,
+    partial: &[u16],
+    job: u16,
+) -> Result<Vec<u64>, AllocError>
+    requires jobs { AreJobs instance.now.jobs partial.now }
+    requires job_from { 1 ≤ job }
+    requires job_to { job ≤ instance.now.jobs }
+    requires other { has partial.now job ≡ false }
+    ensures count { IfOk result (λ spans. vec_len spans ≡ length partial.now + 1) }
+    ensures each { IfOk result (λ spans. (place : ℕ) → place ≤ length partial.now →
+        slice_index spans.items place ≡ span instance.now (insert partial.now place job)) }
+{
+    let places = partial.len() + 1;
+    let rows = all_rows(alloc, instance)?;
+    let mut tails = vec![in alloc; [0; MAX_MACHINES]; places]?;
+    let mut spans = vec![in alloc; 0; places]?;
+    fill_spans(
+        instance,
+        rows.as_slice(),
+        partial,
+        job,
+        tails.as_mut_slice(),
+        spans.as_mut_slice(),
+    );
+    Ok(spans)
+}
