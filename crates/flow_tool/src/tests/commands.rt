@@ -542,8 +542,8 @@ fn faults_are_printed_with_their_status(rt: HostRuntime) -> Result<(), Fail> {
     for (fault, line) in rows {
         let printed = format!(in alloc; "{}", fault)?;
         assert_eq!(rt; printed.as_str(), line);
-        assert_eq!(rt; fault.status() == 3, line.starts_with("failed"));
-        assert_eq!(rt; fault.status() == 1, line.starts_with("refused"));
+        assert_eq!(rt; Stop::Fault(fault).status() == 3, line.starts_with("failed"));
+        assert_eq!(rt; Stop::Fault(fault).status() == 1, line.starts_with("refused"));
     }
     Ok(())
 }
@@ -563,7 +563,7 @@ fn faults_of_texts_and_certificates_are_printed(rt: HostRuntime) -> Result<(), F
     for (fault, line) in texts {
         let printed = format!(in alloc; "{}", ToolFault::Text(fault))?;
         assert_eq!(rt; printed.as_str(), line);
-        assert_eq!(rt; ToolFault::Text(fault).status(), 1);
+        assert_eq!(rt; Stop::Fault(ToolFault::Text(fault)).status(), 1);
     }
     let certificates = [
         (CheckFault::Header, "refused certificate Header"),
@@ -579,7 +579,7 @@ fn faults_of_texts_and_certificates_are_printed(rt: HostRuntime) -> Result<(), F
     for (fault, line) in certificates {
         let printed = format!(in alloc; "{}", ToolFault::Certificate(fault))?;
         assert_eq!(rt; printed.as_str(), line);
-        assert_eq!(rt; ToolFault::Certificate(fault).status(), 1);
+        assert_eq!(rt; Stop::Fault(ToolFault::Certificate(fault)).status(), 1);
     }
     Ok(())
 }

@@ -3,11 +3,11 @@
 ghost use Rattle.std.specs.Prelude.{◌≡◌, false};
 
 use crate::command_line::{OfBlock, Order, make_command, order_of};
+use crate::dispatch::run_words;
 use crate::fault::ToolFault;
 use crate::inputs::Inputs;
 use crate::stop::Stop;
 use crate::tests::commands::{DEPTH_0, DEPTH_1, DEPTH_2, GENERATED, ROOM, THREE_MACHINES};
-use crate::wiring::run_words;
 use clap::error::ErrorKind;
 use flow_core::{MemorySink, MemorySource, WriteFault};
 use std::alloc::{AllocError, Global};
