@@ -30,7 +30,7 @@ use Rattle.flow_tool.specs.declared.fault.ToolFault.TheVariants as tool
 abbrev pub Answer : Type 0
 Answer = Result (List ℕ) ToolFault
 
--- the block of a text that an index names, from 1; or the text's first fault; or that the text has no block of that index
+-- the block of a text that an index names, from 1; or the text's first fault; or that the text has no such block
 abbrev pub Picks : List ℕ → ℕ → Result Block ToolFault → Type 0
 Picks text index (Ok block) =
     (blocks : List Block) × Reads text blocks × (1 ≤ index) × (slice_get blocks (index - 1) ≡ Some block)
@@ -78,7 +78,11 @@ abbrev pub IsGeneratedText : ℕ → Shop → List ℕ → Type 0
 IsGeneratedText seed shop text =
     (sequence : List ℕ) × IsNeh shop sequence
     × (text ≡ written (record {
-        seed = seed; upper = span shop sequence; lower = taillard_bound shop; instance = shop }))
+      seed = seed;
+      upper = span shop sequence;
+      lower = taillard_bound shop;
+      instance = shop;
+    }))
 
 -- what `gen` answers for its numbers
 abbrev pub AnswersGen : ℕ → ℕ → ℕ → Answer → Type 0
@@ -110,7 +114,7 @@ AnswersRun plan (Err fault) =
 abbrev pub AnswersPlan : Shop → Choices → Answer → Type 0
 AnswersPlan shop options answer =
     ((plan : Planned) × IsPlan plan × (plan.shop ≡ shop) × (plan.options ≡ options)
-        × (plan_fault shop options ≡ None) × AnswersRun plan answer)
+    × (plan_fault shop options ≡ None) × AnswersRun plan answer)
     ⊎ ((fault : PlanFault) × (plan_fault shop options ≡ Some fault) × (answer ≡ Err (tool.Plan fault)))
 
 -- what it answers for an instance, where the options are read

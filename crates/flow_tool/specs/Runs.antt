@@ -41,7 +41,7 @@ abbrev pub Ends :
 Ends Untouched limit Answers given gives ended taken takes fault =
     (Untouched × StopsAt limit (λ bytes refusal. Answers bytes (Err refusal)) given gives ended fault)
     ⊎ ((fault ≡ tool.Write write.Device)
-        × Came limit (λ bytes. WrotePart (Answers bytes) taken takes) given gives ended)
+    × Came limit (λ bytes. WrotePart (Answers bytes) taken takes) given gives ended)
 
 -- how a refused run ends that reads nothing
 abbrev pub EndsAlone :

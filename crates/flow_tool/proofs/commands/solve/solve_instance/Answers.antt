@@ -14,10 +14,18 @@ returns-clause-lawful g c =
 
 pub returns-in_err-write_certificate-clause-ended : goal.returns-in_err-write_certificate-clause-ended
 returns-in_err-write_certificate-clause-ended g c =
-    let p = err_from_is_err_and c.from_residual-in_err-write_certificate.result c.from_residual-in_err-write_certificate.ensures.1 in
+    let p =
+    err_from_is_err_and c.from_residual-in_err-write_certificate.result
+    c.from_residual-in_err-write_certificate.ensures.1 in
     rw (p.1, p.2)
     (ends-alone-in-writing (AnswersPlan c.args.instance.now c.args.options) _ _ _ (certificate_of c.in_ok-plan.plan)
-    (inl (c.in_ok-plan.plan, c.in_ok-plan.ensures.plan, c.in_ok-plan.ensures.shop, c.in_ok-plan.ensures.options,
-    c.in_ok-plan.ensures.accepted, (c.in_ok-report.ensures.within, refl)))
+    (inl (
+      c.in_ok-plan.plan,
+      c.in_ok-plan.ensures.plan,
+      c.in_ok-plan.ensures.shop,
+      c.in_ok-plan.ensures.options,
+      c.in_ok-plan.ensures.accepted,
+      (c.in_ok-report.ensures.within, refl),
+    ))
     (rw (text-of-plan c.in_ok-plan.plan c.in_ok-report.report.verdict c.in_ok-report.ensures.verdict)
     at c.in_err-write_certificate.ensures.err))
