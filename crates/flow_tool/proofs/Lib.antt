@@ -1,4 +1,5 @@
 mod Certified
 mod Endings
+mod Ordered
 mod Small
 mod Solved

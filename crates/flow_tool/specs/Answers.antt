@@ -25,18 +25,18 @@ use Rattle.flow_cert.specs.Faults.{certificate_value}
 use Rattle.flow_cert.specs.declared.fault.CheckFault.{CheckFault}
 use Rattle.flow_tool.specs.declared.fault.ToolFault.{ToolFault}
 use Rattle.flow_tool.specs.declared.fault.ToolFault.TheVariants as tool
-use Rattle.flow_tool.specs.declared.command_line.OfBlock.{OfBlock}
-use Rattle.flow_tool.specs.declared.command_line.OfBlock.TheVariants.{Span, Neh, Solve}
 
 -- an answer: a text, or a refusal
 abbrev pub Answer : Type 0
 Answer = Result (List ℕ) ToolFault
 
--- the block of a text that an index names, from 1; or the first fault of the text; or that the index names none of its blocks
+-- the block of a text that an index names, from 1; or the text's first fault; or that the text has no such block
 abbrev pub Picks : List ℕ → ℕ → Result Block ToolFault → Type 0
-Picks text index (Ok block) = (blocks : List Block) × Reads text blocks × (1 ≤ index) × (slice_get blocks (index - 1) ≡ Some block)
+Picks text index (Ok block) =
+    (blocks : List Block) × Reads text blocks × (1 ≤ index) × (slice_get blocks (index - 1) ≡ Some block)
 Picks text index (Err (tool.Text fault)) = text_fault text ≡ Some fault
-Picks text index (Err tool.Index) = (blocks : List Block) × Reads text blocks × ((index ≡ 0) ⊎ (length blocks < index))
+Picks text index (Err tool.Index) =
+    (blocks : List Block) × Reads text blocks × ((index ≡ 0) ⊎ (length blocks < index))
 Picks text index (Err fault) = ⊥
 
 -- the answer for the block that an index names, or why it names none
@@ -51,7 +51,9 @@ makespan_line value = codes "makespan " ++ decimal value ++ codes "\n"
 
 -- `span`: the makespan of the jobs in this order, or their first fault
 abbrev pub span_answer : Shop → List ℕ → Answer
-span_answer shop jobs = elim (sequence_fault shop.jobs jobs) [ None ↦ Ok (makespan_line (span shop jobs)) | Some fault ↦ Err (tool.Sequence fault) ]
+span_answer shop jobs =
+    elim (sequence_fault shop.jobs jobs)
+    [ None ↦ Ok (makespan_line (span shop jobs)) | Some fault ↦ Err (tool.Sequence fault) ]
 
 -- what `span` answers for a text
 abbrev pub AnswersSpan : ℕ → List ℕ → List ℕ → Answer → Type 0
@@ -63,7 +65,9 @@ sequence_line jobs = codes "sequence" ++ flat_map (λ job. 32 ∷ decimal job) j
 
 -- what `neh` answers for a block: the starting sequence and its makespan
 abbrev pub AnswersStart : Shop → Answer → Type 0
-AnswersStart shop answer = (sequence : List ℕ) × IsNeh shop sequence × (answer ≡ Ok (sequence_line sequence ++ makespan_line (span shop sequence)))
+AnswersStart shop answer =
+    (sequence : List ℕ) × IsNeh shop sequence
+    × (answer ≡ Ok (sequence_line sequence ++ makespan_line (span shop sequence)))
 
 -- what `neh` answers for a text
 abbrev pub AnswersNeh : ℕ → List ℕ → Answer → Type 0
@@ -73,12 +77,19 @@ AnswersNeh index = AnswersFor index (λ block. AnswersStart block.instance)
 abbrev pub IsGeneratedText : ℕ → Shop → List ℕ → Type 0
 IsGeneratedText seed shop text =
     (sequence : List ℕ) × IsNeh shop sequence
-    × (text ≡ written (record { seed = seed; upper = span shop sequence; lower = taillard_bound shop; instance = shop }))
+    × (text ≡ written (record {
+      seed = seed;
+      upper = span shop sequence;
+      lower = taillard_bound shop;
+      instance = shop;
+    }))
 
 -- what `gen` answers for its numbers
 abbrev pub AnswersGen : ℕ → ℕ → ℕ → Answer → Type 0
-AnswersGen jobs machines seed (Ok text) = (generator_fault jobs machines seed ≡ None) × IsGeneratedText seed (generated jobs machines seed) text
-AnswersGen jobs machines seed (Err fault) = (refusal : InstanceFault) × (generator_fault jobs machines seed ≡ Some refusal) × (fault ≡ tool.Instance refusal)
+AnswersGen jobs machines seed (Ok text) =
+    (generator_fault jobs machines seed ≡ None) × IsGeneratedText seed (generated jobs machines seed) text
+AnswersGen jobs machines seed (Err fault) =
+    (refusal : InstanceFault) × (generator_fault jobs machines seed ≡ Some refusal) × (fault ≡ tool.Instance refusal)
 
 -- the line of a value that a certificate proves least
 abbrev pub optimal_line : ℕ → List ℕ
@@ -86,21 +97,24 @@ optimal_line value = codes "optimal " ++ decimal value ++ codes "\n"
 
 -- what `check` answers for the bytes of a certificate: the value for which they are lawful, or their first fault
 abbrev pub AnswersCheck : Shop → List ℕ → Answer → Type 0
-AnswersCheck shop bytes (Ok text) = (value : ℕ) × IsCertificate shop bytes value × (text ≡ optimal_line value)
-AnswersCheck shop bytes (Err fault) = (first : CheckFault) × (certificate_value shop bytes ≡ Err first) × (fault ≡ tool.Certificate first)
+AnswersCheck shop bytes (Ok text) =
+    (value : ℕ) × IsCertificate shop bytes value × (text ≡ optimal_line value)
+AnswersCheck shop bytes (Err fault) =
+    (first : CheckFault) × (certificate_value shop bytes ≡ Err first) × (fault ≡ tool.Certificate first)
 
--- what `solve` answers for a plan: its certificate, where each tree is within the budget; or the first prefix whose tree is not, or
--- that a worker could not be started
+-- what `solve` answers for a plan: its certificate, where each tree is within the budget; or the first prefix whose
+-- tree is not; or that a worker could not be started
 abbrev pub AnswersRun : Planned → Answer → Type 0
 AnswersRun plan (Ok text) = (first_over_budget plan ≡ None) × (text ≡ certificate_of plan)
 AnswersRun plan (Err fault) =
     (fault ≡ tool.Run Threads)
     ⊎ ((number : ℕ) × (first_over_budget plan ≡ Some number) × (fault ≡ tool.Run (OverBudget number)))
 
--- what it answers for an instance and options: that of their plan, or why they have none
+-- what it answers for an instance and options: the answer for their plan, or why they have none
 abbrev pub AnswersPlan : Shop → Choices → Answer → Type 0
 AnswersPlan shop options answer =
-    ((plan : Planned) × IsPlan plan × (plan.shop ≡ shop) × (plan.options ≡ options) × (plan_fault shop options ≡ None) × AnswersRun plan answer)
+    ((plan : Planned) × IsPlan plan × (plan.shop ≡ shop) × (plan.options ≡ options)
+    × (plan_fault shop options ≡ None) × AnswersRun plan answer)
     ⊎ ((fault : PlanFault) × (plan_fault shop options ≡ Some fault) × (answer ≡ Err (tool.Plan fault)))
 
 -- what it answers for an instance, where the options are read

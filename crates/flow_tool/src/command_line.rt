@@ -1,41 +1,57 @@
-//! The command line.
+//! The words of the command line, and what they ask for.
 
 use clap::{Arg, ArgAction, ArgMatches, Command, value_parser};
 use std::alloc::{AllocError, Global};
 
 /// What the command line asks for.
-#[derive(Drop)]
+#[derive(Debug, PartialEq, Drop)]
 pub(crate) enum Order<'a> {
     /// The instance of a seed.
     Gen {
+        /// The number of jobs.
         jobs: u32,
+        /// The number of machines.
         machines: u32,
+        /// The seed of the generator.
         seed: u32,
     },
-    /// Something of the block that an index names, of a text.
+    /// Something of a block of a text.
     OfBlock {
+        /// The name of the text's file.
         file: &'a str,
+        /// The block's number in the text, from 1.
         index: u32,
+        /// What is asked for of the block.
         what: OfBlock,
     },
-    /// The value that a certificate proves least for that block.
+    /// The value that a certificate proves least for a block of a text.
     Check {
+        /// The name of the text's file.
         file: &'a str,
+        /// The block's number in the text, from 1.
         index: u32,
+        /// The name of the certificate's file.
         cert: &'a str,
     },
 }
 
 /// What is asked for of a block.
-#[derive(Drop)]
+#[derive(Debug, PartialEq, Drop)]
 pub(crate) enum OfBlock {
+    /// The makespan of jobs in this order.
     Span {
+        /// The numbers of the jobs, from 1, as they were given.
         jobs: Vec<u16>,
     },
+    /// The starting sequence and its makespan.
     Neh,
+    /// A certificate of the least makespan.
     Solve {
+        /// The number of workers.
         workers: u32,
+        /// The number of jobs in a prefix.
         depth: u32,
+        /// The most bytes of a tree.
         budget: u32,
     },
 }
@@ -145,7 +161,7 @@ fn option<'a>(
         .value_parser(value_parser!(u32))
 }
 
-/// The order, where each value is there and reads as its type.
+/// What the words ask for; none where a value is missing or does not read as its type.
 pub(crate) fn order_of<'a>(
     alloc: Global,
     matches: &ArgMatches<'a>,

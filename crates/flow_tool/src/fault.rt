@@ -1,12 +1,15 @@
 //! Why a command refused.
 
 ghost use Rattle.std.specs.Prelude.{◌≡◌};
-ghost use Rattle.flow_tool.specs.internal.Faults.{of_read, of_text, of_sequence, of_instance, of_plan, of_solve, of_check};
+ghost use Rattle.flow_tool.specs.declared.fault.ToolFault.TheVariants.{Choice, Memory, Write};
+ghost use Rattle.flow_tool.specs.internal.Faults.{of_read, of_text, of_sequence, of_instance};
+ghost use Rattle.flow_tool.specs.internal.Faults.{of_plan, of_solve, of_check};
 
 use flow_cert::CheckFault;
 use flow_core::{InstanceFault, ReadFault, SequenceFault, TextFault, WriteFault};
 use flow_pool::SolveFault;
 use flow_search::{OptionFault, PlanFault};
+use std::alloc::AllocError;
 use thiserror::Error;
 
 /// Why a command refused, in the order in which it is tested; its text is the line on standard error.
@@ -47,75 +50,103 @@ pub(crate) enum ToolFault {
     Write(WriteFault),
 }
 
-impl ToolFault {
-    /// The status that the program ends with.
-    pub(crate) fn status(self) -> u8 {
-        match self {
-            ToolFault::Read(_) | ToolFault::Write(_) => 3,
-            _ => 1,
+impl From<AllocError> for ToolFault {
+    ghost from_gives = { λ _ given. given ≡ Memory };
+
+    fn from(_error: AllocError) -> ToolFault {
+        ToolFault::Memory
+    }
+}
+
+impl From<ReadFault> for ToolFault {
+    ghost from_gives = { λ fault given. given ≡ of_read fault };
+
+    fn from(fault: ReadFault) -> ToolFault {
+        match fault {
+            ReadFault::Memory => ToolFault::Memory,
+            _ => ToolFault::Read(fault),
         }
     }
 }
 
-pub(crate) fn of_read(fault: ReadFault) -> ToolFault
-    ensures { result ≡ of_read fault }
-{
-    match fault {
-        ReadFault::Memory => ToolFault::Memory,
-        _ => ToolFault::Read(fault),
+impl From<TextFault> for ToolFault {
+    ghost from_gives = { λ fault given. given ≡ of_text fault };
+
+    fn from(fault: TextFault) -> ToolFault {
+        match fault {
+            TextFault::Memory => ToolFault::Memory,
+            _ => ToolFault::Text(fault),
+        }
     }
 }
 
-pub(crate) fn of_text(fault: TextFault) -> ToolFault
-    ensures { result ≡ of_text fault }
-{
-    match fault {
-        TextFault::Memory => ToolFault::Memory,
-        _ => ToolFault::Text(fault),
+impl From<SequenceFault> for ToolFault {
+    ghost from_gives = { λ fault given. given ≡ of_sequence fault };
+
+    fn from(fault: SequenceFault) -> ToolFault {
+        match fault {
+            SequenceFault::Memory => ToolFault::Memory,
+            _ => ToolFault::Sequence(fault),
+        }
     }
 }
 
-pub(crate) fn of_sequence(fault: SequenceFault) -> ToolFault
-    ensures { result ≡ of_sequence fault }
-{
-    match fault {
-        SequenceFault::Memory => ToolFault::Memory,
-        _ => ToolFault::Sequence(fault),
+impl From<InstanceFault> for ToolFault {
+    ghost from_gives = { λ fault given. given ≡ of_instance fault };
+
+    fn from(fault: InstanceFault) -> ToolFault {
+        match fault {
+            InstanceFault::Memory => ToolFault::Memory,
+            _ => ToolFault::Instance(fault),
+        }
     }
 }
 
-pub(crate) fn of_instance(fault: InstanceFault) -> ToolFault
-    ensures { result ≡ of_instance fault }
-{
-    match fault {
-        InstanceFault::Memory => ToolFault::Memory,
-        _ => ToolFault::Instance(fault),
+impl From<OptionFault> for ToolFault {
+    ghost from_gives = { λ fault given. given ≡ Choice fault };
+
+    fn from(fault: OptionFault) -> ToolFault {
+        ToolFault::Choice(fault)
     }
 }
 
-pub(crate) fn of_plan(fault: PlanFault) -> ToolFault
-    ensures { result ≡ of_plan fault }
-{
-    match fault {
-        PlanFault::Memory => ToolFault::Memory,
-        _ => ToolFault::Plan(fault),
+impl From<PlanFault> for ToolFault {
+    ghost from_gives = { λ fault given. given ≡ of_plan fault };
+
+    fn from(fault: PlanFault) -> ToolFault {
+        match fault {
+            PlanFault::Memory => ToolFault::Memory,
+            _ => ToolFault::Plan(fault),
+        }
     }
 }
 
-pub(crate) fn of_solve(fault: SolveFault) -> ToolFault
-    ensures { result ≡ of_solve fault }
-{
-    match fault {
-        SolveFault::Memory => ToolFault::Memory,
-        _ => ToolFault::Run(fault),
+impl From<SolveFault> for ToolFault {
+    ghost from_gives = { λ fault given. given ≡ of_solve fault };
+
+    fn from(fault: SolveFault) -> ToolFault {
+        match fault {
+            SolveFault::Memory => ToolFault::Memory,
+            _ => ToolFault::Run(fault),
+        }
     }
 }
 
-pub(crate) fn of_check(fault: CheckFault) -> ToolFault
-    ensures { result ≡ of_check fault }
-{
-    match fault {
-        CheckFault::Memory => ToolFault::Memory,
-        _ => ToolFault::Certificate(fault),
+impl From<CheckFault> for ToolFault {
+    ghost from_gives = { λ fault given. given ≡ of_check fault };
+
+    fn from(fault: CheckFault) -> ToolFault {
+        match fault {
+            CheckFault::Memory => ToolFault::Memory,
+            _ => ToolFault::Certificate(fault),
+        }
+    }
+}
+
+impl From<WriteFault> for ToolFault {
+    ghost from_gives = { λ fault given. given ≡ Write fault };
+
+    fn from(fault: WriteFault) -> ToolFault {
+        ToolFault::Write(fault)
     }
 }

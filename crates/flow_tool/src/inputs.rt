@@ -10,10 +10,13 @@ use std::rt::Files;
 
 /// Gives standard input, and files by their names.
 pub(crate) trait Inputs {
+    /// The source that reads standard input.
     type Standard: Source + Drop;
 
+    /// The source that reads a file.
     type File: Source + Drop;
 
+    /// Standard input, of which no byte was read.
     fn standard(&self) -> Self::Standard
         ensures { Self.Standard.has_failed result ≡ false };
 
@@ -22,18 +25,19 @@ pub(crate) trait Inputs {
         ensures { IfSome result (λ file. Self.File.has_failed file ≡ false) };
 }
 
-/// The system's.
+/// Standard input and the files of the system.
 #[derive(Drop)]
 pub(crate) struct StdInputs<'a, R: Input + Files> {
     rt: &'a R,
+    /// The folder `/`, opened three times (see `new`).
     held: [R::File; 3],
 }
 
 impl<'a, R: Input + Files> StdInputs<'a, R> {
-    /// Opens a folder three times and holds it, so that the descriptors 0, 1 and 2 are taken before any file is
-    /// opened. Where the program was started with one of them closed, that one is now the folder, from which no byte
-    /// can be read and to which none can be written. Without it the first file that a command opens would be taken for
-    /// standard input, standard output or standard error.
+    /// Opens the folder `/` three times and holds it, so that the descriptors 0, 1 and 2 are taken before any file is
+    /// opened. A descriptor that was closed when the program started is now the folder, from which no byte can be read
+    /// and to which none can be written. Otherwise the first file that a command opens would be taken for standard
+    /// input, standard output or standard error.
     pub(crate) fn new(rt: &'a R) -> Result<StdInputs<'a, R>, Stop> {
         Ok(StdInputs {
             rt,

@@ -1,17 +1,19 @@
 //! The program: one command, over files or standard input.
 #![tactic(auto)]
 
+mod block;
 mod command_line;
 mod commands;
+mod dispatch;
 mod fault;
 mod inputs;
 mod lines;
-mod picked;
+mod status;
 mod stop;
 #[cfg(test)]
 mod tests;
-mod wiring;
 
+use dispatch::run_words;
 use flow_core::StdSink;
 use inputs::StdInputs;
 use std::io;
@@ -19,7 +21,6 @@ use std::process::ExitCode;
 use std::sync::Wait;
 use std::thread::Threads;
 use stop::Stop;
-use wiring::run_words;
 
 fn main(rt: HostRuntime) -> ExitCode {
     let stop = match run(&rt, &rt) {
@@ -36,7 +37,7 @@ fn run<T: Threads + Wait + Sync>(rt: &HostRuntime, threads: &T) -> Result<(), St
     let alloc = rt.alloc();
     let inputs = StdInputs::new(rt)?;
     let words: Vec<String> = match std::env::args(rt) {
-        Ok(words) => words.collect(alloc).map_err(|_| Stop::Memory)?,
+        Ok(words) => words.collect(alloc)?,
         Err(error) if error.kind() == io::ErrorKind::OutOfMemory => return Err(Stop::Memory),
         Err(_) => return Err(Stop::CommandLine),
     };

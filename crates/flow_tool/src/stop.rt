@@ -1,6 +1,10 @@
 //! Why the program stopped.
 
+ghost use Rattle.std.specs.Prelude.{◌≡◌};
+ghost use Rattle.flow_tool.specs.declared.stop.Stop.TheVariants.{Fault, Memory};
+
 use crate::fault::ToolFault;
+use std::alloc::AllocError;
 use thiserror::Error;
 
 /// Why the program did not do what it was asked for; its text is the line on standard error.
@@ -20,14 +24,18 @@ pub(crate) enum Stop {
     Open,
 }
 
-impl Stop {
-    /// The status that the program ends with.
-    pub(crate) fn status(self) -> u8 {
-        match self {
-            Stop::Fault(fault) => fault.status(),
-            Stop::Memory => 1,
-            Stop::CommandLine => 2,
-            Stop::Open => 3,
-        }
+impl From<AllocError> for Stop {
+    ghost from_gives = { λ _ stop. stop ≡ Memory };
+
+    fn from(_error: AllocError) -> Stop {
+        Stop::Memory
+    }
+}
+
+impl From<ToolFault> for Stop {
+    ghost from_gives = { λ fault stop. stop ≡ Fault fault };
+
+    fn from(fault: ToolFault) -> Stop {
+        Stop::Fault(fault)
     }
 }

@@ -1,4 +1,4 @@
 //! The tests of the program.
 
 mod commands;
-mod wiring;
+mod dispatch;

@@ -1,4 +1,4 @@
--- A fault of a layer, as a fault of the command: that memory ran out is the same in all.
+-- The fault of the program for a fault of a layer: memory that ran out is one fault, whatever the layer.
 use Rattle.flow_core.specs.declared.bytes.fault.ReadFault.{ReadFault}
 use Rattle.flow_core.specs.declared.bytes.fault.ReadFault.TheVariants as read
 use Rattle.flow_core.specs.declared.text.fault.TextFault.{TextFault}

@@ -1,6 +1,7 @@
 //! The command `check`.
 
-ghost use Rattle.std.specs.Prelude.{◌≡◌, ◌↔◌, ◌⊎◌, false, true, Ok, Err, IfOk, OnOk, IfErr, IsErrOf, List, ℕ};
+ghost use Rattle.std.specs.Prelude.{◌≡◌, ◌↔◌, ◌⊎◌, ℕ, List, false, true, Ok, Err};
+ghost use Rattle.std.specs.Prelude.{IfOk, OnOk, IfErr, IsErrOf};
 ghost use Rattle.flow_core.specs.Sequences.{IsLeastMakespan};
 ghost use Rattle.flow_core.specs.Bytes.{Grows};
 ghost use Rattle.flow_core.specs.declared.bytes.fault.ReadFault.TheVariants as read;
@@ -11,9 +12,9 @@ ghost use Rattle.flow_tool.specs.Runs.{Came, Ends, StopsAt, Wrote, WroteLeast};
 ghost use Rattle.flow_tool.specs.Limits.{most_text, most_certificate};
 ghost use Rattle.flow_cert.specs.Check.{IsFirstFault};
 
-use crate::fault::{ToolFault, of_check, of_read};
+use crate::block::read_block;
+use crate::fault::ToolFault;
 use crate::lines::optimal_line;
-use crate::picked::read_block;
 use flow_cert::{CheckFault, check};
 use flow_core::{Instance, Sink, Source, put_all, read_all};
 use std::alloc::Global;
@@ -51,18 +52,10 @@ fn check_certificate<C: Source, K: Sink>(
     ensures write_device { IsErrOf result (ToolFault.Write write.Device) ↔ (K.has_failed out.new ≡ true) }
     ensures stands { Grows (C.given cert.old) (C.given cert.new) }
 {
-    let bytes = match read_all(alloc, cert, MAX_CERTIFICATE) {
-        Ok(bytes) => bytes,
-        Err(fault) => return Err(of_read(fault)),
-    };
-    let line = match checked_line(alloc, instance, bytes.as_slice()) {
-        Ok(line) => line,
-        Err(fault) => return Err(of_check(fault)),
-    };
-    match put_all(out, line.as_slice()) {
-        Ok(()) => Ok(()),
-        Err(fault) => Err(ToolFault::Write(fault)),
-    }
+    let bytes = read_all(alloc, cert, MAX_CERTIFICATE)?;
+    let line = checked_line(alloc, instance, bytes.as_slice())?;
+    put_all(out, line.as_slice())?;
+    Ok(())
 }
 
 /// Writes the value that a certificate proves least for the block that an index names.
@@ -77,7 +70,8 @@ pub(crate) fn run_check<S: Source, C: Source, K: Sink>(
     requires cert_works { C.has_failed cert.old ≡ false }
     requires out_works { K.has_failed out.old ≡ false }
     ensures written { OnOk result (Came most_text (λ text. (block : Block) × Picks text index (Ok block)
-        × Came most_certificate (λ bytes. Wrote (AnswersCheck block.instance bytes) (K.taken out.old) (K.taken out.new))
+        × Came most_certificate
+        (λ bytes. Wrote (AnswersCheck block.instance bytes) (K.taken out.old) (K.taken out.new))
         (C.given cert.old) (C.given cert.new) (C.has_ended cert.new))
         (S.given file.old) (S.given file.new) (S.has_ended file.new)) }
     ensures least { OnOk result (Came most_text (λ text.

@@ -1,13 +1,14 @@
 //! The command `gen`.
 
-ghost use Rattle.std.specs.Prelude.{◌≡◌, ◌↔◌, ◌⊎◌, false, true, None, Ok, Err, IfOk, OnOk, IfErr, IsErrOf};
+ghost use Rattle.std.specs.Prelude.{◌≡◌, ◌↔◌, ◌⊎◌, false, true, None, Ok, Err};
+ghost use Rattle.std.specs.Prelude.{IfOk, OnOk, IfErr, IsErrOf};
 ghost use Rattle.flow_core.specs.declared.bytes.fault.WriteFault.TheVariants as write;
 ghost use Rattle.flow_core.specs.Generator.{generated, generator_fault};
 ghost use Rattle.flow_core.specs.InstanceFaults.{but_memory};
 ghost use Rattle.flow_tool.specs.Answers.{AnswersGen, IsGeneratedText};
 ghost use Rattle.flow_tool.specs.Runs.{EndsAlone, Wrote};
 
-use crate::fault::{ToolFault, of_instance};
+use crate::fault::ToolFault;
 use flow_bound::{neh, taillard_bound};
 use flow_core::{Block, Instance, InstanceFault, Sink, block_text, generate, put_all};
 use std::alloc::{AllocError, Global};
@@ -41,16 +42,8 @@ pub(crate) fn run_gen<K: Sink>(
         (K.taken out.old) (K.taken out.new)) }
     ensures write_device { IsErrOf result (ToolFault.Write write.Device) ↔ (K.has_failed out.new ≡ true) }
 {
-    let instance = match generate(alloc, jobs, machines, seed) {
-        Ok(instance) => instance,
-        Err(fault) => return Err(of_instance(fault)),
-    };
-    let text = match generated_text(alloc, seed, instance) {
-        Ok(text) => text,
-        Err(_) => return Err(ToolFault::Memory),
-    };
-    match put_all(out, text.as_slice()) {
-        Ok(()) => Ok(()),
-        Err(fault) => Err(ToolFault::Write(fault)),
-    }
+    let instance = generate(alloc, jobs, machines, seed)?;
+    let text = generated_text(alloc, seed, instance)?;
+    put_all(out, text.as_slice())?;
+    Ok(())
 }

@@ -8,9 +8,9 @@ ghost use Rattle.flow_tool.specs.Answers.{AnswersNeh, AnswersStart};
 ghost use Rattle.flow_tool.specs.Runs.{Came, Ends, Wrote};
 ghost use Rattle.flow_tool.specs.Limits.{most_text};
 
+use crate::block::read_block;
 use crate::fault::ToolFault;
 use crate::lines::{makespan_line, sequence_line};
-use crate::picked::read_block;
 use flow_bound::neh;
 use flow_core::{Instance, Sink, Source, put_all};
 use std::alloc::{AllocError, Global};
@@ -44,12 +44,7 @@ pub(crate) fn run_neh<S: Source, K: Sink>(
     ensures stands { Grows (S.given file.old) (S.given file.new) }
 {
     let block = read_block(alloc, file, index)?;
-    let lines = match starting_lines(alloc, &block.instance) {
-        Ok(lines) => lines,
-        Err(_) => return Err(ToolFault::Memory),
-    };
-    match put_all(out, lines.as_slice()) {
-        Ok(()) => Ok(()),
-        Err(fault) => Err(ToolFault::Write(fault)),
-    }
+    let lines = starting_lines(alloc, &block.instance)?;
+    put_all(out, lines.as_slice())?;
+    Ok(())
 }

@@ -9,8 +9,8 @@ ghost use Rattle.flow_tool.specs.Answers.{AnswersPlan, AnswersSolve, Picks};
 ghost use Rattle.flow_tool.specs.Runs.{Came, Ends, EndsAlone, Wrote, WroteCertificate};
 ghost use Rattle.flow_tool.specs.Limits.{most_text};
 
-use crate::fault::{ToolFault, of_plan, of_solve};
-use crate::picked::read_block;
+use crate::block::read_block;
+use crate::fault::ToolFault;
 use flow_cert::write_certificate;
 use flow_core::{Instance, Sink, Source};
 use flow_pool::{Gate, solve};
@@ -35,18 +35,10 @@ fn solve_instance<R: Threads + Wait + Sync, G: Gate + Sync, K: Sink>(
         (K.taken out.old) (K.taken out.new)) }
     ensures write_device { IsErrOf result (ToolFault.Write write.Device) ↔ (K.has_failed out.new ≡ true) }
 {
-    let plan = match prepare(alloc, instance, options) {
-        Ok(plan) => plan,
-        Err(fault) => return Err(of_plan(fault)),
-    };
-    let report = match solve(rt, alloc, &plan, gate) {
-        Ok(report) => report,
-        Err(fault) => return Err(of_solve(fault)),
-    };
-    match write_certificate(&plan, &report.verdict, out) {
-        Ok(()) => Ok(()),
-        Err(fault) => Err(ToolFault::Write(fault)),
-    }
+    let plan = prepare(alloc, instance, options)?;
+    let report = solve(rt, alloc, &plan, gate)?;
+    write_certificate(&plan, &report.verdict, out)?;
+    Ok(())
 }
 
 /// Solves the block that an index names with so many workers, and writes the certificate of its plan.
@@ -77,9 +69,6 @@ pub(crate) fn run_solve<R: Threads + Wait + Sync, S: Source, G: Gate + Sync, K: 
     ensures stands { Grows (S.given file.old) (S.given file.new) }
 {
     let block = read_block(alloc, file, index)?;
-    let options = match Options::new(workers, depth, budget) {
-        Ok(options) => options,
-        Err(fault) => return Err(ToolFault::Choice(fault)),
-    };
+    let options = Options::new(workers, depth, budget)?;
     solve_instance(rt, alloc, &block.instance, options, gate, out)
 }

@@ -9,9 +9,9 @@ ghost use Rattle.flow_tool.specs.Answers.{AnswersSpan, span_answer};
 ghost use Rattle.flow_tool.specs.Runs.{Came, Ends, Wrote};
 ghost use Rattle.flow_tool.specs.Limits.{most_text};
 
-use crate::fault::{ToolFault, of_sequence};
+use crate::block::read_block;
+use crate::fault::ToolFault;
 use crate::lines::makespan_line;
-use crate::picked::read_block;
 use flow_core::{Instance, Sequence, SequenceFault, Sink, Source, makespan, put_all};
 use std::alloc::Global;
 
@@ -44,12 +44,7 @@ pub(crate) fn run_span<S: Source, K: Sink>(
     ensures stands { Grows (S.given file.old) (S.given file.new) }
 {
     let block = read_block(alloc, file, index)?;
-    let line = match span_line(alloc, &block.instance, jobs) {
-        Ok(line) => line,
-        Err(fault) => return Err(of_sequence(fault)),
-    };
-    match put_all(out, line.as_slice()) {
-        Ok(()) => Ok(()),
-        Err(fault) => Err(ToolFault::Write(fault)),
-    }
+    let line = span_line(alloc, &block.instance, jobs)?;
+    put_all(out, line.as_slice())?;
+    Ok(())
 }

@@ -3,11 +3,11 @@
 ghost use Rattle.std.specs.Prelude.{◌≡◌, ◌<◌, ◌||◌, None, false, length, IfOk, is_err};
 
 use crate::commands::check::run_check;
-use crate::fault::ToolFault;
 use crate::commands::generate::run_gen;
+use crate::commands::neh::run_neh;
 use crate::commands::solve::run_solve;
 use crate::commands::span::run_span;
-use crate::commands::neh::run_neh;
+use crate::fault::ToolFault;
 use crate::stop::Stop;
 use flow_cert::CheckFault;
 use flow_core::{
@@ -483,67 +483,75 @@ fn stops_are_printed_with_their_status(rt: HostRuntime) -> Result<(), Fail> {
     Ok(())
 }
 
+/// The line of each fault but those of texts and certificates.
+const LINES: [(ToolFault, &str); 18] = [
+    (ToolFault::Memory, "refused memory"),
+    (ToolFault::Read(ReadFault::Device), "failed read Device"),
+    (ToolFault::Read(ReadFault::TooLong), "failed read TooLong"),
+    (ToolFault::Index, "refused index"),
+    (
+        ToolFault::Sequence(SequenceFault::Length),
+        "refused sequence Length",
+    ),
+    (
+        ToolFault::Sequence(SequenceFault::Job(3)),
+        "refused sequence Job 3",
+    ),
+    (
+        ToolFault::Sequence(SequenceFault::Twice(2)),
+        "refused sequence Twice 2",
+    ),
+    (
+        ToolFault::Instance(InstanceFault::Seed),
+        "refused instance Seed",
+    ),
+    (
+        ToolFault::Instance(InstanceFault::Jobs),
+        "refused instance Jobs",
+    ),
+    (
+        ToolFault::Instance(InstanceFault::Machines),
+        "refused instance Machines",
+    ),
+    (
+        ToolFault::Choice(OptionFault::Workers),
+        "refused option Workers",
+    ),
+    (
+        ToolFault::Choice(OptionFault::Depth),
+        "refused option Depth",
+    ),
+    (
+        ToolFault::Choice(OptionFault::Budget),
+        "refused option Budget",
+    ),
+    (ToolFault::Plan(PlanFault::Depth), "refused plan Depth"),
+    (
+        ToolFault::Plan(PlanFault::Prefixes),
+        "refused plan Prefixes",
+    ),
+    (ToolFault::Run(SolveFault::Threads), "refused run Threads"),
+    (
+        ToolFault::Run(SolveFault::OverBudget(2)),
+        "refused run OverBudget 2",
+    ),
+    (ToolFault::Write(WriteFault::Device), "failed write Device"),
+];
+
 #[test]
 fn faults_are_printed_with_their_status(rt: HostRuntime) -> Result<(), Fail> {
     let alloc = rt.alloc();
-    let rows = [
-        (ToolFault::Memory, "refused memory"),
-        (ToolFault::Read(ReadFault::Device), "failed read Device"),
-        (ToolFault::Read(ReadFault::TooLong), "failed read TooLong"),
-        (ToolFault::Index, "refused index"),
-        (
-            ToolFault::Sequence(SequenceFault::Length),
-            "refused sequence Length",
-        ),
-        (
-            ToolFault::Sequence(SequenceFault::Job(3)),
-            "refused sequence Job 3",
-        ),
-        (
-            ToolFault::Sequence(SequenceFault::Twice(2)),
-            "refused sequence Twice 2",
-        ),
-        (
-            ToolFault::Instance(InstanceFault::Seed),
-            "refused instance Seed",
-        ),
-        (
-            ToolFault::Instance(InstanceFault::Jobs),
-            "refused instance Jobs",
-        ),
-        (
-            ToolFault::Instance(InstanceFault::Machines),
-            "refused instance Machines",
-        ),
-        (
-            ToolFault::Choice(OptionFault::Workers),
-            "refused option Workers",
-        ),
-        (
-            ToolFault::Choice(OptionFault::Depth),
-            "refused option Depth",
-        ),
-        (
-            ToolFault::Choice(OptionFault::Budget),
-            "refused option Budget",
-        ),
-        (ToolFault::Plan(PlanFault::Depth), "refused plan Depth"),
-        (
-            ToolFault::Plan(PlanFault::Prefixes),
-            "refused plan Prefixes",
-        ),
-        (ToolFault::Run(SolveFault::Threads), "refused run Threads"),
-        (
-            ToolFault::Run(SolveFault::OverBudget(2)),
-            "refused run OverBudget 2",
-        ),
-        (ToolFault::Write(WriteFault::Device), "failed write Device"),
-    ];
-    for (fault, line) in rows {
+    for (fault, line) in LINES {
         let printed = format!(in alloc; "{}", fault)?;
         assert_eq!(rt; printed.as_str(), line);
-        assert_eq!(rt; fault.status() == 3, line.starts_with("failed"));
-        assert_eq!(rt; fault.status() == 1, line.starts_with("refused"));
+        assert_eq!(rt;
+            Stop::Fault(fault).status() == 3,
+            line.starts_with("failed")
+        );
+        assert_eq!(rt;
+            Stop::Fault(fault).status() == 1,
+            line.starts_with("refused")
+        );
     }
     Ok(())
 }
@@ -563,7 +571,7 @@ fn faults_of_texts_and_certificates_are_printed(rt: HostRuntime) -> Result<(), F
     for (fault, line) in texts {
         let printed = format!(in alloc; "{}", ToolFault::Text(fault))?;
         assert_eq!(rt; printed.as_str(), line);
-        assert_eq!(rt; ToolFault::Text(fault).status(), 1);
+        assert_eq!(rt; Stop::Fault(ToolFault::Text(fault)).status(), 1);
     }
     let certificates = [
         (CheckFault::Header, "refused certificate Header"),
@@ -579,7 +587,7 @@ fn faults_of_texts_and_certificates_are_printed(rt: HostRuntime) -> Result<(), F
     for (fault, line) in certificates {
         let printed = format!(in alloc; "{}", ToolFault::Certificate(fault))?;
         assert_eq!(rt; printed.as_str(), line);
-        assert_eq!(rt; ToolFault::Certificate(fault).status(), 1);
+        assert_eq!(rt; Stop::Fault(ToolFault::Certificate(fault)).status(), 1);
     }
     Ok(())
 }

@@ -1,20 +1,20 @@
-//! From the words of a command line to the run that they ask for.
+//! Which words of a command line run which command, and on which files.
 
-ghost use Rattle.std.specs.Prelude.{◌≡◌, false, Ok, OnOk, IfErr};
+ghost use Rattle.std.specs.Prelude.{◌≡◌, ◌≤◌, List, ℕ, length, false, Ok, OnOk, IfErr};
 ghost use Rattle.flow_core.specs.declared.text.block.Block.{Block};
-ghost use Rattle.flow_tool.specs.Answers.{Picks};
-ghost use Rattle.flow_tool.specs.internal.Asked.{AnswersAsked};
-ghost use Rattle.flow_tool.specs.Limits.{most_text};
+ghost use Rattle.flow_tool.specs.Answers.{AnswersCheck, AnswersFor, Picks};
+ghost use Rattle.flow_tool.specs.internal.Asked.{AnswersAsked, WroteOrdered};
+ghost use Rattle.flow_tool.specs.Limits.{most_certificate, most_text};
 ghost use Rattle.flow_tool.specs.Runs.{Came, Ends, Wrote, WroteLeast};
 
-use crate::commands::check::run_check;
 use crate::command_line::{OfBlock, Order, make_command, order_of};
-use crate::fault::ToolFault;
+use crate::commands::check::run_check;
 use crate::commands::generate::run_gen;
-use crate::inputs::Inputs;
+use crate::commands::neh::run_neh;
 use crate::commands::solve::run_solve;
 use crate::commands::span::run_span;
-use crate::commands::neh::run_neh;
+use crate::fault::ToolFault;
+use crate::inputs::Inputs;
 use crate::stop::Stop;
 use clap::Error;
 use clap::error::ErrorKind;
@@ -38,33 +38,30 @@ pub(crate) fn run_words<R: Threads + Wait + Sync, I: Inputs, W: AsStr, K: Sink>(
 ) -> Result<(), Stop>
     requires { K.has_failed out.old ≡ false }
 {
-    let command = make_command(alloc).map_err(|_| Stop::Memory)?;
-    let matches = match command.try_get_matches_from(words) {
-        Ok(matches) => matches,
-        Err(error) => return refuse_words(alloc, &error, out),
-    };
-    match order_of(alloc, &matches) {
-        Ok(Some(order)) => obey(rt, alloc, inputs, &order, out),
-        Ok(None) => Err(Stop::CommandLine),
-        Err(_) => Err(Stop::Memory),
+    match make_command(alloc)?.try_get_matches_from(words) {
+        Ok(matches) => {
+            let order = order_of(alloc, &matches)?.ok_or(Stop::CommandLine)?;
+            obey(rt, alloc, inputs, &order, out)
+        }
+        Err(error) => match error.kind() {
+            ErrorKind::DisplayHelp => Ok(write_help(alloc, &error, out)?),
+            ErrorKind::OutOfMemory => Err(Stop::Memory),
+            _ => Err(Stop::CommandLine),
+        },
     }
 }
 
-/// What is wrong with words that are no order, or the help that they ask for.
-fn refuse_words<K: Sink>(alloc: Global, error: &Error, out: &mut K) -> Result<(), Stop>
+/// Writes the help that the words ask for.
+fn write_help<K: Sink>(alloc: Global, help: &Error, out: &mut K) -> Result<(), ToolFault>
     requires { K.has_failed out.old ≡ false }
 {
-    match error.kind() {
-        ErrorKind::DisplayHelp => {
-            let text = format!(in alloc; "{}", error).map_err(|_| Stop::Memory)?;
-            put_all(out, text.as_bytes()).map_err(|fault| Stop::Fault(ToolFault::Write(fault)))
-        }
-        ErrorKind::OutOfMemory => Err(Stop::Memory),
-        _ => Err(Stop::CommandLine),
-    }
+    let text = format!(in alloc; "{}", help)?;
+    put_all(out, text.as_bytes())?;
+    Ok(())
 }
 
-/// Does what was asked for. Files are opened before anything is read.
+/// Runs the command that was asked for. The text's file is opened before a byte is read, and the certificate's
+/// file after it.
 fn obey<R: Threads + Wait + Sync, I: Inputs, K: Sink>(
     rt: &R,
     alloc: Global,
@@ -73,20 +70,21 @@ fn obey<R: Threads + Wait + Sync, I: Inputs, K: Sink>(
     out: &mut K,
 ) -> Result<(), Stop>
     requires { K.has_failed out.old ≡ false }
+    ensures written { OnOk result (WroteOrdered order.now (K.taken out.old) (K.taken out.new)) }
 {
     match order {
         Order::Gen {
             jobs,
             machines,
             seed,
-        } => run_gen(alloc, *jobs, *machines, *seed, out).map_err(Stop::Fault),
+        } => Ok(run_gen(alloc, *jobs, *machines, *seed, out)?),
         Order::OfBlock { file, index, what } => {
             if *file == STANDARD {
                 let mut text = inputs.standard();
-                return obey_for_block(rt, alloc, &mut text, *index, what, out).map_err(Stop::Fault);
+                return Ok(obey_for_block(rt, alloc, &mut text, *index, what, out)?);
             }
             let mut text = inputs.open(*file).ok_or(Stop::Open)?;
-            obey_for_block(rt, alloc, &mut text, *index, what, out).map_err(Stop::Fault)
+            Ok(obey_for_block(rt, alloc, &mut text, *index, what, out)?)
         }
         Order::Check { file, index, cert } => {
             if *file == STANDARD {
@@ -99,7 +97,7 @@ fn obey<R: Threads + Wait + Sync, I: Inputs, K: Sink>(
     }
 }
 
-/// Does what was asked for, for the block that an index names.
+/// Runs the command that was asked for on the block that an index names.
 fn obey_for_block<R: Threads + Wait + Sync, S: Source, K: Sink>(
     rt: &R,
     alloc: Global,
@@ -140,10 +138,15 @@ fn check_named<I: Inputs, S: Source, K: Sink>(
 ) -> Result<(), Stop>
     requires text_works { S.has_failed text.old ≡ false }
     requires out_works { K.has_failed out.old ≡ false }
-    ensures least { OnOk result (Came most_text (λ bytes.
-        (block : Block) × Picks bytes index (Ok block) × WroteLeast block.instance (K.taken out.old) (K.taken out.new))
+    ensures written { OnOk result (Came most_text (λ bytes. (certificate : List ℕ)
+        × (length certificate ≤ most_certificate)
+        × Wrote (AnswersFor index (λ block. AnswersCheck block.instance certificate) bytes)
+        (K.taken out.old) (K.taken out.new))
+        (S.given text.old) (S.given text.new) (S.has_ended text.new)) }
+    ensures least { OnOk result (Came most_text (λ bytes. (block : Block) × Picks bytes index (Ok block)
+        × WroteLeast block.instance (K.taken out.old) (K.taken out.new))
         (S.given text.old) (S.given text.new) (S.has_ended text.new)) }
 {
     let mut cert = inputs.open(cert).ok_or(Stop::Open)?;
-    run_check(alloc, text, index, &mut cert, out).map_err(Stop::Fault)
+    Ok(run_check(alloc, text, index, &mut cert, out)?)
 }

@@ -3,11 +3,11 @@
 ghost use Rattle.std.specs.Prelude.{◌≡◌, false};
 
 use crate::command_line::{OfBlock, Order, make_command, order_of};
+use crate::dispatch::run_words;
 use crate::fault::ToolFault;
 use crate::inputs::Inputs;
 use crate::stop::Stop;
 use crate::tests::commands::{DEPTH_0, DEPTH_1, DEPTH_2, GENERATED, ROOM, THREE_MACHINES};
-use crate::wiring::run_words;
 use clap::error::ErrorKind;
 use flow_core::{MemorySink, MemorySource, WriteFault};
 use std::alloc::{AllocError, Global};
@@ -225,37 +225,25 @@ fn ordered<'a>(alloc: Global, words: &'a [&'a str]) -> Result<Option<Order<'a>>,
 fn words_are_read_as_orders(rt: HostRuntime) -> Result<(), Fail> {
     let alloc = rt.alloc();
     let words = words_of(alloc, "span FILE 4294967295 3 1 65535")?;
-    match ordered(alloc, words.as_slice()) {
-        Ok(
-            Some(
-                Order::OfBlock {
-                    file,
-                    index,
-                    what: OfBlock::Span { jobs },
-                },
-            ),
-        ) => {
-            assert_eq!(rt; file, "FILE");
-            assert_eq!(rt; index, u32::MAX);
-            assert!(rt; jobs.as_slice() == [3, 1, 65_535].as_slice());
-        }
-        _ => assert!(rt; false),
-    }
+    let wanted = Order::OfBlock {
+        file: "FILE",
+        index: u32::MAX,
+        what: OfBlock::Span {
+            jobs: vec![in alloc; 3, 1, 65_535]?,
+        },
+    };
+    assert_eq!(rt; ordered(alloc, words.as_slice()), Ok(Some(wanted)));
     let words = words_of(alloc, "solve FILE 1 --depth 2")?;
-    let order = ordered(alloc, words.as_slice());
-    assert!(rt;
-        matches!(
-            order,
-            Ok(Some(Order::OfBlock {
-                what: OfBlock::Solve {
-                    workers: 1,
-                    depth: 2,
-                    budget: 1_000_000
-                },
-                ..
-            }))
-        )
-    );
+    let wanted = Order::OfBlock {
+        file: "FILE",
+        index: 1,
+        what: OfBlock::Solve {
+            workers: 1,
+            depth: 2,
+            budget: 1_000_000,
+        },
+    };
+    assert_eq!(rt; ordered(alloc, words.as_slice()), Ok(Some(wanted)));
     Ok(())
 }
 

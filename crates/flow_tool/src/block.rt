@@ -7,14 +7,14 @@ ghost use Rattle.flow_tool.specs.Answers.{Picks};
 ghost use Rattle.flow_tool.specs.Runs.{Came, StopsAt};
 ghost use Rattle.flow_tool.specs.Limits.{most_text};
 
-use crate::fault::{ToolFault, of_read, of_text};
+use crate::fault::ToolFault;
 use flow_core::{Block, Source, read_all, read_blocks};
 use std::alloc::Global;
 
 /// The most bytes of a benchmark text.
 pub(crate) const MAX_TEXT: usize = 16_777_216;
 
-/// Reads a whole text, and answers the block that the index names, from 1.
+/// Reads a whole text, and returns the block that the index names, from 1.
 pub(crate) fn read_block<S: Source>(
     alloc: Global,
     file: &mut S,
@@ -28,14 +28,8 @@ pub(crate) fn read_block<S: Source>(
     ensures device { IsErrOf result (ToolFault.Read Device) ↔ (S.has_failed file.new ≡ true) }
     ensures stands { Grows (S.given file.old) (S.given file.new) }
 {
-    let text = match read_all(alloc, file, MAX_TEXT) {
-        Ok(text) => text,
-        Err(fault) => return Err(of_read(fault)),
-    };
-    let mut blocks = match read_blocks(alloc, text.as_slice()) {
-        Ok(found) => found,
-        Err(fault) => return Err(of_text(fault)),
-    };
+    let text = read_all(alloc, file, MAX_TEXT)?;
+    let mut blocks = read_blocks(alloc, text.as_slice())?;
     if index == 0 || index as usize > blocks.len() {
         return Err(ToolFault::Index);
     }

@@ -1,0 +1,22 @@
+use Rattle.std.proofs.lemmas.Result.{on_ok_weaker}
+use Rattle.flow_tool.specs.declared.command_line.Order.TheVariants as order
+use Rattle.flow_tool.proofs.Ordered.{wrote-ordered}
+use Rattle.flow_tool.proofs.dispatch.obey.Goals as goal
+
+pub returns-then-eq-2 : goal.returns-then-eq-2
+returns-then-eq-2 g c =
+    record {
+      written = rw c.in-Check.is
+          (on_ok_weaker c.check_named.result
+          (wrote-ordered (order.Check c.in-Check.file c.in-Check.index c.in-Check.cert) _ _ _ _ _)
+          c.check_named.ensures.written);
+    }
+
+pub returns-in_ok-text-in-Check : goal.returns-in_ok-text-in-Check
+returns-in_ok-text-in-Check g c =
+    record {
+      written = rw c.in-Check.is
+          (on_ok_weaker c.check_named-in-Check.result
+          (wrote-ordered (order.Check c.in-Check.file c.in-Check.index c.in-Check.cert) _ _ _ _ _)
+          c.check_named-in-Check.ensures.written);
+    }
