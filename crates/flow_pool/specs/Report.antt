@@ -20,7 +20,7 @@ pub record IsDoneAnswer (plan : Planned) (answer : Answer) : Type 0 where
   pub lawful : IsLawful plan answer.number answer.outcome
   pub done : IsDone answer.outcome
 
--- the settled lanes of a worker carried its tasks, and a done and lawful answer to each prefix; each has run_slots slots
+-- the settled lanes of a worker carried its tasks, and a done, lawful answer to each prefix; each has run_slots slots
 pub record IsWholeWork (plan : Planned) (worker : ℕ) (lanes : Settled Task × Settled Answer) : Type 0 where
   pub tasks : lanes.0.items ≡ tasks_of plan.options.workers (prefix_count plan) worker
   pub numbers : answered lanes.1.items ≡ share plan.options.workers (prefix_count plan) worker

@@ -19,7 +19,7 @@ use Rattle.flow_lanes.specs.Lane.{Lane}
 abbrev pub IsServed : Planned → WorkerEnds → Type 0
 IsServed plan ends = Fit plan ends.tasks.received ends.answers.sent
 
--- there are no more workers than the limit, their ends are fresh, and the hub's ends of the same lanes have room for a task
+-- there are no more workers than the limit; their ends are fresh; the hub's ends of the same lanes have room for a task
 pub record CanStart (workers : List WorkerEnds) (hubs : List HubEnds) : Type 0 where
   pub count : length workers ≤ most_workers
   pub fresh : All IsFresh workers
