@@ -1,7 +1,5 @@
 -- What the settled lanes of a run have carried, and why a run has no report.
 use Rattle.std.specs.Prelude.{◌≡◌, ℕ, ◌<◌, List, Some, length, All, HoldsAt}
-use Rattle.flow_search.specs.declared.verdict.RunFault.{RunFault}
-use Rattle.flow_search.specs.declared.verdict.RunFault.TheVariants as run_fault
 use Rattle.flow_search.specs.Plans.{Planned}
 use Rattle.flow_search.specs.Outcomes.{IsLawful, IsDone, first_over_budget}
 use Rattle.flow_lanes.specs.declared.settled.Settled.{Settled}
