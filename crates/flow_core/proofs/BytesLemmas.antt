@@ -8,7 +8,7 @@ use Rattle.std.proofs.lemmas.Grind.{common_steps}
 take-next : (bytes : List ℕ) (done count : ℕ) → take (done + count) bytes ≡ take done bytes ++ take count (take (length bytes - done) (drop done bytes))
 take-next bytes done count = grind (arith, common_steps, take-add)
 
--- the next bytes behind those that were put
+-- the next bytes after those that were put
 pub Appends-more : (a b c : Option (List ℕ)) (bytes : List ℕ) (done count : ℕ) → Appends a b (take done bytes)
     → Appends b c (take count (take (length bytes - done) (drop done bytes))) → Appends a c (take (done + count) bytes)
 Appends-more a b c bytes done count first next = rw take-next (Appends-trans a b c _ _ first next)

@@ -11,7 +11,7 @@ use Rattle.flow_core.specs.internal.TextWalk.{line_numbers}
 use Rattle.flow_core.specs.Limits.{greatest_number}
 use Rattle.flow_core.specs.declared.text.fault.LineFault.TheVariants as line
 
--- the numbers of what is left of a line, behind what was read of a number, if any
+-- the numbers of the rest of a line, where a number may have begun
 abbrev pub numbers_after : Option ℕ → List ℕ → List ℕ
 numbers_after None [] = []
 numbers_after (Some n) [] = n ∷ []

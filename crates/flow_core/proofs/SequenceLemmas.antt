@@ -14,7 +14,7 @@ use Rattle.flow_core.specs.declared.sequence.SequenceFault.{SequenceFault}
 use Rattle.flow_core.specs.declared.sequence.SequenceFault.TheVariants.{Length, Job, Twice}
 use Rattle.flow_core.proofs.JobsLeft.{InRange}
 
--- the two tests of a job, and what comes behind
+-- the two tests of a job, and then the rest
 abbrev tested : Bool → Bool → ℕ → Option SequenceFault → Option SequenceFault
 tested in_range held place rest =
     option_or (first_fault (fault_unless in_range (Job place) ∷ fault_unless (not held) (Twice place) ∷ [])) rest

@@ -1,4 +1,4 @@
--- The states of the reader agree with what the lines before decide, and its answer with the first fault.
+-- The states of the reader agree with what the lines before decide, and what it returns with the first fault.
 use Rattle.std.proofs.Common.{◌≡◌, ◌∙◌, ap, subst, ◌<◌, ◌+◌, ◌*◌, ◌%◌, ℕ, Bool, true, false, not, cond, eqb, nat_lt, nat_le, List, Option, Some, None, Ok, Err, Result, ◌++◌, ◌∷◌, [], length, slice_index, arith, refl, sym, inl, inr, length-append, append-nil}
 use Rattle.std.specs.Int.{is_in_range}
 use Rattle.flow_core.specs.Limits.{most_jobs, most_machines}
@@ -118,7 +118,7 @@ wanted-label n odd between p =
     ap (λ z. cond z 0 (cond (eqb ((n + 1) % 2) 1) 5 (slice_index between 0 * slice_index between 1))) (some-more n)
     ∙ ap (λ o. cond o 5 (slice_index between 0 * slice_index between 1)) (odd-more n odd p)
 
--- behind one more label
+-- after one more label
 facts-label : (e : List (List ℕ)) (l : List ℕ) (odd none : Bool) (since : List ℕ) (wanted : ℕ) → is_label_line l ≡ true → Facts e odd none since wanted → Facts (l ∷ e) (not odd) false [] (cond (not odd) 5 (slice_index since 0 * slice_index since 1))
 facts-label e l odd none since wanted p f = record {
   odd_is = ap (λ n. eqb (n % 2) 1) (labels-label e l p) ∙ odd-more (labels e) odd f.odd_is;
@@ -129,7 +129,7 @@ facts-label e l odd none since wanted p f = record {
       ∙ wanted-label (labels e) odd since f.odd_is;
 }
 
--- behind one more line that is no label
+-- after one more line that is no label
 facts-other : (e : List (List ℕ)) (l : List ℕ) (odd none : Bool) (since : List ℕ) (wanted : ℕ) → is_label_line l ≡ false → Facts e odd none since wanted → Facts (l ∷ e) odd none (since ++ numbers_of l) wanted
 facts-other e l odd none since wanted p f = record {
   odd_is = ap (λ n. eqb (n % 2) 1) (labels-other e l p) ∙ f.odd_is;
@@ -164,7 +164,7 @@ abbrev fault_in : ℕ → Result State LineFault → Option TextFault
 fault_in n (Ok t) = None
 fault_in n (Err d) = Some (at_line d n)
 
--- a line's fault is the reader's, and so is what is wanted behind it
+-- a line's fault is the reader's, and so is what is wanted after it
 record Follows (e : List (List ℕ)) (l : List ℕ) (read : Result State LineFault) : Type 0 where
   fault : line_fault e l ≡ fault_in (length e + 1) read
   tracks : (t : State) → read ≡ Ok t → Tracks t (l ∷ e)
@@ -261,7 +261,7 @@ head-some ns h =
     let both = and_true (is_in_range 1 most_jobs (slice_index ns 0)) (is_in_range 1 most_machines (slice_index ns 1)) h in
     mul-some (slice_index ns 0) (slice_index ns 1) (range-in most_jobs (slice_index ns 0) both.0).0 (range-in most_machines (slice_index ns 1) both.1).0
 
--- behind a whole block
+-- after a whole block
 whole-tracks : (h : Sizes) (bs : List Block) (e : List (List ℕ)) (l : List ℕ) (since : List ℕ) (block : Block) → Facts (l ∷ e) false false since (length since) → FirstTracks (at FirstLabel [] h (bs ++ block ∷ [])) (l ∷ e)
 whole-tracks h bs e l since block f =
     let some : eqb (length (bs ++ block ∷ [])) 0 ≡ false = (let long : length (bs ++ block ∷ []) ≡ length bs + 1 = omega (arith, length-append bs (block ∷ [])) in ap (λ n. eqb n 0) long ∙ some-more (length bs)) in

@@ -330,7 +330,7 @@ line-back s t l ls all k e = go (after_blanks l) refl
 pub line-keeps : (s t : State) (l : List ℕ) → Keeps s → after_line s l ≡ Ok t → Keeps t
 line-keeps s t l k e = (line-back s t l [] [] k e).0
 
--- what is read behind a line
+-- what is read after a line
 pub walk-more : (s t : State) (n : ℕ) (l : List ℕ) (ls : List (List ℕ)) → after_line s l ≡ Ok t → walk t (n + 1) ls ≡ walk s n (l ∷ ls)
 unfolding walk
 walk-more s t n l ls e = ap (λ r. placed (n + 1) r >>= λ u. walk u (n + 1) ls) (sym e)

@@ -47,7 +47,8 @@ pub fn bound_is_admissible()
 
 /// An instance has one least makespan.
 pub fn least_makespan_is_one()
-    ensures { (shop : Shop) (value other : ℕ) → IsLeastMakespan shop value → IsLeastMakespan shop other → value ≡ other }
+    ensures { (shop : Shop) (value other : ℕ) → IsLeastMakespan shop value → IsLeastMakespan shop other →
+        value ≡ other }
 {}
 
 /// Numbers have no fault exactly where they are an instance within the limits.

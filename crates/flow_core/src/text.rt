@@ -5,7 +5,7 @@ mod fault;
 mod line;
 mod progress;
 mod read;
-mod walk;
+mod steps;
 mod write;
 
 pub use block::Block;

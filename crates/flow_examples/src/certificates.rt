@@ -95,11 +95,20 @@ fn checker_names_first_fault(rt: HostRuntime) -> Result<(), Fail> {
         (b"3 3 0\n012\n3 1 2\n+BC++.B\nend\n", CheckFault::Value),
         (b"3 3 1\n12\n3 1 2\nB\nC\n++.A\nend\n", CheckFault::Weak(7)),
         (b"3 3 1\n12\n3 1 2\nB\nC\nend\n", CheckFault::Tree(7)),
-        (b"3 3 1\n12\n3 1 2\nB\nC\n++.B\n++.B\nend\n", CheckFault::End),
+        (
+            b"3 3 1\n12\n3 1 2\nB\nC\n++.B\n++.B\nend\n",
+            CheckFault::End,
+        ),
         (b"3 3 1\n12\n3 1 2\nB\nC\n++.B\nend\nx", CheckFault::End),
         (b"3 3 1\n12\n3 1 2\n+BC++.B\nend\n", CheckFault::Weak(5)),
-        (b"3 3 0\n18446744073709551615\n3 1 2\n+BC++.B\nend\n", CheckFault::NotAttained),
-        (b"3 3 0\n18446744073709551616\n3 1 2\n+BC++.B\nend\n", CheckFault::Value),
+        (
+            b"3 3 0\n18446744073709551615\n3 1 2\n+BC++.B\nend\n",
+            CheckFault::NotAttained,
+        ),
+        (
+            b"3 3 0\n18446744073709551616\n3 1 2\n+BC++.B\nend\n",
+            CheckFault::Value,
+        ),
     ];
     for (rest, fault) in rows {
         let text = titled(alloc, rest)?;
@@ -279,7 +288,10 @@ fn checker_names_first_line_at_fault(rt: HostRuntime) -> Result<(), Fail> {
         (b"3 3 0\n13\n2 1 3\n+BC++x.\nEND\n", CheckFault::Tree(5)),
         (b"3 3 0\n13\n2 1 3\n+BC+A.B\nEND\n", CheckFault::Weak(5)),
         // At depth 3 the sequences stand in lexicographic order, and 3 1 2 is the fifth.
-        (b"3 3 3\n13\n2 1 3\n.\n.\n.\n.\n.\n.\nend\n", CheckFault::Low(9)),
+        (
+            b"3 3 3\n13\n2 1 3\n.\n.\n.\n.\n.\n.\nend\n",
+            CheckFault::Low(9),
+        ),
         // Line ends that are missing.
         (b"3 3 1\n12\n3 1 2\nBC\n++.B\nend\n", CheckFault::Tree(5)),
         (b"3 3 1\n12\n3 1 2\nB\nC\n++.Bend\n", CheckFault::Tree(7)),

@@ -99,7 +99,8 @@ fn block_is_written_in_one_form_and_read_again(rt: HostRuntime) -> Result<(), Fa
     assert_eq!(rt;
         text.as_slice(),
         b"number of jobs, number of machines, initial seed, upper bound and lower bound :\n\
-        2 2 1 122 122\nprocessing times :\n1 14\n75 46\n".as_slice()
+        2 2 1 122 122\nprocessing times :\n1 14\n75 46\n"
+            .as_slice()
     );
     let again = only_block(alloc, text.as_slice())?;
     assert_eq!(rt; (again.seed, again.upper, again.lower), (1, 122, 122));

@@ -1,5 +1,5 @@
 -- What the hub sends and receives through its ends of the lanes.
-use Rattle.std.specs.Prelude.{◌≡◌, ℕ, ◌≤◌, List, [], length, map, All, vec_len, vec_capacity}
+use Rattle.std.specs.Prelude.{◌≡◌, ℕ, ◌≤◌, List, [], length, map, All, vec_capacity}
 use Rattle.std.specs.Global.{Vec}
 use Rattle.flow_search.specs.Plans.{Planned}
 use Rattle.flow_lanes.specs.Lane.{Lane}

@@ -1,7 +1,5 @@
 -- What the settled lanes of a run have carried, and why a run has no report.
 use Rattle.std.specs.Prelude.{◌≡◌, ℕ, ◌<◌, List, Some, length, All, HoldsAt}
-use Rattle.flow_search.specs.declared.verdict.RunFault.{RunFault}
-use Rattle.flow_search.specs.declared.verdict.RunFault.TheVariants as run_fault
 use Rattle.flow_search.specs.Plans.{Planned}
 use Rattle.flow_search.specs.Outcomes.{IsLawful, IsDone, first_over_budget}
 use Rattle.flow_lanes.specs.declared.settled.Settled.{Settled}
@@ -20,7 +18,7 @@ pub record IsDoneAnswer (plan : Planned) (answer : Answer) : Type 0 where
   pub lawful : IsLawful plan answer.number answer.outcome
   pub done : IsDone answer.outcome
 
--- the settled lanes of a worker carried its tasks, and a done and lawful answer to each prefix; each has run_slots slots
+-- the settled lanes of a worker carried its tasks, and a done, lawful answer to each prefix; each has run_slots slots
 pub record IsWholeWork (plan : Planned) (worker : ℕ) (lanes : Settled Task × Settled Answer) : Type 0 where
   pub tasks : lanes.0.items ≡ tasks_of plan.options.workers (prefix_count plan) worker
   pub numbers : answered lanes.1.items ≡ share plan.options.workers (prefix_count plan) worker

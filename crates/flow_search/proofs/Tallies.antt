@@ -299,7 +299,7 @@ done-is outcome.OverBudget d = absurd d
 done-is NoMemory d = absurd d
 done-is NoPrefix d = absurd d
 
--- the item behind some others
+-- the item after some others
 pub item-behind : (os : List Outcome) (o : Outcome) (rest : List Outcome) (other : Outcome) → slice_index_or (os ++ o ∷ rest) (length os) other ≡ o
 item-behind [] o rest other = refl
 item-behind (p ∷ os) o rest other = item-behind os o rest other

@@ -11,8 +11,8 @@ use Rattle.flow_search.specs.declared.outcome.Outcome.TheVariants.{Done, OverBud
 abbrev pub found_of : Best → Found
 found_of best = record { value = best.value; sequence = best.sequence }
 
--- An outcome of a prefix is lawful in these cases. `Done` has the best and the tree of the prefix, and the tree is within
--- the budget. `OverBudget`: the tree is longer than the budget. `NoMemory` is always lawful, and `NoPrefix` never.
+-- When an outcome of a prefix is lawful. `Done`: it has the best and the tree of the prefix, and the tree is within the
+-- budget. `OverBudget`: the tree is longer than the budget. `NoMemory` is always lawful, and `NoPrefix` never.
 abbrev pub IsLawful : Planned → ℕ → Outcome → Type 0
 IsLawful plan number (Done best text) =
     (option_map found_of best ≡ best_of plan number)

@@ -46,7 +46,8 @@ impl From<AllocError> for RunFault {
     }
 }
 
-/// The verdict of a plan, from the outcomes of all its prefixes in order. The first that is not `Done` decides the fault.
+/// The verdict of a plan, from the outcomes of all its prefixes in order; or the fault of the first that is not `Done`;
+/// or `Memory`.
 pub fn conclude(alloc: Global, plan: &Plan, outcomes: Vec<Outcome>) -> Result<Verdict, RunFault>
     requires count { vec_len outcomes ≡ length (prefixes_of plan.now) }
     requires lawful { AreLawful plan.now outcomes.items }

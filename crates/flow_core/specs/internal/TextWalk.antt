@@ -134,7 +134,8 @@ after_label s = elim s.want [
 unfoldable pub after_head_numbers : State → List ℕ → Result State LineFault
 after_head_numbers s ns = if nat_lt 5 (length ns) then Err line.Head
     else (if nat_lt (length ns) 5 then Ok (record s { numbers = ns })
-    else (if is_head ns then Ok (record s { want = SecondLabel; numbers = []; head = sizes_of ns }) else Err line.Limits))
+    else (if is_head ns then Ok (record s { want = SecondLabel; numbers = []; head = sizes_of ns })
+    else Err line.Limits))
 
 -- the state when all times of a block so far are these, the new ones of the last line included, or the fault
 unfoldable pub after_times : State → List ℕ → List ℕ → Result State LineFault

@@ -11,7 +11,7 @@ ghost use Rattle.flow_core.specs.declared.text.fault.TextFault.TheVariants.{Memo
 use crate::text::block::Block;
 use crate::text::fault::TextFault;
 use crate::text::line::first_line;
-use crate::text::walk::{after_any_line, begin, finish};
+use crate::text::steps::{after_any_line, begin, finish};
 use std::alloc::Global;
 
 /// The blocks of a text in order; or its first fault; or `Memory`.

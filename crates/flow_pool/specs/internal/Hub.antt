@@ -1,19 +1,11 @@
 -- What the hub has sent and received so far.
-use Rattle.std.specs.Prelude.{ℕ, ◌+◌, ◌%◌, List, [], ◌∷◌, ◌++◌, ◌==◌, if◌then◌else◌, map, slice_set, slice_index_or, ◌≡◌, ◌≤◌, length, All, vec_len, vec_capacity, ◌<◌, cond, nat_eq, filter}
-use Rattle.std.specs.List.{range_with_len}
+use Rattle.std.specs.Prelude.{ℕ, List, [], ◌∷◌, ◌++◌, slice_set, slice_index_or, ◌≡◌, ◌≤◌, length, vec_len, vec_capacity}
 use Rattle.std.specs.Global.{Vec}
-use Rattle.flow_search.specs.Plans.{Planned, prefixes_of}
-use Rattle.flow_lanes.specs.Lane.{Lane}
 use Rattle.flow_pool.specs.declared.ends.Task.{Task}
 use Rattle.flow_pool.specs.declared.ends.Answer.{Answer}
 use Rattle.flow_pool.specs.declared.ends.HubEnds.{HubEnds}
-use Rattle.flow_pool.specs.Deal.{dealt, by_lane}
-use Rattle.flow_pool.specs.Work.{prefix_count, tasks_of, share, asking, Fit}
+use Rattle.flow_pool.specs.Work.{share, asking}
 use Rattle.flow_pool.specs.Hub.{received_lists, all_dealt}
-use Rattle.flow_search.specs.declared.outcome.Outcome.TheVariants.{NoPrefix}
-use Rattle.flow_search.specs.Outcomes.{IsLawful}
-use Rattle.flow_pool.specs.declared.ends.Task.TheVariants.{Prefix, End}
-use Rattle.flow_pool.specs.declared.ends.WorkerEnds.{WorkerEnds}
 
 -- the tasks of a worker among the first n prefixes
 abbrev pub asked : ℕ → ℕ → ℕ → List Task

@@ -1,25 +1,18 @@
 -- What holds before the workers are started, and after they have ended.
-use Rattle.std.specs.Prelude.{◌≡◌, ◌≤◌, List, length, map, All, ℕ, ◌+◌, ◌%◌, ◌<◌, cond, nat_eq, [], ◌∷◌, ◌++◌, filter}
+use Rattle.std.specs.Prelude.{◌≡◌, ◌≤◌, List, length, map, All}
 use Rattle.flow_search.specs.Limits.{most_workers}
 use Rattle.flow_pool.specs.declared.ends.HubEnds.{HubEnds}
 use Rattle.flow_pool.specs.declared.ends.WorkerEnds.{WorkerEnds}
-use Rattle.flow_pool.specs.Work.{IsFresh, worker_lanes, share, asking, Fit}
+use Rattle.flow_pool.specs.Work.{IsFresh, worker_lanes, Fit}
 use Rattle.flow_pool.specs.Hub.{hub_lanes}
 use Rattle.flow_pool.specs.internal.Settling.{IsReadyHub, IsCollected}
-use Rattle.std.specs.List.{range_with_len}
-use Rattle.flow_search.specs.declared.outcome.Outcome.TheVariants.{NoPrefix}
-use Rattle.flow_search.specs.Plans.{Planned, prefixes_of}
-use Rattle.flow_search.specs.Outcomes.{IsLawful}
-use Rattle.flow_pool.specs.declared.ends.Task.{Task}
-use Rattle.flow_pool.specs.declared.ends.Task.TheVariants.{Prefix, End}
-use Rattle.flow_pool.specs.declared.ends.Answer.{Answer}
-use Rattle.flow_lanes.specs.Lane.{Lane}
+use Rattle.flow_search.specs.Plans.{Planned}
 
 -- a worker has answered all its tasks
 abbrev pub IsServed : Planned → WorkerEnds → Type 0
 IsServed plan ends = Fit plan ends.tasks.received ends.answers.sent
 
--- there are no more workers than the limit, their ends are fresh, and the hub's ends of the same lanes have room for a task
+-- there are no more workers than the limit; their ends are fresh; the hub's ends of the same lanes have room for a task
 pub record CanStart (workers : List WorkerEnds) (hubs : List HubEnds) : Type 0 where
   pub count : length workers ≤ most_workers
   pub fresh : All IsFresh workers

@@ -72,7 +72,7 @@ pub record Left (job : ℕ) (jobs : List ℕ) (old new : Search) : Type 0 where
 abbrev pub walked : Shop → ℕ → Search → List ℕ × (ℕ × Option Found)
 walked shop left search = walk shop bound_at left search.node.items (incumbent_of search)
 
--- the subtree of the node was walked: the tree ends with the walk's text, within the budget; the incumbent is the walk's
+-- the subtree was walked: the tree ends with the walk's text, and is within the budget; the incumbent is the walk's
 pub record Walked (shop : Shop) (budget left : ℕ) (old new : Search) : Type 0 where
   pub tree : new.tree.items ≡ old.tree.items ++ (walked shop left old).0
   pub incumbent : incumbent_of new ≡ (walked shop left old).1

@@ -3,8 +3,8 @@
 ghost use Rattle.std.specs.Prelude.{◌≡◌, ◌++◌, true, false, length, MatchOption};
 ghost use Rattle.flow_core.specs.TextFaults.{is_head, are_times};
 ghost use Rattle.flow_core.specs.internal.TextWalk.{state_of, start, after_label, after_head_numbers, after_times};
-ghost use Rattle.flow_core.specs.internal.TextWalk.{after_numbers, after_line, at_end, sizes_of, sizes, SizesFit, Keeps};
-ghost use Rattle.flow_core.specs.internal.TextWalk.{LineGives, TextGives};
+ghost use Rattle.flow_core.specs.internal.TextWalk.{after_numbers, after_line, at_end, sizes_of, sizes, SizesFit};
+ghost use Rattle.flow_core.specs.internal.TextWalk.{Keeps, LineGives, TextGives};
 
 use crate::instance::Instance;
 use crate::limits::{MAX_JOBS, MAX_MACHINES, MAX_TIME};
