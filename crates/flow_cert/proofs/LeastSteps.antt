@@ -2,7 +2,7 @@
 use Rattle.std.proofs.Common.{◌≡◌, ◌≢◌, ℕ, ◌<◌, ◌≤◌, min, max, List, [], ◌∷◌, ◌++◌, length, map, refl, inl, inr, arith}
 use Rattle.std.proofs.lemmas.Bool.Decides.{eqb_tells}
 use Rattle.flow_core.specs.Least.{least}
-use Rattle.flow_cert.specs.internal.Stack.{least_below, second_below}
+use Rattle.flow_cert.specs.internal.Nodes.{least_below, second_below}
 
 -- a number is the least without one of them, y: the second least where y is the least, else the least
 abbrev pub Without : ℕ → ℕ → ℕ → ℕ → Type 0

@@ -1,16 +1,16 @@
 -- The steps of reading the lines of the trees.
-use Rattle.std.proofs.Common.{◌≡◌, ◌≢◌, ℕ, zero, suc, ◌+◌, ◌-◌, ◌<◌, ◌≤◌, false, List, [], ◌∷◌, ◌++◌, drop, slice_index, slice_set, Result, Err, refl, ap, sym, subst, ◌∙◌, arith, append_assoc}
+use Rattle.std.proofs.Common.{◌≡◌, ◌≢◌, ℕ, zero, suc, ◌+◌, ◌-◌, ◌≤◌, List, [], ◌∷◌, ◌++◌, drop, Result, Ok, Err, refl, ap, sym, subst, ◌∙◌, arith, append_assoc}
 use Rattle.std.specs.List.{flat_map}
 use Rattle.flow_core.specs.Shop.{Shop}
 use Rattle.flow_core.specs.Bound.{bound_at}
-use Rattle.flow_core.specs.Sequences.{has, extensions}
-use Rattle.flow_cert.specs.Faults.{trees_value}
-use Rattle.flow_cert.specs.internal.Stack.{children, awaited, IsNext, IsPlace, IsNode, IsAt, LinesGive}
+use Rattle.flow_core.specs.Sequences.{extensions}
+use Rattle.flow_cert.specs.Faults.{read_tree, after_tree, trees_value}
+use Rattle.flow_cert.specs.internal.Links.{children, IsNext}
+use Rattle.flow_cert.specs.internal.Reader.{awaited, TreeGives, LineEnds, LinesGive}
 use Rattle.flow_cert.specs.declared.fault.CheckFault.{CheckFault}
 use Rattle.flow_cert.specs.declared.fault.CheckFault.TheVariants.{Memory, Header, Size, Value, Sequence, NotAttained, Tree, Weak, Low, End}
-use Rattle.flow_cert.specs.declared.reading.node.Node.{Node}
-use Rattle.flow_cert.specs.declared.reading.lines.Spot.{Spot}
-use Rattle.flow_cert.proofs.Links.{children-next, children-none, next-some, links-out}
+use Rattle.flow_cert.specs.declared.reading.reader.Spot.{Spot}
+use Rattle.flow_cert.proofs.Links.{children-next, children-none}
 
 pub awaited-start : (n more : ℕ) (list : List ℕ) → more ≢ 0 → extensions n more list ≡ awaited n more list 1
 awaited-start n zero list some = absurd (some refl)
@@ -34,25 +34,16 @@ awaited-lines shop value left more list last job place bytes rest is some deep w
     ap (λ ps. trees_value shop bound_at value (left - more) ps place bytes) (awaited-next shop.jobs more list last job rest is some)
     ∙ ap (λ l. trees_value shop bound_at value l (extensions shop.jobs (more - 1) (list ++ job ∷ []) ++ (awaited shop.jobs more list (job + 1) ++ rest)) place bytes) same
 
--- a list is reached as before where the links are the same
-pub with-links : {shop : Shop} {list : List ℕ} {node : Node} {links same : List ℕ} {left : ℕ} → same ≡ links → IsAt shop list node links left → IsAt shop list node same left
-with-links {shop} {list} {node} {left} e at = subst (λ l. IsAt shop list node l left) (sym e) at
-
--- the next child of a list that is reached
-pub next-child : {shop : Shop} {list : List ℕ} {node : Node} {links : List ℕ} {left : ℕ} → IsAt shop list node links left → (last : ℕ) → IsPlace shop.jobs list last → slice_index links last ≢ 0 →
-    (last < slice_index links last) × (1 ≤ slice_index links last) × (slice_index links last ≤ shop.jobs) × (has list (slice_index links last) ≡ false)
-next-child {shop} {list} {links} at last place some = next-some shop.jobs list last (slice_index links last) (at.are_links.each last place) some
-
--- and it is reached once it is out of the links
-pub child-at : {shop : Shop} {list : List ℕ} {node : Node} {links : List ℕ} {left : ℕ} → IsAt shop list node links left → (kid : Node) (last : ℕ) → IsPlace shop.jobs list last → slice_index links last ≢ 0 → 0 < left →
-    ((below : ℕ) → IsNode shop list node (suc below) → has list (slice_index links last) ≡ false → IsNode shop (list ++ slice_index links last ∷ []) kid below) →
-    IsAt shop (list ++ slice_index links last ∷ []) kid (slice_set links last (slice_index links (slice_index links last))) (left - 1)
-child-at {shop} {list} {node} {links} {left} at kid last place some more made =
-    let one : left ≡ suc (left - 1) = omega (arith, more) in
-    record {
-      is_node = made (left - 1) (subst (IsNode shop list node) one at.is_node) (next-child at last place some).3;
-      are_links = links-out shop.jobs list links last (slice_index links last) (slice_index links (slice_index links last)) at.are_links place refl some refl;
-    }
+-- the line of the next child comes first
+pub awaited-line : (shop : Shop) (value left below more : ℕ) (list : List ℕ) (last job line : ℕ) (bytes : List ℕ) (rest : List (List ℕ)) → IsNext shop.jobs list last job → job ≢ 0 → more ≡ 1 → left ≡ suc below →
+    trees_value shop bound_at value (left - more) (awaited shop.jobs more list (last + 1) ++ rest) line bytes
+    ≡ trees_value shop bound_at value below ((list ++ job ∷ []) ∷ (awaited shop.jobs more list (job + 1) ++ rest)) line bytes
+awaited-line shop value left below more list last job line bytes rest is some one deep =
+    let same : left - more ≡ below = omega (arith, one, deep) in
+    let none : more - 1 ≡ 0 = omega (arith, one) in
+    ap (λ ps. trees_value shop bound_at value (left - more) ps line bytes) (awaited-next shop.jobs more list last job rest is some)
+    ∙ ap (λ l. trees_value shop bound_at value l (extensions shop.jobs (more - 1) (list ++ job ∷ []) ++ (awaited shop.jobs more list (job + 1) ++ rest)) line bytes) same
+    ∙ ap (λ m. trees_value shop bound_at value below (extensions shop.jobs m (list ++ job ∷ []) ++ (awaited shop.jobs more list (job + 1) ++ rest)) line bytes) none
 
 abbrev Bad : Shop → ℕ → ℕ → List (List ℕ) → ℕ → ℕ → List ℕ → CheckFault → Type 0
 Bad shop value left prefixes line from bytes fault = (rest : List (List ℕ)) → trees_value shop bound_at value left (prefixes ++ rest) line (drop from bytes) ≡ Err fault
@@ -76,3 +67,41 @@ pub lines-err : (shop : Shop) (value l m : ℕ) (ps qs : List (List ℕ)) (line 
     LinesGive shop value m qs place at bytes (Err fault) → LinesGive shop value l ps line from bytes answer
 lines-err shop value l m ps qs line place from at bytes answer fault is pass h =
     subst (LinesGive shop value l ps line from bytes) (sym is) (lines-fail shop value l m ps qs line place from at bytes fault pass h)
+
+-- one line
+
+line-fails : (shop : Shop) (value left : ℕ) (list : List ℕ) (line from : ℕ) (bytes : List ℕ) (fault : CheckFault) → TreeGives from bytes (Err fault) (read_tree shop bound_at value line left list (drop from bytes)) →
+    LinesGive shop value left (list ∷ []) line from bytes (Err fault)
+line-fails shop value left list line from bytes Memory h = tt
+line-fails shop value left list line from bytes Header h = λ rest. ap (after_tree line (trees_value shop bound_at value left rest (line + 1))) h
+line-fails shop value left list line from bytes Size h = λ rest. ap (after_tree line (trees_value shop bound_at value left rest (line + 1))) h
+line-fails shop value left list line from bytes Value h = λ rest. ap (after_tree line (trees_value shop bound_at value left rest (line + 1))) h
+line-fails shop value left list line from bytes Sequence h = λ rest. ap (after_tree line (trees_value shop bound_at value left rest (line + 1))) h
+line-fails shop value left list line from bytes NotAttained h = λ rest. ap (after_tree line (trees_value shop bound_at value left rest (line + 1))) h
+line-fails shop value left list line from bytes (Tree p) h = λ rest. ap (after_tree line (trees_value shop bound_at value left rest (line + 1))) h
+line-fails shop value left list line from bytes (Weak p) h = λ rest. ap (after_tree line (trees_value shop bound_at value left rest (line + 1))) h
+line-fails shop value left list line from bytes (Low p) h = λ rest. ap (after_tree line (trees_value shop bound_at value left rest (line + 1))) h
+line-fails shop value left list line from bytes End h = λ rest. ap (after_tree line (trees_value shop bound_at value left rest (line + 1))) h
+
+-- the fault of its tree
+pub line-err : (shop : Shop) (value left : ℕ) (list : List ℕ) (line from : ℕ) (bytes : List ℕ) (answer : Result Spot CheckFault) (fault : CheckFault) → answer ≡ Err fault → TreeGives from bytes (Err fault) (read_tree shop bound_at value line left list (drop from bytes)) →
+    LinesGive shop value left (list ∷ []) line from bytes answer
+line-err shop value left list line from bytes answer fault is h =
+    subst (LinesGive shop value left (list ∷ []) line from bytes) (sym is) (line-fails shop value left list line from bytes fault h)
+
+-- a whole tree, and its end
+pub line-gives : (shop : Shop) (value left : ℕ) (list : List ℕ) (line from end : ℕ) (bytes : List ℕ) (answer : Result Spot CheckFault) → read_tree shop bound_at value line left list (drop from bytes) ≡ Ok (drop end bytes) → LineEnds (record { line = line; at = end }) bytes answer →
+    LinesGive shop value left (list ∷ []) line from bytes answer
+line-gives shop value left list line from end bytes (Ok next) tree ends = λ rest.
+    ap (after_tree line (trees_value shop bound_at value left rest (line + 1))) tree
+    ∙ ap (λ b. after_tree line (trees_value shop bound_at value left rest (line + 1)) (Ok b)) ends.0
+    ∙ ap (λ l. trees_value shop bound_at value left rest l (drop next.at bytes)) (sym ends.1)
+line-gives shop value left list line from end bytes (Err fault) tree ends =
+    subst (λ (f : CheckFault). LinesGive shop value left (list ∷ []) line from bytes (Err f)) (sym ends.0)
+    (λ rest.
+    ap (after_tree line (trees_value shop bound_at value left rest (line + 1))) tree
+    ∙ ends.1 (trees_value shop bound_at value left rest (line + 1))
+    ∙ ap failed ends.0)
+  where
+    failed : CheckFault → Result ℕ CheckFault
+    failed f = Err f

@@ -9,7 +9,7 @@ use Rattle.std.proofs.lemmas.Bool.Decides.{eqb_tells}
 use Rattle.std.proofs.lemmas.Bool.{cases_lt, eq-eqb, ne_eqb, false≢true}
 use Rattle.flow_core.specs.Shop.{numbers}
 use Rattle.flow_core.specs.Sequences.{has, jobs_left}
-use Rattle.flow_cert.specs.internal.Stack.{children, IsNext, IsPlace, AreLinks}
+use Rattle.flow_cert.specs.internal.Links.{children, IsNext, IsPlace, AreLinks}
 
 -- whether a longer list has a job
 

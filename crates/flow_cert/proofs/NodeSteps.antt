@@ -14,7 +14,8 @@ use Rattle.flow_core.proofs.Fronts.{free_at, front-within, time-small}
 use Rattle.flow_core.proofs.Admissible.{front_of-is}
 use Rattle.flow_core.proofs.JobsLeft.{kept, kept-more, filter-more}
 use Rattle.std.proofs.lemmas.Bool.Decides.{eqb_tells}
-use Rattle.flow_cert.specs.internal.Stack.{IsNode, AreKnown, AreLows, tails, least_below, second_below, children, unknown}
+use Rattle.flow_cert.specs.internal.Nodes.{IsNode, AreKnown, AreLows, tails, least_below, second_below, unknown}
+use Rattle.flow_cert.specs.internal.Links.{children}
 use Rattle.flow_cert.specs.declared.reading.node.Node.{Node}
 use Rattle.flow_cert.specs.declared.reading.node.Lows.{Lows}
 use Rattle.flow_cert.proofs.Links.{left-sum, left-count, left-split, left-without, left_under}

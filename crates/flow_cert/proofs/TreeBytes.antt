@@ -1,10 +1,11 @@
 -- What one byte of a tree says.
 use Rattle.std.proofs.Common.{◌≡◌, ◌≢◌, ◌&&◌, ℕ, zero, suc, ◌-◌, ◌<◌, ◌≤◌, Bool, true, false, cond, nat_le, List, ◌∷◌, ◌++◌, [], Ok, Err, ap, subst, ◌∙◌, arith}
-use Rattle.std.proofs.lemmas.Bool.{ne_eqb, le-leb, lt-leb, lt-ltb, le-ltb}
+use Rattle.std.proofs.lemmas.Bool.{eq-eqb, ne_eqb, le-leb, lt-leb, lt-ltb, le-ltb}
 use Rattle.flow_core.specs.Shop.{Shop}
+use Rattle.flow_core.specs.Paths.{span}
 use Rattle.flow_core.specs.Sequences.{jobs_left}
-use Rattle.flow_cert.specs.Faults.{read_tree, each_tree, cut_fault, is_letter}
-use Rattle.flow_cert.specs.declared.fault.CheckFault.TheVariants.{Tree, Weak}
+use Rattle.flow_cert.specs.Faults.{read_tree, each_tree, cut_fault, leaf_fault, is_letter}
+use Rattle.flow_cert.specs.declared.fault.CheckFault.TheVariants.{Tree, Weak, Low}
 
 -- one byte where jobs are left
 
@@ -43,3 +44,17 @@ cut-strong shop reach value place (suc left) node byte bound e h above within is
     cut-reads shop reach value place left node byte rest h
     ∙ ap (λ b. cut_fault b (nat_le value (reach shop node (byte - 64))) place rest) (known shop byte true above (le-leb (byte - 64) shop.machines within))
     ∙ ap (λ b. cut_fault true b place rest) high
+
+-- one byte where no job is left
+
+pub leaf-low : (shop : Shop) (reach : Shop → List ℕ → ℕ → ℕ) (value place left : ℕ) (node : List ℕ) (byte makespan : ℕ) → left ≡ 0 → byte ≡ 46 → makespan ≡ span shop node → makespan < value → (rest : List ℕ) → read_tree shop reach value place left node (byte ∷ rest) ≡ Err (Low place)
+leaf-low shop reach value place zero node byte makespan e point is low rest =
+    ap (λ b. leaf_fault b (nat_le value (span shop node)) place rest) (eq-eqb byte 46 point)
+    ∙ ap (λ b. leaf_fault true b place rest) (lt-leb value (span shop node) (subst (λ m. m < value) is low))
+leaf-low shop reach value place (suc left) node byte makespan e point is low rest = absurd (omega (arith, e))
+
+pub leaf-high : (shop : Shop) (reach : Shop → List ℕ → ℕ → ℕ) (value place left : ℕ) (node : List ℕ) (byte makespan : ℕ) → left ≡ 0 → byte ≡ 46 → makespan ≡ span shop node → value ≤ makespan → (rest : List ℕ) → read_tree shop reach value place left node (byte ∷ rest) ≡ Ok rest
+leaf-high shop reach value place zero node byte makespan e point is high rest =
+    ap (λ b. leaf_fault b (nat_le value (span shop node)) place rest) (eq-eqb byte 46 point)
+    ∙ ap (λ b. leaf_fault true b place rest) (le-leb value (span shop node) (subst (λ m. value ≤ m) is high))
+leaf-high shop reach value place (suc left) node byte makespan e point is high rest = absurd (omega (arith, e))

@@ -6,11 +6,13 @@ use Rattle.flow_core.specs.Shop.{Shop}
 use Rattle.flow_core.specs.Bound.{bound_at}
 use Rattle.flow_core.specs.Sequences.{has, jobs_left}
 use Rattle.flow_cert.specs.Faults.{read_tree, each_tree, then_read}
-use Rattle.flow_cert.specs.internal.Stack.{StepGives, TreeGives, children_read, children, AreLinks, IsNode, IsAt, path, resume, IsStack, IsReading}
+use Rattle.flow_cert.specs.internal.Links.{children, AreLinks}
+use Rattle.flow_cert.specs.internal.Nodes.{IsNode, IsAt}
+use Rattle.flow_cert.specs.internal.Reader.{LetterGives, TreeGives, children_read, path, resume, IsStack, IsReading}
 use Rattle.flow_cert.specs.declared.fault.CheckFault.{CheckFault}
 use Rattle.flow_cert.specs.declared.fault.CheckFault.TheVariants.{Memory, Header, Size, Value, Sequence, NotAttained, Tree, Weak, Low, End}
 use Rattle.flow_cert.specs.declared.reading.node.Node.{Node}
-use Rattle.flow_cert.specs.declared.reading.tree.Frame.{Frame}
+use Rattle.flow_cert.specs.declared.reading.reader.Frame.{Frame}
 use Rattle.flow_cert.proofs.Links.{children-next, children-none, next-some, next-place, start-place, links-out, links-back}
 
 then-assoc : (r : Result (List ℕ) CheckFault) (f g : List ℕ → Result (List ℕ) CheckFault) → then_read (then_read r f) g ≡ then_read r (λ b. then_read (f b) g)
@@ -89,17 +91,17 @@ reading-fault {shop} {value} {place} {root} {whole} {node} {links} {below} {last
     child-read bs i some dropped
     ∙ ap (λ r. then_read (then_read r (each_tree (λ j. read_tree shop bound_at value place below (path root frames ++ j ∷ [])) (children shop.jobs (path root frames) (slice_index links last + 1)))) (resume shop value place root (suc below) frames)) bad
 
-pub reading-leaf : {shop : Shop} {value place : ℕ} {root : List ℕ} {whole : Result (List ℕ) CheckFault} {node : Node} {links : List ℕ} {below last at : ℕ} {bytes : List ℕ} {frames : List Frame} (byte : ℕ) →
-    IsReading shop value place root whole node links below last at bytes frames → slice_index links last ≢ 0 → drop at bytes ≡ byte ∷ drop (at + 1) bytes →
-    ((rest : List ℕ) → read_tree shop bound_at value place below (path root frames ++ slice_index links last ∷ []) (byte ∷ rest) ≡ Ok rest) →
+pub reading-leaf : {shop : Shop} {value place : ℕ} {root : List ℕ} {whole : Result (List ℕ) CheckFault} {node : Node} {links : List ℕ} {below last at : ℕ} {bytes : List ℕ} {frames : List Frame} →
+    IsReading shop value place root whole node links below last at bytes frames → slice_index links last ≢ 0 →
+    read_tree shop bound_at value place below (path root frames ++ slice_index links last ∷ []) (drop at bytes) ≡ Ok (drop (at + 1) bytes) →
     IsReading shop value place root whole node links below (slice_index links last) (at + 1) bytes frames
-reading-leaf {shop} {value} {place} {root} {whole} {node} {links} {below} {last} {at} {bytes} {frames} byte i some dropped good = record {
+reading-leaf {shop} {value} {place} {root} {whole} {node} {links} {below} {last} {at} {bytes} {frames} i some good = record {
   here = i.here;
   behind = next-place shop.jobs (path root frames) last (slice_index links last) (i.here.are_links.each last i.behind);
   stack = i.stack;
   answer =
-      child-read (byte ∷ drop (at + 1) bytes) i some dropped
-      ∙ ap (λ r. then_read (then_read r (each_tree (λ j. read_tree shop bound_at value place below (path root frames ++ j ∷ [])) (children shop.jobs (path root frames) (slice_index links last + 1)))) (resume shop value place root (suc below) frames)) (good (drop (at + 1) bytes));
+      child-read (drop at bytes) i some refl
+      ∙ ap (λ r. then_read (then_read r (each_tree (λ j. read_tree shop bound_at value place below (path root frames ++ j ∷ [])) (children shop.jobs (path root frames) (slice_index links last + 1)))) (resume shop value place root (suc below) frames)) good;
 }
 
 pub reading-dive : {shop : Shop} {value place : ℕ} {root : List ℕ} {whole : Result (List ℕ) CheckFault} {node : Node} {links : List ℕ} {below last at : ℕ} {bytes : List ℕ} {frames : List Frame} (child : Node) (less : List ℕ) (lower byte : ℕ) (deeper : List Frame) →
@@ -162,11 +164,13 @@ reading-up {shop} {value} {place} {root} {whole} {node} {links} {below} {last} {
 
 -- what a byte says
 
-pub step-open : (shop : Shop) (value place left : ℕ) (node : List ℕ) (byte : ℕ) (b : Bool) → StepGives shop value place left node byte (Ok b) → b ≡ true → (0 < left) × (byte ≡ 43)
-step-open shop value place left node byte b g t = subst (λ o. StepGives shop value place left node byte (Ok o)) t g
+pub letter-open : (shop : Shop) (value line left : ℕ) (list : List ℕ) (at : ℕ) (bytes : List ℕ) (b : Bool) → LetterGives shop value line left list at bytes (Ok b) → b ≡ true →
+    (0 < left) × (at < length bytes) × (drop at bytes ≡ 43 ∷ drop (at + 1) bytes)
+letter-open shop value line left list at bytes b g t = subst (λ o. LetterGives shop value line left list at bytes (Ok o)) t g
 
-pub step-whole : (shop : Shop) (value place left : ℕ) (node : List ℕ) (byte : ℕ) (b : Bool) → StepGives shop value place left node byte (Ok b) → b ≡ false → (rest : List ℕ) → read_tree shop bound_at value place left node (byte ∷ rest) ≡ Ok rest
-step-whole shop value place left node byte b g t = subst (λ o. StepGives shop value place left node byte (Ok o)) t g
+pub letter-whole : (shop : Shop) (value line left : ℕ) (list : List ℕ) (at : ℕ) (bytes : List ℕ) (b : Bool) → LetterGives shop value line left list at bytes (Ok b) → b ≡ false →
+    (at < length bytes) × (read_tree shop bound_at value line left list (drop at bytes) ≡ Ok (drop (at + 1) bytes))
+letter-whole shop value line left list at bytes b g t = subst (λ o. LetterGives shop value line left list at bytes (Ok o)) t g
 
 fails : (from : ℕ) (bytes : List ℕ) (read : Result (List ℕ) CheckFault) (fault : CheckFault) → read ≡ Err fault → TreeGives from bytes (Err fault) read
 fails from bytes read Memory e = tt

@@ -1,6 +1,8 @@
 pub mod Heading
 pub mod Rows
 pub mod Trees
-pub mod Stack
+pub mod Links
+pub mod Nodes
+pub mod Reader
 pub mod Gathered
 pub mod Lines

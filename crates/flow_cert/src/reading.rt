@@ -3,9 +3,11 @@
 pub(crate) mod check;
 mod claim;
 mod heading;
+mod letter;
 mod lines;
 mod node;
 mod number;
+mod reader;
 mod rows;
 mod tree;
 mod trees;

@@ -1,10 +1,8 @@
 -- The lines of a certificate before its trees, as they are written.
-use Rattle.std.specs.Prelude.{◌≡◌, ℕ, List, [], ◌∷◌, ◌++◌, length, map, decimal}
-use Rattle.flow_core.specs.Sequences.{IsLeastMakespan}
-use Rattle.flow_search.specs.Plans.{Planned, IsPlan, prefixes_of, trees_of, verdict_of}
-use Rattle.flow_search.specs.Verdicts.{IsVerdict}
+use Rattle.std.specs.Prelude.{ℕ, List, [], ◌∷◌, ◌++◌, decimal}
+use Rattle.flow_search.specs.Plans.{Planned}
 use Rattle.flow_search.specs.declared.verdict.Verdict.{Verdict}
-use Rattle.flow_cert.specs.Certificate.{line, spaced, title, certificate_text, IsCertificate}
+use Rattle.flow_cert.specs.Certificate.{line, spaced, title}
 
 -- the line of a plan's sizes
 abbrev pub size_line : Planned → List ℕ

@@ -5,10 +5,9 @@ use Rattle.flow_cert.specs.Faults.{cut_value, end_value}
 use Rattle.flow_cert.specs.declared.fault.CheckFault.{CheckFault}
 use Rattle.flow_cert.specs.declared.fault.CheckFault.TheVariants.{Memory}
 
--- where the last line begins behind the trees of the cut, which begin at a place of the text; or the first fault of
--- the trees
-abbrev pub TreesGive : Shop → ℕ → ℕ → ℕ → List ℕ → Result ℕ CheckFault → Type 0
-TreesGive shop depth value from bytes (Ok end) =
-    (cut_value shop depth value (drop from bytes) ≡ end_value value (drop end bytes)) × (end ≤ length bytes)
-TreesGive shop depth value from bytes (Err Memory) = Unit {0}
-TreesGive shop depth value from bytes (Err fault) = cut_value shop depth value (drop from bytes) ≡ Err fault
+-- where the last line begins, behind the trees of the cut; or the first fault of the trees
+abbrev pub TreesGive : Shop → ℕ → ℕ → List ℕ → Result ℕ CheckFault → Type 0
+TreesGive shop depth value bytes (Ok end) =
+    (cut_value shop depth value bytes ≡ end_value value (drop end bytes)) × (end ≤ length bytes)
+TreesGive shop depth value bytes (Err Memory) = Unit {0}
+TreesGive shop depth value bytes (Err fault) = cut_value shop depth value bytes ≡ Err fault

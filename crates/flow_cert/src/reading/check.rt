@@ -35,14 +35,7 @@ pub fn check(alloc: Global, instance: &Instance, bytes: &[u8]) -> Result<u64, Ch
     ensures none { IfErr result (λ fault. IsOfNoValue instance.now bytes.now fault) }
 {
     let heading = read_heading(instance, bytes)?;
-    let end = trees_end(
-        alloc,
-        instance,
-        heading.depth,
-        heading.value,
-        heading.trees,
-        0,
-    )?;
+    let end = trees_end(alloc, instance, &heading)?;
     if !is_ending(&heading.trees[end..]) {
         return Err(CheckFault::End);
     }

@@ -1,74 +1,114 @@
-//! Reading the lines of the trees.
+//! Reading the lines of the trees, one tree in each.
 
-ghost use Rattle.std.specs.Prelude.{◌≡◌, ℕ, ◌+◌, ◌-◌, ◌<◌, ◌≤◌, List, length, IfOk};
+ghost use Rattle.std.specs.Prelude.{◌≡◌, ◌≢◌, ℕ, suc, ◌+◌, ◌-◌, ◌<◌, ◌≤◌, List, [], ◌∷◌, ◌++◌, length, slice_index, IfOk};
 ghost use Rattle.flow_core.specs.Sequences.{extensions};
 ghost use Rattle.flow_cert.specs.internal.Rows.{AreRows};
-ghost use Rattle.flow_cert.specs.internal.Stack.{IsAt, LinesGive};
+ghost use Rattle.flow_cert.specs.internal.Links.{IsPlace};
+ghost use Rattle.flow_cert.specs.internal.Reader.{Stands, IsBack, LinesGive, LineEnds};
 
-use crate::reading::claim::Claim;
 use crate::fault::CheckFault;
-use crate::reading::node::Node;
-use crate::reading::tree::{Frame, tree_end};
+use crate::reading::claim::Claim;
+use crate::reading::reader::{Spot, TreeReader};
 
-/// A place in a text: a line, counted from 1, and where it begins.
-#[derive(Drop)]
-pub(crate) struct Spot {
-    /// The number of the line.
-    pub(crate) line: usize,
-    /// Where it begins.
-    pub(crate) at: usize,
+/// Reads the end of a line at a place behind its tree. Returns where the next line begins.
+fn line_end(claim: &Claim, spot: Spot) -> Result<Spot, CheckFault>
+    requires at { spot.at ≤ length claim.now.bytes.now }
+    requires line { spot.line ≤ spot.at + 5 }
+    ensures { LineEnds spot claim.now.bytes.now result }
+{
+    if spot.at >= claim.bytes.len() || claim.bytes[spot.at] != b'\n' {
+        return Err(CheckFault::Tree(spot.line));
+    }
+    Ok(Spot {
+        line: spot.line + 1,
+        at: spot.at + 1,
+    })
 }
 
-/// Reads the lines of the prefixes that put `more` jobs behind a list with `left` jobs left, one tree in each line, in
-/// order. The first of them is the line `line`, which begins at the place `from` of the text.
-pub(crate) fn lines_end(
-    claim: &Claim,
-    more: u16,
-    node: Node,
-    left: u16,
-    links: &mut [u16],
-    line: usize,
-    from: usize,
-    stack: &mut Vec<Frame>,
-) -> Result<Spot, CheckFault>
-    requires rows { AreRows claim.now.instance.now claim.now.rows.now }
-    requires at { (list : List ℕ) × IsAt claim.now.instance.now list node links.old left }
-    requires more { more ≤ left }
-    requires from { from ≤ length claim.now.bytes.now }
-    requires line { line ≤ from + 5 }
-    ensures within { IfOk result (λ spot. (spot.at ≤ length claim.now.bytes.now) × (spot.line ≤ spot.at + 5)) }
-    ensures back { IfOk result (λ _. links.new ≡ links.old) }
-    ensures lines { (list : List ℕ) → IsAt claim.now.instance.now list node links.old left →
-        LinesGive claim.now.instance.now claim.now.value (left - more) (extensions claim.now.instance.now.jobs more list) line from claim.now.bytes.now result }
-{
-    if more == 0 {
-        let end = tree_end(claim, line, node, left, links, from, stack)?;
-        if end >= claim.bytes.len() {
-            return Err(CheckFault::Tree(line));
-        }
-        if claim.bytes[end] != b'\n' {
-            return Err(CheckFault::Tree(line));
-        }
-        return Ok(Spot {
-            line: line + 1,
-            at: end + 1,
-        });
+impl TreeReader {
+    /// Reads the line of the empty list, which holds the whole tree.
+    pub(crate) fn read_one_line(&mut self, claim: &Claim, spot: Spot) -> Result<Spot, CheckFault>
+        requires rows { AreRows claim.now.instance.now claim.now.rows.now }
+        requires at { (list : List ℕ) × Stands claim.now.instance.now list self.old }
+        requires within { spot.at ≤ length claim.now.bytes.now }
+        requires line { spot.line ≤ spot.at + 5 }
+        ensures within { IfOk result (λ next. (next.at ≤ length claim.now.bytes.now) × (next.line ≤ next.at + 5)) }
+        ensures lines { (list : List ℕ) → Stands claim.now.instance.now list self.old →
+            LinesGive claim.now.instance.now claim.now.value (suc self.old.below) (list ∷ []) spot.line spot.at
+            claim.now.bytes.now result }
+    {
+        let at = self.read_own(claim, spot)?;
+        line_end(
+            claim,
+            Spot {
+                line: spot.line,
+                at,
+            },
+        )
     }
-    let mut place = line;
-    let mut at = from;
-    let mut last = 0;
-    'children: loop {
-        let job = links[last as usize];
-        if job == 0 {
-            return Ok(Spot { line: place, at });
+
+    /// Reads the line of the child whose job follows `last`.
+    fn read_line(&mut self, claim: &Claim, spot: Spot, last: u16) -> Result<Spot, CheckFault>
+        requires rows { AreRows claim.now.instance.now claim.now.rows.now }
+        requires at { (list : List ℕ) × Stands claim.now.instance.now list self.old
+            × IsPlace claim.now.instance.now.jobs list last }
+        requires some { slice_index self.old.links.items last ≢ 0 }
+        requires within { spot.at ≤ length claim.now.bytes.now }
+        requires line { spot.line ≤ spot.at + 5 }
+        ensures within { IfOk result (λ next. (next.at ≤ length claim.now.bytes.now) × (next.line ≤ next.at + 5)) }
+        ensures back { IfOk result (λ _. IsBack claim.now.instance.now self.old self.new) }
+        ensures lines { (list : List ℕ) → Stands claim.now.instance.now list self.old →
+            IsPlace claim.now.instance.now.jobs list last →
+            LinesGive claim.now.instance.now claim.now.value self.old.below
+            ((list ++ slice_index self.old.links.items last ∷ []) ∷ []) spot.line spot.at claim.now.bytes.now result }
+    {
+        let at = self.read_child(claim, spot, last)?;
+        line_end(
+            claim,
+            Spot {
+                line: spot.line,
+                at,
+            },
+        )
+    }
+
+    /// Reads the lines of the prefixes that put `more` jobs behind the list, one tree in each line, in order. Returns
+    /// where the line after them begins.
+    pub(crate) fn read_lines(
+        &mut self,
+        claim: &Claim,
+        more: u16,
+        spot: Spot,
+    ) -> Result<Spot, CheckFault>
+        requires rows { AreRows claim.now.instance.now claim.now.rows.now }
+        requires at { (list : List ℕ) × Stands claim.now.instance.now list self.old }
+        requires some { more ≢ 0 }
+        requires more { more ≤ suc self.old.below }
+        requires within { spot.at ≤ length claim.now.bytes.now }
+        requires line { spot.line ≤ spot.at + 5 }
+        ensures within { IfOk result (λ next. (next.at ≤ length claim.now.bytes.now) × (next.line ≤ next.at + 5)) }
+        ensures back { IfOk result (λ _. IsBack claim.now.instance.now self.old self.new) }
+        ensures lines { (list : List ℕ) → Stands claim.now.instance.now list self.old →
+            LinesGive claim.now.instance.now claim.now.value (suc self.old.below - more)
+            (extensions claim.now.instance.now.jobs more list) spot.line spot.at claim.now.bytes.now result }
+    {
+        let mut place = spot;
+        let mut last = 0;
+        'children: loop {
+            let job = self.links[last as usize];
+            if job == 0 {
+                return Ok(place);
+            }
+            if more == 1 {
+                let next = self.read_line(claim, place, last)?;
+                place = next;
+                last = job;
+                continue 'children;
+            }
+            self.open(claim, last, job);
+            let next = self.read_lines(claim, more - 1, place)?;
+            place = next;
+            last = self.close();
         }
-        let child = node.child(claim, job);
-        links[last as usize] = links[job as usize];
-        let spot = lines_end(claim, more - 1, child, left - 1, links, place, at, stack)?;
-        place = spot.line;
-        at = spot.at;
-        links[last as usize] = job;
-        last = job;
-        continue 'children;
     }
 }

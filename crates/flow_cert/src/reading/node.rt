@@ -8,7 +8,8 @@ ghost use Rattle.flow_core.specs.Front.{IsFrontOf, IsWithinFront};
 ghost use Rattle.flow_core.specs.Sequences.{has, jobs_left};
 ghost use Rattle.flow_core.specs.Bound.{bound_at};
 ghost use Rattle.flow_cert.specs.internal.Rows.{AreRows};
-ghost use Rattle.flow_cert.specs.internal.Stack.{AreLinks, IsNode, IsAt, AreLows, IsChild, grown, left_before};
+ghost use Rattle.flow_cert.specs.internal.Links.{AreLinks};
+ghost use Rattle.flow_cert.specs.internal.Nodes.{IsNode, IsAt, AreLows, IsChild, grown, left_before};
 
 use crate::reading::claim::Claim;
 use flow_core::{Front, Instance, MAX_MACHINES, front_push};
@@ -16,7 +17,7 @@ use flow_core::{Front, Instance, MAX_MACHINES, front_push};
 /// What is kept of a list of jobs: enough for its machine bounds and for those of its children. A job's tail behind a
 /// machine is its time on all later machines. The two least tails of a machine are found when its letter is first read
 /// at the list.
-#[derive(Drop)]
+#[derive(Clone, Copy)]
 pub(crate) struct Node {
     /// The completion time of the list on each machine.
     front: Front,

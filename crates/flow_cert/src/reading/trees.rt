@@ -1,70 +1,44 @@
 //! Reading the trees of a certificate.
 
-ghost use Rattle.std.specs.Prelude.{◌≡◌, ◌+◌, ◌≤◌, [], length, IfOk};
-ghost use Rattle.flow_core.specs.Limits.{most_jobs};
-ghost use Rattle.flow_cert.specs.internal.Stack.{AreLinks};
+ghost use Rattle.std.specs.Prelude.{◌≤◌};
 ghost use Rattle.flow_cert.specs.internal.Trees.{TreesGive};
 
-use crate::reading::claim::Claim;
 use crate::fault::CheckFault;
-use crate::reading::lines::lines_end;
-use crate::reading::node::Node;
+use crate::reading::claim::Claim;
+use crate::reading::heading::Heading;
+use crate::reading::reader::{Spot, TreeReader};
 use crate::reading::rows::rows;
 use flow_core::Instance;
-use std::alloc::{AllocError, Global};
+use std::alloc::Global;
 
 /// The line of the first tree, counted from 1.
 const FIRST_TREE: usize = 5;
 
-/// The links of the empty list: 0 leads to job 1, each job to the next, and the last one to 0.
-fn all_links(alloc: Global, jobs: u16) -> Result<Vec<u16>, AllocError>
-    requires { jobs ≤ most_jobs }
-    ensures { IfOk result (λ links. AreLinks jobs [] links.items) }
-{
-    let mut links = Vec::with_capacity(alloc, jobs as usize + 1)?;
-    for job in 1..jobs + 1 {
-        links.push(job)?;
-    }
-    links.push(0)?;
-    Ok(links)
-}
-
-/// Reads the trees of the cut at a depth, a line each, from the place `from` of the text on, where the fifth line
-/// begins. Returns the place where the last line begins.
+/// Reads the trees of the cut that a heading asks for, a line each. Returns the place where the last line begins.
 pub(crate) fn trees_end(
     alloc: Global,
     instance: &Instance,
-    depth: u16,
-    value: u64,
-    bytes: &[u8],
-    from: usize,
+    heading: &Heading,
 ) -> Result<usize, CheckFault>
-    requires jobs { depth ≤ instance.now.jobs }
-    requires from { from ≤ length bytes.now }
-    ensures { TreesGive instance.now depth value from bytes.now result }
+    requires { heading.now.depth ≤ instance.now.jobs }
+    ensures { TreesGive instance.now heading.now.depth heading.now.value heading.now.trees.now result }
 {
-    let jobs = instance.jobs();
     let rows = rows(alloc, instance)?;
-    let mut links = all_links(alloc, jobs)?;
-    let mut stack = Vec::with_capacity(alloc, (jobs - depth) as usize)?;
+    let mut reader = TreeReader::new(alloc, instance)?;
     let claim = Claim {
         instance,
         rows: rows.as_slice(),
-        value,
-        bytes,
+        value: heading.value,
+        bytes: heading.trees,
     };
-    let node = Node::root(instance);
-    match lines_end(
-        &claim,
-        depth,
-        node,
-        jobs,
-        links.as_mut_slice(),
-        FIRST_TREE,
-        from,
-        &mut stack,
-    ) {
-        Ok(spot) => Ok(spot.at),
-        Err(fault) => Err(fault),
+    let first = Spot {
+        line: FIRST_TREE,
+        at: 0,
+    };
+    if heading.depth == 0 {
+        let end = reader.read_one_line(&claim, first)?;
+        return Ok(end.at);
     }
+    let end = reader.read_lines(&claim, heading.depth, first)?;
+    Ok(end.at)
 }

@@ -24,13 +24,13 @@ pub returns-in_err-end-clause-lawful : goal.returns-in_err-end-clause-lawful
 returns-in_err-end-clause-lawful c =
     let heading = c.in_ok-heading.heading in
     lawful-at c.args.instance.now c.args.bytes.now c.from_residual-in_err-end.result c.in_err-end.field-0.0 c.read_heading.ensures.limits (exit c.from_residual-in_err-end.result c.in_err-end.field-0.0 c.from_residual-in_err-end.ensures.1)
-    (trees-fault c.args.instance.now heading.depth heading.value 0 c.args.bytes.now heading.trees.now c.in_err-end.field-0.0 c.in_ok-heading.ensures.found c.in_err-end.ensures)
+    (trees-fault c.args.instance.now heading.depth heading.value c.args.bytes.now heading.trees.now c.in_err-end.field-0.0 c.in_ok-heading.ensures.found c.in_err-end.ensures)
 
 pub returns-in_err-end-clause-none : goal.returns-in_err-end-clause-none
 returns-in_err-end-clause-none c =
     let heading = c.in_ok-heading.heading in
     none-at c.args.instance.now c.args.bytes.now c.from_residual-in_err-end.result c.in_err-end.field-0.0 c.read_heading.ensures.limits (exit c.from_residual-in_err-end.result c.in_err-end.field-0.0 c.from_residual-in_err-end.ensures.1)
-    (trees-fault c.args.instance.now heading.depth heading.value 0 c.args.bytes.now heading.trees.now c.in_err-end.field-0.0 c.in_ok-heading.ensures.found c.in_err-end.ensures)
+    (trees-fault c.args.instance.now heading.depth heading.value c.args.bytes.now heading.trees.now c.in_err-end.field-0.0 c.in_ok-heading.ensures.found c.in_err-end.ensures)
 
 pub returns-then-not-is_ending-clause-sound : goal.returns-then-not-is_ending-clause-sound
 returns-then-not-is_ending-clause-sound c = certificate_is_sound c.args.instance.now c.args.bytes.now

@@ -2,7 +2,7 @@ use Rattle.std.proofs.Common.{◌≡◌, ℕ, suc, ◌+◌, ◌-◌, ◌*◌, �
 use Rattle.flow_core.specs.Limits.{most_jobs, most_machines, greatest_time, greatest_completion}
 use Rattle.flow_core.specs.Shop.{time}
 use Rattle.flow_core.specs.Bound.{bound_at}
-use Rattle.flow_cert.specs.internal.Stack.{IsAt, IsChild, grown, left_before}
+use Rattle.flow_cert.specs.internal.Nodes.{IsAt, IsChild, grown, left_before}
 use Rattle.flow_cert.proofs.NodeSteps.{node-within, owed-fits, owed-covers, own-bound, child-bound}
 use Rattle.flow_cert.proofs.reading.node.bound.Goals as goal
 use Rattle.flow_cert.proofs.reading.node.bound.Goals.{After-lows_of-lows, After-from, After-from-in-Some, After-from-in-Some-2, then-alone, else-alone}

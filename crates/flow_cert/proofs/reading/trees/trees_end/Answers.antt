@@ -1,23 +1,32 @@
-use Rattle.std.proofs.Common.{◌-◌, [], Ok, Err, sym, subst}
-use Rattle.flow_core.specs.Sequences.{cut}
-use Rattle.flow_cert.specs.internal.Stack.{IsAt, IsNode, AreLinks, LinesGive}
-use Rattle.flow_cert.proofs.TreesGiven.{trees-ok, trees-err}
+use Rattle.std.proofs.Common.{◌≡◌, suc, [], Ok, Err, arith}
+use Rattle.flow_cert.proofs.Exits.{exit}
+use Rattle.flow_cert.proofs.TreesGiven.{trees-ok, trees-fail, cut-line, cut-lines}
 use Rattle.flow_cert.proofs.reading.trees.trees_end.Goals as goal
 
-pub returns-in-Ok : goal.returns-in-Ok
-returns-in-Ok c =
-    let at : IsAt c.args.instance.now [] c.root-node.result c.as_mut_slice.result.now c.jobs-jobs.result = record {
-      is_node = subst (IsNode c.args.instance.now [] c.root-node.result) (sym c.jobs-jobs.ensures.value) c.root-node.ensures;
-      are_links = subst (λ l. AreLinks c.args.instance.now.jobs [] l) (sym c.as_mut_slice.ensures.value) (subst (λ n. AreLinks n [] c.in_ok-links.links.items) c.jobs-jobs.ensures.value c.in_ok-links.ensures);
-    } in
-    trees-ok c.args.instance.now c.args.depth c.args.value c.args.from c.args.bytes.now c.in-Ok.spot c.in-Ok.ensures.within.0
-    (subst (λ n. LinesGive c.args.instance.now c.args.value (n - c.args.depth) (cut c.args.instance.now.jobs c.args.depth) 5 c.args.from c.args.bytes.now (Ok c.in-Ok.spot)) c.jobs-jobs.ensures.value (c.in-Ok.ensures.lines [] at))
+pub returns-in_err-end : goal.returns-in_err-end
+returns-in_err-end c =
+    let stands = c.in_ok-reader.ensures in
+    let all : suc c.in_ok-reader.reader.below ≡ c.args.instance.now.jobs = omega (arith, stands.at.is_node.count) in
+    trees-fail c.args.instance.now c.args.heading.now.depth c.args.heading.now.value c.args.heading.now.trees.now c.from_residual-in_err-end.result c.in_err-end.field-0.0 (exit c.from_residual-in_err-end.result c.in_err-end.field-0.0 c.from_residual-in_err-end.ensures.1)
+    (cut-line c.args.instance.now c.args.heading.now.depth c.args.heading.now.value (suc c.in_ok-reader.reader.below) c.args.heading.now.trees.now (Err c.in_err-end.field-0.0) all c.if-heading-eq0.true (c.in_err-end.ensures.lines [] stands))
+
+pub returns-then-heading-eq0 : goal.returns-then-heading-eq0
+returns-then-heading-eq0 c =
+    let stands = c.in_ok-reader.ensures in
+    let all : suc c.in_ok-reader.reader.below ≡ c.args.instance.now.jobs = omega (arith, stands.at.is_node.count) in
+    trees-ok c.args.instance.now c.args.heading.now.depth c.args.heading.now.value c.args.heading.now.trees.now c.in_ok-end.end c.in_ok-end.ensures.within.0
+    (cut-line c.args.instance.now c.args.heading.now.depth c.args.heading.now.value (suc c.in_ok-reader.reader.below) c.args.heading.now.trees.now (Ok c.in_ok-end.end) all c.if-heading-eq0.true (c.in_ok-end.ensures.lines [] stands))
+
+pub returns-in_err-end-2 : goal.returns-in_err-end-2
+returns-in_err-end-2 c =
+    let stands = c.in_ok-reader.ensures in
+    let all : suc c.in_ok-reader.reader.below ≡ c.args.instance.now.jobs = omega (arith, stands.at.is_node.count) in
+    trees-fail c.args.instance.now c.args.heading.now.depth c.args.heading.now.value c.args.heading.now.trees.now c.from_residual-in_err-end-2.result c.in_err-end-2.field-0.0 (exit c.from_residual-in_err-end-2.result c.in_err-end-2.field-0.0 c.from_residual-in_err-end-2.ensures.1)
+    (cut-lines c.args.instance.now c.args.heading.now.depth c.args.heading.now.value (suc c.in_ok-reader.reader.below) c.args.heading.now.trees.now (Err c.in_err-end-2.field-0.0) all (c.in_err-end-2.ensures.lines [] stands))
 
 pub returns : goal.returns
 returns c =
-    let at : IsAt c.args.instance.now [] c.root-node.result c.as_mut_slice.result.now c.jobs-jobs.result = record {
-      is_node = subst (IsNode c.args.instance.now [] c.root-node.result) (sym c.jobs-jobs.ensures.value) c.root-node.ensures;
-      are_links = subst (λ l. AreLinks c.args.instance.now.jobs [] l) (sym c.as_mut_slice.ensures.value) (subst (λ n. AreLinks n [] c.in_ok-links.links.items) c.jobs-jobs.ensures.value c.in_ok-links.ensures);
-    } in
-    trees-err c.args.instance.now c.args.depth c.args.value c.args.from c.args.bytes.now c.in-Err.fault
-    (subst (λ n. LinesGive c.args.instance.now c.args.value (n - c.args.depth) (cut c.args.instance.now.jobs c.args.depth) 5 c.args.from c.args.bytes.now (Err c.in-Err.fault)) c.jobs-jobs.ensures.value (c.in-Err.ensures.lines [] at))
+    let stands = c.in_ok-reader.ensures in
+    let all : suc c.in_ok-reader.reader.below ≡ c.args.instance.now.jobs = omega (arith, stands.at.is_node.count) in
+    trees-ok c.args.instance.now c.args.heading.now.depth c.args.heading.now.value c.args.heading.now.trees.now c.in_ok-end-2.end c.in_ok-end-2.ensures.within.0
+    (cut-lines c.args.instance.now c.args.heading.now.depth c.args.heading.now.value (suc c.in_ok-reader.reader.below) c.args.heading.now.trees.now (Ok c.in_ok-end-2.end) all (c.in_ok-end-2.ensures.lines [] stands))

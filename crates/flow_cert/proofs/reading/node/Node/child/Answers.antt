@@ -2,7 +2,7 @@ use Rattle.std.proofs.Common.{refl, replicate, ◌≡◌, ◌≢◌, ℕ, ◌+�
 use Rattle.std.proofs.lemmas.List.{length-set, get_or-set_other}
 use Rattle.flow_core.specs.Limits.{most_machines}
 use Rattle.flow_core.specs.Shop.{time}
-use Rattle.flow_cert.specs.internal.Stack.{unknown}
+use Rattle.flow_cert.specs.internal.Nodes.{unknown}
 use Rattle.flow_cert.proofs.NodeSteps.{node-within, owed-covers, filled-more, child-node}
 use Rattle.flow_cert.proofs.reading.node.Node.child.Goals as goal
 

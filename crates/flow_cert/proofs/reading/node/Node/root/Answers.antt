@@ -1,6 +1,6 @@
 use Rattle.flow_core.specs.Limits.{most_machines}
 use Rattle.std.proofs.Common.{refl, replicate, arith}
-use Rattle.flow_cert.specs.internal.Stack.{unknown}
+use Rattle.flow_cert.specs.internal.Nodes.{unknown}
 use Rattle.flow_cert.proofs.NodeSteps.{root-node}
 use Rattle.flow_cert.proofs.reading.node.Node.root.Goals as goal
 

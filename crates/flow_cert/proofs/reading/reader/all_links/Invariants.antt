@@ -1,5 +1,5 @@
 use Rattle.std.proofs.Common.{◌≡◌, ℕ, ◌+◌, ◌-◌, ◌<◌, length, slice_index}
-use Rattle.flow_cert.proofs.reading.trees.all_links.Given as goal
+use Rattle.flow_cert.proofs.reading.reader.all_links.Given as goal
 
 abbrev pub invariant-loop-job : goal.invariant-loop-job
 invariant-loop-job l = record {

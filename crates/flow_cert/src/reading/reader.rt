@@ -1,0 +1,125 @@
+//! The reader of the trees, and how it goes from list to list.
+
+ghost use Rattle.std.specs.Prelude.{◌≡◌, ◌≢◌, ℕ, suc, ◌<◌, ◌≤◌, List, [], length, slice_index, IfOk};
+ghost use Rattle.flow_cert.specs.internal.Rows.{AreRows};
+ghost use Rattle.flow_cert.specs.internal.Links.{AreLinks, IsPlace};
+ghost use Rattle.flow_cert.specs.internal.Reader.{Stands, Opened, Closed, frame_at};
+ghost use Rattle.flow_core.specs.Limits.{most_jobs};
+
+use crate::reading::claim::Claim;
+use crate::reading::node::Node;
+use flow_core::Instance;
+use std::alloc::{AllocError, Global};
+
+/// A place in the text of a claim.
+#[derive(Clone, Copy)]
+pub(crate) struct Spot {
+    /// The number of its line, counted from 1 at the first line of the certificate.
+    pub(crate) line: usize,
+    /// The place itself, counted from 0.
+    pub(crate) at: usize,
+}
+
+/// A list of jobs at which trees are read, and which of its children is read just now.
+#[derive(Drop)]
+pub(crate) struct Frame {
+    /// The list.
+    pub(crate) node: Node,
+    /// The job that the child has at its end.
+    pub(crate) job: u16,
+    /// The job left before it, or 0: its link leads to `job` again once the child is read.
+    pub(crate) last: u16,
+}
+
+/// Reads trees. It has reached a list of jobs, and reads the trees of the list's children, which are the list with one
+/// of the jobs left at its end.
+#[derive(Drop)]
+pub(crate) struct TreeReader {
+    /// The jobs left, linked in increasing order: from 0 the link leads to the least one, from each to the next
+    /// greater one, and from the greatest one to 0.
+    pub(crate) links: Vec<u16>,
+    /// The list's frame, and those of the lists that it grew from; each stands at the number of jobs left at the
+    /// list's children.
+    pub(crate) frames: Vec<Frame>,
+    /// How many jobs are left at each child of the list.
+    pub(crate) below: usize,
+}
+
+/// The links where all jobs are left: 0 leads to job 1, each job to the next, and the last one to 0.
+fn all_links(alloc: Global, jobs: u16) -> Result<Vec<u16>, AllocError>
+    requires { jobs ≤ most_jobs }
+    ensures { IfOk result (λ links. AreLinks jobs [] links.items) }
+{
+    let mut links = Vec::with_capacity(alloc, jobs as usize + 1)?;
+    for job in 1..jobs + 1 {
+        links.push(job)?;
+    }
+    links.push(0)?;
+    Ok(links)
+}
+
+/// A frame for each number of jobs left at the children of a list, each with the same node.
+fn all_frames(alloc: Global, jobs: u16, node: &Node) -> Result<Vec<Frame>, AllocError>
+    ensures size { IfOk result (λ frames. length frames.items ≡ jobs) }
+    ensures each { IfOk result (λ frames. (place : ℕ) → place < jobs →
+        (frame_at frames.items place).node ≡ node.now) }
+{
+    let mut frames = Vec::with_capacity(alloc, jobs as usize)?;
+    'frames: while frames.len() < jobs as usize {
+        frames.push(Frame {
+            node: *node,
+            job: 0,
+            last: 0,
+        })?;
+    }
+    Ok(frames)
+}
+
+impl TreeReader {
+    /// A reader that has reached the empty list.
+    pub(crate) fn new(alloc: Global, instance: &Instance) -> Result<TreeReader, AllocError>
+        ensures { IfOk result (λ reader. Stands instance.now [] reader) }
+    {
+        let jobs = instance.jobs();
+        let links = all_links(alloc, jobs)?;
+        let frames = all_frames(alloc, jobs, &Node::root(instance))?;
+        Ok(TreeReader {
+            links,
+            frames,
+            below: jobs as usize - 1,
+        })
+    }
+
+    /// Goes on to the child that has `job` at its end. The link of `last` leads to `job`.
+    pub(crate) fn open(&mut self, claim: &Claim, last: u16, job: u16)
+        requires rows { AreRows claim.now.instance.now claim.now.rows.now }
+        requires at { (list : List ℕ) × Stands claim.now.instance.now list self.old
+            × IsPlace claim.now.instance.now.jobs list last }
+        requires next { slice_index self.old.links.items last ≡ job }
+        requires some { job ≢ 0 }
+        requires more { 0 < self.old.below }
+        ensures { Opened claim.now.instance.now last job self.old self.new }
+    {
+        self.links[last as usize] = self.links[job as usize];
+        let child = self.frames[self.below].node.child(claim, job);
+        let frame = &mut self.frames[self.below];
+        frame.job = job;
+        frame.last = last;
+        self.below -= 1;
+        self.frames[self.below].node = child;
+    }
+
+    /// Goes back to the list above, and returns the job of the child that was read.
+    pub(crate) fn close(&mut self) -> u16
+        requires above { suc self.old.below < length self.old.frames.items }
+        requires last { (frame_at self.old.frames.items (suc self.old.below)).last < length self.old.links.items }
+        ensures closed { Closed (frame_at self.old.frames.items (suc self.old.below)) self.old self.new }
+        ensures job { result ≡ (frame_at self.old.frames.items (suc self.old.below)).job }
+    {
+        self.below += 1;
+        let frame = &self.frames[self.below];
+        let job = frame.job;
+        self.links[frame.last as usize] = job;
+        job
+    }
+}
