@@ -112,7 +112,7 @@ jobs-insert n jobs at job are low high fresh = record {
   distinct = distinct-insert jobs at job are.distinct fresh;
 }
 
-has-at : (jobs : List ℕ) (index : ℕ) → index < length jobs → has jobs (slice_index_or jobs index 0) ≡ true
+pub has-at : (jobs : List ℕ) (index : ℕ) → index < length jobs → has jobs (slice_index_or jobs index 0) ≡ true
 has-at [] index within = absurd (omega arith)
 has-at (first ∷ rest) zero within = ap (λ b. b || has rest first) (eq-eqb first first refl)
 has-at (first ∷ rest) (suc index) within =
