@@ -1,5 +1,5 @@
--- Certificates: texts that prove a least makespan. A bound gives a number for an instance, a list of jobs and a
--- machine.
+-- Certificates: texts that prove a least makespan. A bound is a function from an instance, a list of jobs and a
+-- machine to a number.
 use Rattle.std.specs.Prelude.{ℕ, zero, suc, ◌≡◌, ◌-◌, ◌^◌, ◌<◌, ◌≤◌, ◌⊎◌, List, [], ◌∷◌, ◌++◌, map, codes}
 use Rattle.std.specs.Fmt.{decimal}
 use Rattle.std.specs.List.{AllZip, concat, flat_map, join_with_byte}
@@ -9,12 +9,13 @@ use Rattle.flow_core.specs.Paths.{span}
 use Rattle.flow_core.specs.Sequences.{IsSequence, IsLeastMakespan, jobs_left, cut}
 use Rattle.flow_core.specs.Bound.{bound_at, letter}
 
--- a text is a tree that covers a value from a list on, with so many jobs left: a point where none is left, a letter for
--- a bound, or a plus before the trees of the next jobs in increasing order
+-- a text is a tree that covers a value below a list with so many jobs left: a point where none is left, the letter of
+-- a machine whose bound reaches the value, or a plus before the trees of the list's children in increasing order
 abbrev pub Covers : Shop → (Shop → List ℕ → ℕ → ℕ) → ℕ → ℕ → List ℕ → List ℕ → Type 0
 Covers shop bound value zero jobs text = (text ≡ 46 ∷ []) × (value ≤ span shop jobs)
 Covers shop bound value (suc left) jobs text =
-    ((machine : ℕ) × (1 ≤ machine) × (machine ≤ shop.machines) × (text ≡ letter machine ∷ []) × (value ≤ bound shop jobs machine))
+    ((machine : ℕ) × (1 ≤ machine) × (machine ≤ shop.machines)
+    × (text ≡ letter machine ∷ []) × (value ≤ bound shop jobs machine))
     ⊎ ((parts : List (List ℕ)) × (text ≡ 43 ∷ concat parts)
     × AllZip (λ job part. Covers shop bound value left (jobs ++ job ∷ []) part) (jobs_left shop.jobs jobs) parts)
 
@@ -44,14 +45,15 @@ certificate_text shop depth value sequence trees =
     ++ flat_map line trees
     ++ line ending
 
--- what a certificate holds: a sequence that has the value, and trees that cover it from each prefix of the cut
+-- what a certificate holds: a sequence whose makespan is the value, and a tree that covers it below each prefix
 pub record Certifies (shop : Shop) (value depth : ℕ) (sequence : List ℕ) (trees : List (List ℕ)) : Type 0 where
   pub jobs_enough : depth ≤ shop.jobs
   pub shallow : depth ≤ greatest_depth
   pub fits : value < 2 ^ 64
   pub whole : IsSequence shop.jobs sequence
   pub attained : span shop sequence ≡ value
-  pub covered : AllZip (λ prefix tree. Covers shop bound_at value (shop.jobs - depth) prefix tree) (cut shop.jobs depth) trees
+  pub covered : AllZip (λ prefix tree. Covers shop bound_at value (shop.jobs - depth) prefix tree)
+      (cut shop.jobs depth) trees
 
 -- a text is a lawful certificate of a value
 abbrev pub IsCertificate : Shop → List ℕ → ℕ → Type 0
@@ -61,8 +63,10 @@ IsCertificate shop bytes value =
 
 -- the value of a lawful certificate, whoever made it, is the least makespan
 abbrev pub CertificateIsSound : Type 0
-CertificateIsSound = (shop : Shop) (bytes : List ℕ) (value : ℕ) → IsCertificate shop bytes value → IsLeastMakespan shop value
+CertificateIsSound =
+    (shop : Shop) (bytes : List ℕ) (value : ℕ) → IsCertificate shop bytes value → IsLeastMakespan shop value
 
 -- a text is a certificate of one value at most
 abbrev pub ValueIsOne : Type 0
-ValueIsOne = (shop : Shop) (bytes : List ℕ) (v w : ℕ) → IsCertificate shop bytes v → IsCertificate shop bytes w → v ≡ w
+ValueIsOne =
+    (shop : Shop) (bytes : List ℕ) (v w : ℕ) → IsCertificate shop bytes v → IsCertificate shop bytes w → v ≡ w

@@ -1,4 +1,4 @@
--- What a check answers.
+-- What a fault says of a text.
 use Rattle.std.specs.Prelude.{ℕ, ◌≡◌, List, Err}
 use Rattle.flow_core.specs.Shop.{Shop}
 use Rattle.flow_cert.specs.Certificate.{IsCertificate}
@@ -6,12 +6,12 @@ use Rattle.flow_cert.specs.Faults.{certificate_value}
 use Rattle.flow_cert.specs.declared.fault.CheckFault.{CheckFault}
 use Rattle.flow_cert.specs.declared.fault.CheckFault.TheVariants.{Memory}
 
--- a fault is the first of a text, unless memory ran out
+-- the first fault of a text; `Memory` says nothing of the text
 abbrev pub IsFirstFault : Shop → List ℕ → CheckFault → Type 0
 IsFirstFault shop bytes Memory = Unit {0}
 IsFirstFault shop bytes fault = certificate_value shop bytes ≡ Err fault
 
--- where there is a fault, the text is a lawful certificate of no value, unless memory ran out
+-- a text with this fault is not a lawful certificate; `Memory` says nothing of the text
 abbrev pub IsOfNoValue : Shop → List ℕ → CheckFault → Type 0
 IsOfNoValue shop bytes Memory = Unit {0}
 IsOfNoValue shop bytes fault = (value : ℕ) → ¬ IsCertificate shop bytes value

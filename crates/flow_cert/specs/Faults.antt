@@ -1,4 +1,4 @@
--- What a text is read as, line by line: the value of a certificate, or the first fault.
+-- How a text is read as a certificate, line by line: to its value, or to its first fault.
 use Rattle.std.specs.Prelude.{◌≡◌, ℕ, zero, suc, ◌+◌, ◌-◌, ◌^◌, Bool, false, cond, not, ◌&&◌, nat_eq, nat_lt, nat_le, List, [], ◌∷◌, ◌++◌, map, Option, Some, None, Result, Ok, Err}
 use Rattle.std.specs.Option.{option_map, option_map_or}
 use Rattle.std.specs.List.{list_all, slice_split}
@@ -14,12 +14,13 @@ use Rattle.flow_cert.specs.Certificate.{line, title, ending, IsCertificate}
 use Rattle.flow_cert.specs.declared.fault.CheckFault.{CheckFault}
 use Rattle.flow_cert.specs.declared.fault.CheckFault.TheVariants.{Header, Size, Value, Sequence, NotAttained, Tree, Weak, Low, End}
 
--- the first line, without its end, and what follows it
+-- the first line, without its end, and the text behind it
 abbrev pub next_line : List ℕ → Option (List ℕ × List ℕ)
 next_line [] = None
-next_line (byte ∷ bytes) = cond (nat_eq byte 10) (Some ([], bytes)) (option_map (λ r. (byte ∷ r.0, r.1)) (next_line bytes))
+next_line (byte ∷ bytes) =
+    cond (nat_eq byte 10) (Some ([], bytes)) (option_map (λ r. (byte ∷ r.0, r.1)) (next_line bytes))
 
--- what a line and the rest give, or a fault where there is no line
+-- what the first line and the text behind it give; a fault where no line ends
 abbrev pub on_line : CheckFault → (List ℕ → List ℕ → Result ℕ CheckFault) → List ℕ → Result ℕ CheckFault
 on_line fault next bytes = option_map_or (λ r. next r.0 r.1) (next_line bytes) (Err fault)
 
@@ -39,33 +40,34 @@ numbers_in text =
     let words = slice_split (λ byte. nat_eq byte 32) text in
     cond (list_all is_numeral words) (Some (map (digits_value 10) words)) None
 
--- a machine's letter
+-- whether a byte is the letter of a machine of the instance
 abbrev pub is_letter : Shop → ℕ → Bool
 is_letter shop byte = nat_lt 64 byte && nat_le (byte - 64) shop.machines
 
--- what is read next, behind what was read
+-- what is read next, from where the last part ended; a fault stays
 abbrev pub then_read : Result (List ℕ) CheckFault → (List ℕ → Result (List ℕ) CheckFault) → Result (List ℕ) CheckFault
 then_read (Ok rest) next = next rest
 then_read (Err fault) next = Err fault
 
--- trees of some jobs, one after the other
+-- the trees of some jobs, one after the other
 abbrev pub each_tree : (ℕ → List ℕ → Result (List ℕ) CheckFault) → List ℕ → List ℕ → Result (List ℕ) CheckFault
 each_tree read [] bytes = Ok bytes
 each_tree read (job ∷ jobs) bytes = then_read (read job bytes) (each_tree read jobs)
 
--- a letter, known and strong enough or not
+-- a letter: of a machine or not, its bound high enough or not
 abbrev pub cut_fault : Bool → Bool → ℕ → List ℕ → Result (List ℕ) CheckFault
 cut_fault known strong place rest = cond known (cond strong (Ok rest) (Err (Weak place))) (Err (Tree place))
 
--- a point, with a makespan that is high enough or not
+-- a point, or not; its makespan high enough or not
 abbrev pub leaf_fault : Bool → Bool → ℕ → List ℕ → Result (List ℕ) CheckFault
 leaf_fault point high place rest = cond point (cond high (Ok rest) (Err (Low place))) (Err (Tree place))
 
--- what is left behind a tree that covers a value, from a list on with so many jobs left; or the fault of its first
--- faulty byte
+-- the text behind a tree that covers a value below a list with so many jobs left; or the fault of its first faulty
+-- byte
 abbrev pub read_tree : Shop → (Shop → List ℕ → ℕ → ℕ) → ℕ → ℕ → ℕ → List ℕ → List ℕ → Result (List ℕ) CheckFault
 read_tree shop bound value place zero jobs [] = Err (Tree place)
-read_tree shop bound value place zero jobs (byte ∷ rest) = leaf_fault (nat_eq byte 46) (nat_le value (span shop jobs)) place rest
+read_tree shop bound value place zero jobs (byte ∷ rest) =
+    leaf_fault (nat_eq byte 46) (nat_le value (span shop jobs)) place rest
 read_tree shop bound value place (suc left) jobs [] = Err (Tree place)
 read_tree shop bound value place (suc left) jobs (byte ∷ rest) =
     cond (nat_eq byte 43)
@@ -82,11 +84,12 @@ after_tree place next (Err fault) = Err fault
 abbrev pub end_value : ℕ → List ℕ → Result ℕ CheckFault
 end_value value bytes = cond (bytes_eq bytes (line ending)) (Ok value) (Err End)
 
--- the lines from a place on: one tree for each prefix, and the end
+-- the lines from this one on: a tree for each prefix, and the last line
 abbrev pub trees_value : Shop → (Shop → List ℕ → ℕ → ℕ) → ℕ → ℕ → List (List ℕ) → ℕ → List ℕ → Result ℕ CheckFault
 trees_value shop bound value left [] place bytes = end_value value bytes
 trees_value shop bound value left (prefix ∷ prefixes) place bytes =
-    after_tree place (trees_value shop bound value left prefixes (place + 1)) (read_tree shop bound value place left prefix bytes)
+    after_tree place (trees_value shop bound value left prefixes (place + 1))
+    (read_tree shop bound value place left prefix bytes)
 
 -- the lines from the first tree on
 abbrev pub cut_value : Shop → ℕ → ℕ → List ℕ → Result ℕ CheckFault
@@ -102,13 +105,15 @@ sequence_value shop depth value rest (Some jobs) =
 -- the numbers of the value's line, and the lines behind it
 abbrev pub value_value : Shop → ℕ → List ℕ → Option (List ℕ) → Result ℕ CheckFault
 value_value shop depth rest (Some (value ∷ [])) =
-    cond (nat_lt value (2 ^ 64)) (on_line Sequence (λ text more. sequence_value shop depth value more (numbers_in text)) rest) (Err Value)
+    cond (nat_lt value (2 ^ 64))
+    (on_line Sequence (λ text more. sequence_value shop depth value more (numbers_in text)) rest) (Err Value)
 value_value shop depth rest other = Err Value
 
 -- the numbers of the size's line, and the lines behind it
 abbrev pub size_value : Shop → List ℕ → Option (List ℕ) → Result ℕ CheckFault
 size_value shop rest (Some (jobs ∷ machines ∷ depth ∷ [])) =
-    cond (nat_eq jobs shop.jobs && nat_eq machines shop.machines && nat_le depth shop.jobs && nat_le depth greatest_depth)
+    cond
+    (nat_eq jobs shop.jobs && nat_eq machines shop.machines && nat_le depth shop.jobs && nat_le depth greatest_depth)
     (on_line Value (λ text more. value_value shop depth more (numbers_in text)) rest)
     (Err Size)
 size_value shop rest other = Err Size

@@ -6,7 +6,7 @@ ghost use Rattle.flow_cert.specs.declared.fault.CheckFault.TheVariants.{Memory};
 use std::alloc::{AllocError, AllocFailed};
 use thiserror::Error;
 
-/// Why a text is no certificate: the first line at fault, and in a tree's line, counted from 1, its first faulty byte.
+/// Why a text is no certificate: its first fault. The number is that of the line, counted from 1.
 #[derive(Clone, Copy, Debug, PartialEq, Eq, Error)]
 pub enum CheckFault {
     /// Memory ran out.
@@ -30,13 +30,13 @@ pub enum CheckFault {
     /// This line is not one tree.
     #[error("Tree {0}")]
     Tree(usize),
-    /// In this line a machine's bound is below the value.
+    /// In this line a letter's machine bound is below the value.
     #[error("Weak {0}")]
     Weak(usize),
-    /// In this line a sequence's makespan is below the value.
+    /// In this line a point's makespan is below the value.
     #[error("Low {0}")]
     Low(usize),
-    /// What follows the trees is not the last line alone.
+    /// The text after the trees is not the last line alone.
     #[error("End")]
     End,
 }

@@ -11,7 +11,8 @@ children n list from = filter (λ job. not (has list job)) (numbers from n)
 abbrev pub IsNext : ℕ → List ℕ → ℕ → ℕ → Type 0
 IsNext n list job zero = (k : ℕ) → job < k → k ≤ n → has list k ≡ true
 IsNext n list job (suc next) =
-    (job < suc next) × (suc next ≤ n) × (has list (suc next) ≡ false) × ((k : ℕ) → job < k → k < suc next → has list k ≡ true)
+    (job < suc next) × (suc next ≤ n) × (has list (suc next) ≡ false)
+    × ((k : ℕ) → job < k → k < suc next → has list k ≡ true)
 
 -- a place of the links: 0, or a job that is left
 abbrev pub IsPlace : ℕ → List ℕ → ℕ → Type 0

@@ -22,21 +22,22 @@ abbrev pub second_below : ℕ → ℕ → List ℕ → ℕ
 second_below a b [] = b
 second_below a b (x ∷ xs) = second_below (min a x) (min b (max a x)) xs
 
--- the times behind a machine of some jobs
+-- the tails of some jobs behind a machine
 abbrev pub tails : Shop → ℕ → List ℕ → List ℕ
 tails shop machine jobs = map (λ job. time_between shop job (machine + 1) shop.machines) jobs
 
--- the two least times behind a machine of the jobs left
+-- the two least tails of the jobs left behind a machine
 abbrev pub AreLows : Shop → List ℕ → ℕ → Lows → Type 0
 AreLows shop list machine lows =
     (lows.least ≡ least_below unknown (tails shop machine (jobs_left shop.jobs list)))
     × (lows.second ≡ second_below unknown unknown (tails shop machine (jobs_left shop.jobs list)))
 
--- the two least times behind each machine, where the least is known
+-- the two least tails behind each machine, where the least is known
 pub record AreKnown (shop : Shop) (list least second : List ℕ) : Type 0 where
   pub each : (machine : ℕ) → 1 ≤ machine → machine ≤ shop.machines →
       (slice_index least (machine - 1) ≡ unknown)
-      ⊎ AreLows shop list machine (record { least = slice_index least (machine - 1); second = slice_index second (machine - 1) })
+      ⊎ AreLows shop list machine
+      (record { least = slice_index least (machine - 1); second = slice_index second (machine - 1) })
   pub least_size : length least ≡ most_machines
   pub second_size : length second ≡ most_machines
 
@@ -50,12 +51,12 @@ pub record IsNode (shop : Shop) (list : List ℕ) (node : Node) (left : ℕ) : T
   pub count : length list + left ≡ shop.jobs
   pub some : length (jobs_left shop.jobs list) ≡ left
 
--- a list is reached
+-- a list with its node, and its jobs left linked
 pub record IsAt (shop : Shop) (list : List ℕ) (node : Node) (links : List ℕ) (left : ℕ) : Type 0 where
   pub is_node : IsNode shop list node left
   pub are_links : AreLinks shop.jobs list links
 
--- a list, or its child
+-- a list, or a child of it
 abbrev pub grown : List ℕ → Option ℕ → List ℕ
 grown list None = list
 grown list (Some job) = list ++ job ∷ []

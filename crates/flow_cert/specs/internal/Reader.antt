@@ -1,4 +1,4 @@
--- Where the reading of trees stands, and what a part of it gives.
+-- Where a reader of trees stands, and what the text that it reads gives.
 use Rattle.std.specs.Prelude.{ℕ, zero, suc, ◌≡◌, ◌+◌, ◌-◌, ◌≤◌, ◌<◌, Bool, true, false, List, [], ◌∷◌, ◌++◌, length, drop, slice_index, slice_index_or, slice_set, Result, Ok, Err}
 use Rattle.std.specs.List.{flat_map}
 use Rattle.flow_core.specs.Shop.{Shop}
@@ -19,7 +19,7 @@ abbrev pub frame_at : List Frame → ℕ → Frame
 frame_at frames place = slice_index_or frames place
     (record { node = record { front = []; owed = []; least = []; second = [] }; job = 0; last = 0 })
 
--- the node of the list that a reader has reached
+-- the node of the list at which a reader stands
 abbrev pub here : TreeReader → Node
 here reader = (frame_at reader.frames.items reader.below).node
 
@@ -28,12 +28,12 @@ abbrev pub above : List Frame → ℕ → ℕ → List Frame
 above frames place zero = []
 above frames place (suc count) = frame_at frames (place + 1) ∷ above frames (place + 1) count
 
--- a reader has reached a list: its node is there, and its jobs left are linked
+-- a reader stands at a list: it has the list's node, and its jobs left are linked
 pub record Stands (shop : Shop) (list : List ℕ) (reader : TreeReader) : Type 0 where
   pub at : IsAt shop list (here reader) reader.links.items (suc reader.below)
   pub room : length reader.frames.items ≡ shop.jobs
 
--- a reader is back at its list, of which it may know more; the frames above are as they were
+-- a reader is back at its list. The node may know more tails; the frames above are as they were
 pub record IsBack (shop : Shop) (old new : TreeReader) : Type 0 where
   pub below : new.below ≡ old.below
   pub links : new.links.items ≡ old.links.items
@@ -41,7 +41,7 @@ pub record IsBack (shop : Shop) (old new : TreeReader) : Type 0 where
   pub others : (place : ℕ) → old.below < place → frame_at new.frames.items place ≡ frame_at old.frames.items place
   pub kept : (list : List ℕ) → Stands shop list old → Stands shop list new
 
--- a reader went on to the child that has a job at its end; the list's frame has the job and the one left before it
+-- a reader went to the child that has a job at its end; the list's frame keeps the job and the one before it
 pub record Opened (shop : Shop) (last job : ℕ) (old new : TreeReader) : Type 0 where
   pub below : suc new.below ≡ old.below
   pub links : new.links.items ≡ slice_set old.links.items last (slice_index old.links.items job)
@@ -66,7 +66,7 @@ LetterGives shop value line left list at bytes (Ok false) =
 LetterGives shop value line left list at bytes (Err fault) =
     read_tree shop bound_at value line left list (drop at bytes) ≡ Err fault
 
--- where the text goes on behind what was read from a place on, or its fault
+-- the place after what was read from a place on, or its fault
 abbrev pub TreeGives : ℕ → List ℕ → Result ℕ CheckFault → Result (List ℕ) CheckFault → Type 0
 TreeGives from bytes (Ok end) read = (read ≡ Ok (drop end bytes)) × (from ≤ end) × (end ≤ length bytes)
 TreeGives from bytes (Err Memory) read = Unit {0}
@@ -81,13 +81,14 @@ LinesGive shop value left prefixes line from bytes (Err Memory) = Unit {0}
 LinesGive shop value left prefixes line from bytes (Err fault) =
     (rest : List (List ℕ)) → trees_value shop bound_at value left (prefixes ++ rest) line (drop from bytes) ≡ Err fault
 
--- what the byte at a place behind a tree says: that the line ends, or its fault
+-- what the byte after a tree says: that the line ends, or its fault
 abbrev pub LineEnds : Spot → List ℕ → Result Spot CheckFault → Type 0
 LineEnds spot bytes (Ok next) =
     (drop spot.at bytes ≡ 10 ∷ drop next.at bytes) × (next.line ≡ spot.line + 1) × (next.at ≡ spot.at + 1)
     × (next.at ≤ length bytes)
 LineEnds spot bytes (Err fault) =
-    (fault ≡ Tree spot.line) × ((next : List ℕ → Result ℕ CheckFault) → after_tree spot.line next (Ok (drop spot.at bytes)) ≡ Err fault)
+    (fault ≡ Tree spot.line)
+    × ((next : List ℕ → Result ℕ CheckFault) → after_tree spot.line next (Ok (drop spot.at bytes)) ≡ Err fault)
 
 -- the list that a stack of children, the deepest first, leads to
 abbrev pub path : List ℕ → List Frame → List ℕ
@@ -99,12 +100,12 @@ abbrev pub put_back : List ℕ → List Frame → List ℕ
 put_back links [] = links
 put_back links (f ∷ fs) = put_back (slice_set links f.last f.job) fs
 
--- what is left behind the trees of some children of a list, with so many jobs left at each; or the first fault
+-- the text after the trees of some children of a list, with so many jobs left at each; or the first fault
 abbrev pub trees_read : Shop → ℕ → ℕ → ℕ → List ℕ → List ℕ → List ℕ → Result (List ℕ) CheckFault
 trees_read shop value line below list jobs bytes =
     each_tree (λ job. read_tree shop bound_at value line below (list ++ job ∷ [])) jobs bytes
 
--- what is left behind the trees of all children of a list, with so many jobs left at each; or the first fault
+-- the text after the trees of all children of a list, with so many jobs left at each; or the first fault
 abbrev pub children_read : Shop → ℕ → ℕ → ℕ → List ℕ → List ℕ → Result (List ℕ) CheckFault
 children_read shop value line below list bytes = trees_read shop value line below list (jobs_left shop.jobs list) bytes
 
@@ -123,7 +124,7 @@ IsStack shop root links left (f ∷ fs) =
     × (1 ≤ f.job) × (f.job ≤ shop.jobs) × (has (path root fs) f.job ≡ false) × (f.last ≤ shop.jobs)
     × IsStack shop root (slice_set links f.last f.job) (suc left) fs
 
--- the children of a list are read, from behind one on
+-- the children of a list are being read, from the one after a job on
 pub record IsReading
     (shop : Shop) (value line : ℕ) (root : List ℕ) (whole : Result (List ℕ) CheckFault)
     (node : Node) (links : List ℕ) (below last at : ℕ) (bytes : List ℕ) (frames : List Frame) : Type 0 where
@@ -131,7 +132,8 @@ pub record IsReading
   pub behind : IsPlace shop.jobs (path root frames) last
   pub stack : IsStack shop root links (suc (suc below)) frames
   pub answer : whole ≡ then_read
-      (trees_read shop value line below (path root frames) (children shop.jobs (path root frames) (last + 1)) (drop at bytes))
+      (trees_read shop value line below (path root frames) (children shop.jobs (path root frames) (last + 1))
+      (drop at bytes))
       (resume shop value line root (suc below) frames)
 
 -- the prefixes that are still to be read below a list, from one child on

@@ -1,4 +1,4 @@
-//! The checker.
+//! The checker of certificates.
 
 ghost use Rattle.std.specs.Prelude.{◌≡◌, ◌⊎◌, ℕ, IfOk, IfErr, Ok, Err};
 ghost use Rattle.std.specs.Str.{bytes_eq};

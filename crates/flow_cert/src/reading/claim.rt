@@ -3,16 +3,16 @@
 use crate::reading::rows::Row;
 use flow_core::Instance;
 
-/// A claim that no sequence of an instance has a makespan below a value, and the text whose trees are to show it. Each
-/// call that reads trees is lent it.
+/// What a certificate claims: that no sequence of the instance has a makespan below the value. The trees in the text
+/// are to show it.
 #[derive(Drop)]
 pub(crate) struct Claim<'a> {
     /// The instance.
     pub(crate) instance: &'a Instance,
-    /// The times of its jobs, a row for each job from 1 on.
+    /// The times of the instance, a row for each job from 1 on.
     pub(crate) rows: &'a [Row],
-    /// The value: no bound and no makespan in the trees may be below it.
+    /// The value. A bound or a makespan in the trees that is below it is a fault.
     pub(crate) value: u64,
-    /// The text from the first tree on. Places in it count from 0.
+    /// The text, from the first tree to its end.
     pub(crate) bytes: &'a [u8],
 }

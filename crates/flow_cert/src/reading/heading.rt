@@ -15,19 +15,19 @@ use flow_core::{Front, Instance, JobSet, MAX_DEPTH, front_push};
 /// The first line, with its end.
 const TITLE: &[u8] = b"flowshop certificate 1\n";
 
-/// What the four lines before the trees say, once they are found without fault. The sequence is not kept: its makespan
-/// was compared with the value.
+/// What the four lines before the trees say, where they have no fault. The sequence is not kept, since its makespan is
+/// the value.
 #[derive(Clone, Copy)]
 pub(crate) struct Heading<'a> {
-    /// The depth of the cut: how many jobs each of its lists has. One tree follows for each list.
+    /// The depth of the cut: how many jobs each prefix has. There is one tree for each prefix.
     pub(crate) depth: u16,
-    /// The value, which is the makespan of the sequence.
+    /// The value.
     pub(crate) value: u64,
     /// The text that follows, from the first tree on.
     pub(crate) trees: &'a [u8],
 }
 
-/// What follows the first line, where a text begins with it.
+/// The text after the first line, where it begins with that line.
 fn read_title(text: &[u8]) -> Option<&[u8]>
     ensures found { IfSome result (λ rest. text.now ≡ line title ++ rest.now) }
     ensures only { (rest : List ℕ) → text.now ≡ line title ++ rest → IsSomeAnd result (λ r. r.now ≡ rest) }
@@ -35,7 +35,7 @@ fn read_title(text: &[u8]) -> Option<&[u8]>
     text.strip_prefix(TITLE)
 }
 
-/// The depth in the line of so many jobs and machines with which a text begins, and what follows that line.
+/// The depth in the line of so many jobs and machines with which a text begins, and the text after that line.
 fn read_size(jobs: u16, machines: u16, text: &[u8]) -> Option<(u16, &[u8])>
     ensures found { IfSome result (λ r. BeginsWithSize jobs machines text.now r.0 r.1.now) }
     ensures only { (depth : ℕ) (rest : List ℕ) → BeginsWithSize jobs machines text.now depth rest →
@@ -53,7 +53,7 @@ fn read_size(jobs: u16, machines: u16, text: &[u8]) -> Option<(u16, &[u8])>
     Some((depth as u16, rest))
 }
 
-/// The job from 1 to `jobs` with which a text begins, and what follows the byte that ends it.
+/// The job with which a text begins, from 1 to `jobs`, and the text after the byte that ends it.
 fn read_job(text: &[u8], end: u8, jobs: u16) -> Option<(u16, &[u8])>
     requires { end < 48 }
     ensures found { IfSome result (λ r. BeginsWithJob jobs text.now end r.0 r.1.now) }
@@ -67,7 +67,7 @@ fn read_job(text: &[u8], end: u8, jobs: u16) -> Option<(u16, &[u8])>
     Some((job as u16, rest))
 }
 
-/// The byte that ends the job at a place of a line of so many jobs.
+/// The byte that ends the job at a place, counted from 1, in a line of so many jobs.
 fn end_behind(place: u16, jobs: u16) -> u8
     ensures value { result ≡ end_of (jobs + 1 - place) }
     ensures below { result < 48 }
@@ -75,7 +75,7 @@ fn end_behind(place: u16, jobs: u16) -> u8
     if place == jobs { b'\n' } else { b' ' }
 }
 
-/// The makespan of the sequence in the line with which a text begins, and what follows that line.
+/// The makespan of the sequence in the line with which a text begins, and the text after that line.
 fn read_sequence<'a>(instance: &Instance, text: &'a [u8]) -> Option<(u64, &'a [u8])>
     ensures found { IfSome result (λ r. (jobs : List ℕ)
         × BeginsWithSequence instance.now.jobs text.now jobs r.1.now × (span instance.now jobs ≡ r.0)) }
@@ -100,7 +100,7 @@ fn read_sequence<'a>(instance: &Instance, text: &'a [u8]) -> Option<(u64, &'a [u
     Some((front.at(machines), rest))
 }
 
-/// Reads the lines before the trees, or finds their first fault.
+/// Reads the lines before the trees. Returns what they say, or their first fault.
 pub(crate) fn read_heading<'a>(
     instance: &Instance,
     text: &'a [u8],

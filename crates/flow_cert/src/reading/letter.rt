@@ -10,7 +10,7 @@ use crate::reading::claim::Claim;
 use crate::reading::node::{bound, makespan_at};
 use crate::reading::reader::{Spot, TreeReader};
 
-/// How many jobs are left at a list or at its child, where so many are left at each child.
+/// How many jobs are left at a list, or at a child of it, where `below` jobs are left at each child.
 fn left_here(child: Option<u16>, below: usize) -> usize
     requires { below ≤ 65535 }
     ensures { result ≡ left_here child below }
@@ -22,8 +22,8 @@ fn left_here(child: Option<u16>, below: usize) -> usize
 }
 
 impl TreeReader {
-    /// Reads the first byte of the tree of the list, or of its child: true for a plus, where the trees of the children
-    /// follow, and false for a letter or a point, which is the whole tree.
+    /// Reads the first byte of the tree of the list, or of a child of it. Returns true for a plus, which the trees of
+    /// the children follow, and false for a letter or a point, which is a whole tree.
     pub(crate) fn read_letter(
         &mut self,
         claim: &Claim,

@@ -1,6 +1,6 @@
 //! Reading the lines of the trees, one tree in each.
 
-ghost use Rattle.std.specs.Prelude.{◌≡◌, ◌≢◌, ℕ, suc, ◌+◌, ◌-◌, ◌<◌, ◌≤◌, List, [], ◌∷◌, ◌++◌, length, slice_index, IfOk};
+ghost use Rattle.std.specs.Prelude.{◌≡◌, ◌≢◌, ℕ, suc, ◌+◌, ◌-◌, ◌≤◌, List, [], ◌∷◌, ◌++◌, length, slice_index, IfOk};
 ghost use Rattle.flow_core.specs.Sequences.{extensions};
 ghost use Rattle.flow_cert.specs.internal.Rows.{AreRows};
 ghost use Rattle.flow_cert.specs.internal.Links.{IsPlace};
@@ -10,7 +10,7 @@ use crate::fault::CheckFault;
 use crate::reading::claim::Claim;
 use crate::reading::reader::{Spot, TreeReader};
 
-/// Reads the end of a line at a place behind its tree. Returns where the next line begins.
+/// Reads the end of a line, after its tree. Returns the place where the next line begins.
 fn line_end(claim: &Claim, spot: Spot) -> Result<Spot, CheckFault>
     requires at { spot.at ≤ length claim.now.bytes.now }
     requires line { spot.line ≤ spot.at + 5 }
@@ -26,7 +26,7 @@ fn line_end(claim: &Claim, spot: Spot) -> Result<Spot, CheckFault>
 }
 
 impl TreeReader {
-    /// Reads the line of the empty list, which holds the whole tree.
+    /// Reads the line that holds the tree of the list itself.
     pub(crate) fn read_one_line(&mut self, claim: &Claim, spot: Spot) -> Result<Spot, CheckFault>
         requires rows { AreRows claim.now.instance.now claim.now.rows.now }
         requires at { (list : List ℕ) × Stands claim.now.instance.now list self.old }
@@ -47,7 +47,7 @@ impl TreeReader {
         )
     }
 
-    /// Reads the line of the child whose job follows `last`.
+    /// Reads the line that holds the tree of the child whose job is the link of `last`.
     fn read_line(&mut self, claim: &Claim, spot: Spot, last: u16) -> Result<Spot, CheckFault>
         requires rows { AreRows claim.now.instance.now claim.now.rows.now }
         requires at { (list : List ℕ) × Stands claim.now.instance.now list self.old
@@ -72,8 +72,8 @@ impl TreeReader {
         )
     }
 
-    /// Reads the lines of the prefixes that put `more` jobs behind the list, one tree in each line, in order. Returns
-    /// where the line after them begins.
+    /// Reads the lines of the prefixes that have `more` more jobs than the list, in order, one tree in each line.
+    /// Returns the place after them.
     pub(crate) fn read_lines(
         &mut self,
         claim: &Claim,

@@ -1,4 +1,4 @@
-//! The lists of jobs at which the trees are read, and their bounds.
+//! The nodes of the trees: what is kept of a list of jobs, and the machine bounds.
 
 ghost use Rattle.std.specs.Prelude.{◌≡◌, ℕ, ◌+◌, ◌-◌, ◌*◌, ◌≤◌, ◌<◌, List, [], ◌∷◌, ◌++◌, sum_by, suc, false};
 ghost use Rattle.flow_core.specs.Limits.{most_jobs, most_machines, greatest_time, greatest_completion};
@@ -14,23 +14,23 @@ ghost use Rattle.flow_cert.specs.internal.Nodes.{IsNode, IsAt, AreLows, IsChild,
 use crate::reading::claim::Claim;
 use flow_core::{Front, Instance, MAX_MACHINES, front_push};
 
-/// What is kept of a list of jobs: enough for its machine bounds and for those of its children. A job's tail behind a
-/// machine is its time on all later machines. The two least tails of a machine are found when its letter is first read
-/// at the list.
+/// What is kept of a list of jobs. The machine bounds of the list and of its children are computed from it. A job's
+/// tail behind a machine is its time on all later machines. The two least tails behind a machine are found when the
+/// first bound asks for them.
 #[derive(Clone, Copy)]
 pub(crate) struct Node {
     /// The completion time of the list on each machine.
     front: Front,
-    /// The time of the jobs left on each machine, in all.
+    /// The time that each machine still owes the jobs left, in all.
     owed: [u64; MAX_MACHINES],
-    /// The least tail of the jobs left behind each machine; the greatest number until it is found.
+    /// The least tail of the jobs left behind each machine. The greatest number means that it is not found yet.
     least: [u32; MAX_MACHINES],
-    /// The second least, where the least was found. It is for the child that takes the job with the least.
+    /// The second least tail, once the least is found. The child that takes the job with the least tail needs it.
     second: [u32; MAX_MACHINES],
 }
 
-/// The two least tails of the jobs left behind one machine, each the greatest number where there is no such job. Where
-/// two jobs have the least, both are the same.
+/// The two least tails of the jobs left behind one machine. Where two jobs have the least tail, both are the same. The
+/// greatest number stands for a tail where there is no such job.
 #[derive(Drop)]
 pub(crate) struct Lows {
     /// The least.
@@ -72,7 +72,7 @@ impl Node {
         }
     }
 
-    /// The list with one of its jobs left at its end.
+    /// The child of the list that has this job at its end.
     pub(crate) fn child(&self, claim: &Claim, job: u16) -> Self
         requires rows { AreRows claim.now.instance.now claim.now.rows.now }
         requires at { (list : List ℕ) × (left : ℕ) × IsNode claim.now.instance.now list self.now left
@@ -101,7 +101,7 @@ impl Node {
     }
 }
 
-/// The completion time of a list with a job at its end.
+/// The completion time of a child on a machine, from the front of the list and the job at the child's end.
 fn completion_of(claim: &Claim, front: &Front, job: u16, machine: u16) -> u64
     requires rows { AreRows claim.now.instance.now claim.now.rows.now }
     requires job_from { 1 ≤ job }
@@ -147,7 +147,7 @@ fn least_behind(claim: &Claim, links: &[u16], machine: u16) -> Lows
     }
 }
 
-/// The two least tails of the jobs left behind a machine: those that the list keeps, or else they are found and kept.
+/// The two least tails of the jobs left behind a machine: those that the node keeps, or else they are found and kept.
 fn lows_of(claim: &Claim, node: &mut Node, links: &[u16], machine: u16) -> Lows
     requires rows { AreRows claim.now.instance.now claim.now.rows.now }
     requires at { (list : List ℕ) × (left : ℕ) × IsAt claim.now.instance.now list node.old links.now left }
@@ -172,7 +172,7 @@ fn lows_of(claim: &Claim, node: &mut Node, links: &[u16], machine: u16) -> Lows
     lows
 }
 
-/// The completion time of a list, or of its child, on the last machine.
+/// The completion time of a list, or of a child of it, on the last machine.
 pub(crate) fn makespan_at(claim: &Claim, node: &Node, child: Option<u16>) -> u64
     requires rows { AreRows claim.now.instance.now claim.now.rows.now }
     requires at { (list : List ℕ) × (left : ℕ) × IsNode claim.now.instance.now list node.now left
@@ -187,7 +187,7 @@ pub(crate) fn makespan_at(claim: &Claim, node: &Node, child: Option<u16>) -> u64
     }
 }
 
-/// The machine bound of a list, or of its child, that has jobs left.
+/// The machine bound of a list, or of a child of it, where jobs are left.
 pub(crate) fn bound(
     claim: &Claim,
     node: &mut Node,

@@ -4,8 +4,8 @@ ghost use Rattle.std.specs.Prelude.{◌≡◌, ℕ, ◌+◌, ◌-◌, ◌*◌, �
 ghost use Rattle.std.specs.Option.{IsSomeAnd, SomeIff};
 ghost use Rattle.flow_cert.specs.internal.Heading.{BeginsWithNumber, is_further};
 
-/// The number with one more digit behind those that came before it, if some did. `None` for a byte that is no digit, a
-/// digit behind a leading zero, or a number of 2^64 and more.
+/// The number that one more digit makes, where `value` is the number before it, if it has `started`. `None` for a byte
+/// that is no digit, a digit after a leading zero, or a number of 2^64 and more.
 fn with_digit(value: u64, started: bool, byte: u8) -> Option<u64>
     ensures { SomeIff result (is_further value started byte ≡ true) (value * 10 + (byte - 48)) }
 {
@@ -15,8 +15,8 @@ fn with_digit(value: u64, started: bool, byte: u8) -> Option<u64>
     value.checked_mul(10)?.checked_add(u64::from(byte - b'0'))
 }
 
-/// The decimal number without leading zeros with which a text begins, and what follows the byte that ends it. `None`
-/// where the text does not begin with such a number below 2^64 and that byte.
+/// The decimal number with which a text begins, and the text after the byte that ends it. `None` where the text does
+/// not begin with a number below 2^64, without leading zeros, and that byte.
 pub(crate) fn read_number(text: &[u8], end: u8) -> Option<(u64, &[u8])>
     requires { end < 48 }
     ensures found { IfSome result (λ r. BeginsWithNumber text.now end r.0 r.1.now) }

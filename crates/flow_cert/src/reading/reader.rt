@@ -1,4 +1,4 @@
-//! The reader of the trees, and how it goes from list to list.
+//! The reader of the trees: how it goes from a list of jobs to a child, and back.
 
 ghost use Rattle.std.specs.Prelude.{◌≡◌, ◌≢◌, ℕ, suc, ◌<◌, ◌≤◌, List, [], length, slice_index, IfOk};
 ghost use Rattle.flow_cert.specs.internal.Rows.{AreRows};
@@ -11,41 +11,41 @@ use crate::reading::node::Node;
 use flow_core::Instance;
 use std::alloc::{AllocError, Global};
 
-/// A place in the text of a claim.
+/// A place in the text of the trees.
 #[derive(Clone, Copy)]
 pub(crate) struct Spot {
-    /// The number of its line, counted from 1 at the first line of the certificate.
+    /// Its line, counted from 1 at the first line of the certificate.
     pub(crate) line: usize,
-    /// The place itself, counted from 0.
+    /// How many bytes of the text stand before it.
     pub(crate) at: usize,
 }
 
-/// A list of jobs at which trees are read, and which of its children is read just now.
+/// A list of jobs, and which of its children is being read.
 #[derive(Drop)]
 pub(crate) struct Frame {
-    /// The list.
+    /// What is kept of the list.
     pub(crate) node: Node,
     /// The job that the child has at its end.
     pub(crate) job: u16,
-    /// The job left before it, or 0: its link leads to `job` again once the child is read.
+    /// The job left before it, or 0. Its link leads to `job` again once the child is read.
     pub(crate) last: u16,
 }
 
-/// Reads trees. It has reached a list of jobs, and reads the trees of the list's children, which are the list with one
-/// of the jobs left at its end.
+/// Reads trees. It stands at a list of jobs. A child of the list has one more job, one of the jobs left, at its end.
 #[derive(Drop)]
 pub(crate) struct TreeReader {
-    /// The jobs left, linked in increasing order: from 0 the link leads to the least one, from each to the next
-    /// greater one, and from the greatest one to 0.
+    /// The linked list of the jobs left, in increasing order. The link of 0 is the least of them, the link of each is
+    /// the next greater one, and the link of the greatest is 0.
     pub(crate) links: Vec<u16>,
-    /// The list's frame, and those of the lists that it grew from; each stands at the number of jobs left at the
-    /// list's children.
+    /// The frames of the list and of the lists above it. The frame of a list whose children have so many jobs left
+    /// stands at that place.
     pub(crate) frames: Vec<Frame>,
-    /// How many jobs are left at each child of the list.
+    /// How many jobs are left at each child of the list: the place of the list's frame.
     pub(crate) below: usize,
 }
 
-/// The links where all jobs are left: 0 leads to job 1, each job to the next, and the last one to 0.
+/// The linked list of the jobs left at the empty list, which are all jobs: the link of 0 is job 1, the link of each job
+/// is the next one, and the link of the last job is 0.
 fn all_links(alloc: Global, jobs: u16) -> Result<Vec<u16>, AllocError>
     requires { jobs ≤ most_jobs }
     ensures { IfOk result (λ links. AreLinks jobs [] links.items) }
@@ -58,7 +58,7 @@ fn all_links(alloc: Global, jobs: u16) -> Result<Vec<u16>, AllocError>
     Ok(links)
 }
 
-/// A frame for each number of jobs left at the children of a list, each with the same node.
+/// A frame for each job, all with the same node.
 fn all_frames(alloc: Global, jobs: u16, node: &Node) -> Result<Vec<Frame>, AllocError>
     ensures size { IfOk result (λ frames. length frames.items ≡ jobs) }
     ensures each { IfOk result (λ frames. (place : ℕ) → place < jobs →
@@ -76,7 +76,7 @@ fn all_frames(alloc: Global, jobs: u16, node: &Node) -> Result<Vec<Frame>, Alloc
 }
 
 impl TreeReader {
-    /// A reader that has reached the empty list.
+    /// A reader that stands at the empty list.
     pub(crate) fn new(alloc: Global, instance: &Instance) -> Result<TreeReader, AllocError>
         ensures { IfOk result (λ reader. Stands instance.now [] reader) }
     {
@@ -90,7 +90,7 @@ impl TreeReader {
         })
     }
 
-    /// Goes on to the child that has `job` at its end. The link of `last` leads to `job`.
+    /// Goes to the child that has `job` at its end, where the link of `last` is `job`.
     pub(crate) fn open(&mut self, claim: &Claim, last: u16, job: u16)
         requires rows { AreRows claim.now.instance.now claim.now.rows.now }
         requires at { (list : List ℕ) × Stands claim.now.instance.now list self.old
@@ -109,7 +109,7 @@ impl TreeReader {
         self.frames[self.below].node = child;
     }
 
-    /// Goes back to the list above, and returns the job of the child that was read.
+    /// Goes back to the list above, once the child is read. Returns the job that the child had at its end.
     pub(crate) fn close(&mut self) -> u16
         requires above { suc self.old.below < length self.old.frames.items }
         requires last { (frame_at self.old.frames.items (suc self.old.below)).last < length self.old.links.items }

@@ -12,7 +12,7 @@ use crate::reading::claim::Claim;
 use crate::reading::reader::{Spot, TreeReader};
 
 impl TreeReader {
-    /// Reads the trees of the list's children, one behind the other, and returns the place behind them.
+    /// Reads the trees of all children of the list, and returns the place after them.
     fn read_children(&mut self, claim: &Claim, spot: Spot) -> Result<usize, CheckFault>
         requires rows { AreRows claim.now.instance.now claim.now.rows.now }
         requires at { (list : List ℕ) × Stands claim.now.instance.now list self.old }
@@ -46,7 +46,7 @@ impl TreeReader {
         }
     }
 
-    /// Reads the tree of the list itself, and returns the place behind it.
+    /// Reads the tree of the list itself, and returns the place after it.
     pub(crate) fn read_own(&mut self, claim: &Claim, spot: Spot) -> Result<usize, CheckFault>
         requires rows { AreRows claim.now.instance.now claim.now.rows.now }
         requires at { (list : List ℕ) × Stands claim.now.instance.now list self.old }
@@ -65,7 +65,7 @@ impl TreeReader {
         self.read_children(claim, next)
     }
 
-    /// Reads the tree of the child whose job follows `last`, and returns the place behind it.
+    /// Reads the tree of the child whose job is the link of `last`, and returns the place after it.
     pub(crate) fn read_child(
         &mut self,
         claim: &Claim,

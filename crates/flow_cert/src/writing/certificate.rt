@@ -15,7 +15,7 @@ use crate::writing::gathered::Gathered;
 use flow_core::{Sink, WriteFault};
 use flow_search::{Plan, Verdict};
 
-/// Hands the line of the sizes on.
+/// Adds the line of the sizes.
 fn add_sizes<S: Sink>(gathered: &mut Gathered, out: &mut S, plan: &Plan) -> Result<(), WriteFault>
     requires { S.has_failed out.old ≡ false }
     ensures failed { S.has_failed out.new ≡ is_err result }
@@ -30,7 +30,7 @@ fn add_sizes<S: Sink>(gathered: &mut Gathered, out: &mut S, plan: &Plan) -> Resu
     gathered.add_numbers(out, &[jobs, machines, depth])
 }
 
-/// Hands the line of the value on.
+/// Adds the line of the value.
 fn add_value<S: Sink>(gathered: &mut Gathered, out: &mut S, value: u64) -> Result<(), WriteFault>
     requires { S.has_failed out.old ≡ false }
     ensures failed { S.has_failed out.new ≡ is_err result }
@@ -43,7 +43,7 @@ fn add_value<S: Sink>(gathered: &mut Gathered, out: &mut S, value: u64) -> Resul
     gathered.add(out, b"\n")
 }
 
-/// Hands the lines before the trees on.
+/// Adds the lines before the trees.
 fn add_heading<S: Sink>(
     gathered: &mut Gathered,
     out: &mut S,
@@ -63,7 +63,7 @@ fn add_heading<S: Sink>(
     gathered.add_numbers(out, verdict.sequence.jobs())
 }
 
-/// Hands a line for each tree on.
+/// Adds a line for each tree.
 fn add_trees<S: Sink>(
     gathered: &mut Gathered,
     out: &mut S,
@@ -85,8 +85,8 @@ fn add_trees<S: Sink>(
     Ok(())
 }
 
-/// Writes the certificate of a plan with a verdict, which has a tree for each prefix, into a sink that did not refuse
-/// yet. `Device` where the sink refused: then a proper prefix of the text was taken.
+/// Writes the certificate of a plan into a sink that did not refuse yet. The verdict has a tree for each prefix of the
+/// plan. `Device` where the sink refused; then it took a proper prefix of the text.
 pub fn write_certificate<S: Sink>(
     plan: &Plan,
     verdict: &Verdict,

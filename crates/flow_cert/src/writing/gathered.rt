@@ -43,7 +43,7 @@ impl Gathered {
         }
     }
 
-    /// Gathers bytes for which there is room.
+    /// Gathers bytes, where there is room for them.
     fn keep(&mut self, bytes: &[u8])
         requires { length self.old + length bytes.now ≤ ROOM }
         ensures { self.new ≡ self.old ++ bytes.now }
@@ -53,7 +53,7 @@ impl Gathered {
         self.count = end;
     }
 
-    /// Puts all that was gathered.
+    /// Puts all gathered bytes into the sink.
     pub(crate) fn put<S: Sink>(&mut self, out: &mut S) -> Result<(), WriteFault>
         requires { S.has_failed out.old ≡ false }
         ensures failed { S.has_failed out.new ≡ is_err result }
@@ -66,8 +66,8 @@ impl Gathered {
         Ok(())
     }
 
-    /// Hands bytes on: they are gathered, and all is put where there is no room for them. Bytes for which there never
-    /// is room are put without a copy.
+    /// Adds bytes. Where there is no room for them, the gathered bytes are put into the sink first. More bytes than can
+    /// be gathered are put without a copy.
     pub(crate) fn add<S: Sink>(&mut self, out: &mut S, bytes: &[u8]) -> Result<(), WriteFault>
         requires { S.has_failed out.old ≡ false }
         ensures failed { S.has_failed out.new ≡ is_err result }
@@ -86,7 +86,7 @@ impl Gathered {
         put_all(out, bytes)
     }
 
-    /// Hands a number on, in decimal.
+    /// Adds a number, in decimal.
     pub(crate) fn add_number<S: Sink>(&mut self, out: &mut S, number: u64) -> Result<(), WriteFault>
         requires { S.has_failed out.old ≡ false }
         ensures failed { S.has_failed out.new ≡ is_err result }
@@ -97,7 +97,7 @@ impl Gathered {
         self.add(out, buffer.format(number).as_bytes())
     }
 
-    /// Hands a line of numbers on.
+    /// Adds a line of numbers.
     pub(crate) fn add_numbers<S: Sink>(
         &mut self,
         out: &mut S,
