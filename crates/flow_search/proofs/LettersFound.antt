@@ -7,7 +7,8 @@ use Rattle.flow_core.specs.Bound.{bound_at}
 use Rattle.flow_search.specs.internal.Lanes.{IsLetter}
 
 -- the first number of a range that passes
-found-at : (p : ℕ → Bool) (from n k : ℕ) → k < n → ((i : ℕ) → from ≤ i → i < from + k → p i ≡ false) → p (from + k) ≡ true → find p (range_with_len from n) ≡ Some (from + k)
+found-at : (p : ℕ → Bool) (from n k : ℕ) → k < n → ((i : ℕ) → from ≤ i → i < from + k → p i ≡ false) →
+    p (from + k) ≡ true → find p (range_with_len from n) ≡ Some (from + k)
 found-at p from zero k low none pass = absurd (omega (arith, low))
 found-at p from (suc n) zero low none pass =
     let e : from + 0 ≡ from = omega arith in
@@ -15,25 +16,30 @@ found-at p from (suc n) zero low none pass =
 found-at p from (suc n) (suc k) low none pass =
     let e : from + 1 + k ≡ from + suc k = omega arith in
     ap (λ b. cond b (Some from) (find p (range_with_len (from + 1) n))) (none from (omega arith) (omega arith))
-    ∙ found-at p (from + 1) n k (omega (arith, low)) (λ i a b. none i (omega (arith, a)) (omega (arith, b))) (ap p e ∙ pass)
+    ∙ found-at p (from + 1) n k (omega (arith, low)) (λ i a b. none i (omega (arith, a)) (omega (arith, b)))
+    (ap p e ∙ pass)
     ∙ ap Some e
 
-found-none : (p : ℕ → Bool) (from n : ℕ) → ((i : ℕ) → from ≤ i → i < from + n → p i ≡ false) → find p (range_with_len from n) ≡ None
+found-none : (p : ℕ → Bool) (from n : ℕ) → ((i : ℕ) → from ≤ i → i < from + n → p i ≡ false) →
+    find p (range_with_len from n) ≡ None
 found-none p from zero none = refl
 found-none p from (suc n) none =
     ap (λ b. cond b (Some from) (find p (range_with_len (from + 1) n))) (none from (omega arith) (omega arith))
     ∙ found-none p (from + 1) n (λ i a b. none i (omega (arith, a)) (omega (arith, b)))
 
 pub letter-found : (shop : Shop) (list : List ℕ) (limit letter : ℕ) → IsLetter shop list limit shop.machines letter →
-    find (λ machine. nat_le limit (bound_at shop list machine)) (numbers 1 shop.machines) ≡ cond (nat_lt letter shop.machines) (Some (letter + 1)) None
+    find (λ machine. nat_le limit (bound_at shop list machine)) (numbers 1 shop.machines) ≡ cond
+    (nat_lt letter shop.machines) (Some (letter + 1)) None
 letter-found shop list limit letter is = elim (cases_lt letter shop.machines) [
   | inl cut ↦
       let e : 1 + letter ≡ letter + 1 = omega arith in
-      found-at (λ machine. nat_le limit (bound_at shop list machine)) 1 (shop.machines + 1 - 1) letter (omega (arith, cut))
+      found-at (λ machine. nat_le limit (bound_at shop list machine)) 1 (shop.machines + 1 - 1) letter
+      (omega (arith, cut))
       (λ i a b. lt-leb limit (bound_at shop list i) (is.above i a (omega (arith, b))))
       (ap (λ m. nat_le limit (bound_at shop list m)) e ∙ le-leb limit (bound_at shop list (letter + 1)) (is.cut cut))
       ∙ ap Some e ∙ sym (ap (λ b. cond b (Some (letter + 1)) None) (lt-ltb letter shop.machines cut))
   | inr whole ↦
-      found-none (λ machine. nat_le limit (bound_at shop list machine)) 1 (shop.machines + 1 - 1) (λ i a b. lt-leb limit (bound_at shop list i) (is.above i a (omega (arith, b, whole))))
+      found-none (λ machine. nat_le limit (bound_at shop list machine)) 1 (shop.machines + 1 - 1)
+      (λ i a b. lt-leb limit (bound_at shop list i) (is.above i a (omega (arith, b, whole))))
       ∙ sym (ap (λ b. cond b (Some (letter + 1)) None) (le-ltb letter shop.machines whole))
 ]

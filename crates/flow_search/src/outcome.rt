@@ -7,6 +7,7 @@ ghost use Rattle.flow_search.specs.Plans.{prefixes_of, tree_of, best_of};
 ghost use Rattle.flow_search.specs.internal.Nodes.{found_if};
 ghost use Rattle.flow_search.specs.Outcomes.{IsLawful, found_of};
 
+use crate::lanes::Frame;
 use crate::plan::Plan;
 use crate::subtree::{Search, Stop, explore};
 use flow_core::{Front, Instance, Sequence, front_push};
@@ -60,7 +61,8 @@ fn search_below(alloc: Global, plan: &Plan, number: u32) -> Result<Search, Stop>
     }
     let count = jobs - prefix.len() as u16;
     let budget = plan.options().budget() as usize;
-    explore(instance, budget, &front, count, &mut search)?;
+    let mut frames = [Frame::new(); 8];
+    explore(instance, budget, &front, count, &mut frames, &mut search)?;
     Ok(search)
 }
 

@@ -11,6 +11,7 @@ ghost use Rattle.flow_search.specs.internal.Nodes.{IsAt, IsFresh, Wrote, Saw, En
 ghost use Rattle.flow_search.specs.declared.subtree.Stop.TheVariants.{Memory};
 
 use crate::few::walk_few;
+use crate::lanes::Frame;
 use flow_bound::bound;
 use flow_core::{Front, Instance, JobSet, front_push};
 use std::alloc::{AllocError, AllocFailed, Global};
@@ -147,6 +148,7 @@ pub fn explore(
     budget: usize,
     front: &Front,
     count: u16,
+    frames: &mut [Frame; 8],
     search: &mut Search,
 ) -> Result<(), Stop>
     requires { IsAt instance.now search.old.node.items front.now search.old.unscheduled count }
@@ -166,7 +168,7 @@ pub fn explore(
     }
     search.write(budget, b'+')?;
     if count <= 8 {
-        walk_few(instance, budget, front, count, search)?;
+        walk_few(instance, budget, front, count, frames, search)?;
         return Ok(());
     }
     let below = count - 1;
@@ -175,7 +177,7 @@ pub fn explore(
             let mut next = *front;
             front_push(instance, &mut next, job);
             search.enter(job)?;
-            explore(instance, budget, &next, below, search)?;
+            explore(instance, budget, &next, below, frames, search)?;
             search.leave(job);
         }
     }

@@ -1,4 +1,4 @@
-use Rattle.std.proofs.Common.{rules, ◌≡◌, ℕ, ◌+◌, ◌∷◌, ◌++◌, Bool, true, sym, ◌∙◌, ap, arith, length, take, set}
+use Rattle.std.proofs.Common.{◌≡◌, ◌+◌, ◌++◌, true, sym, ◌∙◌, ap, arith, length, take, set}
 use Rattle.std.specs.List.{filter}
 use Rattle.std.proofs.lemmas.List.{length-set}
 use Rattle.flow_core.specs.Shop.{numbers}
@@ -12,14 +12,18 @@ pub loop-job-preserved : goal.loop-job-preserved
 loop-job-preserved c = elim c.if-contains.branch [
   | then-contains w ↦
       let there : contains c.args.set.now c.loop-job.job ≡ true = sym c.contains.ensures.value ∙ w.if-contains.true in
-      let more = gathered-more (contains c.args.set.now) c.loop-job.made c.loop-job.count c.loop-job.job c.args.instance.now.jobs
+      let more = gathered-more (contains c.args.set.now) c.loop-job.made c.loop-job.count c.loop-job.job
+      c.args.instance.now.jobs
       c.loop-job.invariant.size c.loop-job.invariant.few c.requires (omega arith) there c.loop-job.invariant.jobs in
       record {
-        size = ap length w.made-is ∙ length-set c.loop-job.made c.loop-job.count c.loop-job.job ∙ c.loop-job.invariant.size;
+        size = ap length w.made-is ∙ length-set c.loop-job.made c.loop-job.count c.loop-job.job
+            ∙ c.loop-job.invariant.size;
         few = omega (arith, w.count-is, more.0);
         jobs =
-            ap (λ made. take c.if-contains.count made ++ filter (contains c.args.set.now) (numbers (c.loop-job.job + 1) c.args.instance.now.jobs)) w.made-is
-            ∙ ap (λ count. take count (set c.loop-job.made c.loop-job.count c.loop-job.job) ++ filter (contains c.args.set.now) (numbers (c.loop-job.job + 1) c.args.instance.now.jobs)) w.count-is
+            ap (λ made. take c.if-contains.count made ++ filter (contains c.args.set.now)
+            (numbers (c.loop-job.job + 1) c.args.instance.now.jobs)) w.made-is
+            ∙ ap (λ count. take count (set c.loop-job.made c.loop-job.count c.loop-job.job) ++ filter
+            (contains c.args.set.now) (numbers (c.loop-job.job + 1) c.args.instance.now.jobs)) w.count-is
             ∙ more.1;
       }
   | else-contains w ↦
@@ -28,14 +32,18 @@ loop-job-preserved c = elim c.if-contains.branch [
         size = ap length w.made-is ∙ c.loop-job.invariant.size;
         few = omega (arith, w.count-is, c.loop-job.invariant.few);
         jobs =
-            ap (λ made. take c.if-contains.count made ++ filter (contains c.args.set.now) (numbers (c.loop-job.job + 1) c.args.instance.now.jobs)) w.made-is
-            ∙ ap (λ count. take count c.loop-job.made ++ filter (contains c.args.set.now) (numbers (c.loop-job.job + 1) c.args.instance.now.jobs)) w.count-is
-            ∙ ap (λ xs. take c.loop-job.count c.loop-job.made ++ xs) (sym (filter-skip (contains c.args.set.now) c.loop-job.job c.args.instance.now.jobs (omega arith) out))
+            ap (λ made. take c.if-contains.count made ++ filter (contains c.args.set.now)
+            (numbers (c.loop-job.job + 1) c.args.instance.now.jobs)) w.made-is
+            ∙ ap (λ count. take count c.loop-job.made ++ filter (contains c.args.set.now)
+            (numbers (c.loop-job.job + 1) c.args.instance.now.jobs)) w.count-is
+            ∙ ap (λ xs. take c.loop-job.count c.loop-job.made ++ xs)
+            (sym (filter-skip (contains c.args.set.now) c.loop-job.job c.args.instance.now.jobs (omega arith) out))
             ∙ c.loop-job.invariant.jobs;
       }
 ]
 
 pub returns : goal.returns
 returns c =
-    gathered-all (contains c.args.set.now) c.loop-job.made c.loop-job.count c.loop-job.job c.args.instance.now.jobs (omega arith)
+    gathered-all (contains c.args.set.now) c.loop-job.made c.loop-job.count c.loop-job.job c.args.instance.now.jobs
+    (omega arith)
     c.loop-job.invariant.size c.loop-job.invariant.few c.loop-job.invariant.jobs

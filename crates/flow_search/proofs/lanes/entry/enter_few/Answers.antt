@@ -8,14 +8,16 @@ use Rattle.flow_search.proofs.LanesEntered.{jobs-of, done-next, time_between-fir
 use Rattle.flow_search.proofs.lanes.entry.enter_few.Goals as goal
 
 pub times_of-time-requires-clause-jobs : goal.times_of-time-requires-clause-jobs
-times_of-time-requires-clause-jobs c = jobs-of c.args.instance.now c.requires.0 c.args.front.now c.args.jobs.now c.requires.1
+times_of-time-requires-clause-jobs c =
+    jobs-of c.args.instance.now c.requires.0 c.args.front.now c.args.jobs.now c.requires.1
 
 pub owed-requires-clause-jobs : goal.owed-requires-clause-jobs
 owed-requires-clause-jobs c = jobs-of c.args.instance.now c.requires.0 c.args.front.now c.args.jobs.now c.requires.1
 
 pub overflow_cast-frame : goal.overflow_cast-frame
 overflow_cast-frame c =
-    let within = front-within c.args.instance.now c.requires.0 c.args.front.now c.machines-machine.ensures.limits (omega (arith, c.requires.1.count)) c.requires.1.times (c.loop-machine.machine - 1)
+    let within = front-within c.args.instance.now c.requires.0 c.args.front.now c.machines-machine.ensures.limits
+    (omega (arith, c.requires.1.count)) c.requires.1.times (c.loop-machine.machine - 1)
     (omega (arith, c.loop-machine-test.true, c.loop-machine.invariant.most)) in
     omega (arith, within, c.at.ensures)
 
@@ -31,25 +33,53 @@ loop-machine-preserved c =
     record {
       most = omega (arith, high);
       rows_size = length-set c.loop-machine.group.rows (machine - 1) row ∙ c.loop-machine.invariant.rows_size;
-      front_size = length-set c.loop-machine.frame.front (machine - 1) c.at.result ∙ c.loop-machine.invariant.front_size;
+      front_size = length-set c.loop-machine.frame.front (machine - 1) c.at.result
+          ∙ c.loop-machine.invariant.front_size;
       sum_size = length-set c.loop-machine.frame.sum (machine - 1) c.owed.result ∙ c.loop-machine.invariant.sum_size;
       behind = λ lane within.
           let few : lane < 8 = omega (arith, within, c.requires.1.few) in
           let job : ℕ = slice_index c.args.jobs.now lane in
           let first = time_between-first shop job machine shop.machines high in
-          let same : time_between shop job (machine - 1 + 1) shop.machines ≡ time_between shop job machine shop.machines = ap (λ m. time_between shop job m shop.machines) e in
-          omega (arith, c.sums-behind.ensures.each lane few, c.loop-machine.invariant.behind lane within, c.times_of-time.ensures.each lane within, first, same);
-      small = λ lane few. omega (arith, c.sums-behind.ensures.each lane few, c.loop-machine.invariant.small lane few, c.times_of-time.ensures.small lane few, low, high);
-      done = done-next shop c.args.front.now c.args.jobs.now c.loop-machine.group.rows c.loop-machine.frame.front c.loop-machine.frame.sum machine row c.at.result c.owed.result c.loop-machine.invariant.done low
-          (omega (arith, c.loop-machine.invariant.rows_size, low, high, most)) (omega (arith, c.loop-machine.invariant.front_size, low, high, most)) (omega (arith, c.loop-machine.invariant.sum_size, low, high, most))
-          (λ lane within. record { time = c.times_of-time.ensures.each lane within; tail = c.loop-machine.invariant.behind lane within })
-          (λ lane few. record { time = c.times_of-time.ensures.small lane few; tail = omega (arith, c.loop-machine.invariant.small lane few, low, high, most) })
+          let same : time_between shop job (machine - 1 + 1) shop.machines ≡ time_between shop job machine
+          shop.machines = ap (λ m. time_between shop job m shop.machines) e in
+          omega (
+            arith,
+            c.sums-behind.ensures.each lane few,
+            c.loop-machine.invariant.behind lane within,
+            c.times_of-time.ensures.each lane within,
+            first,
+            same,
+          );
+      small = λ lane few. omega (
+        arith,
+        c.sums-behind.ensures.each lane few,
+        c.loop-machine.invariant.small lane few,
+        c.times_of-time.ensures.small lane few,
+        low,
+        high,
+      );
+      done = done-next shop c.args.front.now c.args.jobs.now c.loop-machine.group.rows c.loop-machine.frame.front
+          c.loop-machine.frame.sum machine row c.at.result c.owed.result c.loop-machine.invariant.done low
+          (omega (arith, c.loop-machine.invariant.rows_size, low, high, most))
+          (omega (arith, c.loop-machine.invariant.front_size, low, high, most))
+          (omega (arith, c.loop-machine.invariant.sum_size, low, high, most))
+          (λ lane within. record {
+            time = c.times_of-time.ensures.each lane within;
+            tail =
+                c.loop-machine.invariant.behind lane within;
+          })
+          (λ lane few. record {
+            time = c.times_of-time.ensures.small lane few;
+            tail = omega
+                (arith, c.loop-machine.invariant.small lane few, low, high, most);
+          })
           c.at.ensures c.owed.ensures.value;
     }
 
 pub returns-clause-at : goal.returns-clause-at
 returns-clause-at c list is =
-    entered c.args.instance.now list c.args.front.now c.args.jobs.now _ _ c.loop-machine.machine is (omega (arith, c.loop-machine-test.false))
+    entered c.args.instance.now list c.args.front.now c.args.jobs.now _ _ c.loop-machine.machine is
+    (omega (arith, c.loop-machine-test.false))
     c.loop-machine.invariant.done c.lanes_of-group.ensures c.gone_from-frame.ensures.left c.gone_from-frame.ensures.gone
 
 pub returns-clause-left : goal.returns-clause-left

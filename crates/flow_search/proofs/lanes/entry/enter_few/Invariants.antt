@@ -10,7 +10,8 @@ invariant-loop-machine l = record {
   rows_size : length l.group.rows ≡ most_machines;
   front_size : length l.frame.front ≡ most_machines;
   sum_size : length l.frame.sum ≡ most_machines;
-  behind : (lane : ℕ) → lane < length l.jobs → slice_index l.behind lane ≡ time_between l.instance (slice_index l.jobs lane) (l.machine + 1) l.instance.machines;
+  behind : (lane : ℕ) → lane < length l.jobs → slice_index l.behind lane ≡ time_between l.instance
+      (slice_index l.jobs lane) (l.machine + 1) l.instance.machines;
   small : (lane : ℕ) → lane < 8 → slice_index l.behind lane ≤ (l.instance.machines - l.machine) * greatest_time;
   done : AreDone l.instance l.front l.jobs l.group.rows l.frame.front l.frame.sum l.machine;
 }

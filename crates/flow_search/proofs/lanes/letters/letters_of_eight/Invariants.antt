@@ -15,9 +15,14 @@ invariant-loop-place l = record {
   free_small : (lane : ℕ) → lane < 8 → slice_index l.free lane ≤ greatest_completion + l.place * greatest_time;
   letters_small : (lane : ℕ) → lane < 8 → slice_index l.letters lane ≤ l.place;
   uncut_small : (lane : ℕ) → lane < 8 → slice_index l.uncut lane ≤ 1;
-  free : (list : List ℕ) (lane : ℕ) → IsFrameOf l.instance list l.group l.fn.frame → IsLaneLeft l.fn.frame lane → slice_index l.free lane ≡ completion l.instance (child list l.group lane) l.place;
-  passed : (list : List ℕ) (lane other : ℕ) → IsFrameOf l.instance list l.group l.fn.frame → IsLaneLeft l.fn.frame lane → IsLaneLeft l.fn.frame other → other ≢ lane →
-      IsPassed l.instance (child list l.group lane) l.value l.place (slice_index l.letters lane) (slice_index l.uncut lane);
-  done : (list : List ℕ) (place lane : ℕ) → IsFrameOf l.instance list l.group l.fn.frame → IsLaneLeft l.fn.frame lane → place < l.place →
-      slice_index (slice_index_or l.frame.free place []) lane ≡ completion l.instance (child list l.group lane) (place + 1);
+  free : (list : List ℕ) (lane : ℕ) → IsFrameOf l.instance list l.group l.fn.frame → IsLaneLeft l.fn.frame lane →
+      slice_index l.free lane ≡ completion l.instance (child list l.group lane) l.place;
+  passed : (list : List ℕ) (lane other : ℕ) → IsFrameOf l.instance list l.group l.fn.frame → IsLaneLeft l.fn.frame
+      lane → IsLaneLeft l.fn.frame other → other ≢ lane →
+      IsPassed l.instance (child list l.group lane) l.value l.place (slice_index l.letters lane)
+      (slice_index l.uncut lane);
+  done : (list : List ℕ) (place lane : ℕ) → IsFrameOf l.instance list l.group l.fn.frame → IsLaneLeft l.fn.frame lane
+      → place < l.place →
+      slice_index (slice_index_or l.frame.free place []) lane ≡ completion l.instance (child list l.group lane)
+      (place + 1);
 }
