@@ -1,8 +1,8 @@
 //! The work of `flowshop` in plain safe Rust, with no proofs and no other crates: a program to measure beside.
 //!
 //! It is written apart from the proved crates, from the rules of docs/formats.md, and writes the same texts. Each bound is computed anew
-//! at each node, each insertion's makespan anew at each place, and a certificate is read in one pass with a stack. Of workers, prefix `i`
-//! belongs to worker `i mod k`. Build it with `rustc -O bench/plain.rs`.
+//! at each node, each insertion's makespan from heads and tails, and a certificate is read in one pass with a stack. Of workers, prefix
+//! `i` belongs to worker `i mod k`. Build it with `rustc -O bench/plain.rs`.
 
 use std::cmp::Reverse;
 use std::convert::TryFrom;
@@ -53,6 +53,9 @@ fn command_line() -> Fault {
 
 /// The completion time on each machine, after some jobs.
 type Front = [u64; MAX_MACHINES];
+
+/// A time for each machine.
+type Row = [u32; MAX_MACHINES];
 
 struct Job {
     times: [u32; MAX_MACHINES],
@@ -154,35 +157,58 @@ impl Instance {
     fn start(&self) -> (Vec<usize>, u64) {
         let mut order: Vec<usize> = (0..self.jobs.len()).collect();
         order.sort_by_key(|&job| Reverse(self.jobs[job].total));
+        let mut tails = vec![[0; MAX_MACHINES]; order.len() + 1];
         let mut sequence = Vec::with_capacity(order.len());
         let mut makespan = 0;
         for job in order {
-            let (place, least) = self.best_place(&sequence, job);
+            let (place, least) = self.best_place(&sequence, job, &mut tails);
             sequence.insert(place, job);
             makespan = least;
         }
-        (sequence, makespan)
+        (sequence, u64::from(makespan))
     }
 
     /// The earliest place of least makespan for a job among others, and that makespan.
-    fn best_place(&self, sequence: &[usize], job: usize) -> (usize, u64) {
-        let mut before = [0; MAX_MACHINES];
-        let mut best = (0, u64::MAX);
-        for place in 0..=sequence.len() {
-            let mut front = before;
-            self.push(&mut front, job);
-            for &later in &sequence[place..] {
-                self.push(&mut front, later);
+    fn best_place(&self, sequence: &[usize], job: usize, tails: &mut [Row]) -> (usize, u32) {
+        let mut tail = [0; MAX_MACHINES];
+        tails[sequence.len()] = tail;
+        for (place, &next) in sequence.iter().enumerate().rev() {
+            let times = &self.jobs[next].times[..self.machines];
+            let mut behind = 0;
+            for (at, &time) in tail.iter_mut().zip(times).rev() {
+                behind = behind.max(*at) + time;
+                *at = behind;
             }
-            let makespan = front[self.machines - 1];
+            tails[place] = tail;
+        }
+        let mut heads = [0; MAX_MACHINES];
+        let mut best = (0, u32::MAX);
+        for (place, tails) in tails[..=sequence.len()].iter().enumerate() {
+            let makespan = self.span_between(&heads, job, tails);
             if makespan < best.1 {
                 best = (place, makespan);
             }
             if let Some(&next) = sequence.get(place) {
-                self.push(&mut before, next);
+                let mut free = 0;
+                for (at, &time) in heads.iter_mut().zip(&self.jobs[next].times[..self.machines]) {
+                    free = free.max(*at) + time;
+                    *at = free;
+                }
             }
         }
         best
+    }
+
+    /// The makespan with a job put in between the heads of the jobs before it and the tails of those behind it.
+    fn span_between(&self, heads: &Row, job: usize, tails: &Row) -> u32 {
+        let times = &self.jobs[job].times[..self.machines];
+        let mut head = 0;
+        let mut most = 0;
+        for ((&free, &time), &tail) in heads.iter().zip(times).zip(tails) {
+            head = free.max(head) + time;
+            most = most.max(head + tail);
+        }
+        most
     }
 }
 

@@ -5,8 +5,8 @@ ghost use Rattle.flow_core.specs.Front.{IsWithinFront};
 ghost use Rattle.flow_core.specs.JobSet.{contains, members};
 
 use crate::instances::{three_machines, two_machines};
-use flow_bound::{Rest, bound, neh, taillard_bound};
-use flow_core::{Front, Instance, JobSet, front_push, generate};
+use flow_bound::{Rest, bound, insertion_spans, neh, taillard_bound};
+use flow_core::{Front, Instance, JobSet, Sequence, front_push, generate};
 use std::alloc::{AllocError, Global};
 use std::test::Fail;
 
@@ -150,6 +150,37 @@ fn two_jobs_end_sooner_with_the_second_first(rt: HostRuntime) -> Result<(), Fail
     for (jobs, end) in rows {
         let (front, _left) = node(&instance, jobs)?;
         assert_eq!(rt; front.at(2), end, "at {jobs:?}");
+    }
+    Ok(())
+}
+
+/// The makespans of the first jobs of a sequence with the next job put in at each place.
+fn spans_with_next(
+    alloc: Global,
+    instance: &Instance,
+    sequence: &Sequence,
+    count: usize,
+) -> Result<Vec<u64>, Fail> {
+    let jobs = sequence.jobs();
+    if jobs.len() != instance.jobs() as usize || count >= jobs.len() {
+        return Err(Fail::from("no job is next"));
+    }
+    Ok(insertion_spans(alloc, instance, &jobs[..count], jobs[count])?)
+}
+
+#[test]
+fn insertions_are_the_worked_ones(rt: HostRuntime) -> Result<(), Fail> {
+    let alloc = rt.alloc();
+    let instance = three_machines(alloc)?;
+    let rows: [(&[u16], usize, &[u64]); 3] = [
+        (&[2, 1, 3], 2, &[14, 15, 13]),
+        (&[1, 2, 3], 1, &[12, 12]),
+        (&[1, 2, 3], 0, &[8]),
+    ];
+    for (jobs, count, spans) in rows {
+        let sequence = Sequence::new(alloc, &instance, jobs)?;
+        let found = spans_with_next(alloc, &instance, &sequence, count)?;
+        assert_eq!(rt; found.as_slice(), spans, "{count} jobs of {jobs:?}");
     }
     Ok(())
 }
