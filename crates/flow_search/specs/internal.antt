@@ -1,3 +1,6 @@
 pub mod Nodes
 pub mod Tally
 pub mod Stored
+pub mod Rows
+pub mod Lows
+pub mod Frames
