@@ -36,6 +36,9 @@ find-here p k n h pass = ap (find p) (numbers-next k n h) ∙ cond-true (p k) (S
 pub find-skip : (p : ℕ → Bool) (k n : ℕ) → k ≤ n → p k ≡ false → find p (numbers (k + 1) n) ≡ find p (numbers k n)
 find-skip p k n h fail = sym (ap (find p) (numbers-next k n h) ∙ cond-false (p k) (Some k) (find p (numbers (k + 1) n)) fail)
 
+pub find-past : (p : ℕ → Bool) (k n : ℕ) → n < k → None ≡ find p (numbers k n)
+find-past p k n h = let e : 0 ≡ n + 1 - k = omega arith in ap (λ len. find p (range_with_len k len)) e
+
 pub filter-here : (p : ℕ → Bool) (k n : ℕ) → k ≤ n → p k ≡ true → filter p (numbers k n) ≡ k ∷ filter p (numbers (k + 1) n)
 filter-here p k n h pass = ap (filter p) (numbers-next k n h) ∙ cond-true (p k) (k ∷ filter p (numbers (k + 1) n)) (filter p (numbers (k + 1) n)) pass
 
@@ -101,7 +104,7 @@ machine-is shop p machine limits e =
     let most : shop.machines ≤ most_machines = limits.machines in
     (at.1.0, omega (arith, at.1.1))
 
-size-set : (xs : List Bool) (i : ℕ) (b : Bool) → length (set xs i b) ≡ length xs
+pub size-set : (xs : List Bool) (i : ℕ) (b : Bool) → length (set xs i b) ≡ length xs
 size-set [] i b = refl
 size-set (x ∷ xs) zero b = refl
 size-set (x ∷ xs) (suc i) b = ap suc (size-set xs i b)
@@ -151,7 +154,7 @@ at-child shop node front next unscheduled count left job at e low high there is_
     }
 
 -- taking a member out and putting it in again
-put-back : (set : List Bool) (place : ℕ) → slice_index_or set place false ≡ true → slice_set (slice_set set place false) place true ≡ set
+pub put-back : (set : List Bool) (place : ℕ) → slice_index_or set place false ≡ true → slice_set (slice_set set place false) place true ≡ set
 put-back [] place e = refl
 put-back (flag ∷ flags) zero e = ap (λ b. b ∷ flags) (sym e)
 put-back (flag ∷ flags) (suc place) e = ap (λ ys. flag ∷ ys) (put-back flags place e)
