@@ -154,9 +154,9 @@ gathered-more p made count job n size few all to pass so_far =
     omega (arith, few, all, size, length-take count made, ap length so_far, length-append (take count made) (filter p (numbers job n)), ap length here) in (
       room,
       ap (λ xs. xs ++ filter p (numbers (job + 1) n)) (take_more_set made count job (omega (arith, size, room)))
-      ∙ append_assoc (take count made) (job ∷ []) (filter p (numbers (job + 1) n))
-      ∙ ap (λ xs. take count made ++ xs) (sym here)
-      ∙ so_far,
+          ∙ append_assoc (take count made) (job ∷ []) (filter p (numbers (job + 1) n))
+          ∙ ap (λ xs. take count made ++ xs) (sym here)
+          ∙ so_far,
     )
 
 pub gathered-all : (p : ℕ → Bool) (made : List ℕ) (count job n : ℕ) → job ≡ n + 1 → length made ≡ 8 → count ≤ 8 →

@@ -1,7 +1,7 @@
 -- The nodes of children.
-use Rattle.std.proofs.Common.{◌≡◌, ◌≢◌, ℕ, ◌+◌, ◌-◌, ◌<◌, ◌≤◌, false, List, [], ◌∷◌, ◌++◌, length, slice_index, slice_index_or, set, ap, sym, ◌∙◌, subst, inl, inr, arith, length-append}
+use Rattle.std.proofs.Common.{◌≡◌, ◌≢◌, ℕ, ◌+◌, ◌-◌, ◌<◌, ◌≤◌, false, List, [], ◌∷◌, ◌++◌, length, slice_index, slice_index_or, set, ap, sym, ◌∙◌, inl, inr, arith, length-append}
 use Rattle.std.specs.List.{sum_by}
-use Rattle.std.proofs.lemmas.Bool.{cases_eq, cases_lt, cases_order, false≢true}
+use Rattle.std.proofs.lemmas.Bool.{cases_eq, cases_order, false≢true}
 use Rattle.std.proofs.lemmas.List.{get_or-set_other, get_or-set_same}
 use Rattle.flow_core.specs.Shop.{Shop, time}
 use Rattle.flow_core.specs.Paths.{completion}
@@ -15,7 +15,7 @@ use Rattle.flow_search.specs.internal.Lanes.{IsLaneLeft, IsFrameOf, IsOpened, jo
 use Rattle.flow_search.proofs.JobsTaken.{left-sum, left-count, has-other, has-more, has-same}
 
 -- a node that differs in the answers only
-pub at-same : (shop : Shop) (list : List ℕ) (group : Group) (a b : Frame) → b.front ≡ a.front → b.sum ≡ a.sum → b.gone ≡ a.gone → IsFrameOf shop list group a → IsFrameOf shop list group b
+at-same : (shop : Shop) (list : List ℕ) (group : Group) (a b : Frame) → b.front ≡ a.front → b.sum ≡ a.sum → b.gone ≡ a.gone → IsFrameOf shop list group a → IsFrameOf shop list group b
 at-same shop list group a b front sum gone at =
     let back : (lane : ℕ) → IsLaneLeft b lane → IsLaneLeft a lane = λ lane left. record { within = left.within; left = sym (ap (λ g. slice_index g lane) gone) ∙ left.left } in
     record {
@@ -106,15 +106,3 @@ child-at shop list group parent made row lane is here front sum gone size =
           (stands.0, record { within = stands.1.within; left = elsewhere stands.0 other ∙ stands.1.left }, stands.2);
       order = λ k other a b. at.order k other (back k a) (back other b);
     }
-
--- one more place of a list
-pub place-more : (P : ℕ → ℕ → Type 0) (xs : List ℕ) (place value : ℕ) → place < length xs → P place value → ((k : ℕ) → k < place → P k (slice_index xs k)) →
-    (k : ℕ) → k < place + 1 → P k (slice_index (set xs place value) k)
-place-more P xs place value within here done k low = elim (cases_lt k place) [
-  | inl earlier ↦
-      let other : k ≢ place = omega (arith, earlier) in
-      subst (P k) (sym (get_or-set_other xs place k value 0 other)) (done k earlier)
-  | inr last ↦
-      let e : place ≡ k = omega (arith, last, low) in
-      subst (λ i. P i (slice_index (set xs place value) i)) e (subst (P place) (sym (get_or-set_same xs place value 0 within)) here)
-]

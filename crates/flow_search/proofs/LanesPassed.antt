@@ -97,7 +97,7 @@ pub record IsPassed (shop : Shop) (list : List ℕ) (limit machines letter flag 
   pub is : IsLetter shop list limit machines letter
   pub state : ((flag ≡ 1) × (letter ≡ machines)) ⊎ ((flag ≡ 0) × (letter < machines))
 
-pub passed-none : (shop : Shop) (list : List ℕ) (limit : ℕ) → IsPassed shop list limit 0 0 1
+passed-none : (shop : Shop) (list : List ℕ) (limit : ℕ) → IsPassed shop list limit 0 0 1
 passed-none shop list limit = record {
   is = record { within = omega arith; above = λ machine from to. absurd (omega (arith, from, to)); cut = λ h. absurd (omega (arith, h)) };
   state = inl (refl, refl);
@@ -167,7 +167,7 @@ sum-small shop list group frame place limits at to =
     omega (arith, owed, small, limits.jobs)
 
 -- a machine's time fits
-pub front-small : (shop : Shop) (list : List ℕ) (group : Group) (frame : Frame) (place : ℕ) → IsWithinLimits shop → IsFrameOf shop list group frame → place < shop.machines → slice_index frame.front place ≤ greatest_completion
+front-small : (shop : Shop) (list : List ℕ) (group : Group) (frame : Frame) (place : ℕ) → IsWithinLimits shop → IsFrameOf shop list group frame → place < shop.machines → slice_index frame.front place ≤ greatest_completion
 front-small shop list group frame place limits at to = front-within shop list frame.front limits (omega (arith, at.count)) at.times place to
 
 -- the child list begins at time 0

@@ -1,17 +1,15 @@
 -- The walk of the children in the lanes is the walk of the node's children.
-use Rattle.std.proofs.Common.{◌≡◌, ◌≢◌, ℕ, zero, suc, ◌+◌, ◌-◌, ◌<◌, ◌≤◌, Bool, true, false, cond, nat_eq, nat_lt, nat_le, List, [], ◌∷◌, ◌++◌, Some, None, length, map, slice_index, refl, ap, sym, ◌∙◌, subst, arith, append_assoc, length-append}
+use Rattle.std.proofs.Common.{◌≡◌, ◌≢◌, ℕ, suc, ◌+◌, ◌-◌, ◌<◌, ◌≤◌, Bool, true, cond, nat_eq, nat_lt, nat_le, List, [], ◌∷◌, ◌++◌, Some, None, length, map, slice_index, refl, ap, sym, ◌∙◌, subst, arith, append_assoc, length-append}
 use Rattle.std.specs.List.{filter, find, range_with_len}
 use Rattle.std.proofs.lemmas.Bool.{cond-true, cond-false, eq-eqb, ne_eqb, lt-ltb, le-ltb, or_left}
 use Rattle.std.proofs.lemmas.List.{append-nil}
 use Rattle.flow_core.specs.Shop.{Shop, numbers}
-use Rattle.flow_core.specs.Paths.{span}
 use Rattle.flow_core.specs.Sequences.{has, jobs_left}
 use Rattle.flow_core.specs.JobSet.{members}
 use Rattle.flow_core.specs.Bound.{letter, machine_bound, bound_at}
-use Rattle.flow_search.specs.Search.{found}
 use Rattle.flow_search.specs.Walk.{walk, walk_each}
-use Rattle.flow_search.specs.internal.Nodes.{IsAt, Wrote, Saw, Walked, walked, incumbent_of}
-use Rattle.flow_search.specs.internal.Lanes.{IsFrameOf, IsLaneLeft, IsLetter, AreLetters, Made, job_of, child, children_walked, lanes_from}
+use Rattle.flow_search.specs.internal.Nodes.{IsAt, Wrote, Walked, walked, incumbent_of}
+use Rattle.flow_search.specs.internal.Lanes.{IsFrameOf, IsLaneLeft, IsLetter, AreLetters, Made, job_of, child, children_walked, lane_walked, lanes_from}
 use Rattle.flow_search.specs.declared.subtree.Search.{Search}
 use Rattle.flow_search.specs.declared.lanes.group.Group.{Group}
 use Rattle.flow_search.specs.declared.lanes.group.Frame.{Frame}
@@ -85,36 +83,32 @@ first-lane : (shop : Shop) (left : ℕ) (node : List ℕ) (group : Group) (frame
 first-lane shop left node group frame lane st here =
     ap (λ lanes. walk_each (λ job. walk shop bound_at left (node ++ job ∷ [])) (map (job_of group) lanes) st) (lanes-here frame lane here)
 
-lane-walk : (shop : Shop) (left : ℕ) (node : List ℕ) (group : Group) (lane : ℕ) (now next : Search) →
-    IsMoved (node ++ job_of group lane ∷ []) now next →
-    walked shop left next ≡ walk shop bound_at left (node ++ job_of group lane ∷ []) (incumbent_of now)
-lane-walk shop left node group lane now next moved =
-    ap (λ q. walk shop bound_at left q (incumbent_of next)) moved.node
-    ∙ ap (walk shop bound_at left (node ++ job_of group lane ∷ [])) moved.incumbent
+lane-walk : (shop : Shop) (left : ℕ) (group : Group) (lane : ℕ) (old now : Search) → now.node.items ≡ old.node.items →
+    lane_walked shop left group lane now ≡ walk shop bound_at left (child old.node.items group lane) (incumbent_of now)
+lane-walk shop left group lane old now same = ap (λ node. walk shop bound_at left (child node group lane) (incumbent_of now)) same
 
-pub walked-take : (shop : Shop) (budget left : ℕ) (group : Group) (frame : Frame) (lane : ℕ) (old now next after back : Search) →
+pub walked-take : (shop : Shop) (budget left : ℕ) (group : Group) (frame : Frame) (lane : ℕ) (old now after : Search) →
     IsLaneLeft frame lane → AreWalked shop budget left group frame lane old now →
-    IsMoved (old.node.items ++ job_of group lane ∷ []) now next → Walked shop budget left next after → IsMoved old.node.items after back →
-    AreWalked shop budget left group frame (lane + 1) old back
-walked-take shop budget left group frame lane old now next after back here are to w from =
-    let first : List ℕ × Incumbent = walk shop bound_at left (old.node.items ++ job_of group lane ∷ []) (incumbent_of now) in
+    Made budget (lane_walked shop left group lane now) now after →
+    AreWalked shop budget left group frame (lane + 1) old after
+walked-take shop budget left group frame lane old now after here are made =
+    let first : List ℕ × Incumbent = walk shop bound_at left (child old.node.items group lane) (incumbent_of now) in
     let rest : Incumbent → List ℕ × Incumbent = λ st. rest_of shop left old.node.items group frame (lane + 1) st in
-    let step = lane-walk shop left old.node.items group lane now next to in
-    let after_is : incumbent_of back ≡ first.1 = from.incumbent ∙ w.incumbent ∙ ap (λ w. w.1) step in
+    let step = lane-walk shop left group lane old now are.node in
+    let after_is : incumbent_of after ≡ first.1 = made.incumbent ∙ ap (λ w. w.1) step in
     let all = first-lane shop left old.node.items group frame lane (incumbent_of now) here in
-    let text_is : back.tree.items ≡ now.tree.items ++ first.0 =
-    from.tree ∙ w.tree ∙ ap (λ xs. xs ++ (walked shop left next).0) to.tree ∙ ap (λ w. now.tree.items ++ w.0) step in
+    let text_is : after.tree.items ≡ now.tree.items ++ first.0 = made.tree ∙ ap (λ w. now.tree.items ++ w.0) step in
     record {
       text =
-          ap (λ st. back.tree.items ++ (rest st).0) after_is
+          ap (λ st. after.tree.items ++ (rest st).0) after_is
           ∙ ap (λ xs. xs ++ (rest first.1).0) text_is
           ∙ append_assoc now.tree.items first.0 (rest first.1).0
           ∙ ap (λ w. now.tree.items ++ w.0) (sym all)
           ∙ are.text;
       state = ap (λ st. (rest st).1) after_is ∙ ap (λ w. w.1) (sym all) ∙ are.state;
-      node = from.node;
-      unscheduled = from.unscheduled ∙ w.unscheduled ∙ to.unscheduled ∙ are.unscheduled;
-      within = subst (λ xs. length xs ≤ budget) (sym from.tree) w.within;
+      node = made.node ∙ are.node;
+      unscheduled = made.unscheduled ∙ are.unscheduled;
+      within = made.within;
     }
 
 -- all jobs in lanes are the jobs that are left
@@ -138,40 +132,42 @@ walked-all shop budget left group frame lane old now end at are =
       within = are.within;
     }
 
-pub walked-over : (shop : Shop) (budget left : ℕ) (group : Group) (frame : Frame) (lane : ℕ) (old now next : Search) →
+pub walked-over : (shop : Shop) (budget left : ℕ) (group : Group) (frame : Frame) (lane : ℕ) (old now : Search) →
     IsLaneLeft frame lane → IsFrameOf shop old.node.items group frame → AreWalked shop budget left group frame lane old now →
-    IsMoved (old.node.items ++ job_of group lane ∷ []) now next →
-    budget < length next.tree.items + length (walked shop left next).0 →
+    budget < length now.tree.items + length (lane_walked shop left group lane now).0 →
     budget < length old.tree.items + length (children_walked shop left old).0
-walked-over shop budget left group frame lane old now next here at are to over =
-    let first : List ℕ × Incumbent = walk shop bound_at left (old.node.items ++ job_of group lane ∷ []) (incumbent_of now) in
+walked-over shop budget left group frame lane old now here at are over =
+    let first : List ℕ × Incumbent = walk shop bound_at left (child old.node.items group lane) (incumbent_of now) in
     let rest : List ℕ × Incumbent = rest_of shop left old.node.items group frame (lane + 1) first.1 in
-    let step : length (walked shop left next).0 ≡ length first.0 = ap (λ w. length w.0) (lane-walk shop left old.node.items group lane now next to) in
+    let step : length (lane_walked shop left group lane now).0 ≡ length first.0 = ap (λ w. length w.0) (lane-walk shop left group lane old now are.node) in
     let all : now.tree.items ++ (first.0 ++ rest.0) ≡ old.tree.items ++ (children_walked shop left old).0 =
     ap (λ w. now.tree.items ++ w.0) (sym (first-lane shop left old.node.items group frame lane (incumbent_of now) here)) ∙ are.text
     ∙ ap (λ w. old.tree.items ++ w.0) (whole shop left group frame old at) in
-    let same : length next.tree.items ≡ length now.tree.items = ap length to.tree in
     let sizes : length (now.tree.items ++ (first.0 ++ rest.0)) ≡ length (old.tree.items ++ (children_walked shop left old).0) = ap length all in
-    omega (arith, over, step, same, sizes, length-append now.tree.items (first.0 ++ rest.0), length-append first.0 rest.0, length-append old.tree.items (children_walked shop left old).0)
+    omega (arith, over, step, sizes, length-append now.tree.items (first.0 ++ rest.0), length-append first.0 rest.0, length-append old.tree.items (children_walked shop left old).0)
 
--- The node of a child.
+-- The walk at a node.
 
--- what its letter says of its walk
-lettered : (shop : Shop) (left found_letter : ℕ) (old : Search) → IsLetter shop old.node.items old.value shop.machines found_letter →
-    walked shop (suc left) old
-    ≡ answer_of (incumbent_of old) (children_walked shop left old) (cond (nat_lt found_letter shop.machines) (Some (found_letter + 1)) None)
-lettered shop left found_letter old is =
-    ap (answer_of (incumbent_of old) (children_walked shop left old)) (letter-found shop old.node.items old.value found_letter is)
+abbrev children : Shop → ℕ → List ℕ → Incumbent → List ℕ × Incumbent
+children shop left node incumbent = walk_each (λ job. walk shop bound_at left (node ++ job ∷ [])) (jobs_left shop.jobs node) incumbent
 
-pub child-cut : (shop : Shop) (budget count found_letter : ℕ) (old new : Search) → 0 < count →
-    IsLetter shop old.node.items old.value shop.machines found_letter → found_letter < shop.machines →
-    Wrote budget (65 + found_letter) old new → Walked shop budget count old new
-child-cut shop budget count found_letter old new some is low wrote =
+-- what a letter says of it
+lettered : (shop : Shop) (count found_letter : ℕ) (node : List ℕ) (st : Incumbent) → 0 < count → IsLetter shop node st.0 shop.machines found_letter →
+    walk shop bound_at count node st
+    ≡ answer_of st (children shop (count - 1) node st) (cond (nat_lt found_letter shop.machines) (Some (found_letter + 1)) None)
+lettered shop count found_letter node st some is =
     let e : count ≡ suc (count - 1) = omega (arith, some) in
+    ap (λ c. walk shop bound_at c node st) e ∙ ap (answer_of st (children shop (count - 1) node st)) (letter-found shop node st.0 found_letter is)
+
+pub lane-cut : (shop : Shop) (budget count found_letter : ℕ) (group : Group) (lane : ℕ) (old new : Search) → 0 < count →
+    IsLetter shop (child old.node.items group lane) old.value shop.machines found_letter → found_letter < shop.machines →
+    Wrote budget (65 + found_letter) old new → Made budget (lane_walked shop count group lane old) old new
+lane-cut shop budget count found_letter group lane old new some is low wrote =
     let byte : 65 + found_letter ≡ letter (found_letter + 1) = omega arith in
-    let here : walked shop count old ≡ (letter (found_letter + 1) ∷ [], incumbent_of old) =
-    ap (λ c. walked shop c old) e ∙ lettered shop (count - 1) found_letter old is
-    ∙ ap (λ b. answer_of (incumbent_of old) (children_walked shop (count - 1) old) (cond b (Some (found_letter + 1)) None)) (lt-ltb found_letter shop.machines low) in
+    let node : List ℕ = child old.node.items group lane in
+    let here : lane_walked shop count group lane old ≡ (letter (found_letter + 1) ∷ [], incumbent_of old) =
+    lettered shop count found_letter node (incumbent_of old) some is
+    ∙ ap (λ b. answer_of (incumbent_of old) (children shop (count - 1) node (incumbent_of old)) (cond b (Some (found_letter + 1)) None)) (lt-ltb found_letter shop.machines low) in
     record {
       tree = wrote.tree ∙ ap (λ b. old.tree.items ++ b ∷ []) byte ∙ ap (λ w. old.tree.items ++ w.0) (sym here);
       incumbent = wrote.incumbent ∙ sym (ap (λ w. w.1) here);
@@ -181,40 +177,38 @@ child-cut shop budget count found_letter old new some is low wrote =
     }
 
 -- no machine cuts: a plus, and the walks of the children
-abbrev pub IsUncut : Shop → ℕ → Search → Type 0
-IsUncut shop count search =
-    walked shop count search ≡ (43 ∷ (children_walked shop (count - 1) search).0, (children_walked shop (count - 1) search).1)
+abbrev pub IsUncut : Shop → ℕ → List ℕ → Incumbent → Type 0
+IsUncut shop count node incumbent =
+    walk shop bound_at count node incumbent ≡ (43 ∷ (children shop (count - 1) node incumbent).0, (children shop (count - 1) node incumbent).1)
 
-pub uncut-letter : (shop : Shop) (count found_letter : ℕ) (search : Search) → 0 < count →
-    IsLetter shop search.node.items search.value shop.machines found_letter → shop.machines ≤ found_letter → IsUncut shop count search
-uncut-letter shop count found_letter search some is high =
-    let e : count ≡ suc (count - 1) = omega (arith, some) in
-    ap (λ c. walked shop c search) e
-    ∙ lettered shop (count - 1) found_letter search is
-    ∙ ap (λ b. answer_of (incumbent_of search) (children_walked shop (count - 1) search) (cond b (Some (found_letter + 1)) None)) (le-ltb found_letter shop.machines high)
+pub uncut-letter : (shop : Shop) (count found_letter : ℕ) (node : List ℕ) (st : Incumbent) → 0 < count →
+    IsLetter shop node st.0 shop.machines found_letter → shop.machines ≤ found_letter → IsUncut shop count node st
+uncut-letter shop count found_letter node st some is high =
+    lettered shop count found_letter node st some is
+    ∙ ap (λ b. answer_of st (children shop (count - 1) node st) (cond b (Some (found_letter + 1)) None)) (le-ltb found_letter shop.machines high)
 
 pub uncut-found : (shop : Shop) (front : List ℕ) (count : ℕ) (search : Search) → 0 < count → IsAt shop search.node.items front search.unscheduled count →
     None ≡ find (λ machine. nat_le search.value (machine_bound shop front (members search.unscheduled) machine)) (numbers 1 shop.machines) →
-    IsUncut shop count search
+    IsUncut shop count search.node.items (incumbent_of search)
 uncut-found shop front count search some at finds =
     let e : count ≡ suc (count - 1) = omega (arith, some) in
     ap (λ c. walked shop c search) e
-    ∙ ap (answer_of (incumbent_of search) (children_walked shop (count - 1) search))
+    ∙ ap (answer_of (incumbent_of search) (children shop (count - 1) search.node.items (incumbent_of search)))
     (sym (finds ∙ find-is shop search.node.items front search.unscheduled count search.value at))
 
--- once the plus is written
-plus-is : (shop : Shop) (budget count : ℕ) (old mid : Search) → IsUncut shop count old → Wrote budget 43 old mid →
-    walked shop count old ≡ (43 ∷ (children_walked shop (count - 1) mid).0, (children_walked shop (count - 1) mid).1)
-plus-is shop budget count old mid uncut wrote =
-    let same : children_walked shop (count - 1) mid ≡ children_walked shop (count - 1) old =
-    ap (λ node. walk_each (λ job. walk shop bound_at (count - 1) (node ++ job ∷ [])) (jobs_left shop.jobs node) (incumbent_of mid)) wrote.node
-    ∙ ap (walk_each (λ job. walk shop bound_at (count - 1) (old.node.items ++ job ∷ [])) (jobs_left shop.jobs old.node.items)) wrote.incumbent in
+-- once the plus is written, at the node
+plus-is : (shop : Shop) (count : ℕ) (node : List ℕ) (st : Incumbent) (mid : Search) → IsUncut shop count node st →
+    mid.node.items ≡ node → incumbent_of mid ≡ st →
+    walk shop bound_at count node st ≡ (43 ∷ (children_walked shop (count - 1) mid).0, (children_walked shop (count - 1) mid).1)
+plus-is shop count node st mid uncut at is =
+    let same : children_walked shop (count - 1) mid ≡ children shop (count - 1) node st =
+    ap (λ q. children shop (count - 1) q (incumbent_of mid)) at ∙ ap (children shop (count - 1) node) is in
     uncut ∙ sym (ap (λ w. (43 ∷ w.0, w.1)) same)
 
-pub node-done : (shop : Shop) (budget count : ℕ) (old mid new : Search) → IsUncut shop count old → Wrote budget 43 old mid →
+pub node-done : (shop : Shop) (budget count : ℕ) (old mid new : Search) → IsUncut shop count old.node.items (incumbent_of old) → Wrote budget 43 old mid →
     Made budget (children_walked shop (count - 1) mid) mid new → Walked shop budget count old new
 node-done shop budget count old mid new uncut wrote made =
-    let here = plus-is shop budget count old mid uncut wrote in
+    let here = plus-is shop count old.node.items (incumbent_of old) mid uncut wrote.node wrote.incumbent in
     let below : List ℕ × Incumbent = children_walked shop (count - 1) mid in
     record {
       tree = made.tree ∙ ap (λ xs. xs ++ below.0) wrote.tree ∙ append_assoc old.tree.items (43 ∷ []) below.0 ∙ ap (λ w. old.tree.items ++ w.0) (sym here);
@@ -224,39 +218,39 @@ node-done shop budget count old mid new uncut wrote made =
       within = made.within;
     }
 
-pub node-over : (shop : Shop) (budget count : ℕ) (old mid : Search) → IsUncut shop count old → Wrote budget 43 old mid →
+pub node-over : (shop : Shop) (budget count : ℕ) (old mid : Search) → IsUncut shop count old.node.items (incumbent_of old) → Wrote budget 43 old mid →
     budget < length mid.tree.items + length (children_walked shop (count - 1) mid).0 →
     budget < length old.tree.items + length (walked shop count old).0
 node-over shop budget count old mid uncut wrote over =
-    let here = ap (λ w. length w.0) (plus-is shop budget count old mid uncut wrote) in
+    let here = ap (λ w. length w.0) (plus-is shop count old.node.items (incumbent_of old) mid uncut wrote.node wrote.incumbent) in
     omega (arith, over, here, ap length wrote.tree, length-append old.tree.items (43 ∷ []))
 
--- a walk writes a byte at least
-pub walk-writes : (shop : Shop) (count : ℕ) (old : Search) → 0 < length (walked shop count old).0
-walk-writes shop zero old = omega arith
-walk-writes shop (suc left) old = writes (find (λ machine. nat_le old.value (bound_at shop old.node.items machine)) (numbers 1 shop.machines))
-  where
-    writes : (o : _) → 0 < length (answer_of (incumbent_of old) (children_walked shop left old) o).0
-    writes (Some machine) = omega arith
-    writes None = omega arith
-
--- the last job
-pub child-last : (shop : Shop) (budget count value : ℕ) (old mid new : Search) → count ≡ 0 → value ≡ span shop old.node.items →
-    Wrote budget 46 old mid → Saw value mid new → Walked shop budget count old new
-child-last shop budget count value old mid new none is wrote saw =
-    let here : walked shop count old ≡ walked shop 0 old = ap (λ c. walked shop c old) none in
+pub lane-done : (shop : Shop) (budget count : ℕ) (group : Group) (lane : ℕ) (old mid next after new : Search) →
+    IsUncut shop count (child old.node.items group lane) (incumbent_of old) → Wrote budget 43 old mid → IsMoved (child old.node.items group lane) mid next →
+    Made budget (children_walked shop (count - 1) next) next after → IsMoved old.node.items after new →
+    Made budget (lane_walked shop count group lane old) old new
+lane-done shop budget count group lane old mid next after new uncut wrote to made from =
+    let here = plus-is shop count (child old.node.items group lane) (incumbent_of old) next uncut to.node (to.incumbent ∙ wrote.incumbent) in
+    let below : List ℕ × Incumbent = children_walked shop (count - 1) next in
     record {
-      tree = saw.tree ∙ wrote.tree ∙ ap (λ w. old.tree.items ++ w.0) (sym here);
-      incumbent =
-          saw.incumbent
-          ∙ ap (λ st. cond (nat_lt value st.0) (value, Some (record { value = value; sequence = mid.node.items })) st) wrote.incumbent
-          ∙ ap (λ node. cond (nat_lt value old.value) (value, Some (record { value = value; sequence = node })) (incumbent_of old)) wrote.node
-          ∙ ap (λ v. cond (nat_lt v old.value) (v, Some (record { value = v; sequence = old.node.items })) (incumbent_of old)) is
-          ∙ sym (ap (λ w. w.1) here);
-      node = saw.node ∙ wrote.node;
-      unscheduled = saw.unscheduled ∙ wrote.unscheduled;
-      within = subst (λ xs. length xs ≤ budget) (sym saw.tree) wrote.within;
+      tree =
+          from.tree ∙ made.tree
+          ∙ ap (λ xs. xs ++ below.0) (to.tree ∙ wrote.tree)
+          ∙ append_assoc old.tree.items (43 ∷ []) below.0
+          ∙ ap (λ w. old.tree.items ++ w.0) (sym here);
+      incumbent = from.incumbent ∙ made.incumbent ∙ sym (ap (λ w. w.1) here);
+      node = from.node;
+      unscheduled = from.unscheduled ∙ made.unscheduled ∙ to.unscheduled ∙ wrote.unscheduled;
+      within = subst (λ xs. length xs ≤ budget) (sym from.tree) made.within;
     }
+
+pub lane-over : (shop : Shop) (budget count : ℕ) (group : Group) (lane : ℕ) (old mid next : Search) →
+    IsUncut shop count (child old.node.items group lane) (incumbent_of old) → Wrote budget 43 old mid → IsMoved (child old.node.items group lane) mid next →
+    budget < length next.tree.items + length (children_walked shop (count - 1) next).0 →
+    budget < length old.tree.items + length (lane_walked shop count group lane old).0
+lane-over shop budget count group lane old mid next uncut wrote to over =
+    let here = ap (λ w. length w.0) (plus-is shop count (child old.node.items group lane) (incumbent_of old) next uncut to.node (to.incumbent ∙ wrote.incumbent)) in
+    omega (arith, over, here, ap length (to.tree ∙ wrote.tree), length-append old.tree.items (43 ∷ []))
 
 first-of : (xs : List ℕ) → 0 < length xs → (job : ℕ) × (has xs job ≡ true)
 first-of [] some = absurd (omega (arith, some))

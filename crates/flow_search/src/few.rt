@@ -1,10 +1,11 @@
 //! The walk of a subtree with at most eight jobs left.
 
-ghost use Rattle.std.specs.Prelude.{◌≡◌, ℕ, ◌+◌, ◌-◌, ◌<◌, ◌≤◌, suc, List, length, filter, slice_index, take, OnOk};
+ghost use Rattle.std.specs.Prelude.{◌≡◌, ℕ, ◌+◌, ◌-◌, ◌<◌, ◌≤◌, suc, length, filter, slice_index, take, OnOk};
 ghost use Rattle.flow_core.specs.Shop.{numbers};
 ghost use Rattle.flow_core.specs.JobSet.{contains};
-ghost use Rattle.flow_search.specs.internal.Nodes.{IsAt, Walked, walked};
-ghost use Rattle.flow_search.specs.internal.Lanes.{IsFrameOf, IsOpened, IsLaneLeft, IsLetter, Made, child, children_walked};
+ghost use Rattle.flow_search.specs.internal.Nodes.{IsAt};
+ghost use Rattle.flow_search.specs.internal.Lanes.{IsFrameOf, IsOpened, IsLaneLeft, IsLetter};
+ghost use Rattle.flow_search.specs.internal.Lanes.{Made, child, children_walked, lane_walked};
 
 use crate::lanes::{Frame, Group, enter_few, letters_of_eight, open_child, renew_letters};
 use crate::subtree::{Search, Stop};
@@ -27,8 +28,8 @@ fn jobs_of(instance: &Instance, set: &JobSet) -> [u16; 8]
     made
 }
 
+/// Walks the subtrees of a node's children, in increasing order of their jobs, with a frame for each job left but one.
 #[cycle(few)]
-/// Walks the subtrees of a node's children, in increasing order of their jobs. There is a frame for each job left but one.
 fn walk_lanes(
     instance: &Instance,
     budget: usize,
@@ -40,7 +41,8 @@ fn walk_lanes(
     requires at { IsFrameOf instance.now search.old.node.items group.now frame.old }
     requires count { length search.old.node.items + suc (length below.old) ≡ instance.now.jobs }
     requires within { length search.old.tree.items ≤ budget }
-    ensures done { OnOk result (Made budget (children_walked instance.now (length below.old) search.old) search.old search.new) }
+    ensures done { OnOk result
+        (Made budget (children_walked instance.now (length below.old) search.old) search.old search.new) }
     ensures over { result ≡ Err Stop.OverBudget →
         budget < length search.old.tree.items + length (children_walked instance.now (length below.old) search.old).0 }
 {
@@ -50,16 +52,14 @@ fn walk_lanes(
         if frame.gone[lane] == 0 {
             renew_letters(instance, group, frame, value, search.value);
             value = search.value;
-            search.node.push(group.jobs[lane])?;
             walk_lane(instance, budget, group, frame, below, lane, search)?;
-            search.node.pop();
         }
     }
     Ok(())
 }
 
+/// Walks the subtree of a node's child, with a frame for each job that the child leaves.
 #[cycle(few)]
-/// Walks the subtree of a child, at whose node the search stands. There is a frame for each job that it leaves.
 fn walk_lane(
     instance: &Instance,
     budget: usize,
@@ -69,20 +69,23 @@ fn walk_lane(
     lane: usize,
     search: &mut Search,
 ) -> Result<(), Stop>
-    requires at { (list : List ℕ) × IsOpened instance.now list group.now parent.now
-        × (search.old.node.items ≡ child list group.now lane) }
+    requires at { IsOpened instance.now search.old.node.items group.now parent.now }
     requires left { IsLaneLeft parent.now lane }
-    requires count { length search.old.node.items + length below.old ≡ instance.now.jobs }
-    requires letter { 0 < length below.old → IsLetter instance.now search.old.node.items search.old.value
-        instance.now.machines (slice_index parent.now.letters lane) }
-    ensures done { OnOk result (Walked instance.now budget (length below.old) search.old search.new) }
-    ensures over { result ≡ Err Stop.OverBudget →
-        budget < length search.old.tree.items + length (walked instance.now (length below.old) search.old).0 }
+    requires count { length search.old.node.items + suc (length below.old) ≡ instance.now.jobs }
+    requires letter { 0 < length below.old →
+        IsLetter instance.now (child search.old.node.items group.now lane) search.old.value instance.now.machines
+        (slice_index parent.now.letters lane) }
+    ensures done { OnOk result
+        (Made budget (lane_walked instance.now (length below.old) group.now lane search.old) search.old search.new) }
+    ensures over { result ≡ Err Stop.OverBudget → budget < length search.old.tree.items
+        + length (lane_walked instance.now (length below.old) group.now lane search.old).0 }
 {
     let machines = instance.machines() as usize;
     let Some((frame, rest)) = below.split_first_mut() else {
         search.write(budget, b'.')?;
+        search.node.push(group.jobs[lane])?;
         search.see(u64::from(parent.free[machines - 1][lane]))?;
+        search.node.pop();
         return Ok(());
     };
     let letter = parent.letters[lane];
@@ -92,31 +95,37 @@ fn walk_lane(
     }
     search.write(budget, b'+')?;
     open_child(instance, group, parent, frame, lane);
+    search.node.push(group.jobs[lane])?;
     walk_lanes(instance, budget, group, frame, rest, search)?;
+    search.node.pop();
     Ok(())
 }
 
-/// Walks the subtrees of the children of the node where the search stands, with one to eight jobs left.
+/// Walks the subtrees of the children of the node where the search stands, with one to eight jobs left. What the frames
+/// hold before does not matter.
 pub fn walk_few(
     instance: &Instance,
     budget: usize,
     front: &Front,
     count: u16,
+    frames: &mut [Frame; 8],
     search: &mut Search,
 ) -> Result<(), Stop>
     requires at { IsAt instance.now search.old.node.items front.now search.old.unscheduled count }
     requires from { 1 ≤ count }
     requires to { count ≤ 8 }
     requires within { length search.old.tree.items ≤ budget }
-    ensures done { OnOk result (Made budget (children_walked instance.now (count - 1) search.old) search.old search.new) }
+    ensures done { OnOk result
+        (Made budget (children_walked instance.now (count - 1) search.old) search.old search.new) }
     ensures over { result ≡ Err Stop.OverBudget →
         budget < length search.old.tree.items + length (children_walked instance.now (count - 1) search.old).0 }
 {
     let jobs = jobs_of(instance, &search.unscheduled);
-    let mut group = Group::new();
-    let mut frame = Frame::new();
-    let mut below = [Frame::new(); 7];
     let left = count as usize;
-    enter_few(instance, front, &jobs[..left], &mut group, &mut frame);
-    walk_lanes(instance, budget, &group, &mut frame, &mut below[..left - 1], search)
+    let mut group = Group::new();
+    let Some((frame, below)) = frames[..left].split_first_mut() else {
+        return Ok(());
+    };
+    enter_few(instance, front, &jobs[..left], &mut group, frame);
+    walk_lanes(instance, budget, &group, frame, below, search)
 }

@@ -52,8 +52,8 @@ pub record IsRowOf (shop : Shop) (row : Row) (lane job machine : ℕ) : Type 0 w
   pub time : slice_index row.time lane ≡ time shop job machine
   pub tail : slice_index row.tail lane ≡ time_between shop job (machine + 1) shop.machines
 
--- the jobs that a list leaves stand in the lanes that are left, in increasing order, with their times; the list's front and
--- the times owed are known
+-- the jobs that a list leaves stand in the lanes that are left, in increasing order, with their times; the list's front
+-- and the times owed are known
 pub record IsFrameOf (shop : Shop) (list : List ℕ) (group : Group) (frame : Frame) : Type 0 where
   pub count : length list + length (jobs_left shop.jobs list) ≡ shop.jobs
   pub times : IsFrontOf shop list frame.front
@@ -111,3 +111,8 @@ abbrev pub children_walked : Shop → ℕ → Search → List ℕ × (ℕ × Opt
 children_walked shop left search =
     walk_each (λ job. walk shop bound_at left (search.node.items ++ job ∷ []))
     (jobs_left shop.jobs search.node.items) (incumbent_of search)
+
+-- what the walk of a lane's child gives, with so many jobs left there
+abbrev pub lane_walked : Shop → ℕ → Group → ℕ → Search → List ℕ × (ℕ × Option Found)
+lane_walked shop left group lane search =
+    walk shop bound_at left (child search.node.items group lane) (incumbent_of search)

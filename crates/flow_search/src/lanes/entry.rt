@@ -3,8 +3,7 @@
 ghost use Rattle.std.specs.Prelude.{◌≡◌, ℕ, ◌<◌, ◌≤◌, List, length, slice_index, sum_by};
 ghost use Rattle.flow_core.specs.Limits.{greatest_time};
 ghost use Rattle.flow_core.specs.Shop.{time};
-ghost use Rattle.flow_search.specs.internal.Lanes.{IsLaneLeft, IsFrameOf, job_of};
-ghost use Rattle.flow_search.specs.internal.Lanes.{AreJobsOf, IsFew};
+ghost use Rattle.flow_search.specs.internal.Lanes.{AreJobsOf, IsFew, IsLaneLeft, IsFrameOf, job_of};
 ghost use Rattle.flow_search.specs.declared.lanes.group.TheConstants.{GONE};
 
 use crate::lanes::group::{Frame, GONE, Group, Row};
@@ -18,7 +17,8 @@ fn times_of(instance: &Instance, jobs: &[u16], machine: u16) -> [u32; 8]
     requires from { 1 ≤ machine }
     requires to { machine ≤ instance.now.machines }
     ensures size { length result ≡ 8 }
-    ensures each { (lane : ℕ) → lane < length jobs.now → slice_index result lane ≡ time instance.now (slice_index jobs.now lane) machine }
+    ensures each { (lane : ℕ) → lane < length jobs.now →
+        slice_index result lane ≡ time instance.now (slice_index jobs.now lane) machine }
     ensures small { (lane : ℕ) → lane < 8 → slice_index result lane ≤ greatest_time }
 {
     let mut made = [0u32; 8];
@@ -76,7 +76,8 @@ pub fn enter_few(
     frame: &mut Frame,
 )
     requires { (list : List ℕ) × IsFew instance.now list front.now jobs.now }
-    ensures at { (list : List ℕ) → IsFew instance.now list front.now jobs.now → IsFrameOf instance.now list group.new frame.new }
+    ensures at { (list : List ℕ) → IsFew instance.now list front.now jobs.now →
+        IsFrameOf instance.now list group.new frame.new }
     ensures left { (lane : ℕ) → lane < length jobs.now → IsLaneLeft frame.new lane }
     ensures jobs { (lane : ℕ) → lane < length jobs.now → job_of group.new lane ≡ slice_index jobs.now lane }
 {

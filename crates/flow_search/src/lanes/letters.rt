@@ -8,15 +8,16 @@ use crate::lanes::group::{Frame, GONE, Group};
 use crate::lanes::numbers::{at_least, below, greater, others, sums};
 use flow_core::Instance;
 
-/// Computes when each child leaves each machine, and its letter: how many machines there are before the first whose bound
-/// reaches a value.
+/// Computes when each child leaves each machine, and its letter: how many machines there are before the first whose
+/// bound reaches a value.
 #[inline(never)]
 pub fn letters_of_eight(instance: &Instance, group: &Group, frame: &mut Frame, value: u64)
     requires { (list : List ℕ) × IsFrameOf instance.now list group.now frame.old }
     ensures front { frame.new.front ≡ frame.old.front }
     ensures sum { frame.new.sum ≡ frame.old.sum }
     ensures gone { frame.new.gone ≡ frame.old.gone }
-    ensures opened { (list : List ℕ) → IsFrameOf instance.now list group.now frame.old → IsOpened instance.now list group.now frame.new }
+    ensures opened { (list : List ℕ) → IsFrameOf instance.now list group.now frame.old →
+        IsOpened instance.now list group.now frame.new }
     ensures letters { (list : List ℕ) → IsFrameOf instance.now list group.now frame.old →
         AreLetters instance.now list group.now value frame.new }
 {
@@ -43,7 +44,13 @@ pub fn letters_of_eight(instance: &Instance, group: &Group, frame: &mut Frame, v
 
 /// Makes the letters of an opened node anew, where its letters are those of another value.
 #[inline(always)]
-pub fn renew_letters(instance: &Instance, group: &Group, frame: &mut Frame, made_for: u64, value: u64)
+pub fn renew_letters(
+    instance: &Instance,
+    group: &Group,
+    frame: &mut Frame,
+    made_for: u64,
+    value: u64,
+)
     requires { (list : List ℕ) × IsOpened instance.now list group.now frame.old }
     ensures gone { frame.new.gone ≡ frame.old.gone }
     ensures opened { (list : List ℕ) → IsOpened instance.now list group.now frame.old →
@@ -62,7 +69,8 @@ pub fn renew_letters(instance: &Instance, group: &Group, frame: &mut Frame, made
 pub fn open_child(instance: &Instance, group: &Group, parent: &Frame, made: &mut Frame, lane: usize)
     requires at { (list : List ℕ) × IsOpened instance.now list group.now parent.now }
     requires left { IsLaneLeft parent.now lane }
-    ensures at { (list : List ℕ) → IsOpened instance.now list group.now parent.now → IsFrameOf instance.now (child list group.now lane) group.now made.new }
+    ensures at { (list : List ℕ) → IsOpened instance.now list group.now parent.now →
+        IsFrameOf instance.now (child list group.now lane) group.now made.new }
     ensures gone { made.new.gone ≡ slice_set parent.now.gone lane GONE }
 {
     let machines = instance.machines() as usize;

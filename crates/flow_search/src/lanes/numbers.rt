@@ -48,7 +48,8 @@ pub(crate) fn at_least(numbers: &[u32; 8], least: u32) -> [u32; 8]
 #[inline(always)]
 pub(crate) fn greater(numbers: &[u32; 8], others: &[u32; 8]) -> [u32; 8]
     ensures size { length result ≡ 8 }
-    ensures each { (lane : ℕ) → lane < 8 → slice_index result lane ≡ max (slice_index numbers.now lane) (slice_index others.now lane) }
+    ensures each { (lane : ℕ) → lane < 8 →
+        slice_index result lane ≡ max (slice_index numbers.now lane) (slice_index others.now lane) }
 {
     let mut made = [0u32; 8];
     for lane in 0..8usize {
@@ -62,7 +63,8 @@ pub(crate) fn greater(numbers: &[u32; 8], others: &[u32; 8]) -> [u32; 8]
 pub(crate) fn sums(numbers: &[u32; 8], others: &[u32; 8]) -> [u32; 8]
     requires fits { (lane : ℕ) → lane < 8 → slice_index numbers.now lane + slice_index others.now lane ≤ u32.MAX }
     ensures size { length result ≡ 8 }
-    ensures each { (lane : ℕ) → lane < 8 → slice_index result lane ≡ slice_index numbers.now lane + slice_index others.now lane }
+    ensures each { (lane : ℕ) → lane < 8 →
+        slice_index result lane ≡ slice_index numbers.now lane + slice_index others.now lane }
 {
     let mut made = [0u32; 8];
     for lane in 0..8usize {
@@ -75,7 +77,8 @@ pub(crate) fn sums(numbers: &[u32; 8], others: &[u32; 8]) -> [u32; 8]
 #[inline(always)]
 pub(crate) fn below(flags: &[u32; 8], numbers: &[u32; 8], limit: u32) -> [u32; 8]
     ensures size { length result ≡ 8 }
-    ensures kept { (lane : ℕ) → lane < 8 → slice_index numbers.now lane < limit → slice_index result lane ≡ slice_index flags.now lane }
+    ensures kept { (lane : ℕ) → lane < 8 → slice_index numbers.now lane < limit →
+        slice_index result lane ≡ slice_index flags.now lane }
     ensures cut { (lane : ℕ) → lane < 8 → limit ≤ slice_index numbers.now lane → slice_index result lane ≡ 0 }
 {
     let mut made = [0u32; 8];

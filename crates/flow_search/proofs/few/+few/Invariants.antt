@@ -1,4 +1,4 @@
-use Rattle.std.proofs.Common.{◌≡◌, ℕ, ◌+◌, ◌*◌, length}
+use Rattle.std.proofs.Common.{◌≡◌, ◌+◌, ◌*◌, length}
 use Rattle.flow_search.specs.internal.Lanes.{IsOpened, AreLetters}
 use Rattle.flow_search.proofs.LanesWalked.{AreWalked}
 use Rattle.flow_search.proofs.few.+few.Given as goal

@@ -1,4 +1,4 @@
-use Rattle.std.proofs.Common.{◌≤◌, arith}
+use Rattle.std.proofs.Common.{arith}
 use Rattle.flow_search.proofs.LanesEntered.{count-is, few-at}
 use Rattle.flow_search.proofs.few.walk_few.Goals as goal
 
