@@ -9,10 +9,10 @@ use Rattle.flow_core.specs.Shop.{Shop, numbers, time, time_between}
 use Rattle.flow_core.specs.JobSet.{contains}
 use Rattle.flow_core.specs.Sequences.{has}
 use Rattle.flow_search.specs.internal.Nodes.{IsAt}
-use Rattle.flow_search.specs.declared.lanes.group.TheConstants.{GONE}
-use Rattle.flow_search.specs.declared.lanes.group.Row.{Row}
-use Rattle.flow_search.specs.declared.lanes.group.Group.{Group}
-use Rattle.flow_search.specs.declared.lanes.group.Frame.{Frame}
+use Rattle.flow_search.specs.declared.eight.group.TheConstants.{GONE}
+use Rattle.flow_search.specs.declared.eight.group.LaneRow.{LaneRow}
+use Rattle.flow_search.specs.declared.eight.group.Group.{Group}
+use Rattle.flow_search.specs.declared.eight.group.LaneFrame.{LaneFrame}
 use Rattle.flow_search.specs.internal.Lanes.{IsLaneLeft, IsFrameOf, IsRowOf, IsSmallRow}
 use Rattle.flow_search.specs.internal.Lanes.{AreJobsOf, IsFew}
 use Rattle.flow_search.proofs.Nodes.{filter-here, left-count, left-is, members-are, numbers-none}
@@ -72,9 +72,9 @@ pub jobs-of : (shop : Shop) (list front jobs : List ℕ) → IsFew shop list fro
 jobs-of shop list front jobs is lane low = let there = left-at shop list front jobs lane is low in (there.0, there.1)
 
 -- the machines that are done
-pub record AreDone (shop : Shop) (front jobs : List ℕ) (rows : List Row) (times sums : List ℕ) (machine : ℕ) : Type 0 where
-  pub each : (row : Row) (k lane : ℕ) → machine < k → k ≤ shop.machines → lane < length jobs → IsRowOf shop (slice_index_or rows (k - 1) row) lane (slice_index jobs lane) k
-  pub small : (row : Row) (k lane : ℕ) → machine < k → k ≤ shop.machines → lane < 8 → IsSmallRow (slice_index_or rows (k - 1) row) lane
+pub record AreDone (shop : Shop) (front jobs : List ℕ) (rows : List LaneRow) (times sums : List ℕ) (machine : ℕ) : Type 0 where
+  pub each : (row : LaneRow) (k lane : ℕ) → machine < k → k ≤ shop.machines → lane < length jobs → IsRowOf shop (slice_index_or rows (k - 1) row) lane (slice_index jobs lane) k
+  pub small : (row : LaneRow) (k lane : ℕ) → machine < k → k ≤ shop.machines → lane < 8 → IsSmallRow (slice_index_or rows (k - 1) row) lane
   pub begins : (k : ℕ) → machine < k → k ≤ shop.machines → slice_index times (k - 1) ≡ slice_index front (k - 1)
   pub owes : (k : ℕ) → machine < k → k ≤ shop.machines → slice_index sums (k - 1) ≡ sum_by (λ job. time shop job k) jobs
 
@@ -91,7 +91,7 @@ more P xs other value machine most low within here done k above to = elim (cases
       subst (λ i. P i (slice_index_or (set xs (machine - 1) value) (i - 1) other)) e (subst (P machine) (sym (get_or-set_same xs (machine - 1) value other within)) here)
 ]
 
-pub done-next : (shop : Shop) (front jobs : List ℕ) (rows : List Row) (times sums : List ℕ) (machine : ℕ) (value : Row) (free sum : ℕ) → AreDone shop front jobs rows times sums machine → 1 ≤ machine →
+pub done-next : (shop : Shop) (front jobs : List ℕ) (rows : List LaneRow) (times sums : List ℕ) (machine : ℕ) (value : LaneRow) (free sum : ℕ) → AreDone shop front jobs rows times sums machine → 1 ≤ machine →
     machine - 1 < length rows → machine - 1 < length times → machine - 1 < length sums →
     ((lane : ℕ) → lane < length jobs → IsRowOf shop value lane (slice_index jobs lane) machine) → ((lane : ℕ) → lane < 8 → IsSmallRow value lane) →
     free ≡ slice_index front (machine - 1) → sum ≡ sum_by (λ job. time shop job machine) jobs →
@@ -113,7 +113,7 @@ time_between-first shop job a b h =
     ∙ ap (λ k. time shop job a + sum_by (time shop job) (range_with_len (a + 1) k)) m
 
 -- once all machines and lanes are filled
-pub entered : (shop : Shop) (list front jobs : List ℕ) (group : Group) (frame : Frame) (machine : ℕ) → IsFew shop list front jobs → machine ≡ 0 →
+pub entered : (shop : Shop) (list front jobs : List ℕ) (group : Group) (frame : LaneFrame) (machine : ℕ) → IsFew shop list front jobs → machine ≡ 0 →
     AreDone shop front jobs group.rows frame.front frame.sum machine →
     ((lane : ℕ) → lane < length jobs → slice_index group.jobs lane ≡ slice_index jobs lane) →
     ((lane : ℕ) → lane < 8 → lane < length jobs → slice_index frame.gone lane ≡ 0) → ((lane : ℕ) → lane < 8 → length jobs ≤ lane → slice_index frame.gone lane ≡ GONE) →

@@ -7,15 +7,15 @@ use Rattle.flow_core.specs.Shop.{Shop, time}
 use Rattle.flow_core.specs.Paths.{completion}
 use Rattle.flow_core.specs.Sequences.{has, jobs_left}
 use Rattle.flow_core.proofs.JobsLeft.{bool_cases}
-use Rattle.flow_search.specs.declared.lanes.group.TheConstants.{GONE}
-use Rattle.flow_search.specs.declared.lanes.group.Row.{Row}
-use Rattle.flow_search.specs.declared.lanes.group.Group.{Group}
-use Rattle.flow_search.specs.declared.lanes.group.Frame.{Frame}
+use Rattle.flow_search.specs.declared.eight.group.TheConstants.{GONE}
+use Rattle.flow_search.specs.declared.eight.group.LaneRow.{LaneRow}
+use Rattle.flow_search.specs.declared.eight.group.Group.{Group}
+use Rattle.flow_search.specs.declared.eight.group.LaneFrame.{LaneFrame}
 use Rattle.flow_search.specs.internal.Lanes.{IsLaneLeft, IsFrameOf, IsOpened, job_of, child}
 use Rattle.flow_search.proofs.JobsTaken.{left-sum, left-count, has-other, has-more, has-same}
 
 -- a node that differs in the answers only
-at-same : (shop : Shop) (list : List ℕ) (group : Group) (a b : Frame) → b.front ≡ a.front → b.sum ≡ a.sum → b.gone ≡ a.gone → IsFrameOf shop list group a → IsFrameOf shop list group b
+at-same : (shop : Shop) (list : List ℕ) (group : Group) (a b : LaneFrame) → b.front ≡ a.front → b.sum ≡ a.sum → b.gone ≡ a.gone → IsFrameOf shop list group a → IsFrameOf shop list group b
 at-same shop list group a b front sum gone at =
     let back : (lane : ℕ) → IsLaneLeft b lane → IsLaneLeft a lane = λ lane left. record { within = left.within; left = sym (ap (λ g. slice_index g lane) gone) ∙ left.left } in
     record {
@@ -37,7 +37,7 @@ at-same shop list group a b front sum gone at =
       order = λ lane other here there. at.order lane other (back lane here) (back other there);
     }
 
-pub opened-same : (shop : Shop) (list : List ℕ) (group : Group) (a b : Frame) → b.front ≡ a.front → b.sum ≡ a.sum → b.gone ≡ a.gone → IsFrameOf shop list group a →
+pub opened-same : (shop : Shop) (list : List ℕ) (group : Group) (a b : LaneFrame) → b.front ≡ a.front → b.sum ≡ a.sum → b.gone ≡ a.gone → IsFrameOf shop list group a →
     ((place lane : ℕ) → IsLaneLeft a lane → place < shop.machines → slice_index (slice_index_or b.free place []) lane ≡ completion shop (child list group lane) (place + 1)) →
     IsOpened shop list group b
 opened-same shop list group a b front sum gone at free = record {
@@ -46,7 +46,7 @@ opened-same shop list group a b front sum gone at free = record {
 }
 
 -- a job that is left fits into what is owed
-pub time-owed : (shop : Shop) (list : List ℕ) (group : Group) (frame : Frame) (row : Row) (lane place : ℕ) → IsFrameOf shop list group frame → IsLaneLeft frame lane → place < shop.machines →
+pub time-owed : (shop : Shop) (list : List ℕ) (group : Group) (frame : LaneFrame) (row : LaneRow) (lane place : ℕ) → IsFrameOf shop list group frame → IsLaneLeft frame lane → place < shop.machines →
     slice_index frame.sum place ≡ slice_index (slice_index_or group.rows place row).time lane + sum_by (λ job. time shop job (place + 1)) (jobs_left shop.jobs (child list group lane))
 time-owed shop list group frame row lane place at here to =
     let e : place + 1 - 1 ≡ place = omega arith in
@@ -58,7 +58,7 @@ time-owed shop list group frame row lane place at here to =
     let sum = left-sum (λ job. time shop job (place + 1)) shop.jobs list (job_of group lane) (at.from lane here) (at.to lane here) (at.fresh lane here) in
     omega (arith, owed, row_is, sum)
 
-pub child-at : (shop : Shop) (list : List ℕ) (group : Group) (parent made : Frame) (row : Row) (lane : ℕ) → IsOpened shop list group parent → IsLaneLeft parent lane →
+pub child-at : (shop : Shop) (list : List ℕ) (group : Group) (parent made : LaneFrame) (row : LaneRow) (lane : ℕ) → IsOpened shop list group parent → IsLaneLeft parent lane →
     ((place : ℕ) → place < shop.machines → slice_index made.front place ≡ slice_index (slice_index_or parent.free place []) lane) →
     ((place : ℕ) → place < shop.machines → slice_index made.sum place ≡ slice_index parent.sum place - slice_index (slice_index_or group.rows place row).time lane) →
     made.gone ≡ set parent.gone lane GONE → length parent.gone ≡ 8 →

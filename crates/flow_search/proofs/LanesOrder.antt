@@ -6,8 +6,8 @@ use Rattle.std.proofs.lemmas.Bool.Decides.{eqb_tells}
 use Rattle.flow_core.specs.Shop.{Shop}
 use Rattle.flow_core.specs.Sequences.{has, jobs_left}
 use Rattle.flow_core.proofs.JobsLeft.{bool_cases}
-use Rattle.flow_search.specs.declared.lanes.group.Group.{Group}
-use Rattle.flow_search.specs.declared.lanes.group.Frame.{Frame}
+use Rattle.flow_search.specs.declared.eight.group.Group.{Group}
+use Rattle.flow_search.specs.declared.eight.group.LaneFrame.{LaneFrame}
 use Rattle.flow_search.specs.internal.Lanes.{IsLaneLeft, IsFrameOf, job_of, lanes_from}
 use Rattle.flow_search.proofs.JobsTaken.{filter-has, left-here}
 use Rattle.flow_search.proofs.LanesEntered.{Increases, increases-filter, increases-from, place-of}
@@ -92,7 +92,7 @@ range-has p a (suc n) k h = elim (bool_cases (p a)) [
       let ih = range-has p (a + 1) n k there in (ih.0, omega (arith, ih.1))
 ]
 
-pub lanes-are-jobs : (shop : Shop) (list : List ℕ) (group : Group) (frame : Frame) → IsFrameOf shop list group frame → map (job_of group) (lanes_from frame 0) ≡ jobs_left shop.jobs list
+pub lanes-are-jobs : (shop : Shop) (list : List ℕ) (group : Group) (frame : LaneFrame) → IsFrameOf shop list group frame → map (job_of group) (lanes_from frame 0) ≡ jobs_left shop.jobs list
 lanes-are-jobs shop list group frame at =
     let p : ℕ → Bool = λ lane. nat_eq (slice_index frame.gone lane) 0 in
     let left : (lane : ℕ) → has (lanes_from frame 0) lane ≡ true → IsLaneLeft frame lane =

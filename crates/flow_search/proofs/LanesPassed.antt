@@ -13,16 +13,16 @@ use Rattle.flow_core.proofs.Recurrence.{completion-push, completion-after}
 use Rattle.flow_core.proofs.Fronts.{front-within, time-small}
 use Rattle.flow_core.proofs.Admissible.{front_of-is}
 use Rattle.flow_core.proofs.JobsLeft.{kept, kept-more}
-use Rattle.flow_search.specs.declared.lanes.group.TheConstants.{GONE}
-use Rattle.flow_search.specs.declared.lanes.group.Row.{Row}
-use Rattle.flow_search.specs.declared.lanes.group.Group.{Group}
-use Rattle.flow_search.specs.declared.lanes.group.Frame.{Frame}
+use Rattle.flow_search.specs.declared.eight.group.TheConstants.{GONE}
+use Rattle.flow_search.specs.declared.eight.group.LaneRow.{LaneRow}
+use Rattle.flow_search.specs.declared.eight.group.Group.{Group}
+use Rattle.flow_search.specs.declared.eight.group.LaneFrame.{LaneFrame}
 use Rattle.flow_search.specs.internal.Lanes.{IsLeastOfOthers}
 use Rattle.flow_search.specs.internal.Lanes.{IsLaneLeft, IsFrameOf, IsLetter, IsSmallRow, job_of, child}
 use Rattle.flow_search.proofs.JobsTaken.{left-here, left-child, least-is, left-sum, has-other}
 
 -- the jobs of two lanes that are left differ
-lanes-differ : (shop : Shop) (list : List ℕ) (group : Group) (frame : Frame) (lane other : ℕ) → IsFrameOf shop list group frame → IsLaneLeft frame lane → IsLaneLeft frame other → other ≢ lane → job_of group other ≢ job_of group lane
+lanes-differ : (shop : Shop) (list : List ℕ) (group : Group) (frame : LaneFrame) (lane other : ℕ) → IsFrameOf shop list group frame → IsLaneLeft frame lane → IsLaneLeft frame other → other ≢ lane → job_of group other ≢ job_of group lane
 lanes-differ shop list group frame lane other at here there differ e = elim (cases_order lane other) [
   | inl same ↦ differ (sym same)
   | inr apart ↦ elim apart [
@@ -32,7 +32,7 @@ lanes-differ shop list group frame lane other at here there differ e = elim (cas
 ]
 
 -- the least time behind a machine of the jobs that a child leaves
-behind-is : (shop : Shop) (list : List ℕ) (group : Group) (frame : Frame) (row : Row) (lane other machine value : ℕ) (tails : List ℕ) →
+behind-is : (shop : Shop) (list : List ℕ) (group : Group) (frame : LaneFrame) (row : LaneRow) (lane other machine value : ℕ) (tails : List ℕ) →
     IsFrameOf shop list group frame → IsLaneLeft frame lane → IsLaneLeft frame other → other ≢ lane → 1 ≤ machine → machine ≤ shop.machines →
     ((k : ℕ) → k < 8 → slice_index tails k ≡ max (slice_index (slice_index_or group.rows (machine - 1) row).tail k) (slice_index frame.gone k)) →
     IsLeastOfOthers tails lane value →
@@ -59,7 +59,7 @@ behind-is shop list group frame row lane other machine value tails at here there
     omega (arith, is.least stands.0 stands.1.within elsewhere, tail-of stands.0 stands.1, same))
 
 -- when a child leaves a machine
-pub free-is : (shop : Shop) (list : List ℕ) (group : Group) (frame : Frame) (row : Row) (lane place free start : ℕ) →
+pub free-is : (shop : Shop) (list : List ℕ) (group : Group) (frame : LaneFrame) (row : LaneRow) (lane place free start : ℕ) →
     IsFrameOf shop list group frame → IsLaneLeft frame lane → place < shop.machines →
     free ≡ completion shop (child list group lane) place → start ≡ max free (slice_index frame.front place) →
     start + slice_index (slice_index_or group.rows place row).time lane ≡ completion shop (child list group lane) (place + 1)
@@ -71,7 +71,7 @@ free-is shop list group frame row lane place free start at here to was is =
     omega (arith, completion-push shop list (job_of group lane) place, front, row_is, was, is)
 
 -- the bound of a child with jobs left
-pub bound-is : (shop : Shop) (list : List ℕ) (group : Group) (frame : Frame) (row : Row) (lane other place free start behind : ℕ) (tails : List ℕ) →
+pub bound-is : (shop : Shop) (list : List ℕ) (group : Group) (frame : LaneFrame) (row : LaneRow) (lane other place free start behind : ℕ) (tails : List ℕ) →
     IsFrameOf shop list group frame → IsLaneLeft frame lane → IsLaneLeft frame other → other ≢ lane → place < shop.machines →
     free ≡ completion shop (child list group lane) place → start ≡ max free (slice_index frame.front place) →
     ((k : ℕ) → k < 8 → slice_index tails k ≡ max (slice_index (slice_index_or group.rows place row).tail k) (slice_index frame.gone k)) →
@@ -158,7 +158,7 @@ kept-small f p most (suc n) small = omega (arith, kept-more f p n, kept-small f 
     one false v = omega arith
 
 -- a lane's bound is below the limit of u32
-pub sum-small : (shop : Shop) (list : List ℕ) (group : Group) (frame : Frame) (place : ℕ) → IsWithinLimits shop →
+pub sum-small : (shop : Shop) (list : List ℕ) (group : Group) (frame : LaneFrame) (place : ℕ) → IsWithinLimits shop →
     IsFrameOf shop list group frame → place < shop.machines → slice_index frame.sum place ≤ most_jobs * greatest_time
 sum-small shop list group frame place limits at to =
     let e : place + 1 - 1 ≡ place = omega arith in
@@ -167,7 +167,7 @@ sum-small shop list group frame place limits at to =
     omega (arith, owed, small, limits.jobs)
 
 -- a machine's time fits
-front-small : (shop : Shop) (list : List ℕ) (group : Group) (frame : Frame) (place : ℕ) → IsWithinLimits shop → IsFrameOf shop list group frame → place < shop.machines → slice_index frame.front place ≤ greatest_completion
+front-small : (shop : Shop) (list : List ℕ) (group : Group) (frame : LaneFrame) (place : ℕ) → IsWithinLimits shop → IsFrameOf shop list group frame → place < shop.machines → slice_index frame.front place ≤ greatest_completion
 front-small shop list group frame place limits at to = front-within shop list frame.front limits (omega (arith, at.count)) at.times place to
 
 -- the child list begins at time 0
@@ -183,18 +183,18 @@ pub passed-start : (shop : Shop) (list : List ℕ) (limit letter flag : ℕ) →
 passed-start shop list limit letter flag none whole =
     subst (λ a. IsPassed shop list limit 0 a flag) (sym none) (subst (λ b. IsPassed shop list limit 0 0 b) (sym whole) (passed-none shop list limit))
 
-pub start-small : (shop : Shop) (list : List ℕ) (group : Group) (frame : Frame) (place free start : ℕ) → IsWithinLimits shop → IsFrameOf shop list group frame → place < shop.machines →
+pub start-small : (shop : Shop) (list : List ℕ) (group : Group) (frame : LaneFrame) (place free start : ℕ) → IsWithinLimits shop → IsFrameOf shop list group frame → place < shop.machines →
     free ≤ greatest_completion + place * greatest_time → start ≡ max free (slice_index frame.front place) → start ≤ greatest_completion + place * greatest_time
 start-small shop list group frame place free start limits at to small is = omega (arith, front-small shop list group frame place limits at to, small, is)
 
 -- a lane's row is small
-pub row-small : (shop : Shop) (list : List ℕ) (group : Group) (frame : Frame) (row : Row) (place lane : ℕ) → IsFrameOf shop list group frame → place < shop.machines → lane < 8 →
+pub row-small : (shop : Shop) (list : List ℕ) (group : Group) (frame : LaneFrame) (row : LaneRow) (place lane : ℕ) → IsFrameOf shop list group frame → place < shop.machines → lane < 8 →
     IsSmallRow (slice_index_or group.rows place row) lane
 row-small shop list group frame row place lane at to within =
     let e : place + 1 - 1 ≡ place = omega arith in
     subst (λ k. IsSmallRow (slice_index_or group.rows k row) lane) e (at.small row (place + 1) lane (omega arith) (omega (arith, to)) within)
 
-pub behind-small : (shop : Shop) (list : List ℕ) (group : Group) (frame : Frame) (row : Row) (place lane value : ℕ) (tails : List ℕ) → IsFrameOf shop list group frame → place < shop.machines →
+pub behind-small : (shop : Shop) (list : List ℕ) (group : Group) (frame : LaneFrame) (row : LaneRow) (place lane value : ℕ) (tails : List ℕ) → IsFrameOf shop list group frame → place < shop.machines →
     ((k : ℕ) → k < 8 → slice_index tails k ≡ max (slice_index (slice_index_or group.rows place row).tail k) (slice_index frame.gone k)) →
     IsLeastOfOthers tails lane value → value ≤ GONE
 behind-small shop list group frame row place lane value tails at to made is =

@@ -16,8 +16,8 @@ use Rattle.flow_core.proofs.Admissible.{front_of-is}
 use Rattle.flow_bound.specs.Rest.{IsRestOf}
 use Rattle.flow_search.specs.Walk.{walk, walk_each, better}
 use Rattle.flow_search.specs.internal.Lows.{second_tail}
-use Rattle.flow_search.specs.internal.Nodes.{IsAt, Wrote, Saw, Entered, Left, Walked, walked, incumbent_of}
-use Rattle.flow_search.specs.internal.Frames.{IsFrame, IsChild, IsStack, Gave, Opens, IsWalking, path, left_from, then_walk, walk_from, resume}
+use Rattle.flow_search.specs.internal.Nodes.{IsAt, Wrote, Entered, Left, Gave, Walked, walked, children_walked, incumbent_of}
+use Rattle.flow_search.specs.internal.Frames.{IsFrame, IsChild, IsStack, Opens, IsWalking, path, left_from, then_walk, walk_from, resume}
 use Rattle.flow_search.specs.declared.frame.Frame.{Frame}
 use Rattle.flow_search.specs.declared.subtree.Search.{Search}
 use Rattle.flow_search.proofs.Walk.{Incumbent, answer_of}
@@ -150,9 +150,9 @@ walk-some shop (suc left) node st =
 -- the walk before its first child
 pub walking-start : (shop : Shop) (budget below : ℕ) (old : Search) (here : Frame) →
     IsAt shop old.node.items here.front old.unscheduled (suc below) → IsFrame shop old.node.items (suc below) here → here.next ≡ 1 →
-    length old.tree.items ≤ budget →
-    IsWalking shop budget old.node.items (walk_from shop below old.node.items 1 (incumbent_of old)) old here below [] old
-walking-start shop budget below old here at frame next within =
+    8 ≤ below → length old.tree.items ≤ budget →
+    IsWalking shop budget old.node.items (children_walked shop below old) old here below [] old
+walking-start shop budget below old here at frame next many within =
     let root : List ℕ = old.node.items in
     let st : Incumbent = incumbent_of old in
     record {
@@ -166,6 +166,7 @@ walking-start shop budget below old here at frame next within =
           ap (λ t. old.tree.items ++ t) (append-nil (walk_from shop below root here.next st).0)
           ∙ ap (λ k. old.tree.items ++ (walk_from shop below root k st).0) next;
       state = ap (λ k. (walk_from shop below root k st).1) next;
+      many = many;
       within = within;
     }
 
@@ -194,34 +195,33 @@ frame-of shop node front set left frame at times rest second =
       some = ap length (sym left_is) ∙ left-count shop node front set left at;
     }
 
--- a child that is a sequence
-pub leaf-done : (shop : Shop) (budget below job makespan : ℕ) (old in_child wrote saw new : Search) → below ≡ 0 → Entered job old in_child →
-    Wrote budget 46 in_child wrote → Saw makespan wrote saw → makespan ≡ span shop (old.node.items ++ job ∷ []) →
-    Left job old.node.items saw new → contains old.unscheduled job ≡ true →
+-- a child whose subtree was walked
+child-walk : (shop : Shop) (below job : ℕ) (old in_child : Search) → Entered job old in_child →
+    walked shop below in_child ≡ walk shop bound_at below (old.node.items ++ job ∷ []) (incumbent_of old)
+child-walk shop below job old in_child entered =
+    ap (λ q. walk shop bound_at below q (incumbent_of in_child)) entered.node ∙ ap (walk shop bound_at below (old.node.items ++ job ∷ [])) entered.incumbent
+
+pub child-done : (shop : Shop) (budget below job : ℕ) (old in_child after new : Search) → Entered job old in_child →
+    Walked shop budget below in_child after → Left job old.node.items after new → contains old.unscheduled job ≡ true →
     Gave budget (walk shop bound_at below (old.node.items ++ job ∷ []) (incumbent_of old)) old new
-leaf-done shop budget below job makespan old in_child wrote saw new none entered w s is left there =
-    let node : List ℕ = old.node.items ++ job ∷ [] in
-    let st : Incumbent = incumbent_of old in
-    let leaf : walk shop bound_at below node st ≡ (46 ∷ [], better shop st node) = ap (λ n. walk shop bound_at n node st) none in
-    let node_is : wrote.node.items ≡ node = w.node ∙ entered.node in
-    let st_is : incumbent_of wrote ≡ st = w.incumbent ∙ entered.incumbent in
-    let seen : ℕ → List ℕ → Incumbent → Incumbent = λ v q i. cond (nat_lt v i.0) (v, Some (record { value = v; sequence = q })) i in
+child-done shop budget below job old in_child after new entered w left there =
+    let same = child-walk shop below job old in_child entered in
     record {
-      tree = left.tree ∙ s.tree ∙ w.tree ∙ ap (λ t. t ++ 46 ∷ []) entered.tree ∙ ap (λ p. old.tree.items ++ p.0) (sym leaf);
-      incumbent =
-          left.incumbent
-          ∙ s.incumbent
-          ∙ ap (λ i. seen makespan wrote.node.items i) st_is
-          ∙ ap (λ q. seen makespan q st) node_is
-          ∙ ap (λ v. seen v node st) is
-          ∙ ap (λ p. p.1) (sym leaf);
+      tree = left.tree ∙ w.tree ∙ ap (λ t. t ++ (walked shop below in_child).0) entered.tree ∙ ap (λ p. old.tree.items ++ p.0) same;
+      incumbent = left.incumbent ∙ w.incumbent ∙ ap (λ p. p.1) same;
       node = left.node;
       unscheduled =
           left.unscheduled
-          ∙ ap (λ u. slice_set u (job - 1) true) (s.unscheduled ∙ w.unscheduled ∙ entered.unscheduled)
+          ∙ ap (λ u. slice_set u (job - 1) true) (w.unscheduled ∙ entered.unscheduled)
           ∙ put-back old.unscheduled (job - 1) there;
-      within = subst (λ t. length t ≤ budget) (sym (left.tree ∙ s.tree)) w.within;
+      within = subst (λ t. length t ≤ budget) (sym left.tree) w.within;
     }
+
+pub child-over : (shop : Shop) (budget below job : ℕ) (old in_child : Search) → Entered job old in_child →
+    budget < length in_child.tree.items + length (walked shop below in_child).0 →
+    budget < length old.tree.items + length (walk shop bound_at below (old.node.items ++ job ∷ []) (incumbent_of old)).0
+child-over shop budget below job old in_child entered over =
+    omega (arith, over, ap length entered.tree, ap (λ w. length w.0) (child-walk shop below job old in_child entered))
 
 -- a child that a bound cuts
 pub cut-done : (shop : Shop) (budget below job machine : ℕ) (old new : Search) → below ≢ 0 →
@@ -241,53 +241,6 @@ cut-done shop budget below job machine old new some found w =
       unscheduled = w.unscheduled;
       within = w.within;
     }
-
--- a root that no bound cuts
-root-walk : (shop : Shop) (front : List ℕ) (count : ℕ) (old : Search) → IsAt shop old.node.items front old.unscheduled count → count ≢ 0 →
-    None ≡ find (λ machine. nat_le old.value (machine_bound shop front (members old.unscheduled) machine)) (numbers 1 shop.machines) →
-    walked shop count old
-    ≡ (43 ∷ (walk_from shop (count - 1) old.node.items 1 (incumbent_of old)).0, (walk_from shop (count - 1) old.node.items 1 (incumbent_of old)).1)
-root-walk shop front count old at some finds =
-    let st : Incumbent = incumbent_of old in
-    let more : count ≡ suc (count - 1) = omega arith in
-    ap (λ n. walked shop n old) more
-    ∙ ap (answer_of st (walk_each (λ k. walk shop bound_at (count - 1) (old.node.items ++ k ∷ [])) (jobs_left shop.jobs old.node.items) st))
-    (sym (finds ∙ find-is shop old.node.items front old.unscheduled count old.value at))
-
-pub root-done : (shop : Shop) (front : List ℕ) (budget count : ℕ) (old mid new : Search) → IsAt shop old.node.items front old.unscheduled count → count ≢ 0 →
-    None ≡ find (λ machine. nat_le old.value (machine_bound shop front (members old.unscheduled) machine)) (numbers 1 shop.machines) →
-    Wrote budget 43 old mid → Gave budget (walk_from shop (count - 1) mid.node.items 1 (incumbent_of mid)) mid new → Walked shop budget count old new
-root-done shop front budget count old mid new at some finds w gave =
-    let st : Incumbent = incumbent_of old in
-    let root = root-walk shop front count old at some finds in
-    let below : Walk = walk_from shop (count - 1) old.node.items 1 st in
-    let same : walk_from shop (count - 1) mid.node.items 1 (incumbent_of mid) ≡ below =
-    ap (λ q. walk_from shop (count - 1) q 1 (incumbent_of mid)) w.node ∙ ap (walk_from shop (count - 1) old.node.items 1) w.incumbent in
-    record {
-      tree =
-          gave.tree
-          ∙ ap (λ p. mid.tree.items ++ p.0) same
-          ∙ ap (λ t. t ++ below.0) w.tree
-          ∙ append_assoc old.tree.items (43 ∷ []) below.0
-          ∙ ap (λ p. old.tree.items ++ p.0) (sym root);
-      incumbent = gave.incumbent ∙ ap (λ p. p.1) same ∙ ap (λ p. p.1) (sym root);
-      node = gave.node ∙ w.node;
-      unscheduled = gave.unscheduled ∙ w.unscheduled;
-      within = gave.within;
-    }
-
-pub root-over : (shop : Shop) (front : List ℕ) (budget count : ℕ) (old mid : Search) → IsAt shop old.node.items front old.unscheduled count → count ≢ 0 →
-    None ≡ find (λ machine. nat_le old.value (machine_bound shop front (members old.unscheduled) machine)) (numbers 1 shop.machines) →
-    Wrote budget 43 old mid → budget < length mid.tree.items + length (walk_from shop (count - 1) mid.node.items 1 (incumbent_of mid)).0 →
-    budget < length old.tree.items + length (walked shop count old).0
-root-over shop front budget count old mid at some finds w over =
-    let st : Incumbent = incumbent_of old in
-    let below : Walk = walk_from shop (count - 1) old.node.items 1 st in
-    let whole : length (walked shop count old).0 ≡ length (43 ∷ below.0) = ap (λ p. length p.0) (root-walk shop front count old at some finds) in
-    let same : length (walk_from shop (count - 1) mid.node.items 1 (incumbent_of mid)).0 ≡ length below.0 =
-    ap (λ q. length (walk_from shop (count - 1) q 1 (incumbent_of mid)).0) w.node ∙ ap (λ i. length (walk_from shop (count - 1) old.node.items 1 i).0) w.incumbent in
-    let tree : length mid.tree.items ≡ length (old.tree.items ++ 43 ∷ []) = ap length w.tree in
-    omega (arith, over, whole, same, tree, length-append old.tree.items (43 ∷ []))
 
 -- the jobs left at a node, once its child's job is put back
 at-parent : (shop : Shop) (node front : List ℕ) (set : List Bool) (count left job : ℕ) (f : Frame) → IsAt shop (node ++ job ∷ []) front set count →
@@ -376,6 +329,7 @@ module _ {shop : Shop} {budget : ℕ} {root : List ℕ} {whole : List ℕ × Inc
             ∙ ap (λ w. now.tree.items ++ w.0) (sym all)
             ∙ i.text;
         state = ap (λ s. (rest s).1) after ∙ ap (λ w. w.1) (sym all) ∙ i.state;
+        many = i.many;
         within = gave.within;
       }
 
@@ -470,6 +424,7 @@ module _ {shop : Shop} {budget : ℕ} {root : List ℕ} {whole : List ℕ × Inc
             ∙ ap (λ w. now.tree.items ++ w.0) (sym whole_is)
             ∙ i.text;
         state = ap (λ s. (child_rest s).1) st_is ∙ ap (λ w. w.1) (sym whole_is) ∙ i.state;
+        many = omega (arith, opens.more);
         within = subst (λ t. length t ≤ budget) (sym entered.tree) opens.wrote.within;
       }
 
@@ -527,6 +482,7 @@ module _ {shop : Shop} {budget : ℕ} {root : List ℕ} {whole : List ℕ × Inc
             ∙ ap (λ w. now.tree.items ++ w.0) (sym same)
             ∙ i.text;
         state = ap (λ s. (resume shop root (suc below) (f ∷ gs) s).1) left.incumbent ∙ ap (λ w. w.1) (sym same) ∙ i.state;
+        many = omega (arith, i.many);
         within = subst (λ t. length t ≤ budget) (sym left.tree) i.within;
       }
 

@@ -2,7 +2,6 @@
 
 ghost use Rattle.std.specs.Prelude.{◌≡◌, ℕ, suc, ◌-◌, ◌<◌, ◌≤◌, false, nat_le, List, [], ◌∷◌, ◌++◌, slice_index, find};
 ghost use Rattle.flow_core.specs.Shop.{Shop, IsWithinLimits, numbers};
-ghost use Rattle.flow_core.specs.Paths.{span};
 ghost use Rattle.flow_core.specs.JobSet.{contains, members};
 ghost use Rattle.flow_core.specs.Bound.{bound_at};
 ghost use Rattle.flow_search.specs.internal.Rows.{AreRows, IsRow};
@@ -24,7 +23,7 @@ pub struct Setting<'a> {
     pub budget: usize,
 }
 
-/// A node whose children are walked.
+/// A node with more than eight jobs left, whose children are walked.
 #[derive(Drop)]
 pub struct Frame {
     /// When each machine is free after the node's jobs.
@@ -136,21 +135,5 @@ impl Frame {
             free = start + u64::from(row.times[place]);
         }
         None
-    }
-
-    /// The makespan of a child that is a sequence.
-    pub fn makespan(&self, setting: &Setting, job: u16) -> u64
-        requires rows { AreRows setting.now.instance.now setting.now.rows.now }
-        requires at { (node : List ℕ) × (left : ℕ) × IsFrame setting.now.instance.now node left self.now
-            × IsChild setting.now.instance.now.jobs node job }
-        ensures { (node : List ℕ) (left : ℕ) → IsFrame setting.now.instance.now node left self.now →
-            result ≡ span setting.now.instance.now (node ++ job ∷ []) }
-    {
-        let row = &setting.rows[job as usize - 1];
-        let mut free = 0;
-        for machine in 1..setting.instance.machines() + 1 {
-            free = self.front.at(machine).max(free) + u64::from(row.times[machine as usize - 1]);
-        }
-        free
     }
 }

@@ -1,7 +1,7 @@
 //! How the subtree of a prefix is searched.
 
 ghost use Rattle.std.specs.Prelude.{◌≡◌, ℕ, suc, ◌+◌, ◌<◌, ◌≤◌, true, false, nat_le, List, [], ◌∷◌, ◌++◌, length, find};
-ghost use Rattle.std.specs.Prelude.{Ok, Err, IfOk, OnOk};
+ghost use Rattle.std.specs.Prelude.{Ok, Err, None, IfOk, OnOk};
 ghost use Rattle.flow_core.specs.Limits.{most_jobs};
 ghost use Rattle.flow_core.specs.Shop.{numbers};
 ghost use Rattle.flow_core.specs.Front.{IsWithinFront};
@@ -10,10 +10,13 @@ ghost use Rattle.flow_core.specs.Bound.{machine_bound, bound_at};
 ghost use Rattle.flow_bound.specs.Rest.{IsRestOf};
 ghost use Rattle.flow_search.specs.Walk.{walk};
 ghost use Rattle.flow_search.specs.internal.Rows.{AreRows};
-ghost use Rattle.flow_search.specs.internal.Frames.{IsFrame, Gave, Opens, walk_from};
-ghost use Rattle.flow_search.specs.internal.Nodes.{IsAt, IsFresh, Wrote, Saw, Entered, Left, Walked, walked, incumbent_of};
+ghost use Rattle.flow_search.specs.internal.Frames.{IsFrame, Opens};
+ghost use Rattle.flow_search.specs.internal.Nodes.{IsAt, IsFresh, Wrote, Saw, Entered, Left, incumbent_of};
+ghost use Rattle.flow_search.specs.internal.Nodes.{Gave, Walked, walked, children_walked};
 ghost use Rattle.flow_search.specs.declared.subtree.Stop.TheVariants.{Memory};
 
+use crate::eight::LaneFrame;
+use crate::few::walk_few;
 use crate::frame::{Frame, Setting};
 use flow_bound::Rest;
 use flow_core::{Front, Instance, JobSet, front_push};
@@ -154,47 +157,82 @@ fn first_of(set: &JobSet, from: u16, last: u16) -> Option<u16>
     None
 }
 
-/// Begins the walk of a child: true for a plus, where its children follow, and false where its subtree is walked.
+/// Walks the subtree of a child that no bound cuts and that leaves one to eight jobs. The front is the node's.
+fn walk_small(
+    setting: &Setting,
+    mut front: Front,
+    job: u16,
+    below: u16,
+    frames: &mut [LaneFrame; 8],
+    search: &mut Search,
+) -> Result<(), Stop>
+    requires at { IsAt setting.now.instance.now search.old.node.items front search.old.unscheduled (suc below) }
+    requires from { 1 ≤ job }
+    requires to { job ≤ setting.now.instance.now.jobs }
+    requires left { contains search.old.unscheduled job ≡ true }
+    requires some { 1 ≤ below }
+    requires few { below ≤ 8 }
+    requires uncut { find (λ machine.
+        nat_le search.old.value (bound_at setting.now.instance.now (search.old.node.items ++ job ∷ []) machine))
+        (numbers 1 setting.now.instance.now.machines) ≡ None }
+    ensures done { OnOk result (Gave setting.now.budget
+        (walk setting.now.instance.now bound_at below (search.old.node.items ++ job ∷ []) (incumbent_of search.old))
+        search.old search.new) }
+    ensures over { result ≡ Err Stop.OverBudget → setting.now.budget < length search.old.tree.items + length
+        (walk setting.now.instance.now bound_at below (search.old.node.items ++ job ∷ []) (incumbent_of search.old)).0 }
+{
+    search.enter(job)?;
+    search.write(setting.budget, b'+')?;
+    front_push(setting.instance, &mut front, job);
+    walk_few(setting.instance, setting.budget, &front, below, frames, search)?;
+    search.leave(job);
+    Ok(())
+}
+
+/// Begins the walk of a child that leaves eight jobs or more: true for a plus, where its children follow, and false
+/// where its subtree is walked.
 fn visit(
     setting: &Setting,
     here: &Frame,
     job: u16,
     below: u16,
+    frames: &mut [LaneFrame; 8],
     search: &mut Search,
 ) -> Result<bool, Stop>
     requires rows { AreRows setting.now.instance.now setting.now.rows.now }
-    requires at { IsAt setting.now.instance.now search.old.node.items here.now.front search.old.unscheduled (suc below) }
+    requires at { IsAt setting.now.instance.now search.old.node.items here.now.front search.old.unscheduled
+        (suc below) }
     requires frame { IsFrame setting.now.instance.now search.old.node.items (suc below) here.now }
     requires from { 1 ≤ job }
     requires to { job ≤ setting.now.instance.now.jobs }
     requires left { contains search.old.unscheduled job ≡ true }
+    requires many { 8 ≤ below }
     ensures whole { result ≡ Ok false → Gave setting.now.budget
         (walk setting.now.instance.now bound_at below (search.old.node.items ++ job ∷ []) (incumbent_of search.old))
         search.old search.new }
-    ensures opens { result ≡ Ok true → Opens setting.now.instance.now setting.now.budget below job search.old search.new }
+    ensures opens { result ≡ Ok true →
+        Opens setting.now.instance.now setting.now.budget below job search.old search.new }
     ensures over { result ≡ Err Stop.OverBudget → setting.now.budget < length search.old.tree.items + length
         (walk setting.now.instance.now bound_at below (search.old.node.items ++ job ∷ []) (incumbent_of search.old)).0 }
 {
-    if below == 0 {
-        search.enter(job)?;
-        search.write(setting.budget, b'.')?;
-        search.see(here.makespan(setting, job))?;
-        search.leave(job);
-        return Ok(false);
-    }
     if let Some(machine) = here.cutting_machine(setting, job, search.value) {
         search.write(setting.budget, b'@' + machine as u8)?;
+        return Ok(false);
+    }
+    if below == 8 {
+        walk_small(setting, here.front, job, below, frames, search)?;
         return Ok(false);
     }
     search.write(setting.budget, b'+')?;
     Ok(true)
 }
 
-/// Walks the children of the node where the search stands, each with so many jobs left below it.
+/// Walks the children of the node where the search stands, each with so many jobs left below it, eight or more.
 fn walk_children(
     setting: &Setting,
     mut here: Frame,
     mut below: u16,
+    frames: &mut [LaneFrame; 8],
     search: &mut Search,
     mut stack: Vec<Frame>,
 ) -> Result<(), Stop>
@@ -202,13 +240,13 @@ fn walk_children(
     requires at { IsAt setting.now.instance.now search.old.node.items here.front search.old.unscheduled (suc below) }
     requires frame { IsFrame setting.now.instance.now search.old.node.items (suc below) here }
     requires next { here.next ≡ 1 }
+    requires many { 8 ≤ below }
     requires empty { stack.items ≡ [] }
     requires within { length search.old.tree.items ≤ setting.now.budget }
     ensures done { OnOk result (Gave setting.now.budget
-        (walk_from setting.now.instance.now below search.old.node.items 1 (incumbent_of search.old))
-        search.old search.new) }
-    ensures over { result ≡ Err Stop.OverBudget → setting.now.budget < length search.old.tree.items + length
-        (walk_from setting.now.instance.now below search.old.node.items 1 (incumbent_of search.old)).0 }
+        (children_walked setting.now.instance.now below search.old) search.old search.new) }
+    ensures over { result ≡ Err Stop.OverBudget → setting.now.budget
+        < length search.old.tree.items + length (children_walked setting.now.instance.now below search.old).0 }
 {
     let instance = setting.instance;
     let jobs = instance.jobs();
@@ -223,7 +261,7 @@ fn walk_children(
             continue 'walk;
         };
         here.next = job + 1;
-        if visit(setting, &here, job, below, search)? {
+        if visit(setting, &here, job, below, frames, search)? {
             search.enter(job)?;
             let rest = here.rest.step(instance, &search.unscheduled, job);
             let mut front = here.front;
@@ -235,11 +273,13 @@ fn walk_children(
     }
 }
 
-/// Walks the subtree of the node where the search stands, with so many jobs left.
+/// Walks the subtree of the node where the search stands, with so many jobs left. What the frames of lanes hold before
+/// does not matter.
 pub fn explore(
     setting: &Setting,
     front: &Front,
     count: u16,
+    frames: &mut [LaneFrame; 8],
     search: &mut Search,
     stack: Vec<Frame>,
 ) -> Result<(), Stop>
@@ -247,8 +287,8 @@ pub fn explore(
     requires at { IsAt setting.now.instance.now search.old.node.items front.now search.old.unscheduled count }
     requires empty { stack.items ≡ [] }
     ensures done { OnOk result (Walked setting.now.instance.now setting.now.budget count search.old search.new) }
-    ensures over { result ≡ Err Stop.OverBudget →
-        setting.now.budget < length search.old.tree.items + length (walked setting.now.instance.now count search.old).0 }
+    ensures over { result ≡ Err Stop.OverBudget → setting.now.budget
+        < length search.old.tree.items + length (walked setting.now.instance.now count search.old).0 }
 {
     let instance = setting.instance;
     if count == 0 {
@@ -262,6 +302,9 @@ pub fn explore(
         return Ok(());
     }
     search.write(setting.budget, b'+')?;
+    if count <= 8 {
+        return walk_few(instance, setting.budget, front, count, frames, search);
+    }
     let here = Frame::new(setting, *front, rest, &search.unscheduled);
-    walk_children(setting, here, count - 1, search, stack)
+    walk_children(setting, here, count - 1, frames, search, stack)
 }

@@ -59,18 +59,10 @@ resume shop root left [] incumbent = ([], incumbent)
 resume shop root left (f ∷ fs) incumbent =
     then_walk (walk_from shop left (path root fs) f.next incumbent) (resume shop root (suc left) fs)
 
--- what a walk writes stands behind the tree, within the budget, and its incumbent is there
-pub record Gave (budget : ℕ) (walked : List ℕ × (ℕ × Option Found)) (old new : Search) : Type 0 where
-  pub tree : new.tree.items ≡ old.tree.items ++ walked.0
-  pub incumbent : incumbent_of new ≡ walked.1
-  pub node : new.node.items ≡ old.node.items
-  pub unscheduled : new.unscheduled ≡ old.unscheduled
-  pub within : length new.tree.items ≤ budget
-
--- the plus of a child that no bound cuts is written
+-- the plus of a child with more than eight jobs left, which no bound cuts, is written
 pub record Opens (shop : Shop) (budget below job : ℕ) (old new : Search) : Type 0 where
   pub wrote : Wrote budget 43 old new
-  pub more : 1 ≤ below
+  pub more : 9 ≤ below
   pub uncut : find (λ machine. nat_le old.value (bound_at shop (old.node.items ++ job ∷ []) machine)) (numbers 1 shop.machines)
       ≡ None
 
@@ -84,4 +76,5 @@ pub record IsWalking (shop : Shop) (budget : ℕ) (root : List ℕ) (whole : Lis
   pub stack : IsStack shop root (suc (suc below)) frames
   pub text : now.tree.items ++ (resume shop root below (here ∷ frames) (incumbent_of now)).0 ≡ old.tree.items ++ whole.0
   pub state : (resume shop root below (here ∷ frames) (incumbent_of now)).1 ≡ whole.1
+  pub many : 8 ≤ below
   pub within : length now.tree.items ≤ budget

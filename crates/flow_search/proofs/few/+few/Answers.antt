@@ -1,8 +1,8 @@
 use Rattle.std.proofs.Common.{◌≡◌, ℕ, ◌+◌, ◌-◌, ◌<◌, ◌≤◌, ◌++◌, ◌∷◌, [], List, Err, Result, length, slice_index, subst, ap, sym, refl, ◌∙◌, arith, vec_len}
 use Rattle.std.proofs.lemmas.Result.{err_from_is_err_and}
 use Rattle.flow_core.specs.Shop.{Shop}
-use Rattle.flow_search.specs.internal.Nodes.{incumbent_of}
-use Rattle.flow_search.specs.internal.Lanes.{IsOpened, IsLaneLeft, IsLetter, AreLetters, Made, child, children_walked, lane_walked, job_of}
+use Rattle.flow_search.specs.internal.Nodes.{Gave, children_walked, incumbent_of}
+use Rattle.flow_search.specs.internal.Lanes.{IsOpened, IsLaneLeft, IsLetter, AreLetters, child, lane_walked, job_of}
 use Rattle.flow_search.specs.declared.subtree.Search.{Search}
 use Rattle.flow_search.specs.declared.subtree.Stop.{Stop}
 use Rattle.flow_search.specs.declared.subtree.Stop.TheVariants.{OverBudget}
@@ -58,8 +58,8 @@ walk_lane-returns-clause-done t c =
     } in
     let node : c.push-2.new.self.items ≡ child c.args.search.now.node.items c.args.group.now c.args.lane =
     c.in_ok-push-2.ensures.items ∙ ap (λ xs. xs ++ job_of c.args.group.now c.args.lane ∷ []) c.in_ok-write-3.ensures.done.node in
-    let made : Made c.args.budget (children_walked c.args.instance.now (length c.args.below.now - 1) next) next c.walk_lanes.new.search =
-    subst (λ left. Made c.args.budget (children_walked c.args.instance.now left next) next c.walk_lanes.new.search) fewer c.in_ok-walk_lanes.ensures.done in
+    let made : Gave c.args.budget (children_walked c.args.instance.now (length c.args.below.now - 1) next) next c.walk_lanes.new.search =
+    subst (λ left. Gave c.args.budget (children_walked c.args.instance.now left next) next c.walk_lanes.new.search) fewer c.in_ok-walk_lanes.ensures.done in
     let back : c.pop-2.new.self.items ≡ c.args.search.now.node.items =
     c.pop-2.ensures.rest ∙ take-last (vec_len c.walk_lanes.new.search.node) c.walk_lanes.new.search.node.items c.args.search.now.node.items (job_of c.args.group.now c.args.lane)
     (made.node ∙ node) c.walk_lanes.new.search.node.ok.0 in
@@ -122,8 +122,8 @@ walk_lanes-loop-lane-preserved t c = elim c.if-frame-lane-eq0.branch [
       let list : List ℕ = c.args.search.now.node.items in
       let here : IsLaneLeft c.args.frame.now c.loop-lane.lane =
       record { within = omega (arith, c.loop-lane-test.true); left = ap (λ g. slice_index g c.loop-lane.lane) (sym c.loop-lane.invariant.gone) ∙ w.if-frame-lane-eq0.true } in
-      let done : Made c.args.budget (lane_walked shop (length c.args.below.now) c.args.group.now c.loop-lane.lane c.loop-lane.search) c.loop-lane.search w.walk_lane.new.search =
-      subst (λ left. Made c.args.budget (lane_walked shop left c.args.group.now c.loop-lane.lane c.loop-lane.search) c.loop-lane.search w.walk_lane.new.search)
+      let done : Gave c.args.budget (lane_walked shop (length c.args.below.now) c.args.group.now c.loop-lane.lane c.loop-lane.search) c.loop-lane.search w.walk_lane.new.search =
+      subst (λ left. Gave c.args.budget (lane_walked shop left c.args.group.now c.loop-lane.lane c.loop-lane.search) c.loop-lane.search w.walk_lane.new.search)
       c.loop-lane.invariant.size w.in_ok-walk_lane.ensures.done in
       record {
         gone = ap (λ frame. frame.gone) w.frame-is ∙ w.renew_letters.ensures.gone ∙ c.loop-lane.invariant.gone;

@@ -7,12 +7,13 @@ use Rattle.flow_core.specs.JobSet.{members}
 use Rattle.flow_core.specs.Bound.{machine_bound}
 use Rattle.flow_bound.specs.Rest.{IsRestOf}
 use Rattle.flow_search.specs.internal.Lows.{second_tail}
-use Rattle.flow_search.specs.internal.Nodes.{IsAt}
+use Rattle.flow_search.specs.internal.Nodes.{IsAt, incumbent_of}
 use Rattle.flow_search.specs.internal.Frames.{IsFrame}
 use Rattle.flow_search.proofs.Nodes.{left-count, within-front, machine-is, cut-here}
-use Rattle.flow_search.proofs.Resume.{frame-of, root-done, root-over}
+use Rattle.flow_search.proofs.Resume.{frame-of}
+use Rattle.flow_search.proofs.LanesWalked.{IsUncut, uncut-found, node-done, node-over}
 use Rattle.flow_search.proofs.subtree.explore.Goals as goal
-use Rattle.flow_search.proofs.subtree.explore.Goals.{After-cutting_machine}
+use Rattle.flow_search.proofs.subtree.explore.Goals.{After-cutting_machine, In_default}
 
 pub of-rest-requires-clause-some : goal.of-rest-requires-clause-some
 of-rest-requires-clause-some c =
@@ -63,15 +64,32 @@ walk_children-requires-clause-frame c =
     (subst (IsRestOf shop (members old.unscheduled)) (sym c.new-here.ensures.rest) c.of-rest.ensures.rest)
     (λ machine from to. c.new-here.ensures.second machine from to ∙ ap (λ u. second_tail shop (members u) machine) w.unscheduled))
 
+-- no machine cuts the root
+uncut : (c : In_default) → IsUncut c.args.setting.now.instance.now c.args.count c.args.search.now.node.items (incumbent_of c.args.search.now)
+uncut c =
+    uncut-found c.args.setting.now.instance.now c.args.front.now c.args.count c.args.search.now (omega (arith, c.if-count-eq0.false)) c.requires.at
+    (sym c.in_default.is ∙ c.cutting_machine.ensures (members c.args.search.now.unscheduled) c.of-rest.ensures.rest)
+
+pub returns-then-count-le8-clause-done : goal.returns-then-count-le8-clause-done
+returns-then-count-le8-clause-done c =
+    on_ok_weaker c.walk_few.result
+    (node-done c.args.setting.now.instance.now c.args.setting.now.budget c.args.count c.args.search.now c.write-2.new.self c.walk_few.new.search
+    (uncut (goal.at.returns-then-count-le8-clause-done c).In_default) c.in_ok-write-3.ensures.done)
+    c.walk_few.ensures.done
+
+pub returns-then-count-le8-clause-over : goal.returns-then-count-le8-clause-over
+returns-then-count-le8-clause-over c e =
+    node-over c.args.setting.now.instance.now c.args.setting.now.budget c.args.count c.args.search.now c.write-2.new.self
+    (uncut (goal.at.returns-then-count-le8-clause-over c).In_default) c.in_ok-write-3.ensures.done (c.walk_few.ensures.over e)
+
 pub returns-clause-done : goal.returns-clause-done
 returns-clause-done c =
     on_ok_weaker c.walk_children.result
-    (root-done c.args.setting.now.instance.now c.args.front.now c.args.setting.now.budget c.args.count c.args.search.now c.write-2.new.self c.walk_children.new.search
-    c.requires.at c.if-count-eq0.false (sym c.in_default.is ∙ found (goal.at.returns-clause-done c).After-cutting_machine) c.in_ok-write-3.ensures.done)
+    (node-done c.args.setting.now.instance.now c.args.setting.now.budget c.args.count c.args.search.now c.write-2.new.self c.walk_children.new.search
+    (uncut (goal.at.returns-clause-done c).In_default) c.in_ok-write-3.ensures.done)
     c.walk_children.ensures.done
 
 pub returns-clause-over : goal.returns-clause-over
 returns-clause-over c e =
-    root-over c.args.setting.now.instance.now c.args.front.now c.args.setting.now.budget c.args.count c.args.search.now c.write-2.new.self
-    c.requires.at c.if-count-eq0.false (sym c.in_default.is ∙ found (goal.at.returns-clause-over c).After-cutting_machine) c.in_ok-write-3.ensures.done
-    (c.walk_children.ensures.over e)
+    node-over c.args.setting.now.instance.now c.args.setting.now.budget c.args.count c.args.search.now c.write-2.new.self
+    (uncut (goal.at.returns-clause-over c).In_default) c.in_ok-write-3.ensures.done (c.walk_children.ensures.over e)

@@ -4,27 +4,16 @@ use Rattle.flow_core.specs.Shop.{numbers}
 use Rattle.flow_core.specs.Bound.{bound_at}
 use Rattle.flow_search.specs.internal.Frames.{IsFrame, IsChild}
 use Rattle.flow_search.proofs.Nodes.{machine-is}
-use Rattle.flow_search.proofs.Resume.{kid-of, leaf-done, cut-done}
+use Rattle.flow_search.proofs.Resume.{kid-of, cut-done}
 use Rattle.flow_search.proofs.subtree.visit.Goals as goal
 use Rattle.flow_search.proofs.subtree.visit.Goals.{After-cutting_machine, In-Some}
-
-pub returns-then-below-eq0-clause-whole : goal.returns-then-below-eq0-clause-whole
-returns-then-below-eq0-clause-whole c e =
-    let shop = c.args.setting.now.instance.now in
-    let old = c.args.search.now in
-    let in_child = c.in_ok-enter.ensures in
-    let wrote = c.in_ok-write.ensures.done in
-    let saw = c.in_ok-see.ensures in
-    let node = saw.node ∙ wrote.node ∙ in_child.node in
-    leaf-done shop c.args.setting.now.budget c.args.below c.args.job c.makespan.result old c.enter.new.self c.write.new.self c.see.new.self c.leave.new.self
-    c.if-below-eq0.true in_child wrote saw (c.makespan.ensures old.node.items (suc c.args.below) c.requires.frame) (c.leave.ensures old.node.items node) c.requires.left
 
 -- the child, and its frame's count of jobs left
 kid : (c : After-cutting_machine) →
     IsFrame c.args.setting.now.instance.now c.args.search.now.node.items (suc (suc (c.args.below - 1))) c.args.here.now
     × IsChild c.args.setting.now.instance.now.jobs c.args.search.now.node.items c.args.job
 kid c =
-    let more : c.args.below ≡ suc (c.args.below - 1) = omega (arith, c.if-below-eq0.false) in
+    let more : c.args.below ≡ suc (c.args.below - 1) = omega (arith, c.requires.many) in
     (
       subst (λ n. IsFrame c.args.setting.now.instance.now c.args.search.now.node.items (suc n) c.args.here.now) more c.requires.frame,
       kid-of c.args.setting.now.instance.now c.args.search.now.node.items c.args.here.now.front c.args.search.now.unscheduled (suc c.args.below) c.args.job
@@ -33,7 +22,7 @@ kid c =
 
 pub cutting_machine-requires-clause-at : goal.cutting_machine-requires-clause-at
 cutting_machine-requires-clause-at c =
-    let more : c.args.below ≡ suc (c.args.below - 1) = omega (arith, c.if-below-eq0.false) in
+    let more : c.args.below ≡ suc (c.args.below - 1) = omega (arith, c.requires.many) in
     (
       c.args.search.now.node.items,
       c.args.below - 1,
@@ -65,12 +54,15 @@ overflow_add-machine c =
 
 pub returns-in-Some-clause-whole : goal.returns-in-Some-clause-whole
 returns-in-Some-clause-whole c e =
-    cut-done c.args.setting.now.instance.now c.args.setting.now.budget c.args.below c.args.job c.in-Some.machine c.args.search.now c.write-in-Some.new.self
-    c.if-below-eq0.false (sym c.in-Some.is ∙ found (goal.at.returns-in-Some-clause-whole c).After-cutting_machine) c.in_ok-write-2.ensures.done
+    cut-done c.args.setting.now.instance.now c.args.setting.now.budget c.args.below c.args.job c.in-Some.machine c.args.search.now c.write.new.self
+    (omega (arith, c.requires.many)) (sym c.in-Some.is ∙ found (goal.at.returns-in-Some-clause-whole c).After-cutting_machine) c.in_ok-write.ensures.done
 
 pub returns-clause-opens : goal.returns-clause-opens
 returns-clause-opens c e = record {
-  wrote = c.in_ok-write-3.ensures.done;
-  more = omega (arith, c.if-below-eq0.false);
+  wrote = c.in_ok-write-2.ensures.done;
+  more = omega (arith, c.requires.many, c.if-below-eq8.false);
   uncut = sym (found (goal.at.returns-clause-opens c).After-cutting_machine) ∙ c.in_default.is;
 }
+
+pub walk_small-requires-clause-uncut : goal.walk_small-requires-clause-uncut
+walk_small-requires-clause-uncut c = sym (found (goal.at.walk_small-requires-clause-uncut c).After-cutting_machine) ∙ c.in_default.is

@@ -8,8 +8,8 @@ use Rattle.flow_core.specs.JobSet.{contains, members}
 use Rattle.flow_core.specs.Bound.{bound_at, front_of}
 use Rattle.flow_search.specs.Walk.{walk}
 use Rattle.flow_bound.specs.Rest.{IsRestOf}
-use Rattle.flow_search.specs.internal.Nodes.{IsAt, Entered, Left, incumbent_of}
-use Rattle.flow_search.specs.internal.Frames.{IsWalking, IsChild, Gave, Opens, path, walk_from}
+use Rattle.flow_search.specs.internal.Nodes.{IsAt, Entered, Left, Gave, children_walked, incumbent_of}
+use Rattle.flow_search.specs.internal.Frames.{IsWalking, IsChild, Opens, path}
 use Rattle.flow_search.specs.declared.frame.Frame.{Frame}
 use Rattle.flow_search.specs.declared.subtree.Stop.{Stop}
 use Rattle.flow_search.specs.declared.subtree.Stop.TheVariants.{OverBudget}
@@ -60,7 +60,7 @@ walk-preserved-in_default c =
     let up = walking-up c.walk.invariant c.in-Some-pop.parent (reverse c.pop.new.self.items) c.leave.new.self
     (sym c.in_default.is ∙ found (goal.at.walk-preserved-in_default c).After-first_of) (above c).0 (above c).1 in
     let more : suc c.walk.below ≡ c.walk.below + 1 = omega arith in
-    subst (λ n. IsWalking shop c.args.setting.now.budget old.node.items (walk_from shop c.args.below old.node.items 1 (incumbent_of old)) old c.in-Some-pop.parent n (reverse c.pop.new.self.items) c.leave.new.self) more up
+    subst (λ n. IsWalking shop c.args.setting.now.budget old.node.items (children_walked shop c.args.below old) old c.in-Some-pop.parent n (reverse c.pop.new.self.items) c.leave.new.self) more up
 
 -- the child's job
 kid : (c : In-Some) →
@@ -111,7 +111,7 @@ entered c =
     let found : Some c.in-Some.job ≡ find (contains c.walk.search.unscheduled) (numbers c.walk.here.next c.args.setting.now.instance.now.jobs) =
     sym c.in-Some.is ∙ c.first_of.ensures ∙ ap (λ n. find (contains c.walk.search.unscheduled) (numbers c.walk.here.next n)) c.jobs-jobs.ensures.value in
     let is = walking-entered c.walk.invariant c.in-Some.job c.visit.new.search c.enter.new.self found o c.in_ok-enter.ensures in
-    (is.0, is.1, o.more)
+    (is.0, is.1, omega (arith, o.more))
 
 pub step-rest-requires-clause-job_from : goal.step-rest-requires-clause-job_from
 step-rest-requires-clause-job_from c = (kid (goal.at.step-rest-requires-clause-job_from c).In-Some).0.from
@@ -164,7 +164,7 @@ walk-preserved-then-branch c =
     let old = c.args.search.now in
     let pushed : reverse c.push.new.self.items ≡ moved c.walk.here (c.in-Some.job + 1) ∷ reverse c.walk.stack.items =
     reverse-push c.walk.stack.items c.push.new.self.items (moved c.walk.here (c.in-Some.job + 1)) c.in_ok-push.ensures.items in
-    subst (λ xs. IsWalking shop c.args.setting.now.budget old.node.items (walk_from shop c.args.below old.node.items 1 (incumbent_of old)) old c.new-here.result (c.walk.below - 1) xs c.enter.new.self) (sym pushed)
+    subst (λ xs. IsWalking shop c.args.setting.now.budget old.node.items (children_walked shop c.args.below old) old c.new-here.result (c.walk.below - 1) xs c.enter.new.self) (sym pushed)
     (walking-down c.walk.invariant c.in-Some.job c.visit.new.search c.enter.new.self c.new-here.result
     (found-job (goal.at.walk-preserved-then-branch c).In-Some) (opens (goal.at.walk-preserved-then-branch c).Then-branch) c.in_ok-enter.ensures
     (subst (IsFrontOf shop (c.walk.search.node.items ++ c.in-Some.job ∷ [])) (sym c.new-here.ensures.front) (c.front_push.ensures.front c.walk.search.node.items c.walk.invariant.at.is_front))
