@@ -3,11 +3,11 @@
 ghost use Rattle.std.specs.Prelude.{◌≡◌, ℕ, ◌+◌, ◌-◌, ◌<◌, ◌≤◌, suc, length, filter, slice_index, take, OnOk};
 ghost use Rattle.flow_core.specs.Shop.{numbers};
 ghost use Rattle.flow_core.specs.JobSet.{contains};
-ghost use Rattle.flow_search.specs.internal.Nodes.{IsAt};
+ghost use Rattle.flow_search.specs.internal.Nodes.{IsAt, Gave, children_walked};
 ghost use Rattle.flow_search.specs.internal.Lanes.{IsFrameOf, IsOpened, IsLaneLeft, IsLetter};
-ghost use Rattle.flow_search.specs.internal.Lanes.{Made, child, children_walked, lane_walked};
+ghost use Rattle.flow_search.specs.internal.Lanes.{child, lane_walked};
 
-use crate::lanes::{Frame, Group, enter_few, letters_of_eight, open_child, renew_letters};
+use crate::eight::{LaneFrame, Group, enter_few, letters_of_eight, open_child, renew_letters};
 use crate::subtree::{Search, Stop};
 use flow_core::{Front, Instance, JobSet};
 
@@ -34,15 +34,15 @@ fn walk_lanes(
     instance: &Instance,
     budget: usize,
     group: &Group,
-    frame: &mut Frame,
-    below: &mut [Frame],
+    frame: &mut LaneFrame,
+    below: &mut [LaneFrame],
     search: &mut Search,
 ) -> Result<(), Stop>
     requires at { IsFrameOf instance.now search.old.node.items group.now frame.old }
     requires count { length search.old.node.items + suc (length below.old) ≡ instance.now.jobs }
     requires within { length search.old.tree.items ≤ budget }
     ensures done { OnOk result
-        (Made budget (children_walked instance.now (length below.old) search.old) search.old search.new) }
+        (Gave budget (children_walked instance.now (length below.old) search.old) search.old search.new) }
     ensures over { result ≡ Err Stop.OverBudget →
         budget < length search.old.tree.items + length (children_walked instance.now (length below.old) search.old).0 }
 {
@@ -64,8 +64,8 @@ fn walk_lane(
     instance: &Instance,
     budget: usize,
     group: &Group,
-    parent: &Frame,
-    below: &mut [Frame],
+    parent: &LaneFrame,
+    below: &mut [LaneFrame],
     lane: usize,
     search: &mut Search,
 ) -> Result<(), Stop>
@@ -76,7 +76,7 @@ fn walk_lane(
         IsLetter instance.now (child search.old.node.items group.now lane) search.old.value instance.now.machines
         (slice_index parent.now.letters lane) }
     ensures done { OnOk result
-        (Made budget (lane_walked instance.now (length below.old) group.now lane search.old) search.old search.new) }
+        (Gave budget (lane_walked instance.now (length below.old) group.now lane search.old) search.old search.new) }
     ensures over { result ≡ Err Stop.OverBudget → budget < length search.old.tree.items
         + length (lane_walked instance.now (length below.old) group.now lane search.old).0 }
 {
@@ -108,7 +108,7 @@ pub fn walk_few(
     budget: usize,
     front: &Front,
     count: u16,
-    frames: &mut [Frame; 8],
+    frames: &mut [LaneFrame; 8],
     search: &mut Search,
 ) -> Result<(), Stop>
     requires at { IsAt instance.now search.old.node.items front.now search.old.unscheduled count }
@@ -116,7 +116,7 @@ pub fn walk_few(
     requires to { count ≤ 8 }
     requires within { length search.old.tree.items ≤ budget }
     ensures done { OnOk result
-        (Made budget (children_walked instance.now (count - 1) search.old) search.old search.new) }
+        (Gave budget (children_walked instance.now (count - 1) search.old) search.old search.new) }
     ensures over { result ≡ Err Stop.OverBudget →
         budget < length search.old.tree.items + length (children_walked instance.now (count - 1) search.old).0 }
 {

@@ -7,8 +7,10 @@ ghost use Rattle.flow_search.specs.Plans.{prefixes_of, tree_of, best_of};
 ghost use Rattle.flow_search.specs.internal.Nodes.{found_if};
 ghost use Rattle.flow_search.specs.Outcomes.{IsLawful, found_of};
 
-use crate::lanes::Frame;
+use crate::eight::LaneFrame;
+use crate::frame::Setting;
 use crate::plan::Plan;
+use crate::rows::rows;
 use crate::subtree::{Search, Stop, explore};
 use flow_core::{Front, Instance, Sequence, front_push};
 use std::alloc::{AllocError, Global};
@@ -61,8 +63,15 @@ fn search_below(alloc: Global, plan: &Plan, number: u32) -> Result<Search, Stop>
     }
     let count = jobs - prefix.len() as u16;
     let budget = plan.options().budget() as usize;
-    let mut frames = [Frame::new(); 8];
-    explore(instance, budget, &front, count, &mut frames, &mut search)?;
+    let rows = rows(alloc, instance)?;
+    let stack = Vec::with_capacity(alloc, count as usize)?;
+    let setting = Setting {
+        instance,
+        rows: &rows,
+        budget,
+    };
+    let mut frames = [LaneFrame::new(); 8];
+    explore(&setting, &front, count, &mut frames, &mut search, stack)?;
     Ok(search)
 }
 

@@ -1,18 +1,24 @@
 //! How the subtree of a prefix is searched.
 
-ghost use Rattle.std.specs.Prelude.{◌≡◌, ℕ, ◌+◌, ◌<◌, ◌≤◌, List, ◌++◌, ◌∷◌, [], length, find, nat_le, false, IfOk};
-ghost use Rattle.std.specs.Prelude.{OnOk};
+ghost use Rattle.std.specs.Prelude.{◌≡◌, ℕ, suc, ◌+◌, ◌<◌, ◌≤◌, true, false, nat_le, List, [], ◌∷◌, ◌++◌, length, find};
+ghost use Rattle.std.specs.Prelude.{Ok, Err, None, IfOk, OnOk};
 ghost use Rattle.flow_core.specs.Limits.{most_jobs};
 ghost use Rattle.flow_core.specs.Shop.{numbers};
 ghost use Rattle.flow_core.specs.Front.{IsWithinFront};
-ghost use Rattle.flow_core.specs.JobSet.{contains, members};
-ghost use Rattle.flow_core.specs.Bound.{machine_bound};
-ghost use Rattle.flow_search.specs.internal.Nodes.{IsAt, IsFresh, Wrote, Saw, Entered, Left, Walked, walked};
+ghost use Rattle.flow_core.specs.JobSet.{contains};
+ghost use Rattle.flow_core.specs.Bound.{machine_bound, bound_at};
+ghost use Rattle.flow_bound.specs.Rest.{IsRestOf};
+ghost use Rattle.flow_search.specs.Walk.{walk};
+ghost use Rattle.flow_search.specs.internal.Rows.{AreRows};
+ghost use Rattle.flow_search.specs.internal.Frames.{IsFrame, Opens};
+ghost use Rattle.flow_search.specs.internal.Nodes.{IsAt, IsFresh, Wrote, Saw, Entered, Left, incumbent_of};
+ghost use Rattle.flow_search.specs.internal.Nodes.{Gave, Walked, walked, children_walked};
 ghost use Rattle.flow_search.specs.declared.subtree.Stop.TheVariants.{Memory};
 
+use crate::eight::LaneFrame;
 use crate::few::walk_few;
-use crate::lanes::Frame;
-use flow_bound::bound;
+use crate::frame::{Frame, Setting};
+use flow_bound::Rest;
 use flow_core::{Front, Instance, JobSet, front_push};
 use std::alloc::{AllocError, AllocFailed, Global};
 
@@ -121,65 +127,184 @@ impl Search {
     }
 }
 
-/// The first machine whose bound is at least a value.
-fn cutting_machine(
-    instance: &Instance,
-    front: &Front,
-    unscheduled: &JobSet,
-    value: u64,
-) -> Option<u16>
-    requires some { 0 < length (members unscheduled.now) }
-    requires jobs { (job : ℕ) → instance.now.jobs < job → contains unscheduled.now job ≡ false }
+/// The first machine whose bound at a node reaches a value.
+fn cutting_machine(instance: &Instance, rest: &Rest, front: &Front, value: u64) -> Option<u16>
+    requires rest { (jobs : List ℕ) × IsRestOf instance.now jobs rest.now }
     requires within { IsWithinFront instance.now front.now }
-    ensures { result ≡ find (λ machine. nat_le value
-        (machine_bound instance.now front.now (members unscheduled.now) machine)) (numbers 1 instance.now.machines) }
+    ensures { (jobs : List ℕ) → IsRestOf instance.now jobs rest.now →
+        result ≡ find (λ machine. nat_le value (machine_bound instance.now front.now jobs machine))
+        (numbers 1 instance.now.machines) }
 {
     for machine in 1..instance.machines() + 1 {
-        if value <= bound(instance, front, unscheduled, machine) {
+        if value <= rest.bound(front, machine) {
             return Some(machine);
         }
     }
     None
 }
 
-/// Searches the subtree of the node, which leaves `count` jobs.
-pub fn explore(
-    instance: &Instance,
-    budget: usize,
-    front: &Front,
-    count: u16,
-    frames: &mut [Frame; 8],
-    search: &mut Search,
-) -> Result<(), Stop>
-    requires { IsAt instance.now search.old.node.items front.now search.old.unscheduled count }
-    ensures done { OnOk result (Walked instance.now budget count search.old search.new) }
-    ensures over { result ≡ Err Stop.OverBudget →
-        budget < length search.old.tree.items + length (walked instance.now count search.old).0 }
+/// The first job of a set from one job to another.
+fn first_of(set: &JobSet, from: u16, last: u16) -> Option<u16>
+    requires from { 1 ≤ from }
+    requires to { last ≤ most_jobs }
+    ensures { result ≡ find (contains set.now) (numbers from last) }
 {
-    let machines = instance.machines();
-    if count == 0 {
-        search.write(budget, b'.')?;
-        search.see(front.at(machines))?;
-        return Ok(());
-    }
-    if let Some(machine) = cutting_machine(instance, front, &search.unscheduled, search.value) {
-        search.write(budget, b'@' + machine as u8)?;
-        return Ok(());
-    }
-    search.write(budget, b'+')?;
-    if count <= 8 {
-        walk_few(instance, budget, front, count, frames, search)?;
-        return Ok(());
-    }
-    let below = count - 1;
-    for job in 1..instance.jobs() + 1 {
-        if search.unscheduled.contains(job) {
-            let mut next = *front;
-            front_push(instance, &mut next, job);
-            search.enter(job)?;
-            explore(instance, budget, &next, below, frames, search)?;
-            search.leave(job);
+    for job in from..last + 1 {
+        if set.contains(job) {
+            return Some(job);
         }
     }
+    None
+}
+
+/// Walks the subtree of a child that no bound cuts and that leaves one to eight jobs. The front is the node's.
+fn walk_small(
+    setting: &Setting,
+    mut front: Front,
+    job: u16,
+    below: u16,
+    frames: &mut [LaneFrame; 8],
+    search: &mut Search,
+) -> Result<(), Stop>
+    requires at { IsAt setting.now.instance.now search.old.node.items front search.old.unscheduled (suc below) }
+    requires from { 1 ≤ job }
+    requires to { job ≤ setting.now.instance.now.jobs }
+    requires left { contains search.old.unscheduled job ≡ true }
+    requires some { 1 ≤ below }
+    requires few { below ≤ 8 }
+    requires uncut { find (λ machine.
+        nat_le search.old.value (bound_at setting.now.instance.now (search.old.node.items ++ job ∷ []) machine))
+        (numbers 1 setting.now.instance.now.machines) ≡ None }
+    ensures done { OnOk result (Gave setting.now.budget
+        (walk setting.now.instance.now bound_at below (search.old.node.items ++ job ∷ []) (incumbent_of search.old))
+        search.old search.new) }
+    ensures over { result ≡ Err Stop.OverBudget → setting.now.budget < length search.old.tree.items + length
+        (walk setting.now.instance.now bound_at below (search.old.node.items ++ job ∷ []) (incumbent_of search.old)).0 }
+{
+    search.enter(job)?;
+    search.write(setting.budget, b'+')?;
+    front_push(setting.instance, &mut front, job);
+    walk_few(setting.instance, setting.budget, &front, below, frames, search)?;
+    search.leave(job);
     Ok(())
+}
+
+/// Begins the walk of a child that leaves eight jobs or more: true for a plus, where its children follow, and false
+/// where its subtree is walked.
+fn visit(
+    setting: &Setting,
+    here: &Frame,
+    job: u16,
+    below: u16,
+    frames: &mut [LaneFrame; 8],
+    search: &mut Search,
+) -> Result<bool, Stop>
+    requires rows { AreRows setting.now.instance.now setting.now.rows.now }
+    requires at { IsAt setting.now.instance.now search.old.node.items here.now.front search.old.unscheduled
+        (suc below) }
+    requires frame { IsFrame setting.now.instance.now search.old.node.items (suc below) here.now }
+    requires from { 1 ≤ job }
+    requires to { job ≤ setting.now.instance.now.jobs }
+    requires left { contains search.old.unscheduled job ≡ true }
+    requires many { 8 ≤ below }
+    ensures whole { result ≡ Ok false → Gave setting.now.budget
+        (walk setting.now.instance.now bound_at below (search.old.node.items ++ job ∷ []) (incumbent_of search.old))
+        search.old search.new }
+    ensures opens { result ≡ Ok true →
+        Opens setting.now.instance.now setting.now.budget below job search.old search.new }
+    ensures over { result ≡ Err Stop.OverBudget → setting.now.budget < length search.old.tree.items + length
+        (walk setting.now.instance.now bound_at below (search.old.node.items ++ job ∷ []) (incumbent_of search.old)).0 }
+{
+    if let Some(machine) = here.cutting_machine(setting, job, search.value) {
+        search.write(setting.budget, b'@' + machine as u8)?;
+        return Ok(false);
+    }
+    if below == 8 {
+        walk_small(setting, here.front, job, below, frames, search)?;
+        return Ok(false);
+    }
+    search.write(setting.budget, b'+')?;
+    Ok(true)
+}
+
+/// Walks the children of the node where the search stands, each with so many jobs left below it, eight or more.
+fn walk_children(
+    setting: &Setting,
+    mut here: Frame,
+    mut below: u16,
+    frames: &mut [LaneFrame; 8],
+    search: &mut Search,
+    mut stack: Vec<Frame>,
+) -> Result<(), Stop>
+    requires rows { AreRows setting.now.instance.now setting.now.rows.now }
+    requires at { IsAt setting.now.instance.now search.old.node.items here.front search.old.unscheduled (suc below) }
+    requires frame { IsFrame setting.now.instance.now search.old.node.items (suc below) here }
+    requires next { here.next ≡ 1 }
+    requires many { 8 ≤ below }
+    requires empty { stack.items ≡ [] }
+    requires within { length search.old.tree.items ≤ setting.now.budget }
+    ensures done { OnOk result (Gave setting.now.budget
+        (children_walked setting.now.instance.now below search.old) search.old search.new) }
+    ensures over { result ≡ Err Stop.OverBudget → setting.now.budget
+        < length search.old.tree.items + length (children_walked setting.now.instance.now below search.old).0 }
+{
+    let instance = setting.instance;
+    let jobs = instance.jobs();
+    'walk: loop {
+        let Some(job) = first_of(&search.unscheduled, here.next, jobs) else {
+            let Some(parent) = stack.pop() else {
+                return Ok(());
+            };
+            search.leave(parent.next - 1);
+            here = parent;
+            below += 1;
+            continue 'walk;
+        };
+        here.next = job + 1;
+        if visit(setting, &here, job, below, frames, search)? {
+            search.enter(job)?;
+            let rest = here.rest.step(instance, &search.unscheduled, job);
+            let mut front = here.front;
+            front_push(instance, &mut front, job);
+            stack.push(here)?;
+            here = Frame::new(setting, front, rest, &search.unscheduled);
+            below -= 1;
+        }
+    }
+}
+
+/// Walks the subtree of the node where the search stands, with so many jobs left. What the frames of lanes hold before
+/// does not matter.
+pub fn explore(
+    setting: &Setting,
+    front: &Front,
+    count: u16,
+    frames: &mut [LaneFrame; 8],
+    search: &mut Search,
+    stack: Vec<Frame>,
+) -> Result<(), Stop>
+    requires rows { AreRows setting.now.instance.now setting.now.rows.now }
+    requires at { IsAt setting.now.instance.now search.old.node.items front.now search.old.unscheduled count }
+    requires empty { stack.items ≡ [] }
+    ensures done { OnOk result (Walked setting.now.instance.now setting.now.budget count search.old search.new) }
+    ensures over { result ≡ Err Stop.OverBudget → setting.now.budget
+        < length search.old.tree.items + length (walked setting.now.instance.now count search.old).0 }
+{
+    let instance = setting.instance;
+    if count == 0 {
+        search.write(setting.budget, b'.')?;
+        search.see(front.at(instance.machines()))?;
+        return Ok(());
+    }
+    let rest = Rest::of(instance, &search.unscheduled);
+    if let Some(machine) = cutting_machine(instance, &rest, front, search.value) {
+        search.write(setting.budget, b'@' + machine as u8)?;
+        return Ok(());
+    }
+    search.write(setting.budget, b'+')?;
+    if count <= 8 {
+        return walk_few(instance, setting.budget, front, count, frames, search);
+    }
+    let here = Frame::new(setting, *front, rest, &search.unscheduled);
+    walk_children(setting, here, count - 1, frames, search, stack)
 }

@@ -8,13 +8,13 @@ use Rattle.flow_core.specs.Front.{IsFrontOf}
 use Rattle.flow_core.specs.Sequences.{has, jobs_left}
 use Rattle.flow_core.specs.Bound.{bound_at}
 use Rattle.flow_search.specs.Search.{Found}
-use Rattle.flow_search.specs.Walk.{walk, walk_each}
+use Rattle.flow_search.specs.Walk.{walk}
 use Rattle.flow_search.specs.internal.Nodes.{incumbent_of}
 use Rattle.flow_search.specs.declared.subtree.Search.{Search}
-use Rattle.flow_search.specs.declared.lanes.group.TheConstants.{GONE}
-use Rattle.flow_search.specs.declared.lanes.group.Row.{Row}
-use Rattle.flow_search.specs.declared.lanes.group.Group.{Group}
-use Rattle.flow_search.specs.declared.lanes.group.Frame.{Frame}
+use Rattle.flow_search.specs.declared.eight.group.TheConstants.{GONE}
+use Rattle.flow_search.specs.declared.eight.group.LaneRow.{LaneRow}
+use Rattle.flow_search.specs.declared.eight.group.Group.{Group}
+use Rattle.flow_search.specs.declared.eight.group.LaneFrame.{LaneFrame}
 
 -- a value is the least number of the lanes other than one
 pub record IsLeastOfOthers (numbers : List ℕ) (lane value : ℕ) : Type 0 where
@@ -34,7 +34,7 @@ pub record IsFew (shop : Shop) (list front jobs : List ℕ) : Type 0 where
   pub times : IsFrontOf shop list front
 
 -- the job of a lane is left
-pub record IsLaneLeft (frame : Frame) (lane : ℕ) : Type 0 where
+pub record IsLaneLeft (frame : LaneFrame) (lane : ℕ) : Type 0 where
   pub within : lane < 8
   pub left : slice_index frame.gone lane ≡ 0
 
@@ -43,29 +43,29 @@ abbrev pub job_of : Group → ℕ → ℕ
 job_of group lane = slice_index group.jobs lane
 
 -- no time is above the limit, nor is a time behind a machine as great as what stands for a job that is gone
-pub record IsSmallRow (row : Row) (lane : ℕ) : Type 0 where
+pub record IsSmallRow (row : LaneRow) (lane : ℕ) : Type 0 where
   pub time : slice_index row.time lane ≤ greatest_time
   pub tail : slice_index row.tail lane < GONE
 
 -- a lane has the times of a job
-pub record IsRowOf (shop : Shop) (row : Row) (lane job machine : ℕ) : Type 0 where
+pub record IsRowOf (shop : Shop) (row : LaneRow) (lane job machine : ℕ) : Type 0 where
   pub time : slice_index row.time lane ≡ time shop job machine
   pub tail : slice_index row.tail lane ≡ time_between shop job (machine + 1) shop.machines
 
 -- the jobs that a list leaves stand in the lanes that are left, in increasing order, with their times; the list's front
 -- and the times owed are known
-pub record IsFrameOf (shop : Shop) (list : List ℕ) (group : Group) (frame : Frame) : Type 0 where
+pub record IsFrameOf (shop : Shop) (list : List ℕ) (group : Group) (frame : LaneFrame) : Type 0 where
   pub count : length list + length (jobs_left shop.jobs list) ≡ shop.jobs
   pub times : IsFrontOf shop list frame.front
   pub owed : (machine : ℕ) → 1 ≤ machine → machine ≤ shop.machines →
       slice_index frame.sum (machine - 1) ≡ sum_by (λ job. time shop job machine) (jobs_left shop.jobs list)
   pub gone : (lane : ℕ) → lane < 8 → (slice_index frame.gone lane ≡ 0) ⊎ (slice_index frame.gone lane ≡ GONE)
-  pub small : (row : Row) (machine lane : ℕ) → 1 ≤ machine → machine ≤ shop.machines → lane < 8 →
+  pub small : (row : LaneRow) (machine lane : ℕ) → 1 ≤ machine → machine ≤ shop.machines → lane < 8 →
       IsSmallRow (slice_index_or group.rows (machine - 1) row) lane
   pub from : (lane : ℕ) → IsLaneLeft frame lane → 1 ≤ job_of group lane
   pub to : (lane : ℕ) → IsLaneLeft frame lane → job_of group lane ≤ shop.jobs
   pub fresh : (lane : ℕ) → IsLaneLeft frame lane → has list (job_of group lane) ≡ false
-  pub rows : (row : Row) (lane machine : ℕ) → IsLaneLeft frame lane → 1 ≤ machine → machine ≤ shop.machines →
+  pub rows : (row : LaneRow) (lane machine : ℕ) → IsLaneLeft frame lane → 1 ≤ machine → machine ≤ shop.machines →
       IsRowOf shop (slice_index_or group.rows (machine - 1) row) lane (job_of group lane) machine
   pub each : (job : ℕ) → 1 ≤ job → job ≤ shop.jobs → has list job ≡ false →
       (lane : ℕ) × IsLaneLeft frame lane × (job_of group lane ≡ job)
@@ -77,7 +77,7 @@ abbrev pub child : List ℕ → Group → ℕ → List ℕ
 child list group lane = list ++ job_of group lane ∷ []
 
 -- and each child's front is known too
-pub record IsOpened (shop : Shop) (list : List ℕ) (group : Group) (frame : Frame) : Type 0 where
+pub record IsOpened (shop : Shop) (list : List ℕ) (group : Group) (frame : LaneFrame) : Type 0 where
   pub at : IsFrameOf shop list group frame
   pub free : (place lane : ℕ) → IsLaneLeft frame lane → place < shop.machines →
       slice_index (slice_index_or frame.free place []) lane ≡ completion shop (child list group lane) (place + 1)
@@ -89,28 +89,14 @@ pub record IsLetter (shop : Shop) (list : List ℕ) (limit machines letter : ℕ
   pub cut : letter < machines → limit ≤ bound_at shop list (letter + 1)
 
 -- each child that leaves a job has its letter for a limit
-abbrev pub AreLetters : Shop → List ℕ → Group → ℕ → Frame → Type 0
+abbrev pub AreLetters : Shop → List ℕ → Group → ℕ → LaneFrame → Type 0
 AreLetters shop list group limit frame =
     (lane other : ℕ) → IsLaneLeft frame lane → IsLaneLeft frame other → other ≢ lane →
     IsLetter shop (child list group lane) limit shop.machines (slice_index frame.letters lane)
 
 -- the lanes whose jobs are left, in increasing order, from a lane on
-abbrev pub lanes_from : Frame → ℕ → List ℕ
+abbrev pub lanes_from : LaneFrame → ℕ → List ℕ
 lanes_from frame lane = filter (λ lane. nat_eq (slice_index frame.gone lane) 0) (range_with_len lane (8 - lane))
-
--- the walk's text stands behind the tree, within the budget, and its incumbent is there
-pub record Made (budget : ℕ) (walk : List ℕ × (ℕ × Option Found)) (old new : Search) : Type 0 where
-  pub tree : new.tree.items ≡ old.tree.items ++ walk.0
-  pub incumbent : incumbent_of new ≡ walk.1
-  pub node : new.node.items ≡ old.node.items
-  pub unscheduled : new.unscheduled ≡ old.unscheduled
-  pub within : length new.tree.items ≤ budget
-
--- what the walks of the children give, with so many jobs left at each
-abbrev pub children_walked : Shop → ℕ → Search → List ℕ × (ℕ × Option Found)
-children_walked shop left search =
-    walk_each (λ job. walk shop bound_at left (search.node.items ++ job ∷ []))
-    (jobs_left shop.jobs search.node.items) (incumbent_of search)
 
 -- what the walk of a lane's child gives, with so many jobs left there
 abbrev pub lane_walked : Shop → ℕ → Group → ℕ → Search → List ℕ × (ℕ × Option Found)

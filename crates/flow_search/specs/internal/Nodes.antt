@@ -4,10 +4,10 @@ use Rattle.flow_core.specs.Limits.{most_jobs}
 use Rattle.flow_core.specs.Shop.{Shop, IsWithinLimits}
 use Rattle.flow_core.specs.Front.{IsFrontOf}
 use Rattle.flow_core.specs.JobSet.{contains}
-use Rattle.flow_core.specs.Sequences.{has, AreJobs}
+use Rattle.flow_core.specs.Sequences.{has, jobs_left, AreJobs}
 use Rattle.flow_core.specs.Bound.{bound_at}
 use Rattle.flow_search.specs.Search.{Found}
-use Rattle.flow_search.specs.Walk.{walk}
+use Rattle.flow_search.specs.Walk.{walk, walk_each}
 use Rattle.flow_search.specs.declared.subtree.Search.{Search}
 
 -- the best so far; none where no sequence with a smaller makespan than the start was found
@@ -72,10 +72,20 @@ pub record Left (job : ℕ) (jobs : List ℕ) (old new : Search) : Type 0 where
 abbrev pub walked : Shop → ℕ → Search → List ℕ × (ℕ × Option Found)
 walked shop left search = walk shop bound_at left search.node.items (incumbent_of search)
 
--- the subtree was walked: the tree ends with the walk's text, and is within the budget; the incumbent is the walk's
-pub record Walked (shop : Shop) (budget left : ℕ) (old new : Search) : Type 0 where
-  pub tree : new.tree.items ≡ old.tree.items ++ (walked shop left old).0
-  pub incumbent : incumbent_of new ≡ (walked shop left old).1
+-- what the walks of the children of the search's node give, one after another, with so many jobs left at each
+abbrev pub children_walked : Shop → ℕ → Search → List ℕ × (ℕ × Option Found)
+children_walked shop left search =
+    walk_each (λ job. walk shop bound_at left (search.node.items ++ job ∷ []))
+    (jobs_left shop.jobs search.node.items) (incumbent_of search)
+
+-- what a walk writes stands behind the tree, within the budget, and its incumbent is there
+pub record Gave (budget : ℕ) (walked : List ℕ × (ℕ × Option Found)) (old new : Search) : Type 0 where
+  pub tree : new.tree.items ≡ old.tree.items ++ walked.0
+  pub incumbent : incumbent_of new ≡ walked.1
   pub node : new.node.items ≡ old.node.items
   pub unscheduled : new.unscheduled ≡ old.unscheduled
   pub within : length new.tree.items ≤ budget
+
+-- the subtree of the search's node was walked
+abbrev pub Walked : Shop → ℕ → ℕ → Search → Search → Type 0
+Walked shop budget left old new = Gave budget (walked shop left old) old new

@@ -66,10 +66,10 @@ answered c =
     c.instance-instance.ensures.value c.jobs-jobs.ensures.value c.prefix-prefix.ensures.value c.prefix-prefix.ensures.jobs short (omega arith) (omega arith) c.loop-job.invariant c.in_ok-explore.ensures.done
 
 pub returns-clause-best : goal.returns-clause-best
-returns-clause-best c = (answered c).0
+returns-clause-best c = (answered (goal.at.returns-clause-best c).In_ok-explore).0
 
 pub returns-clause-tree : goal.returns-clause-tree
-returns-clause-tree c = (answered c).1
+returns-clause-tree c = (answered (goal.at.returns-clause-tree c).In_ok-explore).1
 
 pub returns-clause-sequence : goal.returns-clause-sequence
 returns-clause-sequence c improved = best-sequence c.args.plan.now c.args.number c.explore.new.search c.prefix-prefix.ensures.plan c.requires (returns-clause-best c) improved

@@ -1,0 +1,123 @@
+-- The bounds of a node's children.
+use Rattle.std.proofs.Common.{◌≡◌, ◌≢◌, ℕ, zero, suc, ◌+◌, ◌-◌, ◌*◌, ◌<◌, ◌≤◌, Bool, true, false, cond, List, [], ◌∷◌, ◌++◌, length, map, slice_index, refl, ap, sym, ◌∙◌, inl, inr, arith, length-append}
+use Rattle.std.specs.List.{filter, sum_by}
+use Rattle.std.proofs.lemmas.List.{append-nil}
+use Rattle.std.proofs.lemmas.Bool.Decides.{eqb_tells}
+use Rattle.flow_core.specs.Limits.{most_machines, greatest_time}
+use Rattle.flow_core.specs.Shop.{Shop, numbers, time, time_between, IsWithinLimits}
+use Rattle.flow_core.specs.Paths.{completion}
+use Rattle.flow_core.specs.Front.{IsFrontOf, IsWithinFront}
+use Rattle.flow_core.specs.Sequences.{has, jobs_left}
+use Rattle.flow_core.specs.Bound.{bound_at, front_of}
+use Rattle.flow_core.proofs.Recurrence.{after, completed, completion-is, completion-after, after-same}
+use Rattle.flow_core.proofs.Fronts.{free_at, front-within}
+use Rattle.flow_core.proofs.JobsLeft.{filter-more}
+use Rattle.flow_core.proofs.Admissible.{front_of-is}
+use Rattle.flow_search.specs.internal.Lows.{tails, least_below, second_below, second_tail, unknown}
+use Rattle.flow_search.specs.internal.Frames.{IsFrame, IsChild, left_from}
+use Rattle.flow_search.specs.declared.frame.Frame.{Frame}
+use Rattle.flow_search.proofs.Taken.{left-sum, left-count, left-split, left-without, left_under}
+use Rattle.flow_search.proofs.TwoLeast.{Without, without-one, least-below-cap}
+use Rattle.flow_search.proofs.RowSteps.{tail-small}
+
+pub frame-within : (shop : Shop) (node : List ℕ) (left : ℕ) (frame : Frame) → IsWithinLimits shop → IsFrame shop node left frame →
+    IsWithinFront shop frame.front
+frame-within shop node left frame limits is = front-within shop node frame.front limits (omega (arith, is.count)) is.times
+
+-- the completion time of a child
+pub child-completion : (shop : Shop) (node front : List ℕ) (job machine : ℕ) → machine ≤ shop.machines → IsFrontOf shop node front →
+    after shop (free_at front) job machine ≡ completion shop (node ++ job ∷ []) machine
+child-completion shop node front job machine to is =
+    after-same shop job (free_at front) (completed shop (λ _. 0) node) machine
+    (λ k low high. is k low (omega (arith, high, to)) ∙ completion-is shop node k)
+    ∙ sym (completion-after shop node job machine)
+
+tails-append : (shop : Shop) (machine : ℕ) (us vs : List ℕ) →
+    tails shop machine (us ++ vs) ≡ tails shop machine us ++ tails shop machine vs
+tails-append shop machine [] vs = refl
+tails-append shop machine (u ∷ us) vs =
+    ap (λ xs. time_between shop u (machine + 1) shop.machines ∷ xs) (tails-append shop machine us vs)
+
+-- what stands behind a machine at a child: the second least tail where its job has the least, else the least
+pub child-tail : (shop : Shop) (node : List ℕ) (left job machine tail behind : ℕ) (frame : Frame) → IsWithinLimits shop →
+    IsFrame shop node (suc (suc left)) frame → IsChild shop.jobs node job → 1 ≤ machine → machine ≤ shop.machines →
+    tail ≡ time_between shop job (machine + 1) shop.machines →
+    Without tail (slice_index frame.rest.tails (machine - 1)) (slice_index frame.second (machine - 1)) behind →
+    behind ≡ least_below unknown (tails shop machine (jobs_left shop.jobs (node ++ job ∷ [])))
+child-tail shop node left job machine tail behind frame limits is kid from to is_tail picked =
+    let most : shop.machines ≤ most_machines = limits.machines in
+    let f : ℕ → ℕ = λ j. time_between shop j (machine + 1) shop.machines in
+    let us : List ℕ = left_under node job in
+    let vs : List ℕ = left_from shop.jobs node (job + 1) in
+    let whole : tails shop machine (jobs_left shop.jobs node) ≡ tails shop machine us ++ f job ∷ tails shop machine vs =
+    ap (tails shop machine) (left-split shop.jobs node job kid.from kid.to kid.fresh) ∙ tails-append shop machine us (job ∷ vs) in
+    let rest : tails shop machine (jobs_left shop.jobs (node ++ job ∷ [])) ≡ tails shop machine us ++ tails shop machine vs =
+    ap (tails shop machine) (left-without shop.jobs node job kid.from kid.to) ∙ tails-append shop machine us vs in
+    let one : Without (f job) (least_below unknown (tails shop machine us ++ f job ∷ tails shop machine vs))
+        (second_below unknown unknown (tails shop machine us ++ f job ∷ tails shop machine vs))
+        (least_below unknown (tails shop machine us ++ tails shop machine vs)) =
+    without-one (f job) unknown unknown (tails shop machine us) (tails shop machine vs) (omega arith) in
+    let cap = least-below-cap unknown (most_machines * greatest_time) f (jobs_left shop.jobs node) (omega (arith, is.some))
+    (λ j. omega (arith, tail-small shop j (shop.machines - machine) machine limits (omega (arith, to)), most)) (omega arith) in
+    let least_is : slice_index frame.rest.tails (machine - 1) ≡ least_below unknown (tails shop machine us ++ f job ∷ tails shop machine vs) =
+    is.rest_is.tails_are machine from to ∙ sym cap.0 ∙ ap (least_below unknown) whole in
+    let second_is : slice_index frame.second (machine - 1) ≡ second_below unknown unknown (tails shop machine us ++ f job ∷ tails shop machine vs) =
+    is.second_is machine from to ∙ ap (second_below unknown unknown) whole in
+    same-without tail (f job) (slice_index frame.rest.tails (machine - 1))
+    (least_below unknown (tails shop machine us ++ f job ∷ tails shop machine vs)) (slice_index frame.second (machine - 1))
+    (second_below unknown unknown (tails shop machine us ++ f job ∷ tails shop machine vs)) behind
+    (least_below unknown (tails shop machine us ++ tails shop machine vs)) is_tail least_is second_is picked one
+    ∙ sym (ap (least_below unknown) rest)
+  where
+    same-without : (y z p q r s m n : ℕ) → y ≡ z → p ≡ q → r ≡ s → Without y p r m → Without z q s n → m ≡ n
+    same-without y z p q r s m n yz pq rs a b = elim (eqb_tells y p) [
+      | inl same ↦ omega (arith, a.0 same.1, b.0 (sym yz ∙ same.1 ∙ pq), rs)
+      | inr other ↦ omega (arith, a.1 other.1, b.1 (λ e. other.1 (yz ∙ e ∙ sym pq)), pq)
+    ]
+
+-- the bound of a child with jobs left: when its job starts, the time owed at the node, and what stands behind
+pub child-bound : (shop : Shop) (node : List ℕ) (left job machine start t tail behind : ℕ) (frame : Frame) → IsWithinLimits shop →
+    IsFrame shop node (suc (suc left)) frame → IsChild shop.jobs node job → 1 ≤ machine → machine ≤ shop.machines →
+    start + t ≡ completion shop (node ++ job ∷ []) machine → t ≡ time shop job machine →
+    tail ≡ time_between shop job (machine + 1) shop.machines →
+    Without tail (slice_index frame.rest.tails (machine - 1)) (slice_index frame.second (machine - 1)) behind →
+    (start + slice_index frame.rest.sums (machine - 1) + behind ≡ bound_at shop (node ++ job ∷ []) machine)
+    × (behind ≤ most_machines * greatest_time)
+child-bound shop node left job machine start t tail behind frame limits is kid from to is_free is_t is_tail picked =
+    let most : shop.machines ≤ most_machines = limits.machines in
+    let f : ℕ → ℕ = λ j. time_between shop j (machine + 1) shop.machines in
+    let behind_is = child-tail shop node left job machine tail behind frame limits is kid from to is_tail picked in
+    let count = left-count shop.jobs node job kid.from kid.to kid.fresh in
+    let cap = least-below-cap unknown (most_machines * greatest_time) f (jobs_left shop.jobs (node ++ job ∷ []))
+    (omega (arith, is.some, count))
+    (λ j. omega (arith, tail-small shop j (shop.machines - machine) machine limits (omega (arith, to)), most)) (omega arith) in
+    let front : completion shop (node ++ job ∷ []) machine ≡ slice_index (front_of shop (node ++ job ∷ [])) (machine - 1) =
+    sym (front_of-is shop (node ++ job ∷ []) machine from to) in
+    let sum = left-sum (λ j. time shop j machine) shop.jobs node job kid.from kid.to kid.fresh in
+    (
+      omega (arith, is_free, front, is.rest_is.sums_are machine from to, sum, is_t, behind_is, cap.0),
+      omega (arith, behind_is, cap.0, cap.1),
+    )
+
+-- the jobs so far that pass a test
+pub filter-take : (p : ℕ → Bool) (job : ℕ) → 1 ≤ job → p job ≡ true →
+    filter p (numbers 1 (job + 1 - 1)) ≡ filter p (numbers 1 (job - 1)) ++ job ∷ []
+filter-take p zero low there = absurd (omega arith)
+filter-take p (suc n) low there =
+    let a : suc n + 1 - 1 ≡ suc n = omega arith in
+    let b : n ≡ suc n - 1 = omega arith in
+    ap (λ m. filter p (numbers 1 m)) a
+    ∙ filter-more p n
+    ∙ ap (λ t. filter p (numbers 1 n) ++ cond t (suc n ∷ []) []) there
+    ∙ ap (λ m. filter p (numbers 1 m) ++ suc n ∷ []) b
+
+pub filter-leave : (p : ℕ → Bool) (job : ℕ) → 1 ≤ job → p job ≡ false → filter p (numbers 1 (job + 1 - 1)) ≡ filter p (numbers 1 (job - 1))
+filter-leave p zero low out = absurd (omega arith)
+filter-leave p (suc n) low out =
+    let a : suc n + 1 - 1 ≡ suc n = omega arith in
+    let b : n ≡ suc n - 1 = omega arith in
+    ap (λ m. filter p (numbers 1 m)) a
+    ∙ filter-more p n
+    ∙ ap (λ t. filter p (numbers 1 n) ++ cond t (suc n ∷ []) []) out
+    ∙ append-nil (filter p (numbers 1 n))
+    ∙ ap (λ m. filter p (numbers 1 m)) b

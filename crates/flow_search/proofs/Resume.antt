@@ -1,0 +1,506 @@
+-- The walk of a node's children with a stack of frames is the walk of the definition.
+use Rattle.std.proofs.Common.{◌≡◌, ◌≢◌, ℕ, zero, suc, ◌+◌, ◌-◌, ◌<◌, ◌≤◌, Bool, true, false, cond, not, nat_le, nat_lt, List, [], ◌∷◌, ◌++◌, Option, Some, None, length, slice_index_or, slice_set, reverse, refl, ap, sym, subst, ◌∙◌, inl, inr, arith, append_assoc, length-append}
+use Rattle.std.specs.List.{filter, find, range_with_len}
+use Rattle.std.proofs.lemmas.Bool.{cases_lt}
+use Rattle.std.proofs.lemmas.Bool.Decides.{eqb_tells}
+use Rattle.std.proofs.lemmas.List.{append-nil, get_or-set_other, get_or-set_same, ext_get_or, reverse-append}
+use Rattle.flow_core.specs.Limits.{most_jobs}
+use Rattle.flow_core.specs.Shop.{Shop, numbers}
+use Rattle.flow_core.specs.Front.{IsFrontOf}
+use Rattle.flow_core.specs.JobSet.{contains, members}
+use Rattle.flow_core.specs.Sequences.{has, jobs_left, AreJobs}
+use Rattle.flow_core.specs.Bound.{letter, machine_bound, bound_at, front_of}
+use Rattle.flow_core.specs.Paths.{span}
+use Rattle.flow_core.proofs.JobsLeft.{bool_cases}
+use Rattle.flow_core.proofs.Admissible.{front_of-is}
+use Rattle.flow_bound.specs.Rest.{IsRestOf}
+use Rattle.flow_search.specs.Walk.{walk, walk_each, better}
+use Rattle.flow_search.specs.internal.Lows.{second_tail}
+use Rattle.flow_search.specs.internal.Nodes.{IsAt, Wrote, Entered, Left, Gave, Walked, walked, children_walked, incumbent_of}
+use Rattle.flow_search.specs.internal.Frames.{IsFrame, IsChild, IsStack, Opens, IsWalking, path, left_from, then_walk, walk_from, resume}
+use Rattle.flow_search.specs.declared.frame.Frame.{Frame}
+use Rattle.flow_search.specs.declared.subtree.Search.{Search}
+use Rattle.flow_search.proofs.Walk.{Incumbent, answer_of}
+use Rattle.flow_search.proofs.Nodes.{at-child, find-is, size-set, members-are, left-count, put-back}
+use Rattle.flow_search.proofs.Taken.{has-other}
+
+pub reverse-push : {A : Type 0} (xs new : List A) (x : A) → new ≡ xs ++ x ∷ [] → reverse new ≡ x ∷ reverse xs
+reverse-push xs new x e = ap reverse e ∙ reverse-append xs (x ∷ [])
+
+-- the first of some numbers that pass a test, which agrees with another test on them
+next-in : (p q : ℕ → Bool) (a len j : ℕ) → ((k : ℕ) → a ≤ k → k < a + len → p k ≡ q k) → Some j ≡ find p (range_with_len a len) →
+    (filter q (range_with_len a len) ≡ j ∷ filter q (range_with_len (j + 1) (a + len - (j + 1)))) × (a ≤ j) × (j < a + len) × (p j ≡ true)
+next-in p q a zero j same e = absurd (cc)
+next-in p q a (suc len) j same e =
+    let rest : List ℕ = range_with_len (a + 1) len in
+    elim (bool_cases (p a)) [
+      | inl pass ↦
+          let found : Some j ≡ Some a = e ∙ ap (λ b. cond b (Some a) (find p rest)) pass in
+          let is : j ≡ a = cc in
+          let there : q a ≡ true = sym (same a (omega arith) (omega arith)) ∙ pass in
+          let len_is : len ≡ a + suc len - (j + 1) = omega arith in
+          let from : a + 1 ≡ j + 1 = omega arith in
+          (
+            ap (λ b. cond b (a ∷ filter q rest) (filter q rest)) there
+            ∙ ap (λ k. k ∷ filter q rest) (sym is)
+            ∙ ap (λ k. j ∷ filter q (range_with_len k len)) from
+            ∙ ap (λ k. j ∷ filter q (range_with_len (j + 1) k)) len_is,
+            omega arith,
+            omega arith,
+            ap p is ∙ pass,
+          )
+      | inr fail ↦
+          let there : q a ≡ false = sym (same a (omega arith) (omega arith)) ∙ fail in
+          let later = next-in p q (a + 1) len j (λ k low high. same k (omega arith) (omega arith))
+          (e ∙ ap (λ b. cond b (Some a) (find p rest)) fail) in
+          let len_is : a + 1 + len - (j + 1) ≡ a + suc len - (j + 1) = omega arith in
+          (
+            ap (λ b. cond b (a ∷ filter q rest) (filter q rest)) there
+            ∙ later.0
+            ∙ ap (λ k. j ∷ filter q (range_with_len (j + 1) k)) len_is,
+            omega (arith, later.1),
+            omega (arith, later.2),
+            later.3,
+          )
+    ]
+
+none-in : (p q : ℕ → Bool) (a len : ℕ) → ((k : ℕ) → a ≤ k → k < a + len → p k ≡ q k) → None ≡ find p (range_with_len a len) →
+    filter q (range_with_len a len) ≡ []
+none-in p q a zero same e = refl
+none-in p q a (suc len) same e =
+    let rest : List ℕ = range_with_len (a + 1) len in
+    elim (bool_cases (p a)) [
+      | inl pass ↦
+          let found : None ≡ Some a = e ∙ ap (λ b. cond b (Some a) (find p rest)) pass in
+          absurd (cc)
+      | inr fail ↦
+          let there : q a ≡ false = sym (same a (omega arith) (omega arith)) ∙ fail in
+          ap (λ b. cond b (a ∷ filter q rest) (filter q rest)) there
+          ∙ none-in p q (a + 1) len (λ k low high. same k (omega arith) (omega arith)) (e ∙ ap (λ b. cond b (Some a) (find p rest)) fail)
+    ]
+
+-- the jobs that a node leaves, where the next one is found in the set of them
+
+pub left-next : (shop : Shop) (node front : List ℕ) (set : List Bool) (count from j : ℕ) → IsAt shop node front set count → 1 ≤ from →
+    from ≤ shop.jobs + 1 → Some j ≡ find (contains set) (numbers from shop.jobs) →
+    (left_from shop.jobs node from ≡ j ∷ left_from shop.jobs node (j + 1)) × IsChild shop.jobs node j × (from ≤ j) × (contains set j ≡ true)
+left-next shop node front set count from j at low high e =
+    let found = next-in (contains set) (λ k. not (has node k)) from (shop.jobs + 1 - from) j
+    (λ k a b. at.left k (omega arith) (omega arith)) e in
+    let len_is : from + (shop.jobs + 1 - from) - (j + 1) ≡ shop.jobs + 1 - (j + 1) = omega arith in
+    let free : not (has node j) ≡ true = sym (at.left j (omega (arith, found.1)) (omega (arith, found.2))) ∙ found.3 in
+    (
+      found.0 ∙ ap (λ n. j ∷ filter (λ k. not (has node k)) (range_with_len (j + 1) n)) len_is,
+      record { from = omega (arith, found.1); to = omega (arith, found.2); fresh = not-has (has node j) free },
+      found.1,
+      found.3,
+    )
+  where
+    not-has : (b : Bool) → not b ≡ true → b ≡ false
+    not-has true e = absurd (cc)
+    not-has false e = refl
+
+pub left-none : (shop : Shop) (node front : List ℕ) (set : List Bool) (count from : ℕ) → IsAt shop node front set count → 1 ≤ from →
+    from ≤ shop.jobs + 1 → None ≡ find (contains set) (numbers from shop.jobs) → left_from shop.jobs node from ≡ []
+left-none shop node front set count from at low high e =
+    none-in (contains set) (λ k. not (has node k)) from (shop.jobs + 1 - from) (λ k a b. at.left k (omega arith) (omega arith)) e
+
+-- walks one after another
+
+abbrev Walk : Type 0
+Walk = List ℕ × Incumbent
+
+then-assoc : (a : Walk) (f g : Incumbent → Walk) → then_walk (then_walk a f) g ≡ then_walk a (λ st. then_walk (f st) g)
+then-assoc a f g = ap (λ t. (t, (g (f a.1).1).1)) (append_assoc a.0 (f a.1).0 (g (f a.1).1).0)
+
+resume-next : (shop : Shop) (root : List ℕ) (left job : ℕ) (here later : Frame) (fs : List Frame) (st : Incumbent) →
+    left_from shop.jobs (path root fs) here.next ≡ job ∷ left_from shop.jobs (path root fs) (job + 1) → later.next ≡ job + 1 →
+    resume shop root left (here ∷ fs) st ≡ then_walk (walk shop bound_at left (path root fs ++ job ∷ []) st) (resume shop root left (later ∷ fs))
+resume-next shop root left job here later fs st e next =
+    let w : ℕ → Incumbent → Walk = λ k. walk shop bound_at left (path root fs ++ k ∷ []) in
+    let more : Incumbent → Walk = resume shop root (suc left) fs in
+    ap (λ js. then_walk (walk_each w js st) more) e
+    ∙ then-assoc (w job st) (walk_each w (left_from shop.jobs (path root fs) (job + 1))) more
+    ∙ ap (λ k. then_walk (w job st) (λ s. then_walk (walk_from shop left (path root fs) k s) more)) (sym next)
+
+resume-none : (shop : Shop) (root : List ℕ) (left : ℕ) (here : Frame) (fs : List Frame) (st : Incumbent) →
+    left_from shop.jobs (path root fs) here.next ≡ [] → resume shop root left (here ∷ fs) st ≡ resume shop root (suc left) fs st
+resume-none shop root left here fs st e =
+    ap (λ js. then_walk (walk_each (λ k. walk shop bound_at left (path root fs ++ k ∷ [])) js st) (resume shop root (suc left) fs)) e
+
+-- a frame whose next child is another
+abbrev pub moved : Frame → ℕ → Frame
+moved here next = record { front = here.front; rest = here.rest; second = here.second; next = next }
+
+moved-frame : (shop : Shop) (node : List ℕ) (left : ℕ) (here : Frame) (next : ℕ) → IsFrame shop node left here → IsFrame shop node left (moved here next)
+moved-frame shop node left here next is =
+    record { times = is.times; rest_is = is.rest_is; second_is = is.second_is; count = is.count; some = is.some }
+
+-- a walk writes something
+pub walk-some : (shop : Shop) (left : ℕ) (node : List ℕ) (st : Incumbent) → 1 ≤ length (walk shop bound_at left node st).0
+walk-some shop zero node st = omega arith
+walk-some shop (suc left) node st =
+    some (walk_each (λ k. walk shop bound_at left (node ++ k ∷ [])) (jobs_left shop.jobs node) st)
+    (find (λ machine. nat_le st.0 (bound_at shop node machine)) (numbers 1 shop.machines))
+  where
+    some : (below : Walk) (o : Option ℕ) → 1 ≤ length (answer_of st below o).0
+    some below None = omega arith
+    some below (Some machine) = omega arith
+
+-- the walk before its first child
+pub walking-start : (shop : Shop) (budget below : ℕ) (old : Search) (here : Frame) →
+    IsAt shop old.node.items here.front old.unscheduled (suc below) → IsFrame shop old.node.items (suc below) here → here.next ≡ 1 →
+    8 ≤ below → length old.tree.items ≤ budget →
+    IsWalking shop budget old.node.items (children_walked shop below old) old here below [] old
+walking-start shop budget below old here at frame next many within =
+    let root : List ℕ = old.node.items in
+    let st : Incumbent = incumbent_of old in
+    record {
+      at = at;
+      node = refl;
+      frame = frame;
+      next = omega (arith, next);
+      past = omega (arith, next);
+      stack = tt;
+      text =
+          ap (λ t. old.tree.items ++ t) (append-nil (walk_from shop below root here.next st).0)
+          ∙ ap (λ k. old.tree.items ++ (walk_from shop below root k st).0) next;
+      state = ap (λ k. (walk_from shop below root k st).1) next;
+      many = many;
+      within = within;
+    }
+
+-- a job that a node leaves
+pub kid-of : (shop : Shop) (node front : List ℕ) (set : List Bool) (count job : ℕ) → IsAt shop node front set count → 1 ≤ job → job ≤ shop.jobs →
+    contains set job ≡ true → IsChild shop.jobs node job
+kid-of shop node front set count job at low high there =
+    record { from = low; to = high; fresh = not-has (has node job) (sym (at.left job low high) ∙ there) }
+  where
+    not-has : (b : Bool) → not b ≡ true → b ≡ false
+    not-has true e = absurd (cc)
+    not-has false e = refl
+
+-- the frame of a node, from its rest
+pub frame-of : (shop : Shop) (node front : List ℕ) (set : List Bool) (left : ℕ) (frame : Frame) → IsAt shop node front set left →
+    IsFrontOf shop node frame.front → IsRestOf shop (members set) frame.rest →
+    ((machine : ℕ) → 1 ≤ machine → machine ≤ shop.machines → slice_index_or frame.second (machine - 1) 0 ≡ second_tail shop (members set) machine) →
+    IsFrame shop node left frame
+frame-of shop node front set left frame at times rest second =
+    let left_is : members set ≡ jobs_left shop.jobs node = members-are shop node front set left at in
+    record {
+      times = times;
+      rest_is = subst (λ js. IsRestOf shop js frame.rest) left_is rest;
+      second_is = λ machine from to. second machine from to ∙ ap (λ js. second_tail shop js machine) left_is;
+      count = at.whole;
+      some = ap length (sym left_is) ∙ left-count shop node front set left at;
+    }
+
+-- a child whose subtree was walked
+child-walk : (shop : Shop) (below job : ℕ) (old in_child : Search) → Entered job old in_child →
+    walked shop below in_child ≡ walk shop bound_at below (old.node.items ++ job ∷ []) (incumbent_of old)
+child-walk shop below job old in_child entered =
+    ap (λ q. walk shop bound_at below q (incumbent_of in_child)) entered.node ∙ ap (walk shop bound_at below (old.node.items ++ job ∷ [])) entered.incumbent
+
+pub child-done : (shop : Shop) (budget below job : ℕ) (old in_child after new : Search) → Entered job old in_child →
+    Walked shop budget below in_child after → Left job old.node.items after new → contains old.unscheduled job ≡ true →
+    Gave budget (walk shop bound_at below (old.node.items ++ job ∷ []) (incumbent_of old)) old new
+child-done shop budget below job old in_child after new entered w left there =
+    let same = child-walk shop below job old in_child entered in
+    record {
+      tree = left.tree ∙ w.tree ∙ ap (λ t. t ++ (walked shop below in_child).0) entered.tree ∙ ap (λ p. old.tree.items ++ p.0) same;
+      incumbent = left.incumbent ∙ w.incumbent ∙ ap (λ p. p.1) same;
+      node = left.node;
+      unscheduled =
+          left.unscheduled
+          ∙ ap (λ u. slice_set u (job - 1) true) (w.unscheduled ∙ entered.unscheduled)
+          ∙ put-back old.unscheduled (job - 1) there;
+      within = subst (λ t. length t ≤ budget) (sym left.tree) w.within;
+    }
+
+pub child-over : (shop : Shop) (budget below job : ℕ) (old in_child : Search) → Entered job old in_child →
+    budget < length in_child.tree.items + length (walked shop below in_child).0 →
+    budget < length old.tree.items + length (walk shop bound_at below (old.node.items ++ job ∷ []) (incumbent_of old)).0
+child-over shop budget below job old in_child entered over =
+    omega (arith, over, ap length entered.tree, ap (λ w. length w.0) (child-walk shop below job old in_child entered))
+
+-- a child that a bound cuts
+pub cut-done : (shop : Shop) (budget below job machine : ℕ) (old new : Search) → below ≢ 0 →
+    Some machine ≡ find (λ m. nat_le old.value (bound_at shop (old.node.items ++ job ∷ []) m)) (numbers 1 shop.machines) →
+    Wrote budget (64 + machine) old new → Gave budget (walk shop bound_at below (old.node.items ++ job ∷ []) (incumbent_of old)) old new
+cut-done shop budget below job machine old new some found w =
+    let node : List ℕ = old.node.items ++ job ∷ [] in
+    let st : Incumbent = incumbent_of old in
+    let more : below ≡ suc (below - 1) = omega arith in
+    let cut : walk shop bound_at below node st ≡ (letter machine ∷ [], st) =
+    ap (λ n. walk shop bound_at n node st) more
+    ∙ ap (answer_of st (walk_each (λ k. walk shop bound_at (below - 1) (node ++ k ∷ [])) (jobs_left shop.jobs node) st)) (sym found) in
+    record {
+      tree = w.tree ∙ ap (λ p. old.tree.items ++ p.0) (sym cut);
+      incumbent = w.incumbent ∙ ap (λ p. p.1) (sym cut);
+      node = w.node;
+      unscheduled = w.unscheduled;
+      within = w.within;
+    }
+
+-- the jobs left at a node, once its child's job is put back
+at-parent : (shop : Shop) (node front : List ℕ) (set : List Bool) (count left job : ℕ) (f : Frame) → IsAt shop (node ++ job ∷ []) front set count →
+    IsFrame shop node left f → IsChild shop.jobs node job → AreJobs shop.jobs node → IsAt shop node f.front (slice_set set (job - 1) true) left
+at-parent shop node front set count left job f at frame kid jobs =
+    let most : shop.jobs ≤ most_jobs = at.limits.jobs in
+    let low : 1 ≤ job = kid.from in
+    let high : job ≤ shop.jobs = kid.to in
+    let within : job - 1 < length set = omega (arith, at.size) in
+    record {
+      limits = at.limits;
+      whole = frame.count;
+      jobs = jobs;
+      is_front = frame.times;
+      left = λ k from to. elim (eqb_tells k job) [
+        | inl same ↦
+            ap (contains (slice_set set (job - 1) true)) same.1
+            ∙ get_or-set_same set (job - 1) true false within
+            ∙ ap not (sym (ap (has node) same.1 ∙ kid.fresh))
+        | inr other ↦
+            let ne : k ≢ job = other.1 in
+            let far : k - 1 ≢ job - 1 = omega arith in
+            get_or-set_other set (job - 1) (k - 1) true false far ∙ at.left k from to ∙ ap not (has-other node job k ne)
+      ];
+      none = λ k past.
+          let far : k - 1 ≢ job - 1 = omega arith in
+          get_or-set_other set (job - 1) (k - 1) true false far ∙ at.none k past;
+      size = size-set set (job - 1) true ∙ at.size;
+    }
+
+-- the set of the jobs left at a node is one alone
+same-set : (shop : Shop) (node front other_front : List ℕ) (set other : List Bool) (count other_count : ℕ) →
+    IsAt shop node front set count → IsAt shop node other_front other other_count → set ≡ other
+same-set shop node front other_front set other count other_count a b =
+    ext_get_or false set other (a.size ∙ sym b.size) (λ i within.
+    let e : i + 1 - 1 ≡ i = omega arith in
+    ap (λ n. slice_index_or set n false) (sym e) ∙ each (i + 1) (omega arith) ∙ ap (λ n. slice_index_or other n false) e)
+  where
+    each : (k : ℕ) → 1 ≤ k → contains set k ≡ contains other k
+    each k low = elim (cases_lt shop.jobs k) [
+      | inl past ↦ a.none k past ∙ sym (b.none k past)
+      | inr in_range ↦ a.left k low in_range ∙ sym (b.left k low in_range)
+    ]
+
+module _ {shop : Shop} {budget : ℕ} {root : List ℕ} {whole : List ℕ × Incumbent} {old : Search} {here : Frame} {below : ℕ} {fs : List Frame} {now : Search} (i : IsWalking shop budget root whole old here below fs now) where
+  -- the next child
+  pub walking-child : (job : ℕ) → Some job ≡ find (contains now.unscheduled) (numbers here.next shop.jobs) →
+      (left_from shop.jobs (path root fs) here.next ≡ job ∷ left_from shop.jobs (path root fs) (job + 1)) × IsChild shop.jobs (path root fs) job
+      × (contains now.unscheduled job ≡ true)
+  walking-child job found =
+      let next = left-next shop now.node.items here.front now.unscheduled (suc below) here.next job i.at i.next i.past found in
+      (
+        subst (λ q. left_from shop.jobs q here.next ≡ job ∷ left_from shop.jobs q (job + 1)) i.node next.0,
+        subst (λ q. IsChild shop.jobs q job) i.node next.1,
+        next.3,
+      )
+
+  -- a child's subtree was walked
+  pub walking-whole : (job : ℕ) (new : Search) → Some job ≡ find (contains now.unscheduled) (numbers here.next shop.jobs) →
+      Gave budget (walk shop bound_at below (now.node.items ++ job ∷ []) (incumbent_of now)) now new →
+      IsWalking shop budget root whole old (moved here (job + 1)) below fs new
+  walking-whole job new found gave =
+      let kid = walking-child job found in
+      let st : Incumbent = incumbent_of now in
+      let later : Frame = moved here (job + 1) in
+      let first : Walk = walk shop bound_at below (path root fs ++ job ∷ []) st in
+      let first_is : walk shop bound_at below (now.node.items ++ job ∷ []) st ≡ first =
+      ap (λ q. walk shop bound_at below (q ++ job ∷ []) st) i.node in
+      let all : resume shop root below (here ∷ fs) st ≡ then_walk first (resume shop root below (later ∷ fs)) =
+      resume-next shop root below job here later fs st kid.0 refl in
+      let after : incumbent_of new ≡ first.1 = gave.incumbent ∙ ap (λ w. w.1) first_is in
+      let tree : new.tree.items ≡ now.tree.items ++ first.0 = gave.tree ∙ ap (λ w. now.tree.items ++ w.0) first_is in
+      let rest : Incumbent → Walk = resume shop root below (later ∷ fs) in
+      record {
+        at = subst (λ u. IsAt shop new.node.items here.front u (suc below)) (sym gave.unscheduled)
+            (subst (λ q. IsAt shop q here.front now.unscheduled (suc below)) (sym gave.node) i.at);
+        node = gave.node ∙ i.node;
+        frame = moved-frame shop (path root fs) (suc below) here (job + 1) i.frame;
+        next = omega arith;
+        past = omega (arith, kid.1.to);
+        stack = i.stack;
+        text =
+            ap (λ s. new.tree.items ++ (rest s).0) after
+            ∙ ap (λ t. t ++ (rest first.1).0) tree
+            ∙ append_assoc now.tree.items first.0 (rest first.1).0
+            ∙ ap (λ w. now.tree.items ++ w.0) (sym all)
+            ∙ i.text;
+        state = ap (λ s. (rest s).1) after ∙ ap (λ w. w.1) (sym all) ∙ i.state;
+        many = i.many;
+        within = gave.within;
+      }
+
+  -- a child's text is longer than the budget
+  pub walking-over : (job : ℕ) → Some job ≡ find (contains now.unscheduled) (numbers here.next shop.jobs) →
+      budget < length now.tree.items + length (walk shop bound_at below (now.node.items ++ job ∷ []) (incumbent_of now)).0 →
+      budget < length old.tree.items + length whole.0
+  walking-over job found over =
+      let kid = walking-child job found in
+      let st : Incumbent = incumbent_of now in
+      let first : Walk = walk shop bound_at below (path root fs ++ job ∷ []) st in
+      let rest : Walk = resume shop root below (moved here (job + 1) ∷ fs) first.1 in
+      let first_is : length (walk shop bound_at below (now.node.items ++ job ∷ []) st).0 ≡ length first.0 =
+      ap (λ q. length (walk shop bound_at below (q ++ job ∷ []) st).0) i.node in
+      let all : now.tree.items ++ (first.0 ++ rest.0) ≡ old.tree.items ++ whole.0 =
+      ap (λ w. now.tree.items ++ w.0) (sym (resume-next shop root below job here (moved here (job + 1)) fs st kid.0 refl)) ∙ i.text in
+      let sizes : length (now.tree.items ++ (first.0 ++ rest.0)) ≡ length (old.tree.items ++ whole.0) = ap length all in
+      omega (
+        arith,
+        over,
+        first_is,
+        sizes,
+        length-append now.tree.items (first.0 ++ rest.0),
+        length-append first.0 rest.0,
+        length-append old.tree.items whole.0,
+      )
+
+  -- the plus of a child is written, and its node entered
+  pub walking-down : (job : ℕ) (mid new : Search) (child : Frame) → Some job ≡ find (contains now.unscheduled) (numbers here.next shop.jobs) →
+      Opens shop budget below job now mid → Entered job mid new → IsFrontOf shop (now.node.items ++ job ∷ []) child.front →
+      IsRestOf shop (members new.unscheduled) child.rest →
+      ((machine : ℕ) → 1 ≤ machine → machine ≤ shop.machines → slice_index_or child.second (machine - 1) 0 ≡ second_tail shop (members new.unscheduled) machine) →
+      child.next ≡ 1 →
+      IsWalking shop budget root whole old child (below - 1) (moved here (job + 1) ∷ fs) new
+  walking-down job mid new child found opens entered front rest_given second next =
+      let kid = walking-child job found in
+      let st : Incumbent = incumbent_of now in
+      let more : below ≡ suc (below - 1) = omega (arith, opens.more) in
+      let left : ℕ = below - 1 in
+      let later : Frame = moved here (job + 1) in
+      let back : job + 1 - 1 ≡ job = omega arith in
+      let here_at : path root fs ++ (job + 1 - 1) ∷ [] ≡ now.node.items ++ job ∷ [] = ap (λ j. path root fs ++ j ∷ []) back ∙ ap (λ q. q ++ job ∷ []) (sym i.node) in
+      let node : new.node.items ≡ now.node.items ++ job ∷ [] = entered.node ∙ ap (λ q. q ++ job ∷ []) opens.wrote.node in
+      let set : new.unscheduled ≡ slice_set now.unscheduled (job - 1) false = entered.unscheduled ∙ ap (λ u. slice_set u (job - 1) false) opens.wrote.unscheduled in
+      let st_is : incumbent_of new ≡ st = entered.incumbent ∙ opens.wrote.incumbent in
+      let at_kid = at-child shop now.node.items here.front child.front now.unscheduled (suc below) below job i.at refl kid.1.from kid.1.to kid.2 front in
+      let at_new : IsAt shop new.node.items child.front new.unscheduled (suc left) =
+      subst (λ q. IsAt shop q child.front new.unscheduled (suc left)) (sym node)
+      (subst (λ u. IsAt shop (now.node.items ++ job ∷ []) child.front u (suc left)) (sym set)
+      (subst (IsAt shop (now.node.items ++ job ∷ []) child.front (slice_set now.unscheduled (job - 1) false)) more at_kid)) in
+      let members_is : members new.unscheduled ≡ jobs_left shop.jobs new.node.items = members-are shop new.node.items child.front new.unscheduled (suc left) at_new in
+      let left_is : members new.unscheduled ≡ jobs_left shop.jobs (path root (later ∷ fs)) = members_is ∙ ap (jobs_left shop.jobs) (node ∙ sym here_at) in
+      let first : Walk = walk shop bound_at below (path root fs ++ job ∷ []) st in
+      let deeper : Incumbent → Walk = walk_from shop left (path root (later ∷ fs)) 1 in
+      let rest : Incumbent → Walk = resume shop root below (later ∷ fs) in
+      let uncut : find (λ machine. nat_le st.0 (bound_at shop (path root fs ++ job ∷ []) machine)) (numbers 1 shop.machines) ≡ None =
+      ap (λ q. find (λ machine. nat_le st.0 (bound_at shop (q ++ job ∷ []) machine)) (numbers 1 shop.machines)) (sym i.node) ∙ opens.uncut in
+      let first_is : first ≡ (43 ∷ (deeper st).0, (deeper st).1) =
+      ap (λ n. walk shop bound_at n (path root fs ++ job ∷ []) st) more
+      ∙ ap (answer_of st (walk_each (λ k. walk shop bound_at left ((path root fs ++ job ∷ []) ++ k ∷ [])) (jobs_left shop.jobs (path root fs ++ job ∷ [])) st)) uncut
+      ∙ ap (λ q. (43 ∷ (walk_from shop left q 1 st).0, (walk_from shop left q 1 st).1)) (ap (λ j. path root fs ++ j ∷ []) (sym back)) in
+      let all : resume shop root below (here ∷ fs) st ≡ then_walk first rest = resume-next shop root below job here later fs st kid.0 refl in
+      let tree : new.tree.items ≡ now.tree.items ++ 43 ∷ [] = entered.tree ∙ opens.wrote.tree in
+      let child_rest : Incumbent → Walk = resume shop root left (child ∷ later ∷ fs) in
+      let child_is : (s : Incumbent) → child_rest s ≡ then_walk (deeper s) rest = λ s.
+          ap (λ n. then_walk (walk_from shop left (path root (later ∷ fs)) n s) (resume shop root (suc left) (later ∷ fs))) next
+          ∙ ap (λ n. then_walk (deeper s) (resume shop root n (later ∷ fs))) (sym more) in
+      let whole_is : resume shop root below (here ∷ fs) st ≡ (43 ∷ (child_rest st).0, (child_rest st).1) =
+      all ∙ ap (λ f. then_walk f rest) first_is ∙ ap (λ r. (43 ∷ r.0, r.1)) (sym (child_is st)) in
+      record {
+        at = at_new;
+        node = node ∙ sym here_at;
+        frame = record {
+          times = subst (λ q. IsFrontOf shop q child.front) (sym here_at) front;
+          rest_is = subst (λ js. IsRestOf shop js child.rest) left_is rest_given;
+          second_is = λ machine from to. second machine from to ∙ ap (λ js. second_tail shop js machine) left_is;
+          count = ap (λ q. length q + suc left) (sym (node ∙ sym here_at)) ∙ at_new.whole;
+          some = ap length (sym left_is) ∙ left-count shop new.node.items child.front new.unscheduled (suc left) at_new;
+        };
+        next = omega (arith, next);
+        past = omega (arith, next);
+        stack = (
+          moved-frame shop (path root fs) (suc (suc left)) here (job + 1) (subst (λ n. IsFrame shop (path root fs) (suc n) here) more i.frame),
+          subst (IsChild shop.jobs (path root fs)) (sym back) kid.1,
+          subst (AreJobs shop.jobs) i.node i.at.jobs,
+          subst (λ n. IsStack shop root (suc (suc n)) fs) more i.stack,
+        );
+        text =
+            ap (λ s. new.tree.items ++ (child_rest s).0) st_is
+            ∙ ap (λ t. t ++ (child_rest st).0) tree
+            ∙ append_assoc now.tree.items (43 ∷ []) (child_rest st).0
+            ∙ ap (λ w. now.tree.items ++ w.0) (sym whole_is)
+            ∙ i.text;
+        state = ap (λ s. (child_rest s).1) st_is ∙ ap (λ w. w.1) (sym whole_is) ∙ i.state;
+        many = omega (arith, opens.more);
+        within = subst (λ t. length t ≤ budget) (sym entered.tree) opens.wrote.within;
+      }
+
+  -- the node of a child whose plus is written
+  pub walking-entered : (job : ℕ) (mid new : Search) → Some job ≡ find (contains now.unscheduled) (numbers here.next shop.jobs) →
+      Opens shop budget below job now mid → Entered job mid new →
+      IsAt shop new.node.items (front_of shop (now.node.items ++ job ∷ [])) new.unscheduled below
+      × IsRestOf shop (members (slice_set new.unscheduled (job - 1) true)) here.rest
+  walking-entered job mid new found opens entered =
+      let kid = walking-child job found in
+      let node : new.node.items ≡ now.node.items ++ job ∷ [] = entered.node ∙ ap (λ q. q ++ job ∷ []) opens.wrote.node in
+      let set : new.unscheduled ≡ slice_set now.unscheduled (job - 1) false = entered.unscheduled ∙ ap (λ u. slice_set u (job - 1) false) opens.wrote.unscheduled in
+      let front : List ℕ = front_of shop (now.node.items ++ job ∷ []) in
+      let at_kid = at-child shop now.node.items here.front front now.unscheduled (suc below) below job i.at refl kid.1.from kid.1.to kid.2
+      (front_of-is shop (now.node.items ++ job ∷ [])) in
+      let whole : slice_set new.unscheduled (job - 1) true ≡ now.unscheduled =
+      ap (λ u. slice_set u (job - 1) true) set ∙ put-back now.unscheduled (job - 1) kid.2 in
+      let jobs : jobs_left shop.jobs (path root fs) ≡ members (slice_set new.unscheduled (job - 1) true) =
+      ap (jobs_left shop.jobs) (sym i.node)
+      ∙ sym (members-are shop now.node.items here.front now.unscheduled (suc below) i.at)
+      ∙ ap members (sym whole) in
+      (
+        subst (λ q. IsAt shop q front new.unscheduled below) (sym node)
+        (subst (λ u. IsAt shop (now.node.items ++ job ∷ []) front u below) (sym set) at_kid),
+        subst (λ js. IsRestOf shop js here.rest) jobs i.frame.rest_is,
+      )
+
+  -- no child is left: back at the node above
+  pub walking-up : (f : Frame) (gs : List Frame) (new : Search) → None ≡ find (contains now.unscheduled) (numbers here.next shop.jobs) →
+      fs ≡ f ∷ gs → Left (f.next - 1) (path root gs) now new →
+      IsWalking shop budget root whole old f (suc below) gs new
+  walking-up f gs new none e left =
+      let empty : left_from shop.jobs (path root fs) here.next ≡ [] =
+      subst (λ q. left_from shop.jobs q here.next ≡ []) i.node (left-none shop now.node.items here.front now.unscheduled (suc below) here.next i.at i.next i.past none) in
+      let st : Incumbent = incumbent_of now in
+      let above = subst (IsStack shop root (suc (suc below))) e i.stack in
+      let job : ℕ = f.next - 1 in
+      let node : now.node.items ≡ path root gs ++ job ∷ [] = i.node ∙ ap (path root) e in
+      let same : resume shop root below (here ∷ fs) st ≡ resume shop root (suc below) (f ∷ gs) st =
+      resume-none shop root below here fs st empty ∙ ap (λ xs. resume shop root (suc below) xs st) e in
+      let at_now : IsAt shop (path root gs ++ job ∷ []) here.front now.unscheduled (suc below) =
+      subst (λ q. IsAt shop q here.front now.unscheduled (suc below)) node i.at in
+      record {
+        at =
+            subst (λ q. IsAt shop q f.front new.unscheduled (suc (suc below))) (sym left.node)
+            (subst (λ u. IsAt shop (path root gs) f.front u (suc (suc below))) (sym left.unscheduled)
+            (at-parent shop (path root gs) here.front now.unscheduled (suc below) (suc (suc below)) job f at_now above.0 above.1 above.2));
+        node = left.node;
+        frame = above.0;
+        next = omega (arith, above.1.from);
+        past = omega (arith, above.1.to);
+        stack = above.3;
+        text = ap (λ s. new.tree.items ++ (resume shop root (suc below) (f ∷ gs) s).0) left.incumbent
+            ∙ ap (λ t. t ++ (resume shop root (suc below) (f ∷ gs) st).0) left.tree
+            ∙ ap (λ w. now.tree.items ++ w.0) (sym same)
+            ∙ i.text;
+        state = ap (λ s. (resume shop root (suc below) (f ∷ gs) s).1) left.incumbent ∙ ap (λ w. w.1) (sym same) ∙ i.state;
+        many = omega (arith, i.many);
+        within = subst (λ t. length t ≤ budget) (sym left.tree) i.within;
+      }
+
+  -- no child is left, of the root
+  pub walking-done : (front : List ℕ) (count : ℕ) → None ≡ find (contains now.unscheduled) (numbers here.next shop.jobs) → fs ≡ [] →
+      IsAt shop old.node.items front old.unscheduled count → root ≡ old.node.items → Gave budget whole old now
+  walking-done front count none e start root_is =
+      let empty : left_from shop.jobs (path root fs) here.next ≡ [] =
+      subst (λ q. left_from shop.jobs q here.next ≡ []) i.node (left-none shop now.node.items here.front now.unscheduled (suc below) here.next i.at i.next i.past none) in
+      let st : Incumbent = incumbent_of now in
+      let node : now.node.items ≡ old.node.items = i.node ∙ ap (path root) e ∙ root_is in
+      let same : resume shop root below (here ∷ fs) st ≡ ([], st) =
+      resume-none shop root below here fs st empty ∙ ap (λ xs. resume shop root (suc below) xs st) e in
+      record {
+        tree = sym (append-nil now.tree.items) ∙ ap (λ w. now.tree.items ++ w.0) (sym same) ∙ i.text;
+        incumbent = ap (λ w. w.1) (sym same) ∙ i.state;
+        node = node;
+        unscheduled = same-set shop old.node.items here.front front now.unscheduled old.unscheduled (suc below) count
+            (subst (λ q. IsAt shop q here.front now.unscheduled (suc below)) node i.at) start;
+        within = i.within;
+      }

@@ -1,0 +1,10 @@
+use Rattle.std.proofs.Common.{◌≡◌, ℕ, ◌<◌, ◌≤◌, length, slice_index}
+use Rattle.flow_search.specs.declared.eight.group.TheConstants.{GONE}
+use Rattle.flow_search.proofs.eight.entry.gone_from.Given as goal
+
+abbrev pub invariant-loop-lane : goal.invariant-loop-lane
+invariant-loop-lane l = record {
+  size : length l.made ≡ 8;
+  left : (k : ℕ) → k < l.lane → k < l.count → slice_index l.made k ≡ 0;
+  gone : (k : ℕ) → k < l.lane → l.count ≤ k → slice_index l.made k ≡ GONE;
+}

@@ -1,0 +1,11 @@
+use Rattle.std.proofs.Common.{◌≡◌, ◌*◌, ◌≤◌, take}
+use Rattle.std.specs.List.{sum_by}
+use Rattle.flow_core.specs.Limits.{greatest_time}
+use Rattle.flow_core.specs.Shop.{time}
+use Rattle.flow_search.proofs.eight.entry.owed.Given as goal
+
+abbrev pub invariant-loop-lane : goal.invariant-loop-lane
+invariant-loop-lane l = record {
+  value : l.total ≡ sum_by (λ job. time l.instance job l.machine) (take l.lane l.jobs);
+  small : l.total ≤ l.lane * greatest_time;
+}

@@ -1,0 +1,13 @@
+use Rattle.std.proofs.Common.{◌≡◌, ℕ, ◌-◌, ◌<◌, [], length, slice_index, slice_index_or}
+use Rattle.flow_core.specs.Limits.{most_machines}
+use Rattle.flow_search.proofs.eight.letters.open_child.Given as goal
+
+-- the machines so far are those of the child
+abbrev pub invariant-loop-place : goal.invariant-loop-place
+invariant-loop-place l = record {
+  front_size : length l.made.front ≡ most_machines;
+  sum_size : length l.made.sum ≡ most_machines;
+  front : (k : ℕ) → k < l.place → slice_index l.made.front k ≡ slice_index (slice_index_or l.parent.free k []) l.lane;
+  sum : (k : ℕ) → k < l.place → slice_index l.made.sum k ≡ slice_index l.parent.sum k - slice_index
+      (slice_index_or l.group.rows k (record { time = []; tail = [] })).time l.lane;
+}

@@ -1,0 +1,80 @@
+-- What is kept of the nodes whose children are walked, and what is still to be walked.
+use Rattle.std.specs.Prelude.{ℕ, zero, suc, ◌≡◌, ◌+◌, ◌-◌, ◌<◌, ◌≤◌, false, not, nat_le, List, [], ◌∷◌, ◌++◌, length, filter, find, slice_index, Option, None}
+use Rattle.flow_core.specs.Shop.{Shop, numbers}
+use Rattle.flow_core.specs.Front.{IsFrontOf}
+use Rattle.flow_core.specs.Sequences.{has, jobs_left, AreJobs}
+use Rattle.flow_core.specs.Bound.{bound_at}
+use Rattle.flow_bound.specs.Rest.{IsRestOf}
+use Rattle.flow_search.specs.Search.{Found}
+use Rattle.flow_search.specs.Walk.{walk, walk_each}
+use Rattle.flow_search.specs.internal.Lows.{second_tail}
+use Rattle.flow_search.specs.internal.Nodes.{IsAt, Wrote, incumbent_of}
+use Rattle.flow_search.specs.declared.frame.Frame.{Frame}
+use Rattle.flow_search.specs.declared.subtree.Search.{Search}
+
+-- what a frame has of a node with so many jobs left
+pub record IsFrame (shop : Shop) (node : List ℕ) (left : ℕ) (frame : Frame) : Type 0 where
+  pub times : IsFrontOf shop node frame.front
+  pub rest_is : IsRestOf shop (jobs_left shop.jobs node) frame.rest
+  pub second_is : (machine : ℕ) → 1 ≤ machine → machine ≤ shop.machines →
+      slice_index frame.second (machine - 1) ≡ second_tail shop (jobs_left shop.jobs node) machine
+  pub count : length node + left ≡ shop.jobs
+  pub some : length (jobs_left shop.jobs node) ≡ left
+
+-- a job from 1 to n that a node does not have
+pub record IsChild (n : ℕ) (node : List ℕ) (job : ℕ) : Type 0 where
+  pub from : 1 ≤ job
+  pub to : job ≤ n
+  pub fresh : has node job ≡ false
+
+-- the node that a stack of frames, the deepest first, leads to: each frame's child just walked is that before its next
+abbrev pub path : List ℕ → List Frame → List ℕ
+path root [] = root
+path root (f ∷ fs) = path root fs ++ (f.next - 1) ∷ []
+
+-- each frame is that of its node, whose child just walked takes a job that the node leaves
+abbrev pub IsStack : Shop → List ℕ → ℕ → List Frame → Type 0
+IsStack shop root left [] = Unit {0}
+IsStack shop root left (f ∷ fs) =
+    IsFrame shop (path root fs) left f × IsChild shop.jobs (path root fs) (f.next - 1) × AreJobs shop.jobs (path root fs)
+    × IsStack shop root (suc left) fs
+
+-- the jobs from one on that a node leaves
+abbrev pub left_from : ℕ → List ℕ → ℕ → List ℕ
+left_from n node from = filter (λ job. not (has node job)) (numbers from n)
+
+-- what one walk writes and then another, which begins with the incumbent after it
+abbrev pub then_walk : List ℕ × (ℕ × Option Found) → (ℕ × Option Found → List ℕ × (ℕ × Option Found)) →
+    List ℕ × (ℕ × Option Found)
+then_walk first more = (first.0 ++ (more first.1).0, (more first.1).1)
+
+-- the walk of a node's children from a job on, each with so many jobs left
+abbrev pub walk_from : Shop → ℕ → List ℕ → ℕ → ℕ × Option Found → List ℕ × (ℕ × Option Found)
+walk_from shop left node from incumbent =
+    walk_each (λ job. walk shop bound_at left (node ++ job ∷ [])) (left_from shop.jobs node from) incumbent
+
+-- what is still to be walked of the nodes of a stack, with so many jobs left below the children of the deepest one
+abbrev pub resume : Shop → List ℕ → ℕ → List Frame → ℕ × Option Found → List ℕ × (ℕ × Option Found)
+resume shop root left [] incumbent = ([], incumbent)
+resume shop root left (f ∷ fs) incumbent =
+    then_walk (walk_from shop left (path root fs) f.next incumbent) (resume shop root (suc left) fs)
+
+-- the plus of a child with more than eight jobs left, which no bound cuts, is written
+pub record Opens (shop : Shop) (budget below job : ℕ) (old new : Search) : Type 0 where
+  pub wrote : Wrote budget 43 old new
+  pub more : 9 ≤ below
+  pub uncut : find (λ machine. nat_le old.value (bound_at shop (old.node.items ++ job ∷ []) machine)) (numbers 1 shop.machines)
+      ≡ None
+
+-- the walk of a root's children goes on at a child's node: what was written with what is still to be walked is the whole
+pub record IsWalking (shop : Shop) (budget : ℕ) (root : List ℕ) (whole : List ℕ × (ℕ × Option Found)) (old : Search) (here : Frame) (below : ℕ) (frames : List Frame) (now : Search) : Type 0 where
+  pub at : IsAt shop now.node.items here.front now.unscheduled (suc below)
+  pub node : now.node.items ≡ path root frames
+  pub frame : IsFrame shop (path root frames) (suc below) here
+  pub next : 1 ≤ here.next
+  pub past : here.next ≤ shop.jobs + 1
+  pub stack : IsStack shop root (suc (suc below)) frames
+  pub text : now.tree.items ++ (resume shop root below (here ∷ frames) (incumbent_of now)).0 ≡ old.tree.items ++ whole.0
+  pub state : (resume shop root below (here ∷ frames) (incumbent_of now)).1 ≡ whole.1
+  pub many : 8 ≤ below
+  pub within : length now.tree.items ≤ budget

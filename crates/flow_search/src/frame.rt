@@ -1,0 +1,139 @@
+//! What is kept of a node while its children are walked.
+
+ghost use Rattle.std.specs.Prelude.{◌≡◌, ℕ, suc, ◌-◌, ◌<◌, ◌≤◌, false, nat_le, List, [], ◌∷◌, ◌++◌, slice_index, find};
+ghost use Rattle.flow_core.specs.Shop.{Shop, IsWithinLimits, numbers};
+ghost use Rattle.flow_core.specs.JobSet.{contains, members};
+ghost use Rattle.flow_core.specs.Bound.{bound_at};
+ghost use Rattle.flow_search.specs.internal.Rows.{AreRows, IsRow};
+ghost use Rattle.flow_search.specs.internal.Lows.{AreLows, second_tail};
+ghost use Rattle.flow_search.specs.internal.Frames.{IsFrame, IsChild};
+
+use crate::rows::Row;
+use flow_bound::Rest;
+use flow_core::{Front, Instance, JobSet, MAX_MACHINES};
+
+/// What stays the same while a tree is walked.
+#[derive(Drop)]
+pub struct Setting<'a> {
+    /// The instance.
+    pub instance: &'a Instance,
+    /// The times of its jobs, a row for each job from 1 on.
+    pub rows: &'a [Row],
+    /// The most bytes that the tree may have.
+    pub budget: usize,
+}
+
+/// A node with more than eight jobs left, whose children are walked.
+#[derive(Drop)]
+pub struct Frame {
+    /// When each machine is free after the node's jobs.
+    pub front: Front,
+    /// What each machine owes the jobs left.
+    pub rest: Rest,
+    /// For each machine the second least tail of the jobs left: the least tail without a job that has the least.
+    pub second: [u32; MAX_MACHINES],
+    /// No job below this one begins a child that is still to be walked.
+    pub next: u16,
+}
+
+/// The two least tails of some jobs behind each machine, each the greatest number where there is no such job. Where two
+/// jobs have the least, both are the same.
+#[derive(Drop)]
+pub struct Lows {
+    /// The least.
+    pub least: [u32; MAX_MACHINES],
+    /// The second least.
+    pub second: [u32; MAX_MACHINES],
+}
+
+impl Lows {
+    /// Those of no job.
+    fn none() -> Lows
+        ensures { (shop : Shop) → IsWithinLimits shop → AreLows shop [] result }
+    {
+        Lows {
+            least: [u32::MAX; MAX_MACHINES],
+            second: [u32::MAX; MAX_MACHINES],
+        }
+    }
+
+    /// Takes one job more in.
+    fn take(&mut self, row: &Row)
+        ensures { (shop : Shop) (jobs : List ℕ) (job : ℕ) → IsWithinLimits shop → IsRow shop job row.now →
+            AreLows shop jobs self.old → AreLows shop (jobs ++ job ∷ []) self.new }
+    {
+        for place in 0..MAX_MACHINES {
+            let tail = row.tails[place];
+            let least = self.least[place];
+            self.second[place] = self.second[place].min(least.max(tail));
+            self.least[place] = least.min(tail);
+        }
+    }
+}
+
+/// The two least tails of a set of jobs.
+fn lows_of(setting: &Setting, set: &JobSet) -> Lows
+    requires rows { AreRows setting.now.instance.now setting.now.rows.now }
+    requires jobs { (job : ℕ) → setting.now.instance.now.jobs < job → contains set.now job ≡ false }
+    ensures { AreLows setting.now.instance.now (members set.now) result }
+{
+    let mut lows = Lows::none();
+    for job in 1..setting.instance.jobs() + 1 {
+        if set.contains(job) {
+            lows.take(&setting.rows[job as usize - 1]);
+        }
+    }
+    lows
+}
+
+impl Frame {
+    /// A node before its first child, with its front and the rest of the jobs left.
+    pub fn new(setting: &Setting, front: Front, rest: Rest, left: &JobSet) -> Frame
+        requires rows { AreRows setting.now.instance.now setting.now.rows.now }
+        requires jobs { (job : ℕ) → setting.now.instance.now.jobs < job → contains left.now job ≡ false }
+        ensures front { result.front ≡ front }
+        ensures rest { result.rest ≡ rest }
+        ensures second { (machine : ℕ) → 1 ≤ machine → machine ≤ setting.now.instance.now.machines →
+            slice_index result.second (machine - 1)
+            ≡ second_tail setting.now.instance.now (members left.now) machine }
+        ensures next { result.next ≡ 1 }
+    {
+        let lows = lows_of(setting, left);
+        let second = lows.second;
+        Frame {
+            front,
+            rest,
+            second,
+            next: 1,
+        }
+    }
+
+    /// The first machine whose bound at a child reaches a value.
+    pub fn cutting_machine(&self, setting: &Setting, job: u16, value: u64) -> Option<u16>
+        requires rows { AreRows setting.now.instance.now setting.now.rows.now }
+        requires at { (node : List ℕ) × (left : ℕ) × IsFrame setting.now.instance.now node (suc (suc left)) self.now
+            × IsChild setting.now.instance.now.jobs node job }
+        ensures { (node : List ℕ) (left : ℕ) → IsFrame setting.now.instance.now node (suc (suc left)) self.now →
+            IsChild setting.now.instance.now.jobs node job →
+            result ≡ find (λ machine. nat_le value (bound_at setting.now.instance.now (node ++ job ∷ []) machine))
+            (numbers 1 setting.now.instance.now.machines) }
+    {
+        let row = &setting.rows[job as usize - 1];
+        let mut free = 0;
+        for machine in 1..setting.instance.machines() + 1 {
+            let place = machine as usize - 1;
+            let start = self.front.at(machine).max(free);
+            let least = self.rest.tail(machine);
+            let tail = if row.tails[place] == least {
+                self.second[place]
+            } else {
+                least
+            };
+            if value <= start + u64::from(self.rest.sum(machine)) + u64::from(tail) {
+                return Some(machine);
+            }
+            free = start + u64::from(row.times[place]);
+        }
+        None
+    }
+}
