@@ -11,7 +11,8 @@ ghost use Rattle.flow_bound.specs.Rest.{IsRestOf};
 ghost use Rattle.flow_search.specs.Walk.{walk};
 ghost use Rattle.flow_search.specs.internal.Rows.{AreRows};
 ghost use Rattle.flow_search.specs.internal.Frames.{IsFrame, Gave, Opens, walk_from};
-ghost use Rattle.flow_search.specs.internal.Nodes.{IsAt, IsFresh, Wrote, Saw, Entered, Left, Walked, walked, incumbent_of};
+ghost use Rattle.flow_search.specs.internal.Nodes.{IsAt, IsFresh, Wrote, Saw, Entered, Left, Walked};
+ghost use Rattle.flow_search.specs.internal.Nodes.{walked, incumbent_of};
 ghost use Rattle.flow_search.specs.declared.subtree.Stop.TheVariants.{Memory};
 
 use crate::frame::{Frame, Setting};
@@ -163,7 +164,8 @@ fn visit(
     search: &mut Search,
 ) -> Result<bool, Stop>
     requires rows { AreRows setting.now.instance.now setting.now.rows.now }
-    requires at { IsAt setting.now.instance.now search.old.node.items here.now.front search.old.unscheduled (suc below) }
+    requires at { let shop = setting.now.instance.now in
+        IsAt shop search.old.node.items here.now.front search.old.unscheduled (suc below) }
     requires frame { IsFrame setting.now.instance.now search.old.node.items (suc below) here.now }
     requires from { 1 ≤ job }
     requires to { job ≤ setting.now.instance.now.jobs }
@@ -171,7 +173,8 @@ fn visit(
     ensures whole { result ≡ Ok false → Gave setting.now.budget
         (walk setting.now.instance.now bound_at below (search.old.node.items ++ job ∷ []) (incumbent_of search.old))
         search.old search.new }
-    ensures opens { result ≡ Ok true → Opens setting.now.instance.now setting.now.budget below job search.old search.new }
+    ensures opens { result ≡ Ok true →
+        Opens setting.now.instance.now setting.now.budget below job search.old search.new }
     ensures over { result ≡ Err Stop.OverBudget → setting.now.budget < length search.old.tree.items + length
         (walk setting.now.instance.now bound_at below (search.old.node.items ++ job ∷ []) (incumbent_of search.old)).0 }
 {
@@ -247,8 +250,8 @@ pub fn explore(
     requires at { IsAt setting.now.instance.now search.old.node.items front.now search.old.unscheduled count }
     requires empty { stack.items ≡ [] }
     ensures done { OnOk result (Walked setting.now.instance.now setting.now.budget count search.old search.new) }
-    ensures over { result ≡ Err Stop.OverBudget →
-        setting.now.budget < length search.old.tree.items + length (walked setting.now.instance.now count search.old).0 }
+    ensures over { result ≡ Err Stop.OverBudget → setting.now.budget <
+        length search.old.tree.items + length (walked setting.now.instance.now count search.old).0 }
 {
     let instance = setting.instance;
     if count == 0 {

@@ -19,8 +19,7 @@ here c =
     let high : k ≤ shop.machines = omega (arith, c.loop-machine-test.true, c.machines-machine-end.ensures.value) in
     let kid = c.requires.at.3 in
     let within : slice_index c.args.self.now.front (k - 1) ≤ greatest_completion =
-    frame-within shop c.requires.at.0 c.requires.at.1 c.args.self.now c.requires.rows.limits c.requires.at.2 (k - 1) (omega arith) in
-    (
+    frame-within shop c.requires.at.0 c.requires.at.1 c.args.self.now c.requires.rows.limits c.requires.at.2 (k - 1) (omega arith) in (
       c.from.ensures ∙ (c.requires.rows.each c.args.job (record { times = []; tails = [] }) kid.from kid.to k low high).0,
       omega (arith, c.max.ensures, c.at.ensures, within, c.loop-machine.invariant.small),
       high,
