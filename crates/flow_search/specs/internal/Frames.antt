@@ -72,7 +72,8 @@ pub record Opens (shop : Shop) (budget below job : ℕ) (old new : Search) : Typ
   pub wrote : Wrote budget 43 old new
   pub more : 1 ≤ below
   pub uncut :
-      find (λ machine. nat_le old.value (bound_at shop (old.node.items ++ job ∷ []) machine)) (numbers 1 shop.machines) ≡ None
+      find (λ machine. nat_le old.value (bound_at shop (old.node.items ++ job ∷ []) machine)) (numbers 1 shop.machines)
+      ≡ None
 
 -- the walk of a root's children stands at a node below it, whose frame is `here`: what was written, with what is still
 -- to be walked, is the whole
