@@ -1,19 +1,19 @@
 -- The bounds of a node's children.
-use Rattle.std.proofs.Common.{◌≡◌, ◌≢◌, ℕ, zero, suc, ◌+◌, ◌-◌, ◌*◌, ◌<◌, ◌≤◌, Bool, true, false, cond, List, [], ◌∷◌, ◌++◌, length, map, slice_index, refl, ap, sym, ◌∙◌, inl, inr, arith, length-append}
-use Rattle.std.specs.List.{filter, sum_by}
+use Rattle.std.proofs.Common.{◌≡◌, ℕ, zero, suc, ◌+◌, ◌-◌, ◌*◌, ◌≤◌, Bool, true, false, cond, List, [], ◌∷◌, ◌++◌, slice_index, refl, ap, sym, ◌∙◌, inl, inr, arith}
+use Rattle.std.specs.List.{filter}
 use Rattle.std.proofs.lemmas.List.{append-nil}
 use Rattle.std.proofs.lemmas.Bool.Decides.{eqb_tells}
 use Rattle.flow_core.specs.Limits.{most_machines, greatest_time}
 use Rattle.flow_core.specs.Shop.{Shop, numbers, time, time_between, IsWithinLimits}
 use Rattle.flow_core.specs.Paths.{completion}
 use Rattle.flow_core.specs.Front.{IsFrontOf, IsWithinFront}
-use Rattle.flow_core.specs.Sequences.{has, jobs_left}
+use Rattle.flow_core.specs.Sequences.{jobs_left}
 use Rattle.flow_core.specs.Bound.{bound_at, front_of}
 use Rattle.flow_core.proofs.Recurrence.{after, completed, completion-is, completion-after, after-same}
 use Rattle.flow_core.proofs.Fronts.{free_at, front-within}
 use Rattle.flow_core.proofs.JobsLeft.{filter-more}
 use Rattle.flow_core.proofs.Admissible.{front_of-is}
-use Rattle.flow_search.specs.internal.Lows.{tails, least_below, second_below, second_tail, unknown}
+use Rattle.flow_search.specs.internal.Lows.{tails, least_below, second_below, unknown}
 use Rattle.flow_search.specs.internal.Frames.{IsFrame, IsChild, left_from}
 use Rattle.flow_search.specs.declared.frame.Frame.{Frame}
 use Rattle.flow_search.proofs.Taken.{left-sum, left-count, left-split, left-without, left_under}

@@ -1,6 +1,5 @@
 -- What is searched, from where, and in which parts.
 use Rattle.std.specs.Prelude.{ℕ, ◌≡◌, ◌≤◌, nat_le, List, [], ◌∷◌, length, slice_index_or, Option, Some, None}
-use Rattle.std.specs.List.{concat}
 use Rattle.flow_core.specs.Refusals.{fault_unless, first_fault}
 use Rattle.flow_search.specs.Limits.{most_prefixes}
 use Rattle.flow_core.specs.Shop.{Shop, IsWithinLimits}

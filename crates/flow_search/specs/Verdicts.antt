@@ -1,15 +1,10 @@
 -- What a run comes to.
-use Rattle.std.specs.Prelude.{ℕ, ◌≡◌, ◌+◌, ◌≤◌, Bool, true, false, nat_lt, List, [], ◌∷◌, map, length, take, Option, Some, None}
-use Rattle.std.specs.Option.{option_map, option_or, option_to_list}
-use Rattle.std.specs.List.{flat_map, AllByRecursion}
-use Rattle.flow_core.specs.Least.{first_least}
+use Rattle.std.specs.Prelude.{ℕ, ◌≡◌, ◌+◌, List, [], ◌∷◌, map, Option, Some, None}
+use Rattle.std.specs.Option.{option_or}
 use Rattle.flow_search.specs.Search.{best}
-use Rattle.flow_search.specs.Plans.{Planned, prefixes_of, trees_of, verdict_of}
-use Rattle.flow_search.specs.Outcomes.{found_of}
-use Rattle.flow_search.specs.declared.outcome.Best.{Best}
+use Rattle.flow_search.specs.Plans.{Planned, trees_of, verdict_of}
 use Rattle.flow_search.specs.declared.outcome.Outcome.{Outcome}
 use Rattle.flow_search.specs.declared.outcome.Outcome.TheVariants as outcome
-use Rattle.flow_search.specs.declared.tally.Tally.{Tally}
 use Rattle.flow_search.specs.declared.verdict.Verdict.{Verdict}
 use Rattle.flow_search.specs.declared.verdict.RunFault.{RunFault}
 use Rattle.flow_search.specs.declared.verdict.RunFault.TheVariants.{OverBudget, Memory}

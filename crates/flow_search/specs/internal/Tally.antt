@@ -1,18 +1,13 @@
 -- What the first prefixes of a plan have come to.
-use Rattle.std.specs.Prelude.{ℕ, ◌≡◌, ◌+◌, ◌≤◌, Bool, true, false, nat_lt, List, [], ◌∷◌, map, length, take, Option, Some, None}
-use Rattle.std.specs.Option.{option_map, option_or, option_to_list}
+use Rattle.std.specs.Prelude.{ℕ, ◌≡◌, ◌≤◌, Bool, true, false, nat_lt, map, length, take, Option, Some, None}
+use Rattle.std.specs.Option.{option_map, option_to_list}
 use Rattle.std.specs.List.{flat_map, AllByRecursion}
 use Rattle.flow_core.specs.Least.{first_least}
 use Rattle.flow_search.specs.Search.{best}
-use Rattle.flow_search.specs.Plans.{Planned, prefixes_of, trees_of, verdict_of}
+use Rattle.flow_search.specs.Plans.{Planned, prefixes_of, trees_of}
 use Rattle.flow_search.specs.Outcomes.{found_of}
 use Rattle.flow_search.specs.declared.outcome.Best.{Best}
-use Rattle.flow_search.specs.declared.outcome.Outcome.{Outcome}
-use Rattle.flow_search.specs.declared.outcome.Outcome.TheVariants as outcome
 use Rattle.flow_search.specs.declared.tally.Tally.{Tally}
-use Rattle.flow_search.specs.declared.verdict.Verdict.{Verdict}
-use Rattle.flow_search.specs.declared.verdict.RunFault.{RunFault}
-use Rattle.flow_search.specs.declared.verdict.RunFault.TheVariants.{OverBudget, Memory}
 
 -- whether a best undercuts another; where one is missing the other is the lower
 abbrev pub undercuts : Option Best → Option Best → Bool

@@ -1,4 +1,4 @@
-use Rattle.std.proofs.Common.{◌≡◌, ◌+◌, ◌-◌, ◌*◌, length, reverse}
+use Rattle.std.proofs.Common.{◌+◌, ◌-◌, ◌*◌, length, reverse}
 use Rattle.flow_search.specs.internal.Nodes.{incumbent_of}
 use Rattle.flow_search.specs.internal.Frames.{IsWalking, walk_from}
 use Rattle.flow_search.proofs.subtree.walk_children.Given as goal
