@@ -1,19 +1,19 @@
 -- The bounds of a node's children.
-use Rattle.std.proofs.Common.{◌≡◌, ◌≢◌, ℕ, zero, suc, ◌+◌, ◌-◌, ◌*◌, ◌<◌, ◌≤◌, Bool, true, false, cond, List, [], ◌∷◌, ◌++◌, length, map, slice_index, refl, ap, sym, ◌∙◌, inl, inr, arith, length-append}
-use Rattle.std.specs.List.{filter, sum_by}
+use Rattle.std.proofs.Common.{◌≡◌, ℕ, zero, suc, ◌+◌, ◌-◌, ◌*◌, ◌≤◌, Bool, true, false, cond, List, [], ◌∷◌, ◌++◌, slice_index, refl, ap, sym, ◌∙◌, inl, inr, arith}
+use Rattle.std.specs.List.{filter}
 use Rattle.std.proofs.lemmas.List.{append-nil}
 use Rattle.std.proofs.lemmas.Bool.Decides.{eqb_tells}
 use Rattle.flow_core.specs.Limits.{most_machines, greatest_time}
 use Rattle.flow_core.specs.Shop.{Shop, numbers, time, time_between, IsWithinLimits}
 use Rattle.flow_core.specs.Paths.{completion}
 use Rattle.flow_core.specs.Front.{IsFrontOf, IsWithinFront}
-use Rattle.flow_core.specs.Sequences.{has, jobs_left}
+use Rattle.flow_core.specs.Sequences.{jobs_left}
 use Rattle.flow_core.specs.Bound.{bound_at, front_of}
 use Rattle.flow_core.proofs.Recurrence.{after, completed, completion-is, completion-after, after-same}
 use Rattle.flow_core.proofs.Fronts.{free_at, front-within}
 use Rattle.flow_core.proofs.JobsLeft.{filter-more}
 use Rattle.flow_core.proofs.Admissible.{front_of-is}
-use Rattle.flow_search.specs.internal.Lows.{tails, least_below, second_below, second_tail, unknown}
+use Rattle.flow_search.specs.internal.Lows.{tails, least_below, second_below, unknown}
 use Rattle.flow_search.specs.internal.Frames.{IsFrame, IsChild, left_from}
 use Rattle.flow_search.specs.declared.frame.Frame.{Frame}
 use Rattle.flow_search.proofs.Taken.{left-sum, left-count, left-split, left-without, left_under}
@@ -54,8 +54,8 @@ child-tail shop node left job machine tail behind frame limits is kid from to is
     let rest : tails shop machine (jobs_left shop.jobs (node ++ job ∷ [])) ≡ tails shop machine us ++ tails shop machine vs =
     ap (tails shop machine) (left-without shop.jobs node job kid.from kid.to) ∙ tails-append shop machine us vs in
     let one : Without (f job) (least_below unknown (tails shop machine us ++ f job ∷ tails shop machine vs))
-        (second_below unknown unknown (tails shop machine us ++ f job ∷ tails shop machine vs))
-        (least_below unknown (tails shop machine us ++ tails shop machine vs)) =
+    (second_below unknown unknown (tails shop machine us ++ f job ∷ tails shop machine vs))
+    (least_below unknown (tails shop machine us ++ tails shop machine vs)) =
     without-one (f job) unknown unknown (tails shop machine us) (tails shop machine vs) (omega arith) in
     let cap = least-below-cap unknown (most_machines * greatest_time) f (jobs_left shop.jobs node) (omega (arith, is.some))
     (λ j. omega (arith, tail-small shop j (shop.machines - machine) machine limits (omega (arith, to)), most)) (omega arith) in
@@ -93,8 +93,7 @@ child-bound shop node left job machine start t tail behind frame limits is kid f
     (λ j. omega (arith, tail-small shop j (shop.machines - machine) machine limits (omega (arith, to)), most)) (omega arith) in
     let front : completion shop (node ++ job ∷ []) machine ≡ slice_index (front_of shop (node ++ job ∷ [])) (machine - 1) =
     sym (front_of-is shop (node ++ job ∷ []) machine from to) in
-    let sum = left-sum (λ j. time shop j machine) shop.jobs node job kid.from kid.to kid.fresh in
-    (
+    let sum = left-sum (λ j. time shop j machine) shop.jobs node job kid.from kid.to kid.fresh in (
       omega (arith, is_free, front, is.rest_is.sums_are machine from to, sum, is_t, behind_is, cap.0),
       omega (arith, behind_is, cap.0, cap.1),
     )

@@ -1,9 +1,7 @@
-use Rattle.std.proofs.Common.{◌≡◌, ℕ, ◌+◌, ◌-◌, true, false, List, [], ◌∷◌, ◌++◌, cond, refl, sym, ap, subst, ◌∙◌, arith}
+use Rattle.std.proofs.Common.{◌≡◌, ℕ, ◌+◌, ◌-◌, true, false, [], sym, ap, subst, ◌∙◌, arith}
 use Rattle.std.specs.List.{filter}
-use Rattle.std.proofs.lemmas.List.{append-nil}
 use Rattle.flow_core.specs.Shop.{numbers}
-use Rattle.flow_core.specs.JobSet.{contains, members}
-use Rattle.flow_core.proofs.JobsLeft.{filter-more}
+use Rattle.flow_core.specs.JobSet.{contains}
 use Rattle.flow_core.proofs.JobSetLemmas.{members-is}
 use Rattle.flow_search.specs.internal.Lows.{AreLows}
 use Rattle.flow_search.proofs.Children.{filter-take, filter-leave}
