@@ -54,8 +54,8 @@ child-tail shop node left job machine tail behind frame limits is kid from to is
     let rest : tails shop machine (jobs_left shop.jobs (node ++ job ∷ [])) ≡ tails shop machine us ++ tails shop machine vs =
     ap (tails shop machine) (left-without shop.jobs node job kid.from kid.to) ∙ tails-append shop machine us vs in
     let one : Without (f job) (least_below unknown (tails shop machine us ++ f job ∷ tails shop machine vs))
-        (second_below unknown unknown (tails shop machine us ++ f job ∷ tails shop machine vs))
-        (least_below unknown (tails shop machine us ++ tails shop machine vs)) =
+    (second_below unknown unknown (tails shop machine us ++ f job ∷ tails shop machine vs))
+    (least_below unknown (tails shop machine us ++ tails shop machine vs)) =
     without-one (f job) unknown unknown (tails shop machine us) (tails shop machine vs) (omega arith) in
     let cap = least-below-cap unknown (most_machines * greatest_time) f (jobs_left shop.jobs node) (omega (arith, is.some))
     (λ j. omega (arith, tail-small shop j (shop.machines - machine) machine limits (omega (arith, to)), most)) (omega arith) in
@@ -93,8 +93,7 @@ child-bound shop node left job machine start t tail behind frame limits is kid f
     (λ j. omega (arith, tail-small shop j (shop.machines - machine) machine limits (omega (arith, to)), most)) (omega arith) in
     let front : completion shop (node ++ job ∷ []) machine ≡ slice_index (front_of shop (node ++ job ∷ [])) (machine - 1) =
     sym (front_of-is shop (node ++ job ∷ []) machine from to) in
-    let sum = left-sum (λ j. time shop j machine) shop.jobs node job kid.from kid.to kid.fresh in
-    (
+    let sum = left-sum (λ j. time shop j machine) shop.jobs node job kid.from kid.to kid.fresh in (
       omega (arith, is_free, front, is.rest_is.sums_are machine from to, sum, is_t, behind_is, cap.0),
       omega (arith, behind_is, cap.0, cap.1),
     )

@@ -39,12 +39,11 @@ next-in p q a (suc len) j same e =
           let is : j ≡ a = cc in
           let there : q a ≡ true = sym (same a (omega arith) (omega arith)) ∙ pass in
           let len_is : len ≡ a + suc len - (j + 1) = omega arith in
-          let from : a + 1 ≡ j + 1 = omega arith in
-          (
+          let from : a + 1 ≡ j + 1 = omega arith in (
             ap (λ b. cond b (a ∷ filter q rest) (filter q rest)) there
-            ∙ ap (λ k. k ∷ filter q rest) (sym is)
-            ∙ ap (λ k. j ∷ filter q (range_with_len k len)) from
-            ∙ ap (λ k. j ∷ filter q (range_with_len (j + 1) k)) len_is,
+                ∙ ap (λ k. k ∷ filter q rest) (sym is)
+                ∙ ap (λ k. j ∷ filter q (range_with_len k len)) from
+                ∙ ap (λ k. j ∷ filter q (range_with_len (j + 1) k)) len_is,
             omega arith,
             omega arith,
             ap p is ∙ pass,
@@ -53,11 +52,10 @@ next-in p q a (suc len) j same e =
           let there : q a ≡ false = sym (same a (omega arith) (omega arith)) ∙ fail in
           let later = next-in p q (a + 1) len j (λ k low high. same k (omega arith) (omega arith))
           (e ∙ ap (λ b. cond b (Some a) (find p rest)) fail) in
-          let len_is : a + 1 + len - (j + 1) ≡ a + suc len - (j + 1) = omega arith in
-          (
+          let len_is : a + 1 + len - (j + 1) ≡ a + suc len - (j + 1) = omega arith in (
             ap (λ b. cond b (a ∷ filter q rest) (filter q rest)) there
-            ∙ later.0
-            ∙ ap (λ k. j ∷ filter q (range_with_len (j + 1) k)) len_is,
+                ∙ later.0
+                ∙ ap (λ k. j ∷ filter q (range_with_len (j + 1) k)) len_is,
             omega (arith, later.1),
             omega (arith, later.2),
             later.3,
@@ -88,8 +86,7 @@ left-next shop node front set count from j at low high e =
     let found = next-in (contains set) (λ k. not (has node k)) from (shop.jobs + 1 - from) j
     (λ k a b. at.left k (omega arith) (omega arith)) e in
     let len_is : from + (shop.jobs + 1 - from) - (j + 1) ≡ shop.jobs + 1 - (j + 1) = omega arith in
-    let free : not (has node j) ≡ true = sym (at.left j (omega (arith, found.1)) (omega (arith, found.2))) ∙ found.3 in
-    (
+    let free : not (has node j) ≡ true = sym (at.left j (omega (arith, found.1)) (omega (arith, found.2))) ∙ found.3 in (
       found.0 ∙ ap (λ n. j ∷ filter (λ k. not (has node k)) (range_with_len (j + 1) n)) len_is,
       record { from = omega (arith, found.1); to = omega (arith, found.2); fresh = not-has (has node j) free },
       found.1,
@@ -291,8 +288,7 @@ module _ {shop : Shop} {budget : ℕ} {root : List ℕ} {whole : List ℕ × Inc
       (left_from shop.jobs (path root fs) here.next ≡ job ∷ left_from shop.jobs (path root fs) (job + 1)) × IsChild shop.jobs (path root fs) job
       × (contains now.unscheduled job ≡ true)
   walking-child job found =
-      let next = left-next shop now.node.items here.front now.unscheduled (suc below) here.next job i.at i.next i.past found in
-      (
+      let next = left-next shop now.node.items here.front now.unscheduled (suc below) here.next job i.at i.next i.past found in (
         subst (λ q. left_from shop.jobs q here.next ≡ job ∷ left_from shop.jobs q (job + 1)) i.node next.0,
         subst (λ q. IsChild shop.jobs q job) i.node next.1,
         next.3,
@@ -395,8 +391,8 @@ module _ {shop : Shop} {budget : ℕ} {root : List ℕ} {whole : List ℕ × Inc
       let tree : new.tree.items ≡ now.tree.items ++ 43 ∷ [] = entered.tree ∙ opens.wrote.tree in
       let child_rest : Incumbent → Walk = resume shop root left (child ∷ later ∷ fs) in
       let child_is : (s : Incumbent) → child_rest s ≡ then_walk (deeper s) rest = λ s.
-          ap (λ n. then_walk (walk_from shop left (path root (later ∷ fs)) n s) (resume shop root (suc left) (later ∷ fs))) next
-          ∙ ap (λ n. then_walk (deeper s) (resume shop root n (later ∷ fs))) (sym more) in
+      ap (λ n. then_walk (walk_from shop left (path root (later ∷ fs)) n s) (resume shop root (suc left) (later ∷ fs))) next
+      ∙ ap (λ n. then_walk (deeper s) (resume shop root n (later ∷ fs))) (sym more) in
       let whole_is : resume shop root below (here ∷ fs) st ≡ (43 ∷ (child_rest st).0, (child_rest st).1) =
       all ∙ ap (λ f. then_walk f rest) first_is ∙ ap (λ r. (43 ∷ r.0, r.1)) (sym (child_is st)) in
       record {
@@ -445,10 +441,9 @@ module _ {shop : Shop} {budget : ℕ} {root : List ℕ} {whole : List ℕ × Inc
       let jobs : jobs_left shop.jobs (path root fs) ≡ members (slice_set new.unscheduled (job - 1) true) =
       ap (jobs_left shop.jobs) (sym i.node)
       ∙ sym (members-are shop now.node.items here.front now.unscheduled (suc below) i.at)
-      ∙ ap members (sym whole) in
-      (
+      ∙ ap members (sym whole) in (
         subst (λ q. IsAt shop q front new.unscheduled below) (sym node)
-        (subst (λ u. IsAt shop (now.node.items ++ job ∷ []) front u below) (sym set) at_kid),
+            (subst (λ u. IsAt shop (now.node.items ++ job ∷ []) front u below) (sym set) at_kid),
         subst (λ js. IsRestOf shop js here.rest) jobs i.frame.rest_is,
       )
 

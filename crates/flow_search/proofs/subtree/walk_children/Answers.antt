@@ -39,8 +39,7 @@ above : (c : After-leave) →
     (reverse c.walk.stack.items ≡ c.in-Some-pop.parent ∷ reverse c.pop.new.self.items)
     × Left (c.in-Some-pop.parent.next - 1) (path c.args.search.now.node.items (reverse c.pop.new.self.items)) c.walk.search c.leave.new.self
 above c =
-    let popped = reverse-push c.pop.new.self.items c.walk.stack.items c.in-Some-pop.parent c.in-Some-pop.ensures.items in
-    (
+    let popped = reverse-push c.pop.new.self.items c.walk.stack.items c.in-Some-pop.parent c.in-Some-pop.ensures.items in (
       popped,
       c.leave.ensures (path c.args.search.now.node.items (reverse c.pop.new.self.items))
           (c.walk.invariant.node ∙ ap (path c.args.search.now.node.items) popped),

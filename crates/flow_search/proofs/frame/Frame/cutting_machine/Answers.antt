@@ -48,8 +48,7 @@ bounded c node left is kid =
       | then-row-place w ↦ (λ e. w.tail-is, λ n. absurd (n (w.if-row-place.true ∙ c.tail-least.ensures)))
       | else-row-place w ↦ (λ e. absurd (w.if-row-place.false (e ∙ sym c.tail-least.ensures)), λ n. w.tail-is ∙ c.tail-least.ensures)
     ] in
-    let bound = child-bound shop node left job k c.max-start.result t tail c.if-row-place.tail frame c.requires.rows.limits is kid low high total refl row.1 picked in
-    (
+    let bound = child-bound shop node left job k c.max-start.result t tail c.if-row-place.tail frame c.requires.rows.limits is kid low high total refl row.1 picked in (
       omega (arith, bound.0, c.sum.ensures, c.from.ensures, c.from-in-loop-machine.ensures),
       omega (arith, bound.1, c.from-in-loop-machine.ensures),
     )
