@@ -6,5 +6,5 @@ mod letters;
 mod numbers;
 
 pub(crate) use entry::enter_few;
-pub(crate) use group::{LaneFrame, Group, LaneRow};
+pub(crate) use group::{Group, LaneFrame, LaneRow};
 pub(crate) use letters::{letters_of_eight, open_child, renew_letters};

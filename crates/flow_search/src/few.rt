@@ -7,7 +7,7 @@ ghost use Rattle.flow_search.specs.internal.Nodes.{IsAt, Gave, children_walked};
 ghost use Rattle.flow_search.specs.internal.Lanes.{IsFrameOf, IsOpened, IsLaneLeft, IsLetter};
 ghost use Rattle.flow_search.specs.internal.Lanes.{child, lane_walked};
 
-use crate::eight::{LaneFrame, Group, enter_few, letters_of_eight, open_child, renew_letters};
+use crate::eight::{Group, LaneFrame, enter_few, letters_of_eight, open_child, renew_letters};
 use crate::subtree::{Search, Stop};
 use flow_core::{Front, Instance, JobSet};
 

@@ -184,7 +184,14 @@ fn walk_small(
     search.enter(job)?;
     search.write(setting.budget, b'+')?;
     front_push(setting.instance, &mut front, job);
-    walk_few(setting.instance, setting.budget, &front, below, frames, search)?;
+    walk_few(
+        setting.instance,
+        setting.budget,
+        &front,
+        below,
+        frames,
+        search,
+    )?;
     search.leave(job);
     Ok(())
 }
@@ -200,8 +207,8 @@ fn visit(
     search: &mut Search,
 ) -> Result<bool, Stop>
     requires rows { AreRows setting.now.instance.now setting.now.rows.now }
-    requires at { IsAt setting.now.instance.now search.old.node.items here.now.front search.old.unscheduled
-        (suc below) }
+    requires at { let shop = setting.now.instance.now in
+        IsAt shop search.old.node.items here.now.front search.old.unscheduled (suc below) }
     requires frame { IsFrame setting.now.instance.now search.old.node.items (suc below) here.now }
     requires from { 1 ≤ job }
     requires to { job ≤ setting.now.instance.now.jobs }

@@ -36,8 +36,8 @@ path root (f ∷ fs) = path root fs ++ (f.next - 1) ∷ []
 abbrev pub IsStack : Shop → List ℕ → ℕ → List Frame → Type 0
 IsStack shop root left [] = Unit {0}
 IsStack shop root left (f ∷ fs) =
-    IsFrame shop (path root fs) left f × IsChild shop.jobs (path root fs) (f.next - 1) × AreJobs shop.jobs (path root fs)
-    × IsStack shop root (suc left) fs
+    IsFrame shop (path root fs) left f × IsChild shop.jobs (path root fs) (f.next - 1)
+    × AreJobs shop.jobs (path root fs) × IsStack shop root (suc left) fs
 
 -- the jobs from one on that a node leaves
 abbrev pub left_from : ℕ → List ℕ → ℕ → List ℕ
@@ -63,11 +63,14 @@ resume shop root left (f ∷ fs) incumbent =
 pub record Opens (shop : Shop) (budget below job : ℕ) (old new : Search) : Type 0 where
   pub wrote : Wrote budget 43 old new
   pub more : 9 ≤ below
-  pub uncut : find (λ machine. nat_le old.value (bound_at shop (old.node.items ++ job ∷ []) machine)) (numbers 1 shop.machines)
+  pub uncut :
+      find (λ machine. nat_le old.value (bound_at shop (old.node.items ++ job ∷ []) machine)) (numbers 1 shop.machines)
       ≡ None
 
--- the walk of a root's children goes on at a child's node: what was written with what is still to be walked is the whole
-pub record IsWalking (shop : Shop) (budget : ℕ) (root : List ℕ) (whole : List ℕ × (ℕ × Option Found)) (old : Search) (here : Frame) (below : ℕ) (frames : List Frame) (now : Search) : Type 0 where
+-- the walk of a root's children stands at a node below it, whose frame is `here`: what was written, with what is still
+-- to be walked, is the whole
+pub record IsWalking (shop : Shop) (budget : ℕ) (root : List ℕ) (whole : List ℕ × (ℕ × Option Found)) (old : Search)
+    (here : Frame) (below : ℕ) (frames : List Frame) (now : Search) : Type 0 where
   pub at : IsAt shop now.node.items here.front now.unscheduled (suc below)
   pub node : now.node.items ≡ path root frames
   pub frame : IsFrame shop (path root frames) (suc below) here

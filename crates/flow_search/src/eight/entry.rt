@@ -6,7 +6,7 @@ ghost use Rattle.flow_core.specs.Shop.{time};
 ghost use Rattle.flow_search.specs.internal.Lanes.{AreJobsOf, IsFew, IsLaneLeft, IsFrameOf, job_of};
 ghost use Rattle.flow_search.specs.declared.eight.group.TheConstants.{GONE};
 
-use crate::eight::group::{LaneFrame, GONE, Group, LaneRow};
+use crate::eight::group::{GONE, Group, LaneFrame, LaneRow};
 use crate::eight::numbers::sums;
 use flow_core::{Front, Instance};
 

@@ -4,7 +4,7 @@ ghost use Rattle.std.specs.Prelude.{◌≡◌, ℕ, ◌+◌, ◌<◌, ◌≤◌,
 ghost use Rattle.flow_search.specs.declared.eight.group.TheConstants.{GONE};
 ghost use Rattle.flow_search.specs.internal.Lanes.{IsLaneLeft, IsFrameOf, IsOpened, AreLetters, child};
 
-use crate::eight::group::{LaneFrame, GONE, Group};
+use crate::eight::group::{GONE, Group, LaneFrame};
 use crate::eight::numbers::{at_least, below, greater, others, sums};
 use flow_core::Instance;
 
@@ -66,7 +66,13 @@ pub fn renew_letters(
 
 /// Makes the node of a child: its front is what the pass over its parent left.
 #[inline(always)]
-pub fn open_child(instance: &Instance, group: &Group, parent: &LaneFrame, made: &mut LaneFrame, lane: usize)
+pub fn open_child(
+    instance: &Instance,
+    group: &Group,
+    parent: &LaneFrame,
+    made: &mut LaneFrame,
+    lane: usize,
+)
     requires at { (list : List ℕ) × IsOpened instance.now list group.now parent.now }
     requires left { IsLaneLeft parent.now lane }
     ensures at { (list : List ℕ) → IsOpened instance.now list group.now parent.now →

@@ -13,8 +13,7 @@ kid : (c : After-cutting_machine) →
     IsFrame c.args.setting.now.instance.now c.args.search.now.node.items (suc (suc (c.args.below - 1))) c.args.here.now
     × IsChild c.args.setting.now.instance.now.jobs c.args.search.now.node.items c.args.job
 kid c =
-    let more : c.args.below ≡ suc (c.args.below - 1) = omega (arith, c.requires.many) in
-    (
+    let more : c.args.below ≡ suc (c.args.below - 1) = omega (arith, c.requires.many) in (
       subst (λ n. IsFrame c.args.setting.now.instance.now c.args.search.now.node.items (suc n) c.args.here.now) more c.requires.frame,
       kid-of c.args.setting.now.instance.now c.args.search.now.node.items c.args.here.now.front c.args.search.now.unscheduled (suc c.args.below) c.args.job
           c.requires.at c.requires.from c.requires.to c.requires.left,
@@ -22,8 +21,7 @@ kid c =
 
 pub cutting_machine-requires-clause-at : goal.cutting_machine-requires-clause-at
 cutting_machine-requires-clause-at c =
-    let more : c.args.below ≡ suc (c.args.below - 1) = omega (arith, c.requires.many) in
-    (
+    let more : c.args.below ≡ suc (c.args.below - 1) = omega (arith, c.requires.many) in (
       c.args.search.now.node.items,
       c.args.below - 1,
       subst (λ n. IsFrame c.args.setting.now.instance.now c.args.search.now.node.items (suc n) c.args.here.now) more c.requires.frame,
