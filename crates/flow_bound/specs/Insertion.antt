@@ -8,8 +8,8 @@ use Rattle.flow_core.specs.Paths.{weight, paths, completion, span}
 unfoldable pub tail : Shop → List ℕ → ℕ → ℕ
 tail shop jobs machine = greatest (map (weight shop jobs machine) (paths (length jobs) machine shop.machines))
 
--- the makespan of a list is the greatest, over the machines, of the head of a job there, which is its completion time,
--- and the tail of the jobs behind it from there
+-- the makespan of a list is the greatest, over the machines, of a job's completion time plus the tail from there of the
+-- jobs behind it
 abbrev pub SpanIsOfHeadsAndTails : Type 0
 SpanIsOfHeadsAndTails =
     (shop : Shop) (front back : List ℕ) (job : ℕ) →

@@ -1,9 +1,9 @@
--- The rest of some jobs: what each machine still owes them.
+-- The rest of some jobs: the remaining work of each machine.
 use Rattle.std.specs.Prelude.{ℕ, ◌≡◌, ◌+◌, ◌-◌, ◌≤◌, List, map, slice_index, sum_by}
 use Rattle.flow_core.specs.Shop.{Shop, time, time_between}
 use Rattle.flow_core.specs.Least.{least}
 
--- what each machine owes some jobs: how many machines there are, and for each a time and a least tail
+-- the remaining work: how many machines there are, and for each the time of the jobs left and their least tail
 pub record Owed : Type 0 where
   pub machines : ℕ
   pub sums : List ℕ

@@ -10,8 +10,8 @@ ghost use Rattle.flow_core.specs.Bound.{machine_bound};
 use crate::sums::sum_times;
 use flow_core::{Front, Instance, JobSet, MAX_JOBS};
 
-/// The machine bound: when a machine is free, the time that it still owes the jobs of a set, and the least time that
-/// one of them needs behind it. Where the front is that of a list, and the set has the jobs that the list leaves, no
+/// The machine bound: when a machine is free, its time for the jobs of a set, and the least time that one of them needs
+/// behind it. Where the front is that of a list, and the set has the jobs that the list leaves, no
 /// sequence that extends the list has a smaller makespan.
 pub fn bound(instance: &Instance, front: &Front, unscheduled: &JobSet, machine: u16) -> u64
     requires from { 1 ≤ machine }

@@ -1,6 +1,7 @@
-//! The rest of a set of jobs: what each machine still owes them.
+//! The rest of a set of jobs: the remaining work of each machine.
 
-ghost use Rattle.std.specs.Prelude.{◌≡◌, ℕ, ◌+◌, ◌-◌, ◌<◌, ◌≤◌, List, Bool, length, slice_index, slice_set, sum_by, true, false};
+ghost use Rattle.std.specs.Prelude.{◌≡◌, ℕ, ◌+◌, ◌-◌, ◌<◌, ◌≤◌, List, Bool, true, false};
+ghost use Rattle.std.specs.Prelude.{length, slice_index, slice_set, sum_by};
 ghost use Rattle.flow_core.specs.Limits.{greatest_completion};
 ghost use Rattle.flow_core.specs.Shop.{Shop, time, time_between};
 ghost use Rattle.flow_core.specs.Paths.{span};
@@ -13,11 +14,10 @@ ghost use Rattle.flow_bound.specs.internal.Times.{AreTimes};
 
 use crate::sums::add_times;
 use flow_core::{Front, Instance, JobSet, MAX_JOBS, MAX_MACHINES};
-use std::alloc::AllocError;
 use std::marker::Model;
 
-/// What each machine of an instance owes a set of jobs. It stores no set.
-#[derive(Debug, PartialEq)]
+/// The remaining work of each machine of an instance, where the jobs of a set are left. It stores no set.
+#[derive(Clone, Copy, Debug, PartialEq, Eq)]
 pub struct Rest {
     /// The number of machines.
     machines: u16,
@@ -40,16 +40,6 @@ impl Model for Rest {
 
     ghost invariant = { λ r. r.machines ≤ most_machines };
 }
-
-impl Clone for Rest {
-    fn clone(&self) -> Result<Self, AllocError>
-        ensures { result ≡ Ok self.now }
-    {
-        Ok(*self)
-    }
-}
-
-impl Copy for Rest {}
 
 /// The time of all jobs of a set on a machine.
 fn sum_of(instance: &Instance, set: &JobSet, machine: u16) -> u32
@@ -145,8 +135,8 @@ impl Rest {
         }
     }
 
-    /// The rest of a set of jobs, where this is the rest of that set with one job more. It looks for a new least tail
-    /// only where that job has the least.
+    /// The rest after `job` is taken out; `after` is the set without it. It looks for a new least tail only where `job`
+    /// has the least.
     pub fn step(&self, instance: &Instance, after: &JobSet, job: u16) -> Rest
         requires job_from { 1 ≤ job }
         requires job_to { job ≤ instance.now.jobs }
@@ -200,8 +190,8 @@ impl Rest {
         self.tails[machine as usize - 1]
     }
 
-    /// The machine bound of a front and each set of jobs of which this is the rest. Where the front is that of a list,
-    /// and the set has the jobs that the list leaves, no sequence that extends the list has a smaller makespan.
+    /// The machine bound of a front, for every set with this rest. Where the front is that of a list, and the set has
+    /// the jobs that the list leaves, no sequence that extends the list has a smaller makespan.
     pub fn bound(&self, front: &Front, machine: u16) -> u64
         requires from { 1 ≤ machine }
         requires to { machine ≤ self.now.machines }

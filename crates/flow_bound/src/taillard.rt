@@ -24,7 +24,7 @@ fn greatest_total(instance: &Instance, totals: &[u32; MAX_JOBS]) -> u32
     most
 }
 
-/// What a machine owes all jobs, between the least head and the least tail. The heads become those of the next machine.
+/// The least head, a machine's time for all jobs, and the least tail. The heads become those of the next machine.
 fn load_of(
     instance: &Instance,
     heads: &mut [u32; MAX_JOBS],

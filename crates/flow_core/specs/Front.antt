@@ -11,7 +11,7 @@ IsFrontOf shop jobs front =
     (machine : ℕ) → 1 ≤ machine → machine ≤ shop.machines →
     slice_index front (machine - 1) ≡ completion shop jobs machine
 
--- no time on the instance's machines is above the limit up to which a front takes another job
+-- on the instance's machines no time is above `greatest_completion`, so that one more job can't overflow
 abbrev pub IsWithinFront : Shop → List ℕ → Type 0
 IsWithinFront shop front = (place : ℕ) → place < shop.machines → slice_index front place ≤ greatest_completion
 

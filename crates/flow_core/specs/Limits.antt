@@ -1,4 +1,4 @@
--- The limits of instances, of texts, and of the depth of a cut. Contracts name these numbers, and not the code's constants.
+-- The limits of instances, of texts, and of the depth of a cut. Contracts name these numbers.
 use Rattle.std.specs.Prelude.{ℕ}
 
 -- the most jobs of an instance
@@ -13,7 +13,8 @@ most_machines = 20
 abbrev pub greatest_time : ℕ
 greatest_time = 99999
 
--- the greatest completion time at which a front takes another job; no list of distinct jobs of an instance reaches it
+-- the greatest time of a front to which a job is added, so that no sum can overflow; no list of distinct jobs of an
+-- instance reaches it
 abbrev pub greatest_completion : ℕ
 greatest_completion = 1000000000
 

@@ -24,7 +24,7 @@ const LEAST_TIME: u32 = 1;
 
 const GREATEST_TIME: u32 = 99;
 
-/// A generator. A contract sees it as its state.
+/// Taillard's random numbers; the view is the state.
 #[derive(Debug, Drop)]
 pub struct Taillard {
     state: u32,
@@ -74,7 +74,8 @@ impl Taillard {
         low + (u64::from(self.state) * width / u64::from(MODULUS)) as u32
     }
 
-    /// Multiplies the state by the multiplier, modulo the modulus. No product needs more than 32 bits.
+    /// Multiplies the state by the multiplier, modulo the modulus (Schrage's method). No product needs more than 32
+    /// bits.
     fn step(&mut self)
         ensures { self.new ≡ state_after self.old 1 }
     {

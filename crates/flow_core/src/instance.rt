@@ -15,7 +15,7 @@ use std::alloc::{AllocError, Global};
 use std::marker::Model;
 use thiserror::Error;
 
-/// Why numbers are no instance, in the order of the tests. Only `generate` returns `Seed`.
+/// Why an instance can't be made, in the order of the tests. Only `generate` returns `Seed`.
 #[derive(Clone, Copy, Debug, PartialEq, Eq, Error)]
 pub enum InstanceFault {
     /// The number of jobs is not in `1..=MAX_JOBS`.
@@ -70,7 +70,7 @@ impl Model for Instance {
         × (length i.rows.items ≡ i.jobs * i.machines) };
 }
 
-/// The numbers of `lists` lists of `each` numbers, which stand one after another, taken column by column.
+/// The numbers of a table that is given row by row, `lists` rows of `each` numbers, column by column.
 fn by_columns(
     alloc: Global,
     lists: usize,

@@ -1,4 +1,5 @@
-//! The limits of instances and texts, and of the depth of a cut, which the search and the checker use. The contracts name the numbers in `specs/Limits.antt`.
+//! The limits of instances and texts, and of the depth of a cut, which the search and the checker use. The contracts
+//! name the numbers in `specs/Limits.antt`.
 
 /// The most jobs of an instance.
 pub const MAX_JOBS: usize = 500;

@@ -15,7 +15,7 @@ use std::alloc::{AllocError, Global};
 use std::marker::Model;
 use thiserror::Error;
 
-/// Why a list is no sequence, in the order of the tests. Places are counted from 1.
+/// Why a sequence can't be made, in the order of the tests. Places are counted from 1.
 #[derive(Clone, Copy, Debug, PartialEq, Eq, Error)]
 pub enum SequenceFault {
     /// There are not as many jobs as the instance has.

@@ -1,4 +1,4 @@
-//! Lanes that are put away: both ends together, and no item left between them.
+//! Settled lanes: all that was sent was received, and nothing more can be sent.
 ghost use Rattle.std.specs.Prelude.{◌≡◌, ◌+◌, ◌≤◌, ◌++◌, ◌↔◌, length, IsOk, IfOk, IfErr};
 ghost use mathlib.Core.List.{IsPrefix};
 
@@ -23,8 +23,8 @@ impl<T> Model for Settled<T> {
     ghost invariant = { λ s. (s.receiver.lane ≡ s.sender.lane) × (s.receiver.received ≡ s.sender.sent) };
 }
 
-/// Puts both ends of a lane away, where all was received that was sent. Otherwise returns both ends: what was sent and
-/// received is unchanged, and the receiver knows each item that is still in the lane.
+/// The settled lane of both ends, where all that was sent was received: nothing more can be sent. Otherwise returns
+/// both ends: what was sent and received is unchanged, and the receiver knows each item that is still in the lane.
 pub fn settle<T>(
     mut sender: Sender<T>,
     mut receiver: Receiver<T>,

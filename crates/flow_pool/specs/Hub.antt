@@ -25,7 +25,7 @@ sent_lists hubs = map (λ hub. hub.tasks.sent) hubs
 abbrev pub received_lists : List HubEnds → List (List Answer)
 received_lists hubs = map (λ hub. hub.answers.received) hubs
 
--- the answers in turn on k lanes: for each lane its answers
+-- the answers in turn of k workers: for each worker its answers
 abbrev pub all_dealt : ℕ → List Answer → List (List Answer)
 all_dealt k answers = by_lane k (λ lane. dealt k lane answers)
 

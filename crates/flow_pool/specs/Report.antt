@@ -2,6 +2,8 @@
 use Rattle.std.specs.Prelude.{◌≡◌, ℕ, ◌<◌, List, Some, length, All, HoldsAt}
 use Rattle.flow_search.specs.Plans.{Planned}
 use Rattle.flow_search.specs.Outcomes.{IsLawful, IsDone, first_over_budget}
+use Rattle.flow_search.specs.declared.verdict.RunFault.{RunFault}
+use Rattle.flow_search.specs.declared.verdict.RunFault.TheVariants as run_fault
 use Rattle.flow_lanes.specs.declared.settled.Settled.{Settled}
 use Rattle.flow_pool.specs.declared.ends.Task.{Task}
 use Rattle.flow_pool.specs.declared.ends.Answer.{Answer}
@@ -13,12 +15,13 @@ use Rattle.flow_pool.specs.Work.{prefix_count, share, tasks_of, answered}
 abbrev pub run_slots : ℕ
 run_slots = 4
 
--- the answer is done, and lawful for its prefix
+-- its outcome is `Done`, and lawful for its prefix
 pub record IsDoneAnswer (plan : Planned) (answer : Answer) : Type 0 where
   pub lawful : IsLawful plan answer.number answer.outcome
   pub done : IsDone answer.outcome
 
--- the settled lanes of a worker carried its tasks, and a done, lawful answer to each prefix; each has run_slots slots
+-- the settled lanes of a worker carried its tasks, and an answer to each prefix, lawful and `Done`; each has run_slots
+-- slots
 pub record IsWholeWork (plan : Planned) (worker : ℕ) (lanes : Settled Task × Settled Answer) : Type 0 where
   pub tasks : lanes.0.items ≡ tasks_of plan.options.workers (prefix_count plan) worker
   pub numbers : answered lanes.1.items ≡ share plan.options.workers (prefix_count plan) worker
@@ -35,3 +38,8 @@ abbrev pub IsSolveFault : Planned → SolveFault → Type 0
 IsSolveFault plan Memory = Unit {0}
 IsSolveFault plan Threads = Unit {0}
 IsSolveFault plan (OverBudget number) = first_over_budget plan ≡ Some number
+
+-- the fault of a run, from the fault of its verdict
+abbrev pub solve_fault : RunFault → SolveFault
+solve_fault (run_fault.OverBudget number) = OverBudget number
+solve_fault run_fault.Memory = Memory

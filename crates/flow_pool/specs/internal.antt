@@ -1,4 +1,3 @@
 pub mod Hub
 pub mod Start
 pub mod Settling
-pub mod Faults

@@ -2,7 +2,7 @@
 
 /// A worker calls a gate for each prefix, before it searches the prefix. All workers share one gate.
 pub trait Gate {
-    /// The worker on this lane, counted from 0, has received the prefix of this number.
+    /// The worker of index `lane`, counted from 0, has received the prefix of this number.
     fn reached(&self, lane: u32, number: u32);
 }
 

@@ -56,7 +56,7 @@ fn answer_to(alloc: Global, plan: &Plan, number: u32) -> Answer
 }
 
 /// Receives tasks up to the first `End`, and no more, and answers each prefix before it receives the next. Returns the
-/// same ends. `lane` is the number that the gate is told.
+/// same ends. `lane` is the worker's index, which the gate is told.
 pub fn serve<R: Wait, G: Gate>(
     rt: &R,
     alloc: Global,

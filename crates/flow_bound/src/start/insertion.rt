@@ -84,7 +84,7 @@ fn fill_tails(instance: &Instance, rows: &[Row], partial: &[u16], tails: &mut [R
     }
 }
 
-/// Writes the makespan with a job put in at each place of a partial sequence. The tails are room to compute in.
+/// Writes the makespan with a job put in at each place of a partial sequence. `tails` is room to compute in.
 pub(crate) fn fill_spans(
     instance: &Instance,
     rows: &[Row],
@@ -112,7 +112,7 @@ pub(crate) fn fill_spans(
     }
 }
 
-/// The makespan of a partial sequence with a job put in at each place: entry `i` is that behind its first `i` jobs.
+/// The makespan of a partial sequence with a job put in at each place; entry `i`: put in behind the first `i` jobs.
 pub fn insertion_spans(
     alloc: Global,
     instance: &Instance,

@@ -3,13 +3,13 @@ use Rattle.std.specs.Prelude.{Bool, refl}
 use Rattle.std.specs.Coded.{Coded, code_by, coded×, coded_bool}
 use Rattle.flow_core.specs.Devices.{Writing, Reading}
 
--- a sink over a writer is told apart by the writer and by whether it refused
+-- two sinks over writers are equal where writer and refusal are
 abbrev pub writing_code : {W : Type 0} → Coded W → Coded (Writing W)
 writing_code {W} w =
     code_by (W × Bool) (coded× w coded_bool) (λ s. (s.writer, s.failed))
     (λ p. record { writer = p.0; failed = p.1 }) (λ _. refl)
 
--- a source over a reader is told apart by the reader, and by whether its last answer was the end and whether it refused
+-- two sources over readers are equal where reader, end and refusal are
 abbrev pub reading_code : {R : Type 0} → Coded R → Coded (Reading R)
 reading_code {R} r =
     code_by (R × (Bool × Bool)) (coded× r (coded× coded_bool coded_bool)) (λ s. (s.reader, (s.ended, s.failed)))

@@ -3,7 +3,7 @@ use Rattle.std.specs.Cmp.{IsEquivalence, and_equiv, on_equiv, nat_eq_equiv}
 use Rattle.std.specs.Cmp.Lexicographic.{nat_list_eq_equiv}
 use Rattle.flow_core.specs.Shop.{is_same_shop}
 
--- each instance is the same as itself, and so on
+-- it is reflexive, symmetric and transitive
 pub is_same_shop-equiv : IsEquivalence is_same_shop
 is_same_shop-equiv =
     and_equiv

@@ -9,7 +9,7 @@ use crate::bytes::fault::Refused;
 use std::io::{ErrorKind, Read, Write};
 use std::marker::Model;
 
-/// How often a read or write is tried that is interrupted each time. After the last try it is refused.
+/// How many times an interrupted read or write is tried before it is refused.
 const TRIES: u32 = 1_000;
 
 /// A sink over a writer. It refuses where a write takes no byte or fails. An interrupted write is tried again.

@@ -11,7 +11,7 @@ use std::alloc::Global;
 /// The most bytes that one call of a source is asked for.
 const PIECE: usize = 65_536;
 
-/// Writes all bytes. `Device` where the sink refused; then it took some first bytes, and not all.
+/// Writes all bytes. `Device` where the sink refused; then it took a proper prefix.
 pub fn put_all<S: Sink>(sink: &mut S, bytes: &[u8]) -> Result<(), WriteFault>
     requires { S.has_failed sink.old ≡ false }
     ensures device { IsErr result ↔ (S.has_failed sink.new ≡ true) }

@@ -10,12 +10,19 @@ use thiserror::Error;
 /// What is wrong with a line.
 #[derive(Clone, Copy, Debug, PartialEq, Eq)]
 pub(crate) enum LineFault {
+    /// Memory ran out.
     Memory,
+    /// A label line is wanted, and this is none.
     Label,
+    /// A byte of the line is neither a digit nor a blank.
     Byte,
+    /// A number is above `MAX_NUMBER`.
     Number,
+    /// The head has fewer or more than five numbers.
     Head,
+    /// The jobs or the machines of the head are not within the limits, or a time is above `MAX_TIME`.
     Limits,
+    /// There is not one time for each job and machine.
     Times,
 }
 

@@ -25,7 +25,7 @@ fn is_plain_line(line: &[u8]) -> bool
         .all(|byte| byte.is_ascii_digit() || is_blank_byte(*byte))
 }
 
-/// The first line of a text that is not empty, without its end; and the text after it.
+/// The first line, without its LF, of a text that has bytes; and the text behind it.
 pub(crate) fn first_line(text: &[u8]) -> (&[u8], &[u8])
     requires { 0 < length text.now }
     ensures lines { lines_of text.now ≡ result.0.now ∷ lines_of result.1.now }
@@ -65,8 +65,7 @@ fn with_digit(number: u32, byte: u8) -> Option<u32>
     }
 }
 
-/// Puts the numbers of a line into `numbers`, in place of what it held. Otherwise returns `Byte`, `Number` or `Memory`;
-/// `Byte` comes before `Number`.
+/// Replaces `numbers` by the line's numbers. `Byte` comes before `Number`.
 #[tactic(auto, unfolding(crate::specs::internal::TextWalk::line_numbers))]
 pub(crate) fn numbers_in(line: &[u8], numbers: &mut Vec<u32>) -> Result<(), LineFault>
     ensures { LineGives (λ _. numbers.new.items) result (line_numbers line.now) }

@@ -1,4 +1,4 @@
-//! What each line of a text adds to the progress of its reading.
+//! How each kind of line is read, and which fault it has.
 
 ghost use Rattle.std.specs.Prelude.{◌≡◌, ◌++◌, true, false, length, MatchOption};
 ghost use Rattle.flow_core.specs.TextFaults.{is_head, are_times};
@@ -189,7 +189,7 @@ pub(crate) fn after_any_line(
     }
 }
 
-/// The blocks of a text that ends before the line of this number; or the fault that something is missing there.
+/// The blocks, if the text may end here; else what is missing. `line` is the number of lines plus 1.
 #[tactic(auto, unfolding(crate::specs::internal::TextWalk::at_end))]
 pub(crate) fn finish(progress: Progress, line: usize) -> Result<Vec<Block>, TextFault>
     ensures { TextGives (λ blocks. blocks.items) result (at_end (state_of progress) line) }

@@ -9,7 +9,7 @@ use Rattle.flow_pool.specs.declared.ends.HubEnds.{HubEnds}
 use Rattle.flow_pool.specs.declared.ends.WorkerEnds.{WorkerEnds}
 use Rattle.flow_pool.specs.Work.{answered, asking}
 
--- the tasks have one end, which is the last
+-- `End` stands once among the tasks, last
 abbrev pub ends_once : List Task → Bool
 ends_once [] = false
 ends_once (Prefix number ∷ tasks) = ends_once tasks

@@ -1,5 +1,5 @@
 use Rattle.std.proofs.Common.{[], ◌∙◌, sym, append-nil}
-use Rattle.flow_pool.proofs.start.fn.work_in_scope.scope.Goals as goal
+use Rattle.flow_pool.proofs.threads.fn.work_in_scope.scope.Goals as goal
 
 pub returns : goal.returns
 returns g c =

@@ -6,7 +6,7 @@ use Rattle.std.proofs.lemmas.List.Elements.{AllWithin-more_set}
 use Rattle.flow_pool.specs.declared.ends.Task.TheVariants.{End}
 use Rattle.flow_pool.specs.Hub.{hub_lanes}
 use Rattle.flow_pool.specs.internal.Settling.{IsReadyHub, IsCollected, ends_once}
-use Rattle.flow_pool.proofs.start.end_each.Goals as goal
+use Rattle.flow_pool.proofs.threads.end_each.Goals as goal
 
 pub each-preserved : goal.each-preserved
 each-preserved c =

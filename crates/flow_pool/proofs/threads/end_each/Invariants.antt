@@ -2,7 +2,7 @@ use Rattle.std.proofs.Common.{◌≡◌, map, length}
 use Rattle.std.specs.List.{AllWithin}
 use Rattle.flow_pool.specs.Hub.{hub_lanes}
 use Rattle.flow_pool.specs.internal.Settling.{IsReadyHub, IsCollected}
-use Rattle.flow_pool.proofs.start.end_each.Given as goal
+use Rattle.flow_pool.proofs.threads.end_each.Given as goal
 
 abbrev pub invariant-each : goal.invariant-each
 invariant-each l =
