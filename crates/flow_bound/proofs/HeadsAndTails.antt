@@ -19,34 +19,49 @@ use Rattle.flow_bound.proofs.Loads.{completed-grows}
 use Rattle.flow_bound.proofs.Running.{zeros}
 
 -- no path is heavier than the tail
-weight-le-tail : (shop : Shop) (jobs machines : List ℕ) (machine : ℕ) → length machines ≡ length jobs → IsPath machine machines shop.machines → weight shop jobs machine machines ≤ tail shop jobs machine
+weight-le-tail : (shop : Shop) (jobs machines : List ℕ) (machine : ℕ) → length machines ≡ length jobs →
+    IsPath machine machines shop.machines → weight shop jobs machine machines ≤ tail shop jobs machine
 unfolding tail
-weight-le-tail shop jobs machines machine e path = path-le-greatest (weight shop jobs machine) (length jobs) machines machine shop.machines e path
+weight-le-tail shop jobs machines machine e path =
+    path-le-greatest (weight shop jobs machine) (length jobs) machines machine shop.machines e path
 
 -- and the tail is below each bound on the paths
-tail-le : (shop : Shop) (jobs : List ℕ) (machine bound : ℕ) → ((machines : List ℕ) → length machines ≡ length jobs → IsPath machine machines shop.machines → weight shop jobs machine machines ≤ bound) → tail shop jobs machine ≤ bound
+tail-le : (shop : Shop) (jobs : List ℕ) (machine bound : ℕ) →
+    ((machines : List ℕ) → length machines ≡ length jobs → IsPath machine machines shop.machines →
+    weight shop jobs machine machines ≤ bound) → tail shop jobs machine ≤ bound
 unfolding tail
-tail-le shop jobs machine bound each = greatest-path-le (weight shop jobs machine) (length jobs) machine shop.machines bound each
+tail-le shop jobs machine bound each =
+    greatest-path-le (weight shop jobs machine) (length jobs) machine shop.machines bound each
 
 -- if each machine is free at its time, the jobs behind take their tail
-free-and-tail : (shop : Shop) (free : ℕ → ℕ) (jobs : List ℕ) (machine : ℕ) → 1 ≤ machine → free machine ≤ completed shop free jobs shop.machines → free machine + tail shop jobs machine ≤ completed shop free jobs shop.machines
+free-and-tail : (shop : Shop) (free : ℕ → ℕ) (jobs : List ℕ) (machine : ℕ) → 1 ≤ machine →
+    free machine ≤ completed shop free jobs shop.machines → free machine + tail shop jobs machine
+    ≤ completed shop free jobs shop.machines
 free-and-tail shop free jobs machine low before =
     let behind = tail-le shop jobs machine (completed shop free jobs shop.machines - free machine)
     (λ machines e path. omega (arith, weight-le-completed shop free jobs machines machine shop.machines low e path)) in
     omega (arith, before, behind)
 
 -- a job's head on a machine comes before the end
-head-before : (shop : Shop) (free : ℕ → ℕ) (job : ℕ) (jobs : List ℕ) (machine : ℕ) → machine ≤ shop.machines → 1 ≤ shop.machines → after shop free job machine ≤ completed shop (after shop free job) jobs shop.machines
+head-before : (shop : Shop) (free : ℕ → ℕ) (job : ℕ) (jobs : List ℕ) (machine : ℕ) → machine ≤ shop.machines →
+    1 ≤ shop.machines → after shop free job machine ≤ completed shop (after shop free job) jobs shop.machines
 head-before shop free job jobs machine high some =
-    omega (arith, after-later shop free job machine shop.machines high, completed-grows shop (after shop free job) jobs shop.machines some)
+    omega (
+      arith,
+      after-later shop free job machine shop.machines high,
+      completed-grows shop
+          (after shop free job) jobs shop.machines some,
+    )
 
 completed-none : (shop : Shop) (free : ℕ → ℕ) (jobs : List ℕ) → free 0 ≡ 0 → completed shop free jobs 0 ≡ 0
 completed-none shop free [] z = z
 completed-none shop free (job ∷ jobs) z = completed-none shop (after shop free job) jobs refl
 
 -- the end is the greatest of the heads and tails
-end-is-greatest : (shop : Shop) (free head : ℕ → ℕ) (job : ℕ) (jobs : List ℕ) → ((machine : ℕ) → head machine ≡ after shop free job machine) →
-    completed shop (after shop free job) jobs shop.machines ≡ greatest (map (λ machine. head machine + tail shop jobs machine) (numbers 1 shop.machines))
+end-is-greatest : (shop : Shop) (free head : ℕ → ℕ) (job : ℕ) (jobs : List ℕ) →
+    ((machine : ℕ) → head machine ≡ after shop free job machine) →
+    completed shop (after shop free job) jobs shop.machines
+    ≡ greatest (map (λ machine. head machine + tail shop jobs machine) (numbers 1 shop.machines))
 end-is-greatest shop free head job jobs heads =
     elim (cases_lt 0 shop.machines) [
       | inl some ↦
@@ -54,8 +69,14 @@ end-is-greatest shop free head job jobs heads =
           let high : path.0 ≤ shop.machines = path-up path.1 path.0 shop.machines path.4 in
           let heavy = weight-le-tail shop jobs path.1 path.0 path.3 path.4 in
           let above = range-le-greatest value 1 (shop.machines + 1 - 1) path.0 path.2 (omega (arith, high)) in
-          let below = greatest-range-le value 1 (shop.machines + 1 - 1) (completed shop (after shop free job) jobs shop.machines)
-          (λ machine low top. omega (arith, heads machine, free-and-tail shop (after shop free job) jobs machine low (head-before shop free job jobs machine (omega arith) some))) in
+          let below = greatest-range-le value 1 (shop.machines
+          + 1 - 1) (completed shop (after shop free job) jobs shop.machines)
+          (λ machine low top. omega (
+            arith,
+            heads machine,
+            free-and-tail shop (after shop free job) jobs machine low
+                (head-before shop free job jobs machine (omega arith) some),
+          )) in
           omega (arith, above, below, heavy, path.5, heads path.0)
       | inr none ↦
           let e : shop.machines ≡ 0 = omega arith in
@@ -71,7 +92,8 @@ pub span-is-of-heads-and-tails : SpanIsOfHeadsAndTails
 span-is-of-heads-and-tails shop front back job =
     completion-is shop (front ++ job ∷ back) shop.machines
     ∙ ap (λ free. free shop.machines) (completed-append shop (λ _. 0) front (job ∷ back))
-    ∙ end-is-greatest shop (completed shop (λ _. 0) front) (completion shop (front ++ job ∷ [])) job back (completion-after shop front job)
+    ∙ end-is-greatest shop (completed shop (λ _. 0) front) (completion shop (front ++ job
+    ∷ [])) job back (completion-after shop front job)
 
 -- the empty list has no tail
 pub tail-none : (shop : Shop) (machine : ℕ) → tail shop [] machine ≡ 0
@@ -81,12 +103,14 @@ tail-none shop machine = let none = tail-le shop [] machine 0 (λ machines e pat
 pub tail-past : (shop : Shop) (job : ℕ) (jobs : List ℕ) → tail shop (job ∷ jobs) (shop.machines + 1) ≡ 0
 tail-past shop job jobs = let none = tail-le shop (job ∷ jobs) (shop.machines + 1) 0 no_path in omega (arith, none)
   where
-    no_path : (machines : List ℕ) → length machines ≡ suc (length jobs) → IsPath (shop.machines + 1) machines shop.machines → weight shop (job ∷ jobs) (shop.machines + 1) machines ≤ 0
+    no_path : (machines : List ℕ) → length machines ≡ suc (length jobs) →
+        IsPath (shop.machines + 1) machines shop.machines → weight shop (job ∷ jobs) (shop.machines + 1) machines ≤ 0
     no_path [] e path = absurd (omega arith)
     no_path (b ∷ bs) e path = absurd (omega (arith, path.0, path-up bs b shop.machines path.1))
 
 -- the time on the first of several machines
-time_between-first : (shop : Shop) (job a b : ℕ) → a ≤ b → time_between shop job a b ≡ time shop job a + time_between shop job (a + 1) b
+time_between-first : (shop : Shop) (job a b : ℕ) → a ≤ b → time_between shop job a b ≡ time shop job a
+    + time_between shop job (a + 1) b
 time_between-first shop job a b h =
     let some : b + 1 - a ≡ suc (b - a) = omega arith in
     let rest : b - a ≡ b + 1 - (a + 1) = omega arith in
@@ -100,7 +124,8 @@ stays zero machine = refl
 stays (suc n) machine = (omega arith, stays n machine)
 
 -- a tail has the time of its first job
-time-le-tail : (shop : Shop) (job : ℕ) (jobs : List ℕ) (machine : ℕ) → machine ≤ shop.machines → time shop job machine ≤ tail shop (job ∷ jobs) machine
+time-le-tail : (shop : Shop) (job : ℕ) (jobs : List ℕ) (machine : ℕ) → machine ≤ shop.machines →
+    time shop job machine ≤ tail shop (job ∷ jobs) machine
 time-le-tail shop job jobs machine high =
     omega (
       arith,
@@ -112,16 +137,23 @@ time-le-tail shop job jobs machine high =
 module _ (shop : Shop) (job : ℕ) (jobs : List ℕ) (machine : ℕ) (high : machine ≤ shop.machines) where
   -- the first job leaves the path at its first machine, or later
   below-step : (machines : List ℕ) → length machines ≡ suc (length jobs) → IsPath machine machines shop.machines →
-      weight shop (job ∷ jobs) machine machines ≤ max (tail shop jobs machine) (tail shop (job ∷ jobs) (machine + 1)) + time shop job machine
+      weight shop (job ∷ jobs) machine machines ≤ max (tail shop jobs machine) (tail shop (job ∷ jobs) (machine + 1))
+      + time shop job machine
   below-step [] e path = absurd (omega arith)
   below-step (b ∷ bs) e path =
       let first = time_between-first shop job machine b path.0 in
       elim (cases_lt machine b) [
-        | inl later ↦ omega (arith, first, weight-le-tail shop (job ∷ jobs) (b ∷ bs) (machine + 1) e (omega arith, path.1))
+        | inl later ↦ omega (
+          arith,
+          first,
+          weight-le-tail shop (job ∷ jobs) (b ∷ bs) (machine
+              + 1) e (omega arith, path.1),
+        )
         | inr not_later ↦
             let here : machine ≡ b = omega (arith, path.0) in
             let same : tail shop jobs machine ≡ tail shop jobs b = ap (tail shop jobs) here in
-            let none : time_between shop job (machine + 1) b ≡ 0 = time_between-none shop job (machine + 1) b (omega arith) in
+            let none : time_between shop job (machine + 1) b ≡ 0 =
+            time_between-none shop job (machine + 1) b (omega arith) in
             omega (arith, first, none, same, weight-le-tail shop jobs bs b (omega arith) path.1)
       ]
 
@@ -142,27 +174,38 @@ module _ (shop : Shop) (job : ℕ) (jobs : List ℕ) (machine : ℕ) (high : mac
       later [] e path = absurd (omega arith)
       later (b ∷ bs) e path =
           let low : machine ≤ b = omega (arith, path.0) in
-          omega (arith, weight-le-tail shop (job ∷ jobs) (b ∷ bs) machine e (low, path.1), time_between-first shop job machine b low)
+          omega (
+            arith,
+            weight-le-tail shop (job ∷ jobs) (b
+                ∷ bs) machine e (low, path.1),
+            time_between-first shop job machine b low,
+          )
 
   -- a tail from the tail of the jobs behind, and from that of the next machine
-  pub tail-step : tail shop (job ∷ jobs) machine ≡ max (tail shop jobs machine) (tail shop (job ∷ jobs) (machine + 1)) + time shop job machine
+  pub tail-step : tail shop (job ∷ jobs) machine ≡ max (tail shop jobs machine) (tail shop (job ∷ jobs) (machine + 1))
+      + time shop job machine
   tail-step =
-      let below = tail-le shop (job ∷ jobs) machine (max (tail shop jobs machine) (tail shop (job ∷ jobs) (machine + 1)) + time shop job machine) below-step in
+      let below = tail-le shop (job ∷ jobs) machine (max (tail shop jobs machine) (tail shop (job ∷ jobs) (machine + 1))
+      + time shop job machine) below-step in
       omega (arith, below, above-here, above-later, time-le-tail shop job jobs machine high)
 
 -- a tail is no longer than the makespan with a job before it
-tail-le-span : (shop : Shop) (jobs : List ℕ) (machine : ℕ) → 1 ≤ machine → machine ≤ shop.machines → tail shop jobs machine ≤ span shop (0 ∷ jobs)
+tail-le-span : (shop : Shop) (jobs : List ℕ) (machine : ℕ) → 1 ≤ machine → machine ≤ shop.machines →
+    tail shop jobs machine ≤ span shop (0 ∷ jobs)
 tail-le-span shop jobs machine low high =
     omega (
       arith,
       completion-is shop (0 ∷ jobs) shop.machines,
-      free-and-tail shop (after shop (λ _. 0) 0) jobs machine low (head-before shop (λ _. 0) 0 jobs machine high (omega arith)),
+      free-and-tail shop (after shop (λ _. 0) 0) jobs machine low (head-before shop (λ _. 0) 0 jobs machine high
+          (omega arith)),
     )
 
 -- the tails of a list that is shorter than a sequence
-pub tails-within : (shop : Shop) (jobs tails : List ℕ) → IsWithinLimits shop → length jobs < shop.jobs → AreTails shop jobs tails → IsWithinFront shop tails
+pub tails-within : (shop : Shop) (jobs tails : List ℕ) → IsWithinLimits shop → length jobs < shop.jobs →
+    AreTails shop jobs tails → IsWithinFront shop tails
 tails-within shop jobs tails limits short are place within =
-    let here : slice_index tails (place + 1 - 1) ≡ tail shop jobs (place + 1) = are (place + 1) (omega arith) (omega arith) in
+    let here : slice_index tails (place + 1 - 1) ≡ tail shop jobs (place + 1) =
+    are (place + 1) (omega arith) (omega arith) in
     let same : slice_index tails (place + 1 - 1) ≡ slice_index tails place = ap (slice_index tails) (omega arith) in
     let jobs_limit : shop.jobs ≤ most_jobs = limits.jobs in
     let machines_limit : shop.machines ≤ most_machines = limits.machines in
@@ -175,14 +218,17 @@ tails-within shop jobs tails limits short are place within =
     )
 
 -- two functions that agree on a range have the same greatest value there
-greatest-le : (f g : ℕ → ℕ) (last : ℕ) → ((k : ℕ) → 1 ≤ k → k ≤ last → f k ≡ g k) → greatest (map f (numbers 1 last)) ≤ greatest (map g (numbers 1 last))
+greatest-le : (f g : ℕ → ℕ) (last : ℕ) → ((k : ℕ) → 1 ≤ k → k ≤ last → f k ≡ g k) →
+    greatest (map f (numbers 1 last)) ≤ greatest (map g (numbers 1 last))
 greatest-le f g last same =
     greatest-range-le f 1 (last + 1 - 1) (greatest (map g (numbers 1 last)))
     (λ k low high. omega (arith, same k low (omega arith), range-le-greatest g 1 (last + 1 - 1) k low high))
 
 -- the makespan from the heads of the jobs before and the tails of those behind
-pub between-is : (shop : Shop) (front back heads tails : List ℕ) (job most : ℕ) → IsFrontOf shop front heads → AreTails shop back tails →
-    most ≡ greatest (map (λ machine. after shop (free_at heads) job machine + free_at tails machine) (numbers 1 shop.machines)) →
+pub between-is : (shop : Shop) (front back heads tails : List ℕ) (job most : ℕ) → IsFrontOf shop front heads →
+    AreTails shop back tails →
+    most ≡ greatest (map (λ machine. after shop (free_at heads) job machine
+    + free_at tails machine) (numbers 1 shop.machines)) →
     most ≡ span shop (front ++ job ∷ back)
 between-is shop front back heads tails job most is_front are_tails is =
     let below = greatest-le given wanted shop.machines same in
@@ -207,6 +253,8 @@ between-is shop front back heads tails job most is_front are_tails is =
         )
 
 -- behind the last job there is no tail
-pub tails-end : (shop : Shop) (jobs : List ℕ) (place : ℕ) → length jobs ≤ place → AreTails shop (drop place jobs) (replicate most_machines 0)
+pub tails-end : (shop : Shop) (jobs : List ℕ) (place : ℕ) → length jobs ≤ place →
+    AreTails shop (drop place jobs) (replicate most_machines 0)
 tails-end shop jobs place past machine low high =
-    zeros most_machines (machine - 1) ∙ sym (tail-none shop machine) ∙ sym (ap (λ js. tail shop js machine) (drop_all place jobs past))
+    zeros most_machines (machine - 1) ∙ sym (tail-none shop machine)
+    ∙ sym (ap (λ js. tail shop js machine) (drop_all place jobs past))

@@ -14,11 +14,13 @@ use Rattle.flow_core.specs.Sequences.{has, AreDistinct, AreJobs}
 use Rattle.flow_core.proofs.Recurrence.{completion-is}
 use Rattle.flow_bound.specs.Neh.{insertions, inserted, all_inserted}
 
-first_least-map : {X Y : Type 0} (value : Y → ℕ) (g : X → Y) (xs : List X) → first_least value (map g xs) ≡ option_map g (first_least (λ x. value (g x)) xs)
+first_least-map : {X Y : Type 0} (value : Y → ℕ) (g : X → Y) (xs : List X) →
+    first_least value (map g xs) ≡ option_map g (first_least (λ x. value (g x)) xs)
 first_least-map value g [] = refl
 first_least-map {X} {Y} value g (x ∷ xs) =
     let here : Bool = list_all (λ y. nat_le (value (g x)) (value (g y))) xs in
-    ap (λ b. cond b (Some (g x)) (first_least value (map g xs))) (list_all-map (λ y. nat_le (value (g x)) (value y)) g xs)
+    ap (λ b. cond b (Some (g x)) (first_least value (map g xs))) (list_all-map (λ y. nat_le (value (g x))
+    (value y)) g xs)
     ∙ ap (λ o. cond here (Some (g x)) o) (first_least-map value g xs)
     ∙ outside here (first_least (λ x. value (g x)) xs)
   where
@@ -26,20 +28,24 @@ first_least-map {X} {Y} value g (x ∷ xs) =
     outside true o = refl
     outside false o = refl
 
-all-insertions : (p : List ℕ → Bool) (job : ℕ) (jobs : List ℕ) → ((at : ℕ) → at ≤ length jobs → p (insert jobs at job) ≡ true) → list_all p (insertions job jobs) ≡ true
+all-insertions : (p : List ℕ → Bool) (job : ℕ) (jobs : List ℕ) →
+    ((at : ℕ) → at ≤ length jobs → p (insert jobs at job) ≡ true) → list_all p (insertions job jobs) ≡ true
 all-insertions p job [] h = ap (λ b. b && true) (h 0 (omega arith))
 all-insertions p job (first ∷ rest) h =
     ap (λ b. b && list_all p (map (λ jobs. first ∷ jobs) (insertions job rest))) (h 0 (omega arith))
     ∙ list_all-map p (λ jobs. first ∷ jobs) (insertions job rest)
     ∙ all-insertions (λ jobs. p (first ∷ jobs)) job rest (λ at within. h (suc at) (omega arith))
 
-some-insertion : (p : List ℕ → Bool) (job : ℕ) (jobs : List ℕ) (at : ℕ) → at ≤ length jobs → p (insert jobs at job) ≡ false → list_all p (insertions job jobs) ≡ false
+some-insertion : (p : List ℕ → Bool) (job : ℕ) (jobs : List ℕ) (at : ℕ) → at ≤ length jobs →
+    p (insert jobs at job) ≡ false → list_all p (insertions job jobs) ≡ false
 some-insertion p job [] zero within h = ap (λ b. b && true) h
 some-insertion p job [] (suc at) within h = absurd (omega arith)
-some-insertion p job (first ∷ rest) zero within h = ap (λ b. b && list_all p (map (λ jobs. first ∷ jobs) (insertions job rest))) h
+some-insertion p job (first ∷ rest) zero within h =
+    ap (λ b. b && list_all p (map (λ jobs. first ∷ jobs) (insertions job rest))) h
 some-insertion p job (first ∷ rest) (suc at) within h =
     ap (λ b. p (job ∷ first ∷ rest) && b)
-    (list_all-map p (λ jobs. first ∷ jobs) (insertions job rest) ∙ some-insertion (λ jobs. p (first ∷ jobs)) job rest at (omega arith) h)
+    (list_all-map p (λ jobs. first ∷ jobs) (insertions job rest)
+    ∙ some-insertion (λ jobs. p (first ∷ jobs)) job rest at (omega arith) h)
     ∙ and-false (p (job ∷ first ∷ rest))
   where
     and-false : (b : Bool) → (b && false) ≡ false
@@ -53,7 +59,10 @@ le-false : (a b : ℕ) → b < a → nat_le a b ≡ false
 le-false a b h = grind (arith, nat_tests)
 
 -- a place that no other undercuts, and no earlier one equals, is the first best
-first-best : (value : List ℕ → ℕ) (job : ℕ) (jobs : List ℕ) (at : ℕ) → at ≤ length jobs → ((p : ℕ) → p ≤ length jobs → value (insert jobs at job) ≤ value (insert jobs p job)) → ((p : ℕ) → p < at → value (insert jobs at job) < value (insert jobs p job)) → first_least value (insertions job jobs) ≡ Some (insert jobs at job)
+first-best : (value : List ℕ → ℕ) (job : ℕ) (jobs : List ℕ) (at : ℕ) → at ≤ length jobs →
+    ((p : ℕ) → p ≤ length jobs → value (insert jobs at job) ≤ value (insert jobs p job)) →
+    ((p : ℕ) → p < at → value (insert jobs at job) < value (insert jobs p job)) →
+    first_least value (insertions job jobs) ≡ Some (insert jobs at job)
 first-best value job [] zero within least first = refl
 first-best value job [] (suc at) within least first = absurd (omega arith)
 first-best value job (head ∷ rest) zero within least first =
@@ -68,12 +77,19 @@ first-best value job (head ∷ rest) (suc at) within least first =
     (le-false (value (job ∷ head ∷ rest)) (value (head ∷ insert rest at job)) (first 0 (omega arith))))
     ∙ first_least-map value (λ jobs. head ∷ jobs) (insertions job rest)
     ∙ ap (option_map (λ jobs. head ∷ jobs))
-    (first-best (λ jobs. value (head ∷ jobs)) job rest at (omega arith) (λ p low. least (suc p) (omega arith)) (λ p low. first (suc p) (omega arith)))
+    (first-best (λ jobs. value (head
+    ∷ jobs)) job rest at (omega arith) (λ p low. least (suc p) (omega arith)) (λ p low. first (suc p)
+    (omega arith)))
 
-pub inserted-is : (shop : Shop) (job : ℕ) (jobs : List ℕ) (at : ℕ) → at ≤ length jobs → ((p : ℕ) → p ≤ length jobs → span shop (insert jobs at job) ≤ span shop (insert jobs p job)) → ((p : ℕ) → p < at → span shop (insert jobs at job) < span shop (insert jobs p job)) → insert jobs at job ≡ inserted shop jobs job
-inserted-is shop job jobs at within least first = sym (ap (λ o. unwrap_or o []) (first-best (span shop) job jobs at within least first))
+pub inserted-is : (shop : Shop) (job : ℕ) (jobs : List ℕ) (at : ℕ) → at ≤ length jobs →
+    ((p : ℕ) → p ≤ length jobs → span shop (insert jobs at job) ≤ span shop (insert jobs p job)) →
+    ((p : ℕ) → p < at → span shop (insert jobs at job) < span shop (insert jobs p job)) →
+    insert jobs at job ≡ inserted shop jobs job
+inserted-is shop job jobs at within least first =
+    sym (ap (λ o. unwrap_or o []) (first-best (span shop) job jobs at within least first))
 
-pub all_inserted-push : (shop : Shop) (jobs order : List ℕ) (job : ℕ) → all_inserted shop jobs (order ++ job ∷ []) ≡ inserted shop (all_inserted shop jobs order) job
+pub all_inserted-push : (shop : Shop) (jobs order : List ℕ) (job : ℕ) →
+    all_inserted shop jobs (order ++ job ∷ []) ≡ inserted shop (all_inserted shop jobs order) job
 all_inserted-push shop jobs [] job = refl
 all_inserted-push shop jobs (first ∷ order) job = all_inserted-push shop (inserted shop jobs first) order job
 
@@ -95,18 +111,24 @@ or-false false b h = (refl, h)
 eq-sym : (a b : ℕ) → nat_eq a b ≡ false → nat_eq b a ≡ false
 eq-sym a b h = grind (arith, nat_tests)
 
-distinct-insert : (jobs : List ℕ) (at job : ℕ) → AreDistinct jobs → has jobs job ≡ false → AreDistinct (insert jobs at job)
+distinct-insert : (jobs : List ℕ) (at job : ℕ) → AreDistinct jobs → has jobs job ≡ false →
+    AreDistinct (insert jobs at job)
 distinct-insert jobs zero job distinct fresh = (fresh, distinct)
 distinct-insert [] (suc at) job distinct fresh = (refl, tt)
 distinct-insert (first ∷ rest) (suc at) job distinct fresh =
-    let parts = or-false (nat_eq job first) (has rest job) fresh in
-    (has-insert rest at job first ∙ ap (λ b. b || has rest first) (eq-sym job first parts.0) ∙ distinct.0, distinct-insert rest at job distinct.1 parts.1)
+    let parts = or-false (nat_eq job first) (has rest job) fresh in (
+      has-insert rest at job first ∙ ap (λ b. b || has rest first) (eq-sym job first parts.0)
+          ∙ distinct.0,
+      distinct-insert rest at job distinct.1 parts.1,
+    )
 
 All-insert : (P : ℕ → Type 0) (jobs : List ℕ) (at job : ℕ) → All P jobs → P job → All P (insert jobs at job)
 All-insert P jobs at job all here =
-    All-append P (take at jobs) (job ∷ drop at jobs) (All-take P at jobs all) (All-cons P job (drop at jobs) here (All-drop P at jobs all))
+    All-append P (take at jobs) (job
+    ∷ drop at jobs) (All-take P at jobs all) (All-cons P job (drop at jobs) here (All-drop P at jobs all))
 
-pub jobs-insert : (n : ℕ) (jobs : List ℕ) (at job : ℕ) → AreJobs n jobs → 1 ≤ job → job ≤ n → has jobs job ≡ false → AreJobs n (insert jobs at job)
+pub jobs-insert : (n : ℕ) (jobs : List ℕ) (at job : ℕ) → AreJobs n jobs → 1 ≤ job → job ≤ n → has jobs job ≡ false →
+    AreJobs n (insert jobs at job)
 jobs-insert n jobs at job are low high fresh = record {
   range = All-insert (λ job. (1 ≤ job) × (job ≤ n)) jobs at job are.range (low, high);
   distinct = distinct-insert jobs at job are.distinct fresh;
@@ -116,24 +138,28 @@ pub has-at : (jobs : List ℕ) (index : ℕ) → index < length jobs → has job
 has-at [] index within = absurd (omega arith)
 has-at (first ∷ rest) zero within = ap (λ b. b || has rest first) (eq-eqb first first refl)
 has-at (first ∷ rest) (suc index) within =
-    ap (λ b. nat_eq (slice_index_or rest index 0) first || b) (has-at rest index (omega arith)) ∙ or-true (nat_eq (slice_index_or rest index 0) first)
+    ap (λ b. nat_eq (slice_index_or rest index 0) first || b) (has-at rest index (omega arith))
+    ∙ or-true (nat_eq (slice_index_or rest index 0) first)
   where
     or-true : (b : Bool) → (b || true) ≡ true
     or-true true = refl
     or-true false = refl
 
 -- a job of a list of distinct jobs does not stand before its place
-pub before-lacks : (jobs : List ℕ) (index : ℕ) → AreDistinct jobs → index < length jobs → has (take index jobs) (slice_index_or jobs index 0) ≡ false
+pub before-lacks : (jobs : List ℕ) (index : ℕ) → AreDistinct jobs → index < length jobs →
+    has (take index jobs) (slice_index_or jobs index 0) ≡ false
 before-lacks [] index distinct within = absurd (omega arith)
 before-lacks (first ∷ rest) zero distinct within = refl
 before-lacks (first ∷ rest) (suc index) distinct within =
     elim (eqb_tells (slice_index_or rest index 0) first) [
       | inl same ↦ absurd (false≢true (sym distinct.0 ∙ sym (ap (has rest) same.1) ∙ has-at rest index (omega arith)))
-      | inr other ↦ ap (λ b. b || has (take index rest) (slice_index_or rest index 0)) other.0 ∙ before-lacks rest index distinct.1 (omega arith)
+      | inr other ↦ ap (λ b. b || has (take index rest) (slice_index_or rest index 0)) other.0
+          ∙ before-lacks rest index distinct.1 (omega arith)
     ]
 
 -- the jobs put in so far are those of the order so far
-pub has-more : (jobs done : List ℕ) (at job k : ℕ) → has jobs k ≡ has done k → has (insert jobs at job) k ≡ has (done ++ job ∷ []) k
+pub has-more : (jobs done : List ℕ) (at job k : ℕ) → has jobs k ≡ has done k →
+    has (insert jobs at job) k ≡ has (done ++ job ∷ []) k
 has-more jobs done at job k same =
     has-insert jobs at job k
     ∙ ap (λ b. nat_eq k job || b) same

@@ -19,7 +19,8 @@ pub sum-take : (f : ℕ → ℕ) (p : ℕ → Bool) (job : ℕ) → 1 ≤ job �
     kept f p (job + 1 - 1) ≡ kept f p (job - 1) + f job
 sum-take f p job low there = kept-step f p job low ∙ ap (λ b. kept f p (job - 1) + cond {A = ℕ} b (f job) 0) there
 
-pub sum-skip : (f : ℕ → ℕ) (p : ℕ → Bool) (job : ℕ) → 1 ≤ job → p job ≡ false → kept f p (job + 1 - 1) ≡ kept f p (job - 1)
+pub sum-skip : (f : ℕ → ℕ) (p : ℕ → Bool) (job : ℕ) → 1 ≤ job → p job ≡ false →
+    kept f p (job + 1 - 1) ≡ kept f p (job - 1)
 sum-skip f p job low out =
     let none : cond {A = ℕ} (p job) (f job) 0 ≡ 0 = ap (λ b. cond {A = ℕ} b (f job) 0) out in
     omega (arith, kept-step f p job low, none)
@@ -59,12 +60,15 @@ sum-whole f set n job none end =
 pub least-member : (f : ℕ → ℕ) (set : List Bool) (n job : ℕ) → ((k : ℕ) → n < k → contains set k ≡ false) →
     1 ≤ job → job ≤ n → contains set job ≡ true → least (map f (members set)) ≤ f job
 least-member f set n job none low high there =
-    least-le f (members set) job (ap (λ xs. has xs job) (members-is set n none) ∙ has-filter (contains set) n job there low high)
+    least-le f (members set) job (ap (λ xs. has xs job) (members-is set n none)
+    ∙ has-filter (contains set) n job there low high)
 
 -- a floor under all is the least, once it is met
 pub least-until : (f : ℕ → ℕ) (set : List Bool) (n job floor : ℕ) → ((k : ℕ) → n < k → contains set k ≡ false) →
-    1 ≤ job → job ≤ n → contains set job ≡ true → floor ≤ least (map f (members set)) → f job ≡ floor → floor ≡ least (map f (members set))
-least-until f set n job floor none low high there under met = omega (arith, least-member f set n job none low high there, under, met)
+    1 ≤ job → job ≤ n → contains set job ≡ true → floor ≤ least (map f (members set)) → f job ≡ floor →
+    floor ≡ least (map f (members set))
+least-until f set n job floor none low high there under met =
+    omega (arith, least-member f set n job none low high there, under, met)
 
 -- a set with one job more
 
@@ -100,8 +104,11 @@ other-job : (k job : ℕ) → k ≢ job → nat_eq k job ≡ false
 other-job k job h = elim (eqb_tells k job) [ inl e ↦ absurd (h e.1) | inr d ↦ d.0 ]
 
 -- below the job that is put in nothing differs
-same-below : (after : List Bool) (job n : ℕ) → n < job → filter (with_job after job) (numbers 1 n) ≡ filter (contains after) (numbers 1 n)
-same-below after job n h = filter-same (with_job after job) (contains after) n (λ k from to. ap (λ b. b || contains after k) (other-job k job (omega arith)))
+same-below : (after : List Bool) (job n : ℕ) → n < job → filter (with_job after job) (numbers 1 n)
+    ≡ filter (contains after) (numbers 1 n)
+same-below after job n h =
+    filter-same (with_job after job) (contains after) n (λ k from to. ap (λ b. b
+    || contains after k) (other-job k job (omega arith)))
 
 sum-from : (f : ℕ → ℕ) (after : List Bool) (job : ℕ) → contains after job ≡ false → (n : ℕ) → 1 ≤ job → job ≤ n →
     kept f (with_job after job) n ≡ f job + kept f (contains after) n
@@ -115,10 +122,26 @@ sum-from f after job out (suc n) low high =
           let pass : q (suc n) ≡ true = ap (λ b. b || p (suc n)) (eq-eqb (suc n) job e) in
           let fail : p (suc n) ≡ false = ap p e ∙ out in
           let value : f (suc n) ≡ f job = ap f e in
-          omega (arith, kept-more f q n, kept-more f p n, ap (sum_by f) (same-below after job n here), ap (λ b. cond {A = ℕ} b (f (suc n)) 0) pass, ap (λ b. cond {A = ℕ} b (f (suc n)) 0) fail, value)
+          omega (
+            arith,
+            kept-more f q n,
+            kept-more f p n,
+            ap (sum_by f) (same-below after job n here),
+            ap
+                (λ b. cond {A = ℕ} b (f (suc n)) 0) pass,
+            ap (λ b. cond {A = ℕ} b (f (suc n)) 0) fail,
+            value,
+          )
       | inr below ↦
           let same : q (suc n) ≡ p (suc n) = ap (λ b. b || p (suc n)) (other-job (suc n) job (omega arith)) in
-          omega (arith, kept-more f q n, kept-more f p n, sum-from f after job out n low below, ap (λ b. cond {A = ℕ} b (f (suc n)) 0) same)
+          omega (
+            arith,
+            kept-more f q n,
+            kept-more f p n,
+            sum-from f after job out n low below,
+            ap (λ b. cond {A =
+                ℕ} b (f (suc n)) 0) same,
+          )
     ]
 
 pub sum-with : (f : ℕ → ℕ) (after : List Bool) (n job : ℕ) → 1 ≤ job → job ≤ n → job - 1 < length after →
@@ -137,7 +160,8 @@ least-more cap f p n =
     ap (least_kept cap f p) a ∙ capped-step cap f p (suc n) (omega arith)
     ∙ ap (λ m. cond (p (suc n)) (min (least_kept cap f p m) (f (suc n))) (least_kept cap f p m)) b
 
-least-from : (cap : ℕ) (f : ℕ → ℕ) (after : List Bool) (job : ℕ) → contains after job ≡ false → (n : ℕ) → 1 ≤ job → job ≤ n →
+least-from : (cap : ℕ) (f : ℕ → ℕ) (after : List Bool) (job : ℕ) → contains after job ≡ false → (n : ℕ) → 1 ≤ job →
+    job ≤ n →
     least_kept cap f (with_job after job) n ≡ min (f job) (least_kept cap f (contains after) n)
 least-from cap f after job out zero low high = absurd (omega arith)
 least-from cap f after job out (suc n) low high =
@@ -152,9 +176,11 @@ least-from cap f after job out (suc n) low high =
           let fail : p (suc n) ≡ false = ap p e ∙ out in
           let before : least_kept cap f q n ≡ least_kept cap f p n =
           ap (λ xs. capped cap (map f xs)) (same-below after job n here) in
-          let taken : cond (q (suc n)) (min (least_kept cap f q n) (f (suc n))) (least_kept cap f q n) ≡ min (least_kept cap f q n) (f (suc n)) =
+          let taken : cond (q (suc n)) (min (least_kept cap f q n) (f (suc n))) (least_kept cap f q n)
+          ≡ min (least_kept cap f q n) (f (suc n)) =
           ap (λ b. cond b (min (least_kept cap f q n) (f (suc n))) (least_kept cap f q n)) pass in
-          let kept_out : cond (p (suc n)) (min (least_kept cap f p n) (f (suc n))) (least_kept cap f p n) ≡ least_kept cap f p n =
+          let kept_out : cond (p (suc n)) (min (least_kept cap f p n) (f (suc n))) (least_kept cap f p n)
+          ≡ least_kept cap f p n =
           ap (λ b. cond b (min (least_kept cap f p n) (f (suc n))) (least_kept cap f p n)) fail in
           let value : f (suc n) ≡ f job = ap f e in
           omega (arith, old, new, taken, kept_out, before, value)
@@ -165,23 +191,27 @@ least-from cap f after job out (suc n) low high =
           (new ∙ ap (λ b. cond b (min (least_kept cap f q n) (f (suc n))) (least_kept cap f q n)) same) old
     ]
   where
-    both : (b : Bool) (x y v : ℕ) → x ≡ min (f job) y → least_kept cap f (with_job after job) (suc n) ≡ cond b (min x v) x →
+    both : (b : Bool) (x y v : ℕ) → x ≡ min (f job) y → least_kept cap f (with_job after job) (suc n)
+        ≡ cond b (min x v) x →
         least_kept cap f (contains after) (suc n) ≡ cond b (min y v) y →
         least_kept cap f (with_job after job) (suc n) ≡ min (f job) (least_kept cap f (contains after) (suc n))
     both true x y v h new old = omega (arith, h, new, old)
     both false x y v h new old = omega (arith, h, new, old)
 
 pub least-with : (cap bound : ℕ) (f : ℕ → ℕ) (after : List Bool) (n job : ℕ) → ((j : ℕ) → f j ≤ bound) → bound ≤ cap →
-    1 ≤ job → job ≤ n → job - 1 < length after → ((k : ℕ) → n < k → contains after k ≡ false) → contains after job ≡ false →
+    1 ≤ job → job ≤ n → job - 1 < length after → ((k : ℕ) → n < k → contains after k ≡ false) →
+    contains after job ≡ false →
     0 < length (members after) →
     least (map f (members (slice_set after (job - 1) true))) ≡ min (f job) (least (map f (members after)))
 least-with cap bound f after n job small below low high within none out some =
     let more = sum-with (λ _. 1) after n job low high within none out in
     let is = members-with after n job low high within none in
-    let longer : 0 < length (members (slice_set after (job - 1) true)) = omega (arith, more, sum_by-ones (members (slice_set after (job - 1) true))) in
+    let longer : 0 < length (members (slice_set after (job - 1) true)) =
+    omega (arith, more, sum_by-ones (members (slice_set after (job - 1) true))) in
     let new = capped-least-all cap bound f (members (slice_set after (job - 1) true)) small below longer in
     let old = capped-least-all cap bound f (members after) small below some in
-    let step : capped cap (map f (members (slice_set after (job - 1) true))) ≡ min (f job) (capped cap (map f (members after))) =
+    let step : capped cap (map f (members (slice_set after (job - 1) true)))
+    ≡ min (f job) (capped cap (map f (members after))) =
     ap (λ xs. capped cap (map f xs)) is ∙ least-from cap f after job out n low high
     ∙ ap (λ xs. min (f job) (capped cap (map f xs))) (sym (members-is after n none)) in
     omega (arith, new.0, old.0, step)
@@ -196,11 +226,13 @@ written f xs k value last from within is done j low high =
       | inl above ↦ let other : j - 1 ≢ k - 1 = omega arith in rw get_or-set_other (done j above high)
       | inr here ↦
           let e : j ≡ k = omega arith in
-          ap (λ n. slice_index (set xs (k - 1) value) (n - 1)) e ∙ get_or-set_same xs (k - 1) value 0 within ∙ is ∙ ap f (sym e)
+          ap (λ n. slice_index (set xs (k - 1) value) (n - 1)) e ∙ get_or-set_same xs (k - 1) value 0 within ∙ is
+          ∙ ap f (sym e)
     ]
 
 -- the times from a machine on, and that on it
-pub time_between-first : (shop : Shop) (job a b : ℕ) → a ≤ b → time_between shop job a b ≡ time shop job a + time_between shop job (a + 1) b
+pub time_between-first : (shop : Shop) (job a b : ℕ) → a ≤ b →
+    time_between shop job a b ≡ time shop job a + time_between shop job (a + 1) b
 time_between-first shop job a b h =
     let n : b + 1 - a ≡ suc (b - a) = omega arith in
     let m : b - a ≡ b + 1 - (a + 1) = omega arith in
@@ -209,7 +241,8 @@ time_between-first shop job a b h =
     ∙ ap (λ k. time shop job a + sum_by (time shop job) (range_with_len (a + 1) k)) m
 
 -- the tail before a machine, from that behind it
-pub tail-before : (shop : Shop) (job k tail value m : ℕ) → 1 ≤ k → k ≤ m → tail ≡ time_between shop job (k + 1) m → value ≡ time shop job k →
+pub tail-before : (shop : Shop) (job k tail value m : ℕ) → 1 ≤ k → k ≤ m → tail ≡ time_between shop job (k + 1) m →
+    value ≡ time shop job k →
     tail + value ≡ time_between shop job (k - 1 + 1) m
 tail-before shop job k tail value m low high is there =
     let e : k ≡ k - 1 + 1 = omega arith in

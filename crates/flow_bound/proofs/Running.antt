@@ -13,17 +13,22 @@ use Rattle.flow_core.proofs.Recurrence.{time_between-more, time_between-none}
 use Rattle.flow_bound.proofs.Steps.{capped, capped-push, capped-is, least-le-first, time_between-small}
 
 -- a value that is written for one more number
-pub done-more : (f : ℕ → ℕ) (xs : List ℕ) (k value : ℕ) → 1 ≤ k → k - 1 < length xs → value ≡ f k → ((j : ℕ) → 1 ≤ j → j < k → slice_index xs (j - 1) ≡ f j) → (j : ℕ) → 1 ≤ j → j < k + 1 → slice_index (set xs (k - 1) value) (j - 1) ≡ f j
+pub done-more : (f : ℕ → ℕ) (xs : List ℕ) (k value : ℕ) → 1 ≤ k → k - 1 < length xs → value ≡ f k →
+    ((j : ℕ) → 1 ≤ j → j < k → slice_index xs (j - 1) ≡ f j) → (j : ℕ) → 1 ≤ j → j < k + 1 →
+    slice_index (set xs (k - 1) value) (j - 1) ≡ f j
 done-more f xs k value from within is done j low high =
     elim (cases_lt j k) [
       | inl below ↦ let other : j - 1 ≢ k - 1 = omega arith in rw get_or-set_other (done j low below)
       | inr here ↦
           let e : j ≡ k = omega arith in
-          ap (λ n. slice_index (set xs (k - 1) value) (n - 1)) e ∙ get_or-set_same xs (k - 1) value 0 within ∙ is ∙ ap f (sym e)
+          ap (λ n. slice_index (set xs (k - 1) value) (n - 1)) e ∙ get_or-set_same xs (k - 1) value 0 within ∙ is
+          ∙ ap f (sym e)
     ]
 
 -- and the values of the numbers behind it stay
-pub others-stay : (f : ℕ → ℕ) (xs : List ℕ) (k value last : ℕ) → 1 ≤ k → ((j : ℕ) → k ≤ j → j ≤ last → slice_index xs (j - 1) ≡ f j) → (j : ℕ) → k + 1 ≤ j → j ≤ last → slice_index (set xs (k - 1) value) (j - 1) ≡ f j
+pub others-stay : (f : ℕ → ℕ) (xs : List ℕ) (k value last : ℕ) → 1 ≤ k →
+    ((j : ℕ) → k ≤ j → j ≤ last → slice_index xs (j - 1) ≡ f j) → (j : ℕ) → k + 1 ≤ j → j ≤ last →
+    slice_index (set xs (k - 1) value) (j - 1) ≡ f j
 others-stay f xs k value last from others j low high =
     let other : j - 1 ≢ k - 1 = omega arith in rw get_or-set_other (others j (omega arith) high)
 
@@ -37,22 +42,26 @@ numbers-step (suc n) low =
 pub sum-step : (f : ℕ → ℕ) (k : ℕ) → 1 ≤ k → sum_by f (numbers 1 (k + 1 - 1)) ≡ sum_by f (numbers 1 (k - 1)) + f k
 sum-step f k low = ap (sum_by f) (numbers-step k low) ∙ sum_by_push f (numbers 1 (k - 1)) k
 
-pub least-step : (cap : ℕ) (f : ℕ → ℕ) (k : ℕ) → 1 ≤ k → capped cap (map f (numbers 1 (k + 1 - 1))) ≡ min (capped cap (map f (numbers 1 (k - 1)))) (f k)
+pub least-step : (cap : ℕ) (f : ℕ → ℕ) (k : ℕ) → 1 ≤ k → capped cap (map f (numbers 1 (k + 1 - 1)))
+    ≡ min (capped cap (map f (numbers 1 (k - 1)))) (f k)
 least-step cap f k low =
     ap (λ xs. capped cap (map f xs)) (numbers-step k low)
     ∙ ap (capped cap) (map-map-append f (numbers 1 (k - 1)) (k ∷ []))
     ∙ capped-push cap (map f (numbers 1 (k - 1))) (f k)
 
-pub greatest-step : (f : ℕ → ℕ) (k : ℕ) → 1 ≤ k → greatest (map f (numbers 1 (k + 1 - 1))) ≡ max (greatest (map f (numbers 1 (k - 1)))) (f k)
+pub greatest-step : (f : ℕ → ℕ) (k : ℕ) → 1 ≤ k → greatest (map f (numbers 1 (k + 1 - 1)))
+    ≡ max (greatest (map f (numbers 1 (k - 1)))) (f k)
 greatest-step f k low =
-    let pushed : greatest (map f (numbers 1 (k + 1 - 1))) ≡ max (greatest (map f (numbers 1 (k - 1)))) (greatest (f k ∷ [])) =
+    let pushed : greatest (map f (numbers 1 (k + 1 - 1)))
+    ≡ max (greatest (map f (numbers 1 (k - 1)))) (greatest (f k ∷ [])) =
     ap (λ xs. greatest (map f xs)) (numbers-step k low)
     ∙ ap greatest (map-map-append f (numbers 1 (k - 1)) (k ∷ []))
     ∙ greatest-append (map f (numbers 1 (k - 1))) (f k ∷ []) in
     omega (arith, pushed)
 
 -- a cap above all values takes no part
-pub capped-least-all : (cap bound : ℕ) (f : ℕ → ℕ) (xs : List ℕ) → ((j : ℕ) → f j ≤ bound) → bound ≤ cap → 0 < length xs →
+pub capped-least-all : (cap bound : ℕ) (f : ℕ → ℕ) (xs : List ℕ) → ((j : ℕ) → f j ≤ bound) → bound ≤ cap →
+    0 < length xs →
     (capped cap (map f xs) ≡ least (map f xs)) × (least (map f xs) ≤ bound)
 capped-least-all cap bound f [] small below some = absurd (omega arith)
 capped-least-all cap bound f (x ∷ xs) small below some =
@@ -62,9 +71,16 @@ capped-least-all cap bound f (x ∷ xs) small below some =
     (omega (arith, is, first, here), omega (arith, first, here))
 
 -- the times up to a machine and those behind it
-pub time_between-split : (shop : Shop) (job k m : ℕ) → k ≤ m → time_between shop job 1 m ≡ time_between shop job 1 k + time_between shop job (k + 1) m
+pub time_between-split : (shop : Shop) (job k m : ℕ) → k ≤ m →
+    time_between shop job 1 m ≡ time_between shop job 1 k + time_between shop job (k + 1) m
 time_between-split shop job k zero h =
-    omega (arith, time_between-none shop job 1 0 (omega arith), ap (time_between shop job 1) none, time_between-none shop job (k + 1) 0 (omega arith))
+    omega (
+      arith,
+      time_between-none shop job 1 0 (omega arith),
+      ap
+          (time_between shop job 1) none,
+      time_between-none shop job (k + 1) 0 (omega arith),
+    )
   where
     none : k ≡ 0
     none = omega arith
@@ -75,22 +91,31 @@ time_between-split shop job k (suc m) h =
           let same : time_between shop job 1 k ≡ time_between shop job 1 (suc m) = ap (time_between shop job 1) e in
           omega (arith, same, time_between-none shop job (k + 1) (suc m) (omega arith))
       | inr below ↦
-          omega (arith, time_between-split shop job k m (omega arith), time_between-more shop job 1 m (omega arith), time_between-more shop job (k + 1) m (omega arith))
+          omega (
+            arith,
+            time_between-split shop job k m (omega arith),
+            time_between-more shop job 1 m
+                (omega arith),
+            time_between-more shop job (k + 1) m (omega arith),
+          )
     ]
 
 -- the time on one more machine
-pub head-step : (shop : Shop) (job machine : ℕ) → 1 ≤ machine → time_between shop job 1 machine ≡ time_between shop job 1 (machine - 1) + time shop job machine
+pub head-step : (shop : Shop) (job machine : ℕ) → 1 ≤ machine →
+    time_between shop job 1 machine ≡ time_between shop job 1 (machine - 1) + time shop job machine
 head-step shop job zero low = absurd (omega arith)
 head-step shop job (suc k) low =
     let e : k ≡ suc k - 1 = omega arith in
     time_between-more shop job 1 k (omega arith) ∙ ap (λ n. time_between shop job 1 n + time shop job (suc k)) e
 
-pub head-small : (shop : Shop) (job machine : ℕ) → IsWithinLimits shop → machine ≤ shop.machines → time_between shop job 1 machine ≤ most_machines * greatest_time
+pub head-small : (shop : Shop) (job machine : ℕ) → IsWithinLimits shop → machine ≤ shop.machines →
+    time_between shop job 1 machine ≤ most_machines * greatest_time
 head-small shop job machine limits within =
     let most : shop.machines ≤ most_machines = limits.machines in
     omega (arith, time_between-small shop job 1 machine (omega arith) limits, most)
 
-pub tail-small : (shop : Shop) (job machine : ℕ) → IsWithinLimits shop → time_between shop job (machine + 1) shop.machines ≤ most_machines * greatest_time
+pub tail-small : (shop : Shop) (job machine : ℕ) → IsWithinLimits shop →
+    time_between shop job (machine + 1) shop.machines ≤ most_machines * greatest_time
 tail-small shop job machine limits =
     let most : shop.machines ≤ most_machines = limits.machines in
     omega (arith, time_between-small shop job (machine + 1) shop.machines (omega arith) limits, most)
@@ -101,15 +126,18 @@ zeros (suc n) zero = refl
 zeros (suc n) (suc i) = zeros n i
 
 -- before the first machine
-pub times-none : (shop : Shop) (n job first : ℕ) → 1 ≤ first → slice_index (replicate n 0) (job - 1) ≡ time_between shop job first (first - 1)
+pub times-none : (shop : Shop) (n job first : ℕ) → 1 ≤ first →
+    slice_index (replicate n 0) (job - 1) ≡ time_between shop job first (first - 1)
 times-none shop n job first low = zeros n (job - 1) ∙ sym (time_between-none shop job first (first - 1) (omega arith))
 
 -- the least over all jobs, and its cap
-pub least-of-jobs : (cap bound : ℕ) (f : ℕ → ℕ) (n job : ℕ) → ((j : ℕ) → f j ≤ bound) → bound ≤ cap → 1 ≤ n → job ≡ n + 1 →
+pub least-of-jobs : (cap bound : ℕ) (f : ℕ → ℕ) (n job : ℕ) → ((j : ℕ) → f j ≤ bound) → bound ≤ cap → 1 ≤ n →
+    job ≡ n + 1 →
     (capped cap (map f (numbers 1 (job - 1))) ≡ least (map f (numbers 1 n))) × (least (map f (numbers 1 n)) ≤ bound)
 least-of-jobs cap bound f zero job small below some end = absurd (omega arith)
 least-of-jobs cap bound f (suc n) job small below some end =
     let e : job - 1 ≡ suc n = omega arith in
-    let long : 0 < length (numbers 1 (suc n)) = omega (arith, ap length (numbers-more n), length-append (numbers 1 n) (suc n ∷ [])) in
+    let long : 0 < length (numbers 1 (suc n)) =
+    omega (arith, ap length (numbers-more n), length-append (numbers 1 n) (suc n ∷ [])) in
     let whole = capped-least-all cap bound f (numbers 1 (suc n)) small below long in
     (ap (λ m. capped cap (map f (numbers 1 m))) e ∙ whole.0, whole.1)

@@ -27,12 +27,16 @@ map-push : (f : ℕ → ℕ) (xs : List ℕ) (x : ℕ) → map f (xs ++ x ∷ []
 map-push f [] x = refl
 map-push f (y ∷ ys) x = ap (λ zs. f y ∷ zs) (map-push f ys x)
 
-capped_kept : (cap : ℕ) (f : ℕ → ℕ) (xs : List ℕ) (k : ℕ) (b : Bool) → capped cap (map f (xs ++ cond b (k ∷ []) [])) ≡ cond b (min (capped cap (map f xs)) (f k)) (capped cap (map f xs))
+capped_kept : (cap : ℕ) (f : ℕ → ℕ) (xs : List ℕ) (k : ℕ) (b : Bool) →
+    capped cap (map f (xs ++ cond b (k ∷ []) [])) ≡ cond b (min (capped cap (map f xs)) (f k)) (capped cap (map f xs))
 capped_kept cap f xs k true = ap (capped cap) (map-push f xs k) ∙ capped-push cap (map f xs) (f k)
 capped_kept cap f [] k false = refl
 capped_kept cap f (x ∷ xs) k false = ap (min (f x)) (capped_kept cap f xs k false)
 
-pub capped-step : (cap : ℕ) (f : ℕ → ℕ) (p : ℕ → Bool) (k : ℕ) → 1 ≤ k → capped cap (map f (filter p (numbers 1 (k + 1 - 1)))) ≡ cond (p k) (min (capped cap (map f (filter p (numbers 1 (k - 1))))) (f k)) (capped cap (map f (filter p (numbers 1 (k - 1)))))
+pub capped-step : (cap : ℕ) (f : ℕ → ℕ) (p : ℕ → Bool) (k : ℕ) → 1 ≤ k →
+    capped cap (map f (filter p (numbers 1 (k + 1 - 1))))
+    ≡ cond (p k) (min (capped cap (map f (filter p (numbers 1 (k - 1))))) (f k)) (capped cap (map f (filter p (numbers 1
+    (k - 1)))))
 capped-step cap f p zero low = absurd (omega arith)
 capped-step cap f p (suc n) low =
     let a : suc n + 1 - 1 ≡ suc n = omega arith in
@@ -40,7 +44,8 @@ capped-step cap f p (suc n) low =
     ap (λ m. capped cap (map f (filter p (numbers 1 m)))) a
     ∙ ap (λ xs. capped cap (map f xs)) (filter-more p n)
     ∙ capped_kept cap f (filter p (numbers 1 n)) (suc n) (p (suc n))
-    ∙ ap (λ m. cond (p (suc n)) (min (capped cap (map f (filter p (numbers 1 m)))) (f (suc n))) (capped cap (map f (filter p (numbers 1 m))))) b
+    ∙ ap (λ m. cond (p (suc n)) (min (capped cap (map f (filter p (numbers 1 m)))) (f (suc n))) (capped cap (map f
+    (filter p (numbers 1 m))))) b
 
 -- a cap above the first number of a list takes no part
 pub capped-is : (cap : ℕ) (x : ℕ) (xs : List ℕ) → capped cap (x ∷ xs) ≡ min (least (x ∷ xs)) cap
@@ -52,31 +57,42 @@ least-le-first x [] = omega arith
 least-le-first x (y ∷ ys) = omega arith
 
 -- the times from a machine on fit
-pub time_between-small : (shop : Shop) (job a b : ℕ) → 1 ≤ a → IsWithinLimits shop → time_between shop job a b ≤ b * greatest_time
+pub time_between-small : (shop : Shop) (job a b : ℕ) → 1 ≤ a → IsWithinLimits shop →
+    time_between shop job a b ≤ b * greatest_time
 time_between-small shop job a zero low limits = omega (arith, time_between-none shop job a 0 (omega arith))
 time_between-small shop job a (suc b) low limits =
     elim (cases_lt (suc b) a) [
       | inl above ↦ omega (arith, time_between-none shop job a (suc b) above)
-      | inr here ↦ omega (arith, time_between-more shop job a b here, time_between-small shop job a b low limits, time-small shop job (suc b) limits)
+      | inr here ↦ omega (
+        arith,
+        time_between-more shop job a b here,
+        time_between-small shop job a b low limits,
+        time-small shop job (suc b) limits,
+      )
     ]
 
-pub time_between-step : (shop : Shop) (job a k : ℕ) → 1 ≤ a → a ≤ k → time_between shop job a (k + 1 - 1) ≡ time_between shop job a (k - 1) + time shop job k
+pub time_between-step : (shop : Shop) (job a k : ℕ) → 1 ≤ a → a ≤ k →
+    time_between shop job a (k + 1 - 1) ≡ time_between shop job a (k - 1) + time shop job k
 time_between-step shop job a zero from low = absurd (omega arith)
 time_between-step shop job a (suc n) from low =
     let e : suc n + 1 - 1 ≡ suc n = omega arith in
     let d : n ≡ suc n - 1 = omega arith in
-    ap (time_between shop job a) e ∙ time_between-more shop job a n low ∙ ap (λ m. time_between shop job a m + time shop job (suc n)) d
+    ap (time_between shop job a) e ∙ time_between-more shop job a n low
+    ∙ ap (λ m. time_between shop job a m + time shop job (suc n)) d
 
 -- what equals the bound of the jobs that are left is admissible
-pub admissible-members : (shop : Shop) (scheduled sequence front set : List ℕ) (machine bound : ℕ) → 1 ≤ machine → machine ≤ shop.machines →
+pub admissible-members : (shop : Shop) (scheduled sequence front set : List ℕ) (machine bound : ℕ) → 1 ≤ machine →
+    machine ≤ shop.machines →
     IsSequence shop.jobs sequence → Extends sequence scheduled → 0 < length set → set ≡ jobs_left shop.jobs scheduled →
     IsFrontOf shop scheduled front → bound ≡ machine_bound shop front set machine → bound ≤ span shop sequence
 admissible-members shop scheduled sequence front set machine bound low high is extends some left is_front value =
     let rest : List ℕ = extends.0 in
     let whole : IsSequence shop.jobs (scheduled ++ rest) = subst (IsSequence shop.jobs) extends.1 is in
     let ones = sum_by-jobs_left (λ _. 1) shop.jobs scheduled rest whole in
-    let more : 0 < length rest = omega (arith, ones, sum_by-ones (jobs_left shop.jobs scheduled), sum_by-ones rest, ap length left) in
+    let more : 0 < length rest =
+    omega (arith, ones, sum_by-ones (jobs_left shop.jobs scheduled), sum_by-ones rest, ap length left) in
     let here = admissible-front shop scheduled rest front machine low high whole more is_front in
-    let same : bound ≡ machine_bound shop front (jobs_left shop.jobs scheduled) machine = value ∙ ap (λ jobs. machine_bound shop front jobs machine) left in
+    let same : bound ≡ machine_bound shop front (jobs_left shop.jobs scheduled) machine = value
+    ∙ ap (λ jobs. machine_bound shop front jobs machine) left in
     let whole_span : span shop sequence ≡ span shop (scheduled ++ rest) = ap (span shop) extends.1 in
     omega (arith, same, here, whole_span)

@@ -15,18 +15,22 @@ use Rattle.flow_cert.proofs.TreesExact.{fault-value}
 use Rattle.flow_cert.proofs.Sound.{certificate_is_sound}
 
 -- a text that is read as a value is a lawful certificate of it, and the value is the least makespan
-pub value-least : (shop : Shop) (bytes : List ℕ) (value : ℕ) → IsWithinLimits shop → certificate_value shop bytes ≡ Ok value → IsCertificate shop bytes value × IsLeastMakespan shop value
+pub value-least : (shop : Shop) (bytes : List ℕ) (value : ℕ) → IsWithinLimits shop →
+    certificate_value shop bytes ≡ Ok value → IsCertificate shop bytes value × IsLeastMakespan shop value
 value-least shop bytes value limits read =
     let is = (value_is_exact shop bytes value limits).0 read in
     (is, certificate_is_sound shop bytes value is)
 
 -- a text with a fault is a certificate of no value
-pub fault-lawless : (shop : Shop) (bytes : List ℕ) (fault : CheckFault) → IsWithinLimits shop → certificate_value shop bytes ≡ Err fault → (value : ℕ) → IsCertificate shop bytes value → ⊥
-fault-lawless shop bytes fault limits read value is = fault-value fault value (sym read ∙ (value_is_exact shop bytes value limits).1 is)
+pub fault-lawless : (shop : Shop) (bytes : List ℕ) (fault : CheckFault) → IsWithinLimits shop →
+    certificate_value shop bytes ≡ Err fault → (value : ℕ) → IsCertificate shop bytes value → ⊥
+fault-lawless shop bytes fault limits read value is =
+    fault-value fault value (sym read ∙ (value_is_exact shop bytes value limits).1 is)
 
 -- what a read value or fault gives to the clauses of a check
 
-pub first-fault : (shop : Shop) (bytes : List ℕ) (fault : CheckFault) → certificate_value shop bytes ≡ Err fault → IsFirstFault shop bytes fault
+pub first-fault : (shop : Shop) (bytes : List ℕ) (fault : CheckFault) → certificate_value shop bytes ≡ Err fault →
+    IsFirstFault shop bytes fault
 first-fault shop bytes Memory e = tt
 first-fault shop bytes Header e = e
 first-fault shop bytes Size e = e
@@ -38,7 +42,8 @@ first-fault shop bytes (Weak line) e = e
 first-fault shop bytes (Low line) e = e
 first-fault shop bytes End e = e
 
-pub no-value : (shop : Shop) (bytes : List ℕ) (fault : CheckFault) → IsWithinLimits shop → IsFirstFault shop bytes fault → IsOfNoValue shop bytes fault
+pub no-value : (shop : Shop) (bytes : List ℕ) (fault : CheckFault) → IsWithinLimits shop →
+    IsFirstFault shop bytes fault → IsOfNoValue shop bytes fault
 no-value shop bytes Memory limits e = tt
 no-value shop bytes Header limits e = fault-lawless shop bytes Header limits e
 no-value shop bytes Size limits e = fault-lawless shop bytes Size limits e
@@ -54,7 +59,8 @@ abbrev pub refused : CheckFault → Result ℕ CheckFault
 refused fault = Err fault
 
 -- a lawful certificate is refused where memory ran out alone
-pub only-memory : (shop : Shop) (bytes : List ℕ) (fault : CheckFault) (value : ℕ) → IsOfNoValue shop bytes fault → IsCertificate shop bytes value → (refused fault ≡ Ok value) ⊎ (refused fault ≡ Err Memory)
+pub only-memory : (shop : Shop) (bytes : List ℕ) (fault : CheckFault) (value : ℕ) → IsOfNoValue shop bytes fault →
+    IsCertificate shop bytes value → (refused fault ≡ Ok value) ⊎ (refused fault ≡ Err Memory)
 only-memory shop bytes Memory value none is = inr refl
 only-memory shop bytes Header value none is = absurd (none value is)
 only-memory shop bytes Size value none is = absurd (none value is)
@@ -67,7 +73,9 @@ only-memory shop bytes (Low line) value none is = absurd (none value is)
 only-memory shop bytes End value none is = absurd (none value is)
 
 -- the faults of the trees are those of the text
-pub trees-fault : (shop : Shop) (depth value : ℕ) (bytes rest : List ℕ) (fault : CheckFault) → certificate_value shop bytes ≡ cut_value shop depth value rest → TreesGive shop depth value rest (Err fault) → IsFirstFault shop bytes fault
+pub trees-fault : (shop : Shop) (depth value : ℕ) (bytes rest : List ℕ) (fault : CheckFault) →
+    certificate_value shop bytes ≡ cut_value shop depth value rest → TreesGive shop depth value rest (Err fault) →
+    IsFirstFault shop bytes fault
 trees-fault shop depth value bytes rest Memory e h = tt
 trees-fault shop depth value bytes rest Header e h = e ∙ h
 trees-fault shop depth value bytes rest Size e h = e ∙ h
@@ -81,29 +89,44 @@ trees-fault shop depth value bytes rest End e h = e ∙ h
 
 -- what a checker answers with a fault
 
-pub none-at : (shop : Shop) (bytes : List ℕ) (answer : Result ℕ CheckFault) (fault : CheckFault) → IsWithinLimits shop → answer ≡ Err fault → IsFirstFault shop bytes fault → IfErr answer (λ f. IsOfNoValue shop bytes f)
+pub none-at : (shop : Shop) (bytes : List ℕ) (answer : Result ℕ CheckFault) (fault : CheckFault) → IsWithinLimits shop →
+    answer ≡ Err fault → IsFirstFault shop bytes fault → IfErr answer (λ f. IsOfNoValue shop bytes f)
 none-at shop bytes answer fault limits is first =
-    subst (λ (r : Result ℕ CheckFault). IfErr r (λ f. IsOfNoValue shop bytes f)) (sym is) (no-value shop bytes fault limits first)
+    subst (λ (r : Result ℕ CheckFault). IfErr r (λ f. IsOfNoValue shop bytes f)) (sym is)
+    (no-value shop bytes fault limits first)
 
-pub lawful-at : (shop : Shop) (bytes : List ℕ) (answer : Result ℕ CheckFault) (fault : CheckFault) → IsWithinLimits shop → answer ≡ Err fault → IsFirstFault shop bytes fault → (value : ℕ) → IsCertificate shop bytes value → (answer ≡ Ok value) ⊎ (answer ≡ Err Memory)
+pub lawful-at : (shop : Shop) (bytes : List ℕ) (answer : Result ℕ CheckFault) (fault : CheckFault) →
+    IsWithinLimits shop → answer ≡ Err fault → IsFirstFault shop bytes fault → (value : ℕ) →
+    IsCertificate shop bytes value → (answer ≡ Ok value) ⊎ (answer ≡ Err Memory)
 lawful-at shop bytes answer fault limits is first value of_value =
-    subst (λ (r : Result ℕ CheckFault). (r ≡ Ok value) ⊎ (r ≡ Err Memory)) (sym is) (only-memory shop bytes fault value (no-value shop bytes fault limits first) of_value)
+    subst (λ (r : Result ℕ CheckFault). (r ≡ Ok value)
+    ⊎ (r ≡ Err Memory)) (sym is) (only-memory shop bytes fault value
+    (no-value shop bytes fault limits first) of_value)
 
 -- the last line
 
-pub checked-value : (shop : Shop) (depth value end : ℕ) (bytes lines : List ℕ) (same : Bool) → certificate_value shop bytes ≡ cut_value shop depth value lines → TreesGive shop depth value lines (Ok end) →
-    same ≡ bytes_eq (take (length lines - end) (drop end lines)) (line ending) → same ≡ true → certificate_value shop bytes ≡ Ok value
+pub checked-value : (shop : Shop) (depth value end : ℕ) (bytes lines : List ℕ) (same : Bool) →
+    certificate_value shop bytes ≡ cut_value shop depth value lines → TreesGive shop depth value lines (Ok end) →
+    same ≡ bytes_eq (take (length lines - end) (drop end lines)) (line ending) → same ≡ true →
+    certificate_value shop bytes ≡ Ok value
 checked-value shop depth value end bytes lines same before trees is holds =
-    before ∙ trees.0 ∙ ap (λ xs. end_value value xs) (sym (take_rest lines end)) ∙ ap (λ b. cond b (Ok value) (Err End)) (sym is ∙ holds)
+    before ∙ trees.0 ∙ ap (λ xs. end_value value xs) (sym (take_rest lines end))
+    ∙ ap (λ b. cond b (Ok value) (Err End)) (sym is ∙ holds)
 
-pub checked-end : (shop : Shop) (depth value end : ℕ) (bytes lines : List ℕ) (same : Bool) → certificate_value shop bytes ≡ cut_value shop depth value lines → TreesGive shop depth value lines (Ok end) →
-    same ≡ bytes_eq (take (length lines - end) (drop end lines)) (line ending) → same ≡ false → certificate_value shop bytes ≡ Err End
+pub checked-end : (shop : Shop) (depth value end : ℕ) (bytes lines : List ℕ) (same : Bool) →
+    certificate_value shop bytes ≡ cut_value shop depth value lines → TreesGive shop depth value lines (Ok end) →
+    same ≡ bytes_eq (take (length lines - end) (drop end lines)) (line ending) → same ≡ false →
+    certificate_value shop bytes ≡ Err End
 checked-end shop depth value end bytes lines same before trees is no_end =
-    before ∙ trees.0 ∙ ap (λ xs. end_value value xs) (sym (take_rest lines end)) ∙ ap (λ b. cond b (Ok value) (Err End)) (sym is ∙ no_end)
+    before ∙ trees.0 ∙ ap (λ xs. end_value value xs) (sym (take_rest lines end))
+    ∙ ap (λ b. cond b (Ok value) (Err End)) (sym is ∙ no_end)
 
 abbrev accepted : ℕ → Result ℕ CheckFault
 accepted value = Ok value
 
 -- a text that is read as a value is a lawful certificate of no other
-pub lawful-value : (shop : Shop) (bytes : List ℕ) (read value : ℕ) → IsWithinLimits shop → certificate_value shop bytes ≡ Ok read → IsCertificate shop bytes value → (accepted read ≡ Ok value) ⊎ (accepted read ≡ Err Memory)
-lawful-value shop bytes read value limits is of_value = inl (sym is ∙ (value_is_exact shop bytes value limits).1 of_value)
+pub lawful-value : (shop : Shop) (bytes : List ℕ) (read value : ℕ) → IsWithinLimits shop →
+    certificate_value shop bytes ≡ Ok read → IsCertificate shop bytes value → (accepted read ≡ Ok value)
+    ⊎ (accepted read ≡ Err Memory)
+lawful-value shop bytes read value limits is of_value =
+    inl (sym is ∙ (value_is_exact shop bytes value limits).1 of_value)

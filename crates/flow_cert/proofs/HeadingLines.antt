@@ -21,30 +21,41 @@ use Rattle.flow_cert.proofs.Numbers.{Fit, numbers-sound, numbers-complete, space
 use Rattle.flow_cert.proofs.Exact.{LineOf, next-line-is, on-line-complete, plain-test, numbers-whole, size-true, size-fit, sequence-fit, four, after_header, after_size, after_value}
 
 -- a line that is at fault whatever stands in it
-refused-of : (fault : CheckFault) (next : List ℕ → List ℕ → Result ℕ CheckFault) (bytes : List ℕ) (o : Option (List ℕ × List ℕ)) → LineOf bytes o →
-    ((text rest : List ℕ) → bytes ≡ text ++ 10 ∷ rest → next text rest ≡ Err fault) → option_map_or (λ r. next r.0 r.1) o (Err fault) ≡ Err fault
+refused-of : (fault : CheckFault) (next : List ℕ → List ℕ →
+    Result ℕ CheckFault) (bytes : List ℕ) (o : Option (List ℕ × List ℕ)) → LineOf bytes o →
+    ((text rest : List ℕ) → bytes ≡ text ++ 10 ∷ rest → next text rest ≡ Err fault) →
+    option_map_or (λ r. next r.0 r.1) o (Err fault) ≡ Err fault
 refused-of fault next bytes None is bad = refl
 refused-of fault next bytes (Some r) is bad = bad r.0 r.1 is
 
 line-refused : (fault : CheckFault) (next : List ℕ → List ℕ → Result ℕ CheckFault) (bytes : List ℕ) →
-    ((text rest : List ℕ) → bytes ≡ text ++ 10 ∷ rest → next text rest ≡ Err fault) → on_line fault next bytes ≡ Err fault
+    ((text rest : List ℕ) → bytes ≡ text ++ 10 ∷ rest → next text rest ≡ Err fault) →
+    on_line fault next bytes ≡ Err fault
 line-refused fault next bytes bad = refused-of fault next bytes (next_line bytes) (next-line-is bytes) bad
 
 -- a line's text and its end, where the line stands before the rest
-as-line : (bytes text line_text rest : List ℕ) → bytes ≡ text ++ 10 ∷ rest → text ≡ line_text → bytes ≡ line line_text ++ rest
-as-line bytes text line_text rest e same = e ∙ ap (λ xs. xs ++ 10 ∷ rest) same ∙ sym (append_assoc line_text (10 ∷ []) rest)
+as-line : (bytes text line_text rest : List ℕ) → bytes ≡ text ++ 10 ∷ rest → text ≡ line_text →
+    bytes ≡ line line_text ++ rest
+as-line bytes text line_text rest e same = e ∙ ap (λ xs. xs ++ 10 ∷ rest) same
+    ∙ sym (append_assoc line_text (10 ∷ []) rest)
 
-line-read : (fault : CheckFault) (next : List ℕ → List ℕ → Result ℕ CheckFault) (bytes line_text rest : List ℕ) → bytes ≡ line line_text ++ rest → on_line fault next (line_text ++ 10 ∷ rest) ≡ next line_text rest → on_line fault next bytes ≡ next line_text rest
-line-read fault next bytes line_text rest e reads = ap (on_line fault next) (e ∙ append_assoc line_text (10 ∷ []) rest) ∙ reads
+line-read : (fault : CheckFault) (next : List ℕ → List ℕ → Result ℕ CheckFault) (bytes line_text rest : List ℕ) →
+    bytes ≡ line line_text ++ rest → on_line fault next (line_text ++ 10 ∷ rest) ≡ next line_text rest →
+    on_line fault next bytes ≡ next line_text rest
+line-read fault next bytes line_text rest e reads = ap (on_line fault next) (e ∙ append_assoc line_text (10 ∷ []) rest)
+    ∙ reads
 
 -- the first line
 
-pub title-read : (shop : Shop) (bytes rest : List ℕ) → bytes ≡ line title ++ rest → on_line Header (header_value shop) bytes ≡ on_line Size (after_header shop) rest
+pub title-read : (shop : Shop) (bytes rest : List ℕ) → bytes ≡ line title ++ rest →
+    on_line Header (header_value shop) bytes ≡ on_line Size (after_header shop) rest
 title-read shop bytes rest e =
-    line-read Header (header_value shop) bytes title rest e (on-line-complete Header (header_value shop) title rest (plain-test title refl))
+    line-read Header (header_value shop) bytes title rest e (on-line-complete Header (header_value shop) title rest
+    (plain-test title refl))
     ∙ ap (λ b. cond b (on_line Size (after_header shop) rest) (Err Header)) ((bytes_decides title title).1 refl)
 
-pub title-refused : (shop : Shop) (bytes : List ℕ) → ((rest : List ℕ) → bytes ≡ line title ++ rest → ⊥) → on_line Header (header_value shop) bytes ≡ Err Header
+pub title-refused : (shop : Shop) (bytes : List ℕ) → ((rest : List ℕ) → bytes ≡ line title ++ rest → ⊥) →
+    on_line Header (header_value shop) bytes ≡ Err Header
 title-refused shop bytes none = line-refused Header (header_value shop) bytes (λ text rest e.
     elim (cases_Bool (bytes_eq text title)) [
       | inl same ↦ absurd (none rest (as-line bytes text title rest e ((bytes_decides text title).0 same)))
@@ -53,15 +64,20 @@ title-refused shop bytes none = line-refused Header (header_value shop) bytes (�
 
 -- the line of the size
 
-pub size-read : (shop : Shop) (bytes : List ℕ) (depth : ℕ) (rest : List ℕ) → IsWithinLimits shop → BeginsWithSize shop.jobs shop.machines bytes depth rest → on_line Size (after_header shop) bytes ≡ on_line Value (after_size shop depth) rest
+pub size-read : (shop : Shop) (bytes : List ℕ) (depth : ℕ) (rest : List ℕ) → IsWithinLimits shop →
+    BeginsWithSize shop.jobs shop.machines bytes depth rest →
+    on_line Size (after_header shop) bytes ≡ on_line Value (after_size shop depth) rest
 size-read shop bytes depth rest limits h =
     let fits : Fit (shop.jobs ∷ shop.machines ∷ depth ∷ []) = size-fit shop depth limits h.1 in
     let text : List ℕ = spaced (shop.jobs ∷ shop.machines ∷ depth ∷ []) in
-    line-read Size (after_header shop) bytes text rest h.2 (on-line-complete Size (after_header shop) text rest (spaced-plain (shop.jobs ∷ shop.machines ∷ depth ∷ []) fits))
+    line-read Size (after_header shop) bytes text rest h.2 (on-line-complete Size (after_header shop) text rest
+    (spaced-plain (shop.jobs ∷ shop.machines ∷ depth ∷ []) fits))
     ∙ ap (size_value shop rest) (numbers-complete shop.jobs (shop.machines ∷ depth ∷ []) fits)
     ∙ ap (λ b. cond b (on_line Value (after_size shop depth) rest) (Err Size)) (size-true shop depth h.0 h.1)
 
-size-other : (shop : Shop) (rest : List ℕ) (o : Option (List ℕ)) → ((depth : ℕ) → depth ≤ shop.jobs → depth ≤ greatest_depth → o ≡ Some (shop.jobs ∷ shop.machines ∷ depth ∷ []) → ⊥) → size_value shop rest o ≡ Err Size
+size-other : (shop : Shop) (rest : List ℕ) (o : Option (List ℕ)) →
+    ((depth : ℕ) → depth ≤ shop.jobs → depth ≤ greatest_depth → o ≡ Some (shop.jobs ∷ shop.machines ∷ depth ∷ []) → ⊥) →
+    size_value shop rest o ≡ Err Size
 size-other shop rest None none = refl
 size-other shop rest (Some []) none = refl
 size-other shop rest (Some (a ∷ [])) none = refl
@@ -70,12 +86,17 @@ size-other shop rest (Some (a ∷ b ∷ d ∷ x ∷ xs)) none = refl
 size-other shop rest (Some (a ∷ b ∷ d ∷ [])) none =
     elim (cases_Bool (nat_eq a shop.jobs && nat_eq b shop.machines && nat_le d shop.jobs && nat_le d greatest_depth)) [
       | inl same ↦
-          let t = four (nat_eq a shop.jobs) (nat_eq b shop.machines) (nat_le d shop.jobs) (nat_le d greatest_depth) same in
-          absurd (none d (leb-true d shop.jobs t.2) (leb-true d greatest_depth t.3) (ap (λ k. Some (k ∷ b ∷ d ∷ [])) (eqb-true a shop.jobs t.0) ∙ ap (λ k. Some (shop.jobs ∷ k ∷ d ∷ [])) (eqb-true b shop.machines t.1)))
+          let t = four (nat_eq a shop.jobs) (nat_eq b shop.machines) (nat_le d shop.jobs)
+          (nat_le d greatest_depth) same in
+          absurd (none d (leb-true d shop.jobs t.2) (leb-true d greatest_depth t.3) (ap (λ k. Some (k ∷ b ∷ d
+          ∷ [])) (eqb-true a shop.jobs t.0)
+          ∙ ap (λ k. Some (shop.jobs ∷ k ∷ d ∷ [])) (eqb-true b shop.machines t.1)))
       | inr other ↦ ap (λ b. cond b (on_line Value (after_size shop d) rest) (Err Size)) other
     ]
 
-pub size-refused : (shop : Shop) (bytes : List ℕ) → IsWithinLimits shop → ((depth : ℕ) (rest : List ℕ) → BeginsWithSize shop.jobs shop.machines bytes depth rest → ⊥) → on_line Size (after_header shop) bytes ≡ Err Size
+pub size-refused : (shop : Shop) (bytes : List ℕ) → IsWithinLimits shop →
+    ((depth : ℕ) (rest : List ℕ) → BeginsWithSize shop.jobs shop.machines bytes depth rest → ⊥) →
+    on_line Size (after_header shop) bytes ≡ Err Size
 size-refused shop bytes limits none = line-refused Size (after_header shop) bytes (λ text rest e.
     size-other shop rest (numbers_in text) (λ depth short shallow is.
     none depth rest (
@@ -87,14 +108,17 @@ size-refused shop bytes limits none = line-refused Size (after_header shop) byte
 
 -- the line of the value
 
-pub value-read : (shop : Shop) (bytes : List ℕ) (depth value : ℕ) (rest : List ℕ) → BeginsWithNumber bytes 10 value rest → on_line Value (after_size shop depth) bytes ≡ on_line Sequence (after_value shop depth value) rest
+pub value-read : (shop : Shop) (bytes : List ℕ) (depth value : ℕ) (rest : List ℕ) →
+    BeginsWithNumber bytes 10 value rest → on_line Value (after_size shop depth) bytes
+    ≡ on_line Sequence (after_value shop depth value) rest
 value-read shop bytes depth value rest h =
     ap (on_line Value (after_size shop depth)) h.1
     ∙ on-line-complete Value (after_size shop depth) (decimal value) rest (spaced-plain (value ∷ []) (h.0, tt))
     ∙ ap (value_value shop depth rest) (numbers-complete value [] (h.0, tt))
     ∙ ap (λ b. cond b (on_line Sequence (after_value shop depth value) rest) (Err Value)) (lt-ltb value (2 ^ 64) h.0)
 
-value-other : (shop : Shop) (depth : ℕ) (rest : List ℕ) (o : Option (List ℕ)) → ((value : ℕ) → value < 2 ^ 64 → o ≡ Some (value ∷ []) → ⊥) → value_value shop depth rest o ≡ Err Value
+value-other : (shop : Shop) (depth : ℕ) (rest : List ℕ) (o : Option (List ℕ)) →
+    ((value : ℕ) → value < 2 ^ 64 → o ≡ Some (value ∷ []) → ⊥) → value_value shop depth rest o ≡ Err Value
 value-other shop depth rest None none = refl
 value-other shop depth rest (Some []) none = refl
 value-other shop depth rest (Some (a ∷ b ∷ xs)) none = refl
@@ -104,45 +128,68 @@ value-other shop depth rest (Some (value ∷ [])) none =
       | inr large ↦ ap (λ b. cond b (on_line Sequence (after_value shop depth value) rest) (Err Value)) large
     ]
 
-pub value-refused : (shop : Shop) (bytes : List ℕ) (depth : ℕ) → ((value : ℕ) (rest : List ℕ) → BeginsWithNumber bytes 10 value rest → ⊥) → on_line Value (after_size shop depth) bytes ≡ Err Value
+pub value-refused : (shop : Shop) (bytes : List ℕ) (depth : ℕ) →
+    ((value : ℕ) (rest : List ℕ) → BeginsWithNumber bytes 10 value rest → ⊥) →
+    on_line Value (after_size shop depth) bytes ≡ Err Value
 value-refused shop bytes depth none = line-refused Value (after_size shop depth) bytes (λ text rest e.
     value-other shop depth rest (numbers_in text) (λ value fits is.
     none value rest (fits, e ∙ ap (λ xs. xs ++ 10 ∷ rest) (numbers-sound text (value ∷ []) is (fits, tt)))))
 
 -- the line of the sequence
 
-pub sequence-read : (shop : Shop) (bytes : List ℕ) (depth value : ℕ) (jobs rest : List ℕ) → IsWithinLimits shop → BeginsWithSequence shop.jobs bytes jobs rest →
-    on_line Sequence (after_value shop depth value) bytes ≡ cond (nat_eq (span shop jobs) value) (cut_value shop depth value rest) (Err NotAttained)
+pub sequence-read : (shop : Shop) (bytes : List ℕ) (depth value : ℕ) (jobs rest : List ℕ) → IsWithinLimits shop →
+    BeginsWithSequence shop.jobs bytes jobs rest →
+    on_line Sequence (after_value shop depth value) bytes
+    ≡ cond (nat_eq (span shop jobs) value) (cut_value shop depth value rest) (Err NotAttained)
 sequence-read shop bytes depth value jobs rest limits h =
     let fits : Fit jobs = sequence-fit shop.jobs jobs limits.jobs h.0 in
     let whole : length jobs ≡ shop.jobs = h.0.whole in
     let some : 1 ≤ shop.jobs = limits.some_job in
-    line-read Sequence (after_value shop depth value) bytes (spaced jobs) rest h.1 (on-line-complete Sequence (after_value shop depth value) (spaced jobs) rest (spaced-plain jobs fits))
+    line-read Sequence (after_value shop depth value) bytes (spaced jobs) rest h.1 (on-line-complete Sequence
+    (after_value shop depth value) (spaced jobs) rest (spaced-plain jobs fits))
     ∙ ap (sequence_value shop depth value rest) (numbers-whole jobs (omega (arith, whole, some)) fits)
-    ∙ ap (λ o. option_map_or (λ fault. Err Sequence) o (cond (nat_eq (span shop jobs) value) (cut_value shop depth value rest) (Err NotAttained))) (is-fault-none shop.jobs jobs h.0)
+    ∙ ap (λ o. option_map_or (λ fault. Err Sequence) o (cond (nat_eq (span shop jobs) value)
+    (cut_value shop depth value rest) (Err NotAttained))) (is-fault-none shop.jobs jobs h.0)
 
-no-sequence : (shop : Shop) (jobs : List ℕ) (next : Result ℕ CheckFault) (o : Option SequenceFault) → (o ≡ None → ⊥) → option_map_or (λ fault. Err Sequence) o next ≡ Err Sequence
+no-sequence : (shop : Shop) (jobs : List ℕ) (next : Result ℕ CheckFault) (o : Option SequenceFault) → (o ≡ None → ⊥) →
+    option_map_or (λ fault. Err Sequence) o next ≡ Err Sequence
 no-sequence shop jobs next None none = absurd (none refl)
 no-sequence shop jobs next (Some fault) none = refl
 
-sequence-other : (shop : Shop) (depth value : ℕ) (rest : List ℕ) (o : Option (List ℕ)) → ((jobs : List ℕ) → IsSequence shop.jobs jobs → o ≡ Some jobs → ⊥) → sequence_value shop depth value rest o ≡ Err Sequence
+sequence-other : (shop : Shop) (depth value : ℕ) (rest : List ℕ) (o : Option (List ℕ)) →
+    ((jobs : List ℕ) → IsSequence shop.jobs jobs → o ≡ Some jobs → ⊥) →
+    sequence_value shop depth value rest o ≡ Err Sequence
 sequence-other shop depth value rest None none = refl
 sequence-other shop depth value rest (Some jobs) none =
-    no-sequence shop jobs (cond (nat_eq (span shop jobs) value) (cut_value shop depth value rest) (Err NotAttained)) (sequence_fault shop.jobs jobs)
+    no-sequence shop jobs (cond (nat_eq (span shop jobs) value) (cut_value shop depth value rest) (Err NotAttained))
+    (sequence_fault shop.jobs jobs)
     (λ fine. none jobs (sequence-fault-none-is shop.jobs jobs fine) refl)
 
-pub sequence-refused : (shop : Shop) (bytes : List ℕ) (depth value : ℕ) → IsWithinLimits shop → ((jobs rest : List ℕ) → BeginsWithSequence shop.jobs bytes jobs rest → ⊥) → on_line Sequence (after_value shop depth value) bytes ≡ Err Sequence
-sequence-refused shop bytes depth value limits none = line-refused Sequence (after_value shop depth value) bytes (λ text rest e.
+pub sequence-refused : (shop : Shop) (bytes : List ℕ) (depth value : ℕ) → IsWithinLimits shop →
+    ((jobs rest : List ℕ) → BeginsWithSequence shop.jobs bytes jobs rest → ⊥) →
+    on_line Sequence (after_value shop depth value) bytes ≡ Err Sequence
+sequence-refused shop bytes depth value limits none =
+    line-refused Sequence (after_value shop depth value) bytes (λ text rest e.
     sequence-other shop depth value rest (numbers_in text) (λ jobs is found.
-    none jobs rest (is, as-line bytes text (spaced jobs) rest e (numbers-sound text jobs found (sequence-fit shop.jobs jobs limits.jobs is)))))
+    none jobs rest (
+      is,
+      as-line bytes text (spaced jobs) rest e (numbers-sound text jobs found
+          (sequence-fit shop.jobs jobs limits.jobs is)),
+    )))
 
 -- the size as the reader takes it
 
 abbrev SizedAs : List ℕ → ℕ → List ℕ → ℕ → ℕ → Type 0
 SizedAs bytes depth rest jobs machines = BeginsWithSize jobs machines bytes depth rest
 
-pub size-is : (shop : Shop) (jobs machines : ℕ) (bytes : List ℕ) (depth : ℕ) (rest : List ℕ) → jobs ≡ shop.jobs → machines ≡ shop.machines → BeginsWithSize jobs machines bytes depth rest → BeginsWithSize shop.jobs shop.machines bytes depth rest
-size-is shop jobs machines bytes depth rest j m h = subst (SizedAs bytes depth rest shop.jobs) m (subst (λ n. SizedAs bytes depth rest n machines) j h)
+pub size-is : (shop : Shop) (jobs machines : ℕ) (bytes : List ℕ) (depth : ℕ) (rest : List ℕ) → jobs ≡ shop.jobs →
+    machines ≡ shop.machines → BeginsWithSize jobs machines bytes depth rest →
+    BeginsWithSize shop.jobs shop.machines bytes depth rest
+size-is shop jobs machines bytes depth rest j m h =
+    subst (SizedAs bytes depth rest shop.jobs) m (subst (λ n. SizedAs bytes depth rest n machines) j h)
 
-pub is-size : (shop : Shop) (jobs machines : ℕ) (bytes : List ℕ) (depth : ℕ) (rest : List ℕ) → jobs ≡ shop.jobs → machines ≡ shop.machines → BeginsWithSize shop.jobs shop.machines bytes depth rest → BeginsWithSize jobs machines bytes depth rest
-is-size shop jobs machines bytes depth rest j m h = subst (SizedAs bytes depth rest jobs) (sym m) (subst (λ n. SizedAs bytes depth rest n shop.machines) (sym j) h)
+pub is-size : (shop : Shop) (jobs machines : ℕ) (bytes : List ℕ) (depth : ℕ) (rest : List ℕ) → jobs ≡ shop.jobs →
+    machines ≡ shop.machines → BeginsWithSize shop.jobs shop.machines bytes depth rest →
+    BeginsWithSize jobs machines bytes depth rest
+is-size shop jobs machines bytes depth rest j m h =
+    subst (SizedAs bytes depth rest jobs) (sym m) (subst (λ n. SizedAs bytes depth rest n shop.machines) (sym j) h)

@@ -26,7 +26,8 @@ concat-map : (f : ℕ → List ℕ) (xs : List ℕ) → flat_map f xs ≡ concat
 concat-map f [] = refl
 concat-map f (x ∷ xs) = ap (λ ys. f x ++ ys) (concat-map f xs)
 
-zip-map : {A B : Type 0} (P : A → Type 0) (R : A → B → Type 0) (f : A → B) (xs : List A) → ((x : A) → P x → R x (f x)) → AllByRecursion P xs → AllZip R xs (map f xs)
+zip-map : {A B : Type 0} (P : A → Type 0) (R : A → B → Type 0) (f : A → B) (xs : List A) → ((x : A) → P x → R x (f x)) →
+    AllByRecursion P xs → AllZip R xs (map f xs)
 zip-map P R f [] h k = tt
 zip-map P R f (x ∷ xs) h k = (h x k.0, zip-map P R f xs h k.1)
 
@@ -34,54 +35,89 @@ least-above : (v u : ℕ) (ns : List ℕ) → v ≤ u → AllByRecursion (λ n. 
 least-above v u [] l h = l
 least-above v u (n ∷ ns) l h = let ih : v ≤ least (n ∷ ns) = least-above v n ns h.0 h.1 in omega arith
 
-all-filter-map : (shop : Shop) (v : ℕ) (p : List ℕ → Bool) (xs : List (List ℕ)) → AllByRecursion (λ s. v ≤ span shop s) xs → AllByRecursion (λ n. v ≤ n) (map (span shop) (filter p xs))
+all-filter-map : (shop : Shop) (v : ℕ) (p : List ℕ → Bool) (xs : List (List ℕ)) →
+    AllByRecursion (λ s. v ≤ span shop s) xs → AllByRecursion (λ n. v ≤ n) (map (span shop) (filter p xs))
 all-filter-map shop v p [] h = tt
 all-filter-map shop v p (x ∷ xs) h = elim (cases_Bool (p x)) [
-  | inl pass ↦ subst (λ ys. AllByRecursion (λ n. v ≤ n) (map (span shop) ys)) (sym (cond-true (p x) (x ∷ filter p xs) (filter p xs) pass)) (h.0, all-filter-map shop v p xs h.1)
-  | inr fail ↦ subst (λ ys. AllByRecursion (λ n. v ≤ n) (map (span shop) ys)) (sym (cond-false (p x) (x ∷ filter p xs) (filter p xs) fail)) (all-filter-map shop v p xs h.1)
+  | inl pass ↦ subst (λ ys. AllByRecursion (λ n. v ≤ n) (map (span shop) ys)) (sym (cond-true (p x) (x
+      ∷ filter p xs) (filter p xs) pass)) (h.0, all-filter-map shop v p xs h.1)
+  | inr fail ↦ subst (λ ys. AllByRecursion (λ n. v ≤ n) (map (span shop) ys)) (sym (cond-false (p x) (x
+      ∷ filter p xs) (filter p xs) fail)) (all-filter-map shop v p xs h.1)
 ]
 
 -- the bound in force is at least what all sequences are
-force-above : (shop : Shop) (v start : ℕ) (prefix node : List ℕ) → v ≤ start → Fresh shop.jobs prefix → length prefix ≤ shop.jobs → ((s : List ℕ) → IsSequence shop.jobs s → v ≤ span shop s) → v ≤ in_force shop start prefix node
+force-above : (shop : Shop) (v start : ℕ) (prefix node : List ℕ) → v ≤ start → Fresh shop.jobs prefix →
+    length prefix ≤ shop.jobs → ((s : List ℕ) → IsSequence shop.jobs s → v ≤ span shop s) →
+    v ≤ in_force shop start prefix node
 unfolding in_force
 force-above shop v start prefix node low f short h =
     least-above v start (map (span shop) (filter (λ jobs. comes_before jobs node) (sequences_from shop prefix))) low
     (all-filter-map shop v (λ jobs. comes_before jobs node) (sequences_from shop prefix)
-    (all-weaken (IsSequence shop.jobs) (λ s. v ≤ span shop s) (sequences_from shop prefix) h (extensions-are shop.jobs (shop.jobs - length prefix) prefix f (omega arith))))
+    (all-weaken (IsSequence shop.jobs) (λ s. v
+    ≤ span shop s) (sequences_from shop prefix) h (extensions-are shop.jobs (shop.jobs - length prefix) prefix f
+    (omega arith))))
 
 -- a tree covers what no sequence is below
 covers-cases : (shop : Shop) (v start left : ℕ) (prefix node : List ℕ) → v ≤ in_force shop start prefix node →
-    AllZip (λ job part. Covers shop bound_at v left (node ++ job ∷ []) part) (jobs_left shop.jobs node) (map (λ job. tree_at shop bound_at start prefix left (node ++ job ∷ [])) (jobs_left shop.jobs node)) →
-    (o : Option ℕ) → find (λ machine. nat_le (in_force shop start prefix node) (bound_at shop node machine)) (numbers 1 shop.machines) ≡ o →
-    Covers shop bound_at v (suc left) node (option_map_or (λ machine. letter machine ∷ []) o (43 ∷ flat_map (λ job. tree_at shop bound_at start prefix left (node ++ job ∷ [])) (jobs_left shop.jobs node)))
+    AllZip (λ job part. Covers shop bound_at v left (node ++ job
+    ∷ []) part) (jobs_left shop.jobs node) (map (λ job. tree_at shop bound_at start prefix left (node ++ job
+    ∷ [])) (jobs_left shop.jobs node)) →
+    (o : Option ℕ) → find (λ machine. nat_le (in_force shop start prefix node) (bound_at shop node machine))
+    (numbers 1 shop.machines) ≡ o →
+    Covers shop bound_at v (suc left) node (option_map_or (λ machine. letter machine ∷ []) o (43
+    ∷ flat_map (λ job. tree_at shop bound_at start prefix left (node ++ job ∷ [])) (jobs_left shop.jobs node)))
 covers-cases shop v start left prefix node low zip (Some k) e =
-    let at = find-some (λ machine. nat_le (in_force shop start prefix node) (bound_at shop node machine)) (λ k. (1 ≤ k) × (k ≤ shop.machines)) (numbers 1 shop.machines) k (range-all shop.machines) e in
+    let at = find-some (λ machine. nat_le (in_force shop start prefix node) (bound_at shop node machine)) (λ k. (1 ≤ k)
+    × (k ≤ shop.machines)) (numbers 1 shop.machines) k (range-all shop.machines) e in
     let reach = leb-true (in_force shop start prefix node) (bound_at shop node k) at.0 in
     inl (k, at.1.0, at.1.1, refl, omega (arith, low, reach))
 covers-cases shop v start left prefix node low zip None e =
     inr (
       map (λ job. tree_at shop bound_at start prefix left (node ++ job ∷ [])) (jobs_left shop.jobs node),
-      ap (λ xs. 43 ∷ xs) (concat-map (λ job. tree_at shop bound_at start prefix left (node ++ job ∷ [])) (jobs_left shop.jobs node)),
+      ap (λ xs. 43 ∷ xs) (concat-map (λ job. tree_at shop bound_at start prefix left (node ++ job
+          ∷ [])) (jobs_left shop.jobs node)),
       zip,
     )
 
-pub tree-covers : (shop : Shop) (v start left : ℕ) (prefix node : List ℕ) → v ≤ start → Fresh shop.jobs prefix → length prefix ≤ shop.jobs → ((s : List ℕ) → IsSequence shop.jobs s → v ≤ span shop s) →
-    Fresh shop.jobs node → length node + left ≡ shop.jobs → Covers shop bound_at v left node (tree_at shop bound_at start prefix left node)
+pub tree-covers : (shop : Shop) (v start left : ℕ) (prefix node : List ℕ) → v ≤ start → Fresh shop.jobs prefix →
+    length prefix ≤ shop.jobs → ((s : List ℕ) → IsSequence shop.jobs s → v ≤ span shop s) →
+    Fresh shop.jobs node → length node + left ≡ shop.jobs →
+    Covers shop bound_at v left node (tree_at shop bound_at start prefix left node)
 unfolding tree_at
-tree-covers shop v start zero prefix node low f short h fresh whole =
-    (refl, h node (record { whole = omega (arith, whole); each = record { range = All-from_recursion (λ job. (1 ≤ job) × (job ≤ shop.jobs)) node fresh.0; distinct = fresh.1 } }))
+tree-covers shop v start zero prefix node low f short h fresh whole = (
+  refl,
+  h node (record {
+    whole = omega (arith, whole);
+    each = record {
+      range = All-from_recursion (λ job. (1 ≤ job)
+          × (job ≤ shop.jobs)) node fresh.0;
+      distinct = fresh.1;
+    };
+  }),
+)
 tree-covers shop v start (suc left) prefix node low f short h fresh whole =
     covers-cases shop v start left prefix node (force-above shop v start prefix node low f short h)
-    (zip-map (IsLeft shop.jobs node) (λ job part. Covers shop bound_at v left (node ++ job ∷ []) part) (λ job. tree_at shop bound_at start prefix left (node ++ job ∷ [])) (jobs_left shop.jobs node)
-    (λ job l. tree-covers shop v start left prefix (node ++ job ∷ []) low f short h (fresh-push shop.jobs node job fresh l) (omega (arith, whole, length-append node (job ∷ []))))
+    (zip-map (IsLeft shop.jobs node) (λ job part. Covers shop bound_at v left (node ++ job
+    ∷ []) part) (λ job. tree_at shop bound_at start prefix left (node ++ job ∷ [])) (jobs_left shop.jobs node)
+    (λ job l. tree-covers shop v start left prefix (node ++ job
+    ∷ []) low f short h (fresh-push shop.jobs node job fresh l) (omega (
+      arith,
+      whole,
+      length-append node (job
+          ∷ []),
+    )))
     (jobs_left-are shop.jobs node))
-    (find (λ machine. nat_le (in_force shop start prefix node) (bound_at shop node machine)) (numbers 1 shop.machines)) refl
+    (find (λ machine. nat_le (in_force shop start prefix node) (bound_at shop node machine))
+    (numbers 1 shop.machines)) refl
 
 -- the makespan of a sequence fits a word
-span-fits : (shop : Shop) (sequence : List ℕ) → IsWithinLimits shop → IsSequence shop.jobs sequence → span shop sequence < 2 ^ 64
+span-fits : (shop : Shop) (sequence : List ℕ) → IsWithinLimits shop → IsSequence shop.jobs sequence →
+    span shop sequence < 2 ^ 64
 span-fits shop sequence limits is =
-    let small : span shop sequence ≤ (length sequence + shop.machines) * greatest_time = completion-small shop sequence shop.machines limits in
-    let few : length sequence + shop.machines ≤ most_jobs + most_machines = omega (arith, is.whole, limits.jobs, limits.machines) in
+    let small : span shop sequence ≤ (length sequence + shop.machines) * greatest_time =
+    completion-small shop sequence shop.machines limits in
+    let few : length sequence + shop.machines ≤ most_jobs + most_machines =
+    omega (arith, is.whole, limits.jobs, limits.machines) in
     omega (arith, small, few)
 
 pub plan_is_certified : PlanIsCertified
@@ -102,28 +138,37 @@ plan_is_certified plan is =
         fits = subst (λ n. n < 2 ^ 64) v.0.1 (span-fits shop (verdict_of plan).sequence is.shop_limits v.0.0);
         whole = v.0.0;
         attained = v.0.1;
-        covered = zip-map (λ p. Fresh shop.jobs p × (length p ≡ 0 + depth)) (λ prefix part. Covers shop bound_at value (shop.jobs - depth) prefix part) (tree shop bound_at start.value) (cut shop.jobs depth)
+        covered = zip-map (λ p. Fresh shop.jobs p
+            × (length p ≡ 0 + depth)) (λ prefix part. Covers shop bound_at value (shop.jobs - depth) prefix part)
+            (tree shop bound_at start.value) (cut shop.jobs depth)
             (λ p h.
             let size : length p ≡ depth = omega (arith, h.1) in
-            subst (λ left. Covers shop bound_at value left p (tree shop bound_at start.value p)) (ap (λ n. shop.jobs - n) size)
-            (tree-covers shop value start.value (shop.jobs - length p) p p low h.0 (omega (arith, size)) v.1.least h.0 (omega (arith, size))))
+            subst (λ left. Covers shop bound_at value left p (tree shop bound_at start.value p)) (ap
+            (λ n. shop.jobs - n) size)
+            (tree-covers shop value start.value (shop.jobs - length p) p p low h.0 (omega (arith, size)) v.1.least h.0
+            (omega (arith, size))))
             (cut-fresh shop.jobs depth [] (tt, tt));
       },
       refl,
     )
 
 -- the text with the verdict of a plan
-pub text-of-plan : (plan : Planned) (verdict : Verdict) → IsVerdict plan verdict → text_with plan verdict ≡ certificate_of plan
+pub text-of-plan : (plan : Planned) (verdict : Verdict) → IsVerdict plan verdict →
+    text_with plan verdict ≡ certificate_of plan
 text-of-plan plan verdict of =
-    ap (λ value. certificate_text plan.shop plan.options.depth value verdict.sequence (map (λ tree. tree.items) verdict.trees.items)) of.value
-    ∙ ap (λ sequence. certificate_text plan.shop plan.options.depth (verdict_of plan).value sequence (map (λ tree. tree.items) verdict.trees.items)) of.sequence
-    ∙ ap (λ trees. certificate_text plan.shop plan.options.depth (verdict_of plan).value (verdict_of plan).sequence trees) of.trees
+    ap (λ value. certificate_text plan.shop plan.options.depth value verdict.sequence (map
+    (λ tree. tree.items) verdict.trees.items)) of.value
+    ∙ ap (λ sequence. certificate_text plan.shop plan.options.depth (verdict_of plan).value sequence (map
+    (λ tree. tree.items) verdict.trees.items)) of.sequence
+    ∙ ap (λ trees. certificate_text plan.shop plan.options.depth (verdict_of plan).value
+    (verdict_of plan).sequence trees) of.trees
 
 pub verdict_is_certified : VerdictIsCertified
 verdict_is_certified plan verdict is of =
     let v = verdict_is_least plan.shop plan.start plan.options.depth is.deep (is.is_sequence, sym is.is_span) in
     record {
-      each = sym (length-map verdict.trees.items (λ tree. tree.items)) ∙ ap length of.trees ∙ length-map (prefixes_of plan) (tree plan.shop bound_at plan.start.value);
+      each = sym (length-map verdict.trees.items (λ tree. tree.items)) ∙ ap length of.trees
+          ∙ length-map (prefixes_of plan) (tree plan.shop bound_at plan.start.value);
       text = text-of-plan plan verdict of;
       lawful = subst (IsCertificate plan.shop (certificate_of plan)) (sym of.value) (plan_is_certified plan is);
       least = subst (IsLeastMakespan plan.shop) (sym of.value) v.1;

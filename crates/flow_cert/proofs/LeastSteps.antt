@@ -20,15 +20,22 @@ without-more y p q m v ordered low is = elim (eqb_tells y p) [
       (λ g. omega (arith, n, f, g, ordered, low), λ g. omega (arith, f))
 ]
 
-without-rest : (y p q m : ℕ) (vs : List ℕ) → p ≤ q → p ≤ y → Without y p q m → Without y (least_below p vs) (second_below p q vs) (least_below m vs)
+without-rest : (y p q m : ℕ) (vs : List ℕ) → p ≤ q → p ≤ y → Without y p q m →
+    Without y (least_below p vs) (second_below p q vs) (least_below m vs)
 without-rest y p q m [] ordered low is = is
 without-rest y p q m (v ∷ vs) ordered low is =
-    without-rest y (min p v) (min q (max p v)) (min m v) vs (omega (arith, ordered)) (omega (arith, low)) (without-more y p q m v ordered low is)
+    without-rest y (min p v) (min q (max p v)) (min m v) vs (omega (arith, ordered)) (omega (arith, low))
+    (without-more y p q m v ordered low is)
 
-pub without-one : (y a b : ℕ) (us vs : List ℕ) → a ≤ b → Without y (least_below a (us ++ y ∷ vs)) (second_below a b (us ++ y ∷ vs)) (least_below a (us ++ vs))
+pub without-one : (y a b : ℕ) (us vs : List ℕ) → a ≤ b →
+    Without y (least_below a (us ++ y ∷ vs)) (second_below a b (us ++ y ∷ vs)) (least_below a (us ++ vs))
 without-one y a b (u ∷ us) vs ordered = without-one y (min a u) (min b (max a u)) us vs (omega (arith, ordered))
 without-one y a b [] vs ordered =
-    without-rest y (min a y) (min b (max a y)) a vs (omega (arith, ordered)) (omega arith) (λ g. omega (arith, g, ordered), λ g. omega (arith, g))
+    without-rest y (min a y) (min b (max a y)) a vs (omega (arith, ordered)) (omega arith) (
+      λ g. omega
+          (arith, g, ordered),
+      λ g. omega (arith, g),
+    )
 
 least-below-is : (c x : ℕ) (xs : List ℕ) → least_below c (x ∷ xs) ≡ min c (least (x ∷ xs))
 least-below-is c x [] = refl
@@ -39,7 +46,8 @@ least-le-first x [] = omega arith
 least-le-first x (y ∷ ys) = omega arith
 
 -- where each number is below the cap, it takes no part
-pub least-below-cap : (c m : ℕ) (f : ℕ → ℕ) (jobs : List ℕ) → 0 < length jobs → ((job : ℕ) → f job ≤ m) → m ≤ c → (least_below c (map f jobs) ≡ least (map f jobs)) × (least (map f jobs) ≤ m)
+pub least-below-cap : (c m : ℕ) (f : ℕ → ℕ) (jobs : List ℕ) → 0 < length jobs → ((job : ℕ) → f job ≤ m) → m ≤ c →
+    (least_below c (map f jobs) ≡ least (map f jobs)) × (least (map f jobs) ≤ m)
 least-below-cap c m f [] some small fits = absurd (omega (arith, some))
 least-below-cap c m f (job ∷ jobs) some small fits =
     let first = least-le-first (f job) (map f jobs) in

@@ -44,13 +44,17 @@ range-split a zero d = ap (λ n. range_with_len n (0 + d)) (omega arith) ∙ ap 
 range-split a (suc c) d =
     let n : suc c + d ≡ suc (c + d) = omega arith in
     let m : a + 1 + c ≡ a + suc c = omega arith in
-    ap (range_with_len a) n ∙ ap (λ xs. a ∷ xs) (range-split (a + 1) c d) ∙ ap (λ k. a ∷ range_with_len (a + 1) c ++ range_with_len k d) m
+    ap (range_with_len a) n ∙ ap (λ xs. a ∷ xs) (range-split (a + 1) c d)
+    ∙ ap (λ k. a ∷ range_with_len (a + 1) c ++ range_with_len k d) m
 
-range-same : (p q : ℕ → Bool) (a len : ℕ) → ((k : ℕ) → a ≤ k → k < a + len → p k ≡ q k) → filter p (range_with_len a len) ≡ filter q (range_with_len a len)
+range-same : (p q : ℕ → Bool) (a len : ℕ) → ((k : ℕ) → a ≤ k → k < a + len → p k ≡ q k) →
+    filter p (range_with_len a len) ≡ filter q (range_with_len a len)
 range-same p q a zero h = refl
 range-same p q a (suc len) h =
-    ap (λ b. cond b (a ∷ filter p (range_with_len (a + 1) len)) (filter p (range_with_len (a + 1) len))) (h a (omega arith) (omega arith))
-    ∙ ap (λ xs. cond (q a) (a ∷ xs) xs) (range-same p q (a + 1) len (λ k low high. h k (omega arith) (omega (arith, high))))
+    ap (λ b. cond b (a ∷ filter p (range_with_len (a + 1) len)) (filter p (range_with_len (a
+    + 1) len))) (h a (omega arith) (omega arith))
+    ∙ ap (λ xs. cond (q a) (a ∷ xs) xs) (range-same p q (a
+    + 1) len (λ k low high. h k (omega arith) (omega (arith, high))))
 
 -- the numbers before one, it, and those behind it
 numbers-split : (n job : ℕ) → 1 ≤ job → job ≤ n → numbers 1 n ≡ numbers 1 (job - 1) ++ job ∷ numbers (job + 1) n
@@ -67,51 +71,68 @@ abbrev pub left_under : List ℕ → ℕ → List ℕ
 left_under list job = filter (λ k. not (has list k)) (numbers 1 (job - 1))
 
 -- the jobs left, parted at one of them
-pub left-split : (n : ℕ) (list : List ℕ) (job : ℕ) → 1 ≤ job → job ≤ n → has list job ≡ false → jobs_left n list ≡ left_under list job ++ job ∷ children n list (job + 1)
+pub left-split : (n : ℕ) (list : List ℕ) (job : ℕ) → 1 ≤ job → job ≤ n → has list job ≡ false →
+    jobs_left n list ≡ left_under list job ++ job ∷ children n list (job + 1)
 left-split n list job low high fresh =
     let p : ℕ → Bool = λ k. not (has list k) in
     ap (filter p) (numbers-split n job low high)
     ∙ filter-append p (numbers 1 (job - 1)) (job ∷ numbers (job + 1) n)
-    ∙ ap (λ b. filter p (numbers 1 (job - 1)) ++ cond b (job ∷ filter p (numbers (job + 1) n)) (filter p (numbers (job + 1) n))) (ap not fresh)
+    ∙ ap (λ b. filter p (numbers 1 (job - 1))
+    ++ cond b (job ∷ filter p (numbers (job + 1) n)) (filter p (numbers (job + 1) n))) (ap not fresh)
 
 -- and those left once it is taken
-pub left-without : (n : ℕ) (list : List ℕ) (job : ℕ) → 1 ≤ job → job ≤ n → jobs_left n (list ++ job ∷ []) ≡ left_under list job ++ children n list (job + 1)
+pub left-without : (n : ℕ) (list : List ℕ) (job : ℕ) → 1 ≤ job → job ≤ n →
+    jobs_left n (list ++ job ∷ []) ≡ left_under list job ++ children n list (job + 1)
 left-without n list job low high =
     let p : ℕ → Bool = λ k. not (has list k) in
     let q : ℕ → Bool = λ k. not (has (list ++ job ∷ []) k) in
     ap (filter q) (numbers-split n job low high)
     ∙ filter-append q (numbers 1 (job - 1)) (job ∷ numbers (job + 1) n)
-    ∙ ap (λ b. filter q (numbers 1 (job - 1)) ++ cond b (job ∷ filter q (numbers (job + 1) n)) (filter q (numbers (job + 1) n))) (ap not (has-same list job))
-    ∙ ap (λ xs. xs ++ filter q (numbers (job + 1) n)) (range-same q p 1 (job - 1 + 1 - 1) (λ k a b. ap not (has-other list job k (omega (arith, b)))))
-    ∙ ap (λ xs. filter p (numbers 1 (job - 1)) ++ xs) (range-same q p (job + 1) (n + 1 - (job + 1)) (λ k a b. ap not (has-other list job k (omega (arith, a)))))
+    ∙ ap (λ b. filter q (numbers 1 (job - 1))
+    ++ cond b (job ∷ filter q (numbers (job + 1) n)) (filter q (numbers (job + 1) n))) (ap not (has-same list job))
+    ∙ ap (λ xs. xs ++ filter q (numbers (job + 1) n)) (range-same q p 1 (job - 1
+    + 1 - 1) (λ k a b. ap not (has-other list job k (omega (arith, b)))))
+    ∙ ap (λ xs. filter p (numbers 1 (job - 1))
+    ++ xs) (range-same q p (job + 1) (n + 1 - (job
+    + 1)) (λ k a b. ap not (has-other list job k (omega (arith, a)))))
 
 -- sums and counts over the jobs left
-pub left-sum : (f : ℕ → ℕ) (n : ℕ) (list : List ℕ) (job : ℕ) → 1 ≤ job → job ≤ n → has list job ≡ false → sum_by f (jobs_left n list) ≡ f job + sum_by f (jobs_left n (list ++ job ∷ []))
+pub left-sum : (f : ℕ → ℕ) (n : ℕ) (list : List ℕ) (job : ℕ) → 1 ≤ job → job ≤ n → has list job ≡ false →
+    sum_by f (jobs_left n list) ≡ f job + sum_by f (jobs_left n (list ++ job ∷ []))
 left-sum f n list job low high fresh =
-    let a = ap (sum_by f) (left-split n list job low high fresh) ∙ sum_by-append f (left_under list job) (job ∷ children n list (job + 1)) in
+    let a = ap (sum_by f) (left-split n list job low high fresh)
+    ∙ sum_by-append f (left_under list job) (job ∷ children n list (job + 1)) in
     let b = sum_by-cons f job (children n list (job + 1)) in
-    let c = ap (sum_by f) (left-without n list job low high) ∙ sum_by-append f (left_under list job) (children n list (job + 1)) in
+    let c = ap (sum_by f) (left-without n list job low high)
+    ∙ sum_by-append f (left_under list job) (children n list (job + 1)) in
     omega (arith, a, b, c)
 
-pub left-count : (n : ℕ) (list : List ℕ) (job : ℕ) → 1 ≤ job → job ≤ n → has list job ≡ false → length (jobs_left n list) ≡ suc (length (jobs_left n (list ++ job ∷ [])))
+pub left-count : (n : ℕ) (list : List ℕ) (job : ℕ) → 1 ≤ job → job ≤ n → has list job ≡ false →
+    length (jobs_left n list) ≡ suc (length (jobs_left n (list ++ job ∷ [])))
 left-count n list job low high fresh =
-    let a = ap length (left-split n list job low high fresh) ∙ length-append (left_under list job) (job ∷ children n list (job + 1)) in
-    let c = ap length (left-without n list job low high) ∙ length-append (left_under list job) (children n list (job + 1)) in
+    let a = ap length (left-split n list job low high fresh)
+    ∙ length-append (left_under list job) (job ∷ children n list (job + 1)) in
+    let c = ap length (left-without n list job low high)
+    ∙ length-append (left_under list job) (children n list (job + 1)) in
     omega (arith, a, c)
 
 -- the children from one on
 
-skip : (p : ℕ → Bool) (a e d : ℕ) → ((k : ℕ) → a ≤ k → k < a + e → p k ≡ false) → filter p (range_with_len a (e + d)) ≡ filter p (range_with_len (a + e) d)
-skip p a zero d h = ap (λ n. filter p (range_with_len n (0 + d))) (omega arith) ∙ ap (λ n. filter p (range_with_len (a + 0) n)) (omega arith)
+skip : (p : ℕ → Bool) (a e d : ℕ) → ((k : ℕ) → a ≤ k → k < a + e → p k ≡ false) →
+    filter p (range_with_len a (e + d)) ≡ filter p (range_with_len (a + e) d)
+skip p a zero d h = ap (λ n. filter p (range_with_len n (0 + d))) (omega arith)
+    ∙ ap (λ n. filter p (range_with_len (a + 0) n)) (omega arith)
 skip p a (suc e) d h =
     let n : suc e + d ≡ suc (e + d) = omega arith in
     let m : a + 1 + e ≡ a + suc e = omega arith in
     ap (λ k. filter p (range_with_len a k)) n
-    ∙ ap (λ b. cond b (a ∷ filter p (range_with_len (a + 1) (e + d))) (filter p (range_with_len (a + 1) (e + d)))) (h a (omega arith) (omega arith))
+    ∙ ap (λ b. cond b (a ∷ filter p (range_with_len (a + 1) (e + d))) (filter p (range_with_len (a + 1) (e
+    + d)))) (h a (omega arith) (omega arith))
     ∙ skip p (a + 1) e d (λ k low high. h k (omega arith) (omega arith))
     ∙ ap (λ k. filter p (range_with_len k d)) m
 
-pub children-none : (n : ℕ) (list : List ℕ) (last job : ℕ) → IsNext n list last job → job ≡ 0 → children n list (last + 1) ≡ []
+pub children-none : (n : ℕ) (list : List ℕ) (last job : ℕ) → IsNext n list last job → job ≡ 0 →
+    children n list (last + 1) ≡ []
 children-none n list last (suc job) is e = absurd (omega (arith, e))
 children-none n list last zero is e =
     let p : ℕ → Bool = λ k. not (has list k) in
@@ -119,30 +140,36 @@ children-none n list last zero is e =
     ap (λ m. filter p (range_with_len (last + 1) m)) len
     ∙ skip p (last + 1) (n - last) 0 (λ k low high. ap not (is k (omega arith) (omega arith)))
 
-pub children-here : (n : ℕ) (list : List ℕ) (job : ℕ) → job ≤ n → has list job ≡ false → children n list job ≡ job ∷ children n list (job + 1)
+pub children-here : (n : ℕ) (list : List ℕ) (job : ℕ) → job ≤ n → has list job ≡ false →
+    children n list job ≡ job ∷ children n list (job + 1)
 children-here n list job high fresh =
     let p : ℕ → Bool = λ k. not (has list k) in
     let len : n + 1 - job ≡ suc (n - job) = omega arith in
     let rest : n - job ≡ n + 1 - (job + 1) = omega arith in
     ap (λ m. filter p (range_with_len job m)) len
-    ∙ ap (λ b. cond b (job ∷ filter p (range_with_len (job + 1) (n - job))) (filter p (range_with_len (job + 1) (n - job)))) (ap not fresh)
+    ∙ ap (λ b. cond b (job ∷ filter p (range_with_len (job + 1) (n - job))) (filter p (range_with_len (job
+    + 1) (n - job)))) (ap not fresh)
     ∙ ap (λ m. job ∷ filter p (range_with_len (job + 1) m)) rest
 
-pub children-from : (n : ℕ) (list : List ℕ) (last job : ℕ) → IsNext n list last job → job ≢ 0 → children n list (last + 1) ≡ children n list job
+pub children-from : (n : ℕ) (list : List ℕ) (last job : ℕ) → IsNext n list last job → job ≢ 0 →
+    children n list (last + 1) ≡ children n list job
 children-from n list last zero is some = absurd (some refl)
 children-from n list last (suc job) is some =
     let p : ℕ → Bool = λ k. not (has list k) in
     let len : n + 1 - (last + 1) ≡ (suc job - (last + 1)) + (n + 1 - suc job) = omega (arith, is.0, is.1) in
     let start : last + 1 + (suc job - (last + 1)) ≡ suc job = omega (arith, is.0) in
     ap (λ m. filter p (range_with_len (last + 1) m)) len
-    ∙ skip p (last + 1) (suc job - (last + 1)) (n + 1 - suc job) (λ k low high. ap not (is.3 k (omega arith) (omega (arith, is.0))))
+    ∙ skip p (last + 1) (suc job - (last + 1)) (n
+    + 1 - suc job) (λ k low high. ap not (is.3 k (omega arith) (omega (arith, is.0))))
     ∙ ap (λ m. filter p (range_with_len m (n + 1 - suc job))) start
 
-pub next-some : (n : ℕ) (list : List ℕ) (last job : ℕ) → IsNext n list last job → job ≢ 0 → (last < job) × (1 ≤ job) × (job ≤ n) × (has list job ≡ false)
+pub next-some : (n : ℕ) (list : List ℕ) (last job : ℕ) → IsNext n list last job → job ≢ 0 → (last < job) × (1 ≤ job)
+    × (job ≤ n) × (has list job ≡ false)
 next-some n list last zero is some = absurd (some refl)
 next-some n list last (suc job) is some = (is.0, omega arith, is.1, is.2)
 
-pub children-next : (n : ℕ) (list : List ℕ) (last job : ℕ) → IsNext n list last job → job ≢ 0 → children n list (last + 1) ≡ job ∷ children n list (job + 1)
+pub children-next : (n : ℕ) (list : List ℕ) (last job : ℕ) → IsNext n list last job → job ≢ 0 →
+    children n list (last + 1) ≡ job ∷ children n list (job + 1)
 children-next n list last job is some =
     let h = next-some n list last job is some in
     children-from n list last job is some ∙ children-here n list job h.2 h.3
@@ -157,7 +184,8 @@ start-place n list = (omega arith, λ low. absurd (omega (arith, low)))
 
 -- a job is taken out of the links
 
-next-joined : (n : ℕ) (list : List ℕ) (last job next : ℕ) → IsNext n list last job → job ≢ 0 → IsNext n list job next → IsNext n (list ++ job ∷ []) last next
+next-joined : (n : ℕ) (list : List ℕ) (last job next : ℕ) → IsNext n list last job → job ≢ 0 → IsNext n list job next →
+    IsNext n (list ++ job ∷ []) last next
 next-joined n list last zero next a some b = absurd (some refl)
 next-joined n list last (suc job) zero a some b = λ k low high. elim (cases_lt k (suc job)) [
   | inl under ↦ has-more list (suc job) k (a.3 k low under)
@@ -179,13 +207,15 @@ next-joined n list last (suc job) (suc next) a some b = (
   ],
 )
 
-next-kept : (n : ℕ) (list : List ℕ) (from job next : ℕ) → IsNext n list from next → next ≢ job → IsNext n (list ++ job ∷ []) from next
+next-kept : (n : ℕ) (list : List ℕ) (from job next : ℕ) → IsNext n list from next → next ≢ job →
+    IsNext n (list ++ job ∷ []) from next
 next-kept n list from job zero is other = λ k low high. has-more list job k (is k low high)
 next-kept n list from job (suc next) is other =
     (is.0, is.1, has-other list job (suc next) other ∙ is.2, λ k low high. has-more list job k (is.3 k low high))
 
 -- no two places lead to one job
-one-before : (n : ℕ) (list : List ℕ) (a b job : ℕ) → IsPlace n list a → IsPlace n list b → IsNext n list a job → IsNext n list b job → job ≢ 0 → a ≢ b → ⊥
+one-before : (n : ℕ) (list : List ℕ) (a b job : ℕ) → IsPlace n list a → IsPlace n list b → IsNext n list a job →
+    IsNext n list b job → job ≢ 0 → a ≢ b → ⊥
 one-before n list a b zero at_a at_b from_a from_b some other = some refl
 one-before n list a b (suc job) at_a at_b from_a from_b some other = elim (cases_lt a b) [
   | inl under ↦ false≢true (sym (at_b.1 (omega (arith, under))) ∙ from_a.3 b under from_b.0)
@@ -197,7 +227,8 @@ one-before n list a b (suc job) at_a at_b from_a from_b some other = elim (cases
 same-next : (n : ℕ) (list : List ℕ) (from a b : ℕ) → a ≡ b → IsNext n list from a → IsNext n list from b
 same-next n list from a b e is = subst (IsNext n list from) e is
 
-pub links-out : (n : ℕ) (list links : List ℕ) (last job next : ℕ) → AreLinks n list links → IsPlace n list last → slice_index links last ≡ job → job ≢ 0 → next ≡ slice_index links job →
+pub links-out : (n : ℕ) (list links : List ℕ) (last job next : ℕ) → AreLinks n list links → IsPlace n list last →
+    slice_index links last ≡ job → job ≢ 0 → next ≡ slice_index links job →
     AreLinks n (list ++ job ∷ []) (slice_set links last next)
 links-out n list links last job next are at leads some is =
     let a : IsNext n list last job = same-next n list last (slice_index links last) job leads (are.each last at) in
@@ -206,25 +237,37 @@ links-out n list links last job next are at leads some is =
     record {
       each = λ k here. elim (eqb_tells k last) [
         | inl same ↦
-            let value : next ≡ slice_index (slice_set links last next) k = sym (ap (slice_index (slice_set links last next)) same.1 ∙ get_or-set_same links last next 0 (omega (arith, are.size, at.0))) in
+            let value : next ≡ slice_index (slice_set links last next) k = sym (ap (slice_index
+            (slice_set links last next)) same.1
+            ∙ get_or-set_same links last next 0 (omega (arith, are.size, at.0))) in
             subst (λ f. IsNext n (list ++ job ∷ []) f (slice_index (slice_set links last next) k)) (sym same.1)
-            (same-next n (list ++ job ∷ []) last next (slice_index (slice_set links last next) k) value (next-joined n list last job next a some b))
+            (same-next n (list ++ job
+            ∷ []) last next (slice_index (slice_set links last next) k) value
+            (next-joined n list last job next a some b))
         | inr other ↦
-            let value : slice_index links k ≡ slice_index (slice_set links last next) k = sym (get_or-set_other links last k next 0 other.1) in
+            let value : slice_index links k ≡ slice_index (slice_set links last next) k =
+            sym (get_or-set_other links last k next 0 other.1) in
             let there : IsPlace n list k = (
               here.0,
               λ low. elim (eqb_tells k job) [
-                | inl same ↦ absurd (false≢true (sym (here.1 low) ∙ ap (has (list ++ job ∷ [])) same.1 ∙ has-same list job))
+                | inl same ↦ absurd (false≢true (sym (here.1 low) ∙ ap (has (list ++ job ∷ [])) same.1
+                    ∙ has-same list job))
                 | inr apart ↦ sym (has-other list job k apart.1) ∙ here.1 low
               ],
             ) in
             let from_k : IsNext n list k (slice_index links k) = are.each k there in
-            let away : slice_index links k ≢ job = λ e. one-before n list k last job there at (same-next n list k (slice_index links k) job e from_k) a some other.1 in
-            same-next n (list ++ job ∷ []) k (slice_index links k) (slice_index (slice_set links last next) k) value (next-kept n list k job (slice_index links k) from_k away)
+            let away : slice_index links k ≢ job =
+            λ e. one-before n list k last job there at (same-next n list k
+            (slice_index links k) job e from_k) a some other.1 in
+            same-next n (list ++ job
+            ∷ []) k (slice_index links k) (slice_index (slice_set links last next) k) value (next-kept n list k job
+            (slice_index links k) from_k away)
       ];
       size = length-set links last next ∙ are.size;
     }
 
 -- and put back
-pub links-back : (links : List ℕ) (last job next : ℕ) → slice_index links last ≡ job → slice_set (slice_set links last next) last job ≡ links
-links-back links last job next leads = set-set links last next job ∙ ap (set links last) (sym leads) ∙ set-get_or links last 0
+pub links-back : (links : List ℕ) (last job next : ℕ) → slice_index links last ≡ job →
+    slice_set (slice_set links last next) last job ≡ links
+links-back links last job next leads = set-set links last next job ∙ ap (set links last) (sym leads)
+    ∙ set-get_or links last 0

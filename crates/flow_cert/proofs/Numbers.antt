@@ -44,15 +44,18 @@ pub digits-model : IsNumeralModel AreDigits (digits_value 10)
 digits-model = numerals_by_value AreDigits tells-digits
 
 -- a numeral is what is written of its value
-pub numeral-decimal : (word : List ℕ) → is_numeral word ≡ true → digits_value 10 word < 2 ^ 64 → decimal (digits_value 10 word) ≡ word
+pub numeral-decimal : (word : List ℕ) → is_numeral word ≡ true → digits_value 10 word < 2 ^ 64 →
+    decimal (digits_value 10 word) ≡ word
 numeral-decimal [] e fits = absurd (false≢true e)
 numeral-decimal (d ∷ []) e fits =
     decimal-digits_value digits-model (d ∷ []) (ap (λ b. b && true) e) (omega arith) (λ z. refl) fits
 numeral-decimal (d ∷ c ∷ cs) e fits =
     let k = both (not (nat_eq d 48)) (list_all is_digit (d ∷ c ∷ cs)) e in
-    decimal-digits_value digits-model (d ∷ c ∷ cs) k.1 (omega arith) (λ z. absurd (false≢true (sym (off (nat_eq d 48) k.0) ∙ eq-eqb d 48 z))) fits
+    decimal-digits_value digits-model (d ∷ c
+    ∷ cs) k.1 (omega arith) (λ z. absurd (false≢true (sym (off (nat_eq d 48) k.0) ∙ eq-eqb d 48 z))) fits
 
-numeral-of : (word : List ℕ) → AreDigits word → 0 < length word → (get_or word 0 0 ≡ 48 → length word ≡ 1) → is_numeral word ≡ true
+numeral-of : (word : List ℕ) → AreDigits word → 0 < length word → (get_or word 0 0 ≡ 48 → length word ≡ 1) →
+    is_numeral word ≡ true
 numeral-of [] e some lead = absurd (omega arith)
 numeral-of (d ∷ []) e some lead = (both (is_digit d) true e).0
 numeral-of (d ∷ c ∷ cs) e some lead =
@@ -68,13 +71,16 @@ lead-alone (suc n) fits z = absurd (omega (arith, first_decimal (suc n) (omega a
 
 -- what is written of a number is a numeral
 pub decimal-numeral : (n : ℕ) → n < 2 ^ 64 → is_numeral (decimal n) ≡ true
-decimal-numeral n fits = numeral-of (decimal n) (decimal-digits n fits) (decimal_is_IsNumeral n fits).0.0 (lead-alone n fits)
+decimal-numeral n fits =
+    numeral-of (decimal n) (decimal-digits n fits) (decimal_is_IsNumeral n fits).0.0 (lead-alone n fits)
 
-words-written : (words : List (List ℕ)) → list_all is_numeral words ≡ true → Fit (map (digits_value 10) words) → map decimal (map (digits_value 10) words) ≡ words
+words-written : (words : List (List ℕ)) → list_all is_numeral words ≡ true → Fit (map (digits_value 10) words) →
+    map decimal (map (digits_value 10) words) ≡ words
 words-written [] e fits = refl
 words-written (w ∷ ws) e fits =
     let k = both (is_numeral w) (list_all is_numeral ws) e in
-    ap (λ x. x ∷ map decimal (map (digits_value 10) ws)) (numeral-decimal w k.0 fits.0) ∙ ap (λ xs. w ∷ xs) (words-written ws k.1 fits.1)
+    ap (λ x. x ∷ map decimal (map (digits_value 10) ws)) (numeral-decimal w k.0 fits.0)
+    ∙ ap (λ xs. w ∷ xs) (words-written ws k.1 fits.1)
 
 abbrev SomeOnly : Option (List ℕ) → Type 0
 SomeOnly None = ⊥
@@ -93,7 +99,8 @@ pub numbers-sound : (text ns : List ℕ) → numbers_in text ≡ Some ns → Fit
 numbers-sound text ns e fits =
     let words : List (List ℕ) = slice_split (λ byte. nat_eq byte 32) text in
     let k = parts-sound (list_all is_numeral words) (map (digits_value 10) words) ns e in
-    let written : map decimal (map (digits_value 10) words) ≡ words = words-written words k.0 (subst Fit (sym k.1) fits) in
+    let written : map decimal (map (digits_value 10) words) ≡ words =
+    words-written words k.0 (subst Fit (sym k.1) fits) in
     sym (join_with_byte-slice_split 32 text) ∙ ap (join_with_byte 32) (sym written) ∙ ap spaced k.1
 
 -- no digit is a byte below 48
@@ -105,20 +112,25 @@ no-byte byte low (d ∷ ds) h =
     let other : d ≢ byte = omega (arith, range.0, low) in
     (ne_eqb d byte other, no-byte byte low ds k.1)
 
-split-spaced : (n : ℕ) (ns : List ℕ) → Fit (n ∷ ns) → slice_split (λ b. nat_eq b 32) (spaced (n ∷ ns)) ≡ map decimal (n ∷ ns)
+split-spaced : (n : ℕ) (ns : List ℕ) → Fit (n ∷ ns) → slice_split (λ b. nat_eq b 32) (spaced (n ∷ ns))
+    ≡ map decimal (n ∷ ns)
 split-spaced n [] h =
-    slice_split_none (λ b. nat_eq b 32) (decimal n) (All-from_recursion (λ b. nat_eq b 32 ≡ false) (decimal n) (no-byte 32 (omega arith) (decimal n) (decimal-digits n h.0)))
+    slice_split_none (λ b. nat_eq b 32) (decimal n) (All-from_recursion (λ b. nat_eq b 32
+    ≡ false) (decimal n) (no-byte 32 (omega arith) (decimal n) (decimal-digits n h.0)))
 split-spaced n (m ∷ ns) h =
-    slice_split_at (λ b. nat_eq b 32) (decimal n) 32 (spaced (m ∷ ns)) (All-from_recursion (λ b. nat_eq b 32 ≡ false) (decimal n) (no-byte 32 (omega arith) (decimal n) (decimal-digits n h.0))) refl
+    slice_split_at (λ b. nat_eq b 32) (decimal n) 32 (spaced (m ∷ ns)) (All-from_recursion (λ b. nat_eq b 32
+    ≡ false) (decimal n) (no-byte 32 (omega arith) (decimal n) (decimal-digits n h.0))) refl
     ∙ ap (λ xs. decimal n ∷ xs) (split-spaced m ns h.1)
 
 all-numerals : (ns : List ℕ) → Fit ns → list_all is_numeral (map decimal ns) ≡ true
 all-numerals [] h = refl
-all-numerals (n ∷ ns) h = ap (λ b. b && list_all is_numeral (map decimal ns)) (decimal-numeral n h.0) ∙ all-numerals ns h.1
+all-numerals (n ∷ ns) h = ap (λ b. b && list_all is_numeral (map decimal ns)) (decimal-numeral n h.0)
+    ∙ all-numerals ns h.1
 
 all-values : (ns : List ℕ) → Fit ns → map (digits_value 10) (map decimal ns) ≡ ns
 all-values [] h = refl
-all-values (n ∷ ns) h = ap (λ k. k ∷ map (digits_value 10) (map decimal ns)) (decimal_is_IsNumeral n h.0).1 ∙ ap (λ xs. n ∷ xs) (all-values ns h.1)
+all-values (n ∷ ns) h = ap (λ k. k ∷ map (digits_value 10) (map decimal ns)) (decimal_is_IsNumeral n h.0).1
+    ∙ ap (λ xs. n ∷ xs) (all-values ns h.1)
 
 -- numbers, as they are written, are a line that holds them
 pub numbers-complete : (n : ℕ) (ns : List ℕ) → Fit (n ∷ ns) → numbers_in (spaced (n ∷ ns)) ≡ Some (n ∷ ns)
@@ -139,4 +151,5 @@ plain-append (x ∷ xs) ys h k = (h.0, plain-append xs ys h.1 k)
 pub spaced-plain : (ns : List ℕ) → Fit ns → IsPlain (spaced ns)
 spaced-plain [] h = tt
 spaced-plain (n ∷ []) h = no-byte 10 (omega arith) (decimal n) (decimal-digits n h.0)
-spaced-plain (n ∷ m ∷ ns) h = plain-append (decimal n) (32 ∷ spaced (m ∷ ns)) (no-byte 10 (omega arith) (decimal n) (decimal-digits n h.0)) (refl, spaced-plain (m ∷ ns) h.1)
+spaced-plain (n ∷ m ∷ ns) h = plain-append (decimal n) (32
+    ∷ spaced (m ∷ ns)) (no-byte 10 (omega arith) (decimal n) (decimal-digits n h.0)) (refl, spaced-plain (m ∷ ns) h.1)

@@ -6,13 +6,16 @@ use Rattle.flow_cert.specs.Certificate.{line, spaced}
 use Rattle.flow_cert.specs.internal.Heading.{BeginsWithNumber, BeginsWithSize}
 
 -- its three numbers, each with the byte that ends it
-pub size-parts : (a b d : ℕ) (rest : List ℕ) → line (spaced (a ∷ b ∷ d ∷ [])) ++ rest ≡ decimal a ++ 32 ∷ (decimal b ++ 32 ∷ (decimal d ++ 10 ∷ rest))
+pub size-parts : (a b d : ℕ) (rest : List ℕ) → line (spaced (a ∷ b ∷ d ∷ [])) ++ rest ≡ decimal a ++ 32
+    ∷ (decimal b ++ 32 ∷ (decimal d ++ 10 ∷ rest))
 size-parts a b d rest =
     append_assoc (decimal a ++ 32 ∷ (decimal b ++ 32 ∷ decimal d)) (10 ∷ []) rest
     ∙ append_assoc (decimal a) (32 ∷ (decimal b ++ 32 ∷ decimal d)) (10 ∷ rest)
     ∙ ap (λ xs. decimal a ++ 32 ∷ xs) (append_assoc (decimal b) (32 ∷ decimal d) (10 ∷ rest))
 
-pub first-number : (jobs machines : ℕ) (text rest : List ℕ) (depth : ℕ) → jobs < 2 ^ 64 → BeginsWithSize jobs machines text depth rest → BeginsWithNumber text 32 jobs (decimal machines ++ 32 ∷ (decimal depth ++ 10 ∷ rest))
+pub first-number : (jobs machines : ℕ) (text rest : List ℕ) (depth : ℕ) → jobs < 2 ^ 64 →
+    BeginsWithSize jobs machines text depth rest →
+    BeginsWithNumber text 32 jobs (decimal machines ++ 32 ∷ (decimal depth ++ 10 ∷ rest))
 first-number jobs machines text rest depth fits h = (fits, h.2 ∙ size-parts jobs machines depth rest)
 
 pub depth-fits : (depth : ℕ) → depth ≤ greatest_depth → depth < 2 ^ 64

@@ -20,7 +20,8 @@ number-first : (n : ℕ) (ns : List ℕ) → spaced (n ∷ ns) ≡ decimal n ++ 
 number-first n [] = sym (append-nil (decimal n))
 number-first n (m ∷ ns) = refl
 
-numbers-split : (done : List ℕ) (n : ℕ) (ns : List ℕ) → spaced (done ++ n ∷ ns) ≡ (spaced done ++ gap_behind done) ++ spaced (n ∷ ns)
+numbers-split : (done : List ℕ) (n : ℕ) (ns : List ℕ) → spaced (done ++ n ∷ ns) ≡ (spaced done ++ gap_behind done)
+    ++ spaced (n ∷ ns)
 numbers-split [] n ns = refl
 numbers-split (m ∷ []) n ns = sym (append_assoc (decimal m) (32 ∷ []) (spaced (n ∷ ns)))
 numbers-split (m ∷ k ∷ ms) n ns =
@@ -29,20 +30,23 @@ numbers-split (m ∷ k ∷ ms) n ns =
     ∙ ap (λ t. t ++ spaced (n ∷ ns)) (sym (append_assoc (decimal m) (32 ∷ spaced (k ∷ ms)) (32 ∷ [])))
 
 -- a line of numbers, up to one of them
-pub at-number : (ns : List ℕ) (i n : ℕ) (gap : List ℕ) → i < length ns → n ≡ get_or ns i 0 → gap ≡ gap_behind (take i ns) →
+pub at-number : (ns : List ℕ) (i n : ℕ) (gap : List ℕ) → i < length ns → n ≡ get_or ns i 0 →
+    gap ≡ gap_behind (take i ns) →
     line (spaced ns) ≡ ((spaced (take i ns) ++ gap) ++ decimal n) ++ (rest_behind (drop (suc i) ns) ++ 10 ∷ [])
 at-number ns i n gap h is behind =
     let next : ℕ = get_or ns i 0 in
     let more : List ℕ = drop (suc i) ns in
     let front : List ℕ = spaced (take i ns) ++ gap_behind (take i ns) in
     ap line
-    (ap spaced (split_at ns i 0 h) ∙ numbers-split (take i ns) next more ∙ ap (λ t. front ++ t) (number-first next more) ∙ sym (append_assoc front (decimal next) (rest_behind more)))
+    (ap spaced (split_at ns i 0 h) ∙ numbers-split (take i ns) next more ∙ ap (λ t. front ++ t) (number-first next more)
+    ∙ sym (append_assoc front (decimal next) (rest_behind more)))
     ∙ append_assoc (front ++ decimal next) (rest_behind more) (10 ∷ [])
     ∙ ap (λ m. (front ++ decimal m) ++ (rest_behind more ++ 10 ∷ [])) (sym is)
     ∙ ap (λ t. ((spaced (take i ns) ++ t) ++ decimal n) ++ (rest_behind more ++ 10 ∷ [])) (sym behind)
 
 -- one more number
-pub one-more-number : (ns : List ℕ) (i n : ℕ) (gap : List ℕ) → i < length ns → n ≡ get_or ns i 0 → gap ≡ gap_behind (take i ns) →
+pub one-more-number : (ns : List ℕ) (i n : ℕ) (gap : List ℕ) → i < length ns → n ≡ get_or ns i 0 →
+    gap ≡ gap_behind (take i ns) →
     spaced (take (i + 1) ns) ≡ (spaced (take i ns) ++ gap) ++ decimal n
 one-more-number ns i n gap h is behind =
     ap spaced (take_more ns i 0 h)
@@ -58,14 +62,18 @@ gap-more ns i h = sym (ap gap_behind (take_more ns i 0 h) ∙ some (take i ns) (
     some [] n = refl
     some (m ∷ ms) n = refl
 
-lines-append : {V : Type 0} (text : V → List ℕ) (xs ys : List V) → flat_map line (map text (xs ++ ys)) ≡ flat_map line (map text xs) ++ flat_map line (map text ys)
+lines-append : {V : Type 0} (text : V → List ℕ) (xs ys : List V) →
+    flat_map line (map text (xs ++ ys)) ≡ flat_map line (map text xs) ++ flat_map line (map text ys)
 lines-append text [] ys = refl
 lines-append text (x ∷ xs) ys =
-    ap (λ t. line (text x) ++ t) (lines-append text xs ys) ∙ sym (append_assoc (line (text x)) (flat_map line (map text xs)) (flat_map line (map text ys)))
+    ap (λ t. line (text x) ++ t) (lines-append text xs ys)
+    ∙ sym (append_assoc (line (text x)) (flat_map line (map text xs)) (flat_map line (map text ys)))
 
 -- lines, up to one of them
-pub at-line : {V : Type 0} (text : V → List ℕ) (xs : List V) (i : ℕ) (x : V) (bytes : List ℕ) → i < length xs → x ≡ get_or xs i x → bytes ≡ text x →
-    flat_map line (map text xs) ≡ (flat_map line (map text (take i xs)) ++ line bytes) ++ flat_map line (map text (drop (suc i) xs))
+pub at-line : {V : Type 0} (text : V → List ℕ) (xs : List V) (i : ℕ) (x : V) (bytes : List ℕ) → i < length xs →
+    x ≡ get_or xs i x → bytes ≡ text x →
+    flat_map line (map text xs) ≡ (flat_map line (map text (take i xs)) ++ line bytes)
+    ++ flat_map line (map text (drop (suc i) xs))
 at-line text xs i x bytes h at is =
     let more = drop (suc i) xs in
     ap (λ ys. flat_map line (map text ys)) (split_at xs i x h)
@@ -75,7 +83,8 @@ at-line text xs i x bytes h at is =
     ∙ sym (append_assoc (flat_map line (map text (take i xs))) (line bytes) (flat_map line (map text more)))
 
 -- one more line
-pub one-more-line : {V : Type 0} (text : V → List ℕ) (xs : List V) (i : ℕ) (x : V) (bytes : List ℕ) → i < length xs → x ≡ get_or xs i x → bytes ≡ text x →
+pub one-more-line : {V : Type 0} (text : V → List ℕ) (xs : List V) (i : ℕ) (x : V) (bytes : List ℕ) → i < length xs →
+    x ≡ get_or xs i x → bytes ≡ text x →
     flat_map line (map text (take (i + 1) xs)) ≡ flat_map line (map text (take i xs)) ++ line bytes
 one-more-line text xs i x bytes h at is =
     ap (λ ys. flat_map line (map text ys)) (take_more xs i x h)

@@ -18,14 +18,19 @@ zeros zero i = refl
 zeros (suc n) zero = refl
 zeros (suc n) (suc i) = zeros n i
 
-pub front-empty : (shop : Shop) (machine : ℕ) → slice_index (replicate most_machines 0) (machine - 1) ≡ completion shop [] machine
+pub front-empty : (shop : Shop) (machine : ℕ) → slice_index (replicate most_machines 0) (machine - 1)
+    ≡ completion shop [] machine
 front-empty shop machine = zeros most_machines (machine - 1) ∙ sym (completion-is shop [] machine)
 
 -- a front that has the recurrence's values is that of the longer list
-pub front-push : (shop : Shop) (jobs old new : List ℕ) (job : ℕ) → ((machine : ℕ) → 1 ≤ machine → machine ≤ shop.machines → free_at new machine ≡ after shop (free_at old) job machine) → IsFrontOf shop jobs old → IsFrontOf shop (jobs ++ job ∷ []) new
+pub front-push : (shop : Shop) (jobs old new : List ℕ) (job : ℕ) →
+    ((machine : ℕ) → 1 ≤ machine → machine ≤ shop.machines →
+    free_at new machine ≡ after shop (free_at old) job machine) → IsFrontOf shop jobs old →
+    IsFrontOf shop (jobs ++ job ∷ []) new
 front-push shop jobs old new job values front machine from to =
     values machine from to
-    ∙ after-same shop job (free_at old) (completed shop (λ _. 0) jobs) machine (λ k low high. front k low (omega arith) ∙ completion-is shop jobs k)
+    ∙ after-same shop job (free_at old) (completed shop (λ _. 0) jobs) machine (λ k low high. front k low (omega arith)
+    ∙ completion-is shop jobs k)
     ∙ sym (completion-after shop jobs job machine)
 
 -- the time of any job on any machine is within the limit
@@ -37,45 +42,64 @@ time-small shop job machine limits =
       | inr past ↦ let none : slice_index shop.times place ≡ 0 = get_or_past shop.times place 0 past in omega arith
     ]
 
-after-small : (shop : Shop) (free : ℕ → ℕ) (job n k : ℕ) → IsWithinLimits shop → ((i : ℕ) → free i ≤ (n + i) * greatest_time) → after shop free job k ≤ (n + 1 + k) * greatest_time
+after-small : (shop : Shop) (free : ℕ → ℕ) (job n k : ℕ) → IsWithinLimits shop →
+    ((i : ℕ) → free i ≤ (n + i) * greatest_time) → after shop free job k ≤ (n + 1 + k) * greatest_time
 after-small shop free job n zero limits small = omega arith
 after-small shop free job n (suc k) limits small =
     omega (arith, small (suc k), after-small shop free job n k limits small, time-small shop job (suc k) limits)
 
-completed-small : (shop : Shop) (free : ℕ → ℕ) (jobs : List ℕ) (n k : ℕ) → IsWithinLimits shop → ((i : ℕ) → free i ≤ (n + i) * greatest_time) → completed shop free jobs k ≤ (n + length jobs + k) * greatest_time
+completed-small : (shop : Shop) (free : ℕ → ℕ) (jobs : List ℕ) (n k : ℕ) → IsWithinLimits shop →
+    ((i : ℕ) → free i ≤ (n + i) * greatest_time) → completed shop free jobs k ≤ (n + length jobs + k) * greatest_time
 completed-small shop free [] n k limits small = omega (arith, small k)
 completed-small shop free (j ∷ js) n k limits small =
-    let ih = completed-small shop (after shop free j) js (n + 1) k limits (λ i. after-small shop free j n i limits small) in
+    let ih = completed-small shop (after shop free j) js (n
+    + 1) k limits (λ i. after-small shop free j n i limits small) in
     omega (arith, ih)
 
 -- a path has one step for each job and each machine
-pub completion-small : (shop : Shop) (jobs : List ℕ) (machine : ℕ) → IsWithinLimits shop → completion shop jobs machine ≤ (length jobs + machine) * greatest_time
+pub completion-small : (shop : Shop) (jobs : List ℕ) (machine : ℕ) → IsWithinLimits shop →
+    completion shop jobs machine ≤ (length jobs + machine) * greatest_time
 completion-small shop jobs machine limits =
-    omega (arith, completion-is shop jobs machine, completed-small shop (λ _. 0) jobs 0 machine limits (λ i. omega arith))
+    omega (
+      arith,
+      completion-is shop jobs machine,
+      completed-small shop (λ _. 0) jobs 0 machine limits
+          (λ i. omega arith),
+    )
 
 -- the front of a list that is no longer than a sequence
-pub front-within : (shop : Shop) (jobs front : List ℕ) → IsWithinLimits shop → length jobs ≤ shop.jobs → IsFrontOf shop jobs front → IsWithinFront shop front
+pub front-within : (shop : Shop) (jobs front : List ℕ) → IsWithinLimits shop → length jobs ≤ shop.jobs →
+    IsFrontOf shop jobs front → IsWithinFront shop front
 front-within shop jobs front limits short is_front place within =
-    let here : slice_index front (place + 1 - 1) ≡ completion shop jobs (place + 1) = is_front (place + 1) (omega arith) (omega arith) in
+    let here : slice_index front (place + 1 - 1) ≡ completion shop jobs (place + 1) =
+    is_front (place + 1) (omega arith) (omega arith) in
     let same : slice_index front (place + 1 - 1) ≡ slice_index front place = ap (slice_index front) (omega arith) in
     let jobs_limit : shop.jobs ≤ most_jobs = limits.jobs in
     let machines_limit : shop.machines ≤ most_machines = limits.machines in
     omega (arith, here, same, completion-small shop jobs (place + 1) limits)
 
 -- one more machine of a front
-pub done-more : (shop : Shop) (old times : List ℕ) (job machine value : ℕ) → 1 ≤ machine → machine - 1 < length times → value ≡ after shop (free_at old) job machine → ((k : ℕ) → 1 ≤ k → k < machine → free_at times k ≡ after shop (free_at old) job k) → (k : ℕ) → 1 ≤ k → k < machine + 1 → free_at (set times (machine - 1) value) k ≡ after shop (free_at old) job k
+pub done-more : (shop : Shop) (old times : List ℕ) (job machine value : ℕ) → 1 ≤ machine → machine - 1 < length times →
+    value ≡ after shop (free_at old) job machine →
+    ((k : ℕ) → 1 ≤ k → k < machine → free_at times k ≡ after shop (free_at old) job k) → (k : ℕ) → 1 ≤ k →
+    k < machine + 1 → free_at (set times (machine - 1) value) k ≡ after shop (free_at old) job k
 done-more shop old times job machine value from within is done k low high =
     elim (cases_lt k machine) [
       | inl below ↦ let other : k - 1 ≢ machine - 1 = omega arith in rw get_or-set_other (done k low below)
       | inr here ↦
           let e : k ≡ machine = omega arith in
-          ap (free_at (set times (machine - 1) value)) e ∙ get_or-set_same times (machine - 1) value 0 within ∙ is ∙ ap (after shop (free_at old) job) (sym e)
+          ap (free_at (set times (machine - 1) value)) e ∙ get_or-set_same times (machine - 1) value 0 within ∙ is
+          ∙ ap (after shop (free_at old) job) (sym e)
     ]
 
 -- what the loop computes on a machine
-pub after-step : (shop : Shop) (old times : List ℕ) (job machine free time_there value : ℕ) → 1 ≤ machine → free ≡ after shop (free_at old) job (machine - 1) → slice_index times (machine - 1) ≡ slice_index old (machine - 1) → time_there ≡ time shop job machine → value ≡ max (slice_index times (machine - 1)) free + time_there → value ≡ after shop (free_at old) job machine
+pub after-step : (shop : Shop) (old times : List ℕ) (job machine free time_there value : ℕ) → 1 ≤ machine →
+    free ≡ after shop (free_at old) job (machine - 1) → slice_index times (machine - 1)
+    ≡ slice_index old (machine - 1) → time_there ≡ time shop job machine →
+    value ≡ max (slice_index times (machine - 1)) free + time_there → value ≡ after shop (free_at old) job machine
 after-step shop old times job zero free time_there value from before same there is = absurd (omega arith)
 after-step shop old times job (suc machine) free time_there value from before same there is =
     let e : suc machine - 1 ≡ machine = omega arith in
-    let b : after shop (free_at old) job (suc machine - 1) ≡ after shop (free_at old) job machine = ap (after shop (free_at old) job) e in
+    let b : after shop (free_at old) job (suc machine - 1) ≡ after shop (free_at old) job machine =
+    ap (after shop (free_at old) job) e in
     omega (arith, is, there, same, before, b)

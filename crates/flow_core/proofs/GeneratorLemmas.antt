@@ -12,7 +12,8 @@ use Rattle.flow_core.specs.Generator.{multiplier, modulus, least_drawn, greatest
 use Rattle.flow_core.specs.Limits.{greatest_time}
 use Rattle.flow_core.proofs.JobsLeft.{numbers-more}
 
-pub state_after-step : (seed steps state next : ℕ) → state ≡ state_after seed steps → next ≡ state_after state 1 → next ≡ state_after seed (steps + 1)
+pub state_after-step : (seed steps state next : ℕ) → state ≡ state_after seed steps → next ≡ state_after state 1 →
+    next ≡ state_after seed (steps + 1)
 state_after-step seed steps state next before step =
     step
     ∙ ap (λ s. s * multiplier ^ 1 % modulus) before
@@ -26,7 +27,8 @@ state_after-step seed steps state next before step =
         power = sym (ap (λ k. multiplier ^ k) (add-one steps) ∙ pow-suc multiplier steps)
 
 -- one more drawn time
-pub drawn-more : (f : ℕ → ℕ) (times : List ℕ) (steps number : ℕ) → times ≡ map f (numbers 1 steps) → number ≡ f (steps + 1) → times ++ number ∷ [] ≡ map f (numbers 1 (steps + 1))
+pub drawn-more : (f : ℕ → ℕ) (times : List ℕ) (steps number : ℕ) → times ≡ map f (numbers 1 steps) →
+    number ≡ f (steps + 1) → times ++ number ∷ [] ≡ map f (numbers 1 (steps + 1))
 drawn-more f times steps number before is =
     let next : steps + 1 ≡ suc steps = omega arith in
     let value : number ≡ f (suc steps) = is ∙ ap f next in
@@ -40,13 +42,18 @@ within : (low high state : ℕ) → low ≤ high → state < modulus → drawn l
 within low high state order small = grind (arith, common_steps)
 
 drawn_time-small : (seed steps : ℕ) → drawn_time seed steps ≤ greatest_drawn
-drawn_time-small seed steps = within least_drawn greatest_drawn (state_after seed steps) (omega arith) (mod_below (seed * multiplier ^ steps) modulus (omega arith))
+drawn_time-small seed steps =
+    within least_drawn greatest_drawn (state_after seed steps) (omega arith) (mod_below
+    (seed * multiplier ^ steps) modulus (omega arith))
 
-times-small : (seed first count : ℕ) → AllByRecursion (λ time. time ≤ greatest_time) (map (drawn_time seed) (range_with_len first count))
+times-small : (seed first count : ℕ) →
+    AllByRecursion (λ time. time ≤ greatest_time) (map (drawn_time seed) (range_with_len first count))
 times-small seed first zero = tt
 times-small seed first (suc count) = (omega (arith, drawn_time-small seed first), times-small seed (first + 1) count)
 
 -- the drawn times are within the limit
-pub drawn-are-times : (seed count : ℕ) (times : List ℕ) → times ≡ map (drawn_time seed) (numbers 1 count) → All (λ time. time ≤ greatest_time) times
+pub drawn-are-times : (seed count : ℕ) (times : List ℕ) → times ≡ map (drawn_time seed) (numbers 1 count) →
+    All (λ time. time ≤ greatest_time) times
 drawn-are-times seed count times is =
-    All-from_recursion (λ time. time ≤ greatest_time) times (subst (AllByRecursion (λ time. time ≤ greatest_time)) (sym is) (times-small seed 1 (count + 1 - 1)))
+    All-from_recursion (λ time. time ≤ greatest_time) times (subst (AllByRecursion (λ time. time
+    ≤ greatest_time)) (sym is) (times-small seed 1 (count + 1 - 1)))

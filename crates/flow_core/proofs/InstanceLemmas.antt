@@ -15,7 +15,9 @@ use Rattle.flow_core.specs.Limits.{most_jobs, most_machines, greatest_time}
 use Rattle.flow_core.specs.declared.instance.InstanceFault.{InstanceFault}
 use Rattle.flow_core.specs.declared.instance.InstanceFault.TheVariants.{Jobs, Machines, Count, Time}
 
-tests-none : (p q r : Bool) (times : Option InstanceFault) → first_fault (fault_unless p Jobs ∷ fault_unless q Machines ∷ fault_unless r Count ∷ times ∷ []) ≡ None → (p ≡ true) × (q ≡ true) × (r ≡ true) × (times ≡ None)
+tests-none : (p q r : Bool) (times : Option InstanceFault) →
+    first_fault (fault_unless p Jobs ∷ fault_unless q Machines ∷ fault_unless r Count ∷ times ∷ []) ≡ None → (p ≡ true)
+    × (q ≡ true) × (r ≡ true) × (times ≡ None)
 tests-none true true true None e = (refl, refl, refl, refl)
 tests-none true true true (Some f) e = absurd (none-some f (sym e))
 tests-none true true false times e = absurd (none-some Count (sym e))
@@ -36,7 +38,8 @@ none-tested false index e = refl
 
 times-within : (times : List ℕ) → time_fault times ≡ None → All (λ time. time ≤ greatest_time) times
 times-within times e k d below =
-    let past = none-tested (nat_lt (position_or_len is_too_great times) (length times)) (position_or_len is_too_great times) (mapped-none (position is_too_great times) e) in
+    let past = none-tested (nat_lt (position_or_len is_too_great times) (length times))
+    (position_or_len is_too_great times) (mapped-none (position is_too_great times) e) in
     let before : k < position_or_len is_too_great times = grind (arith, nat_tests) in
     let small : nat_lt greatest_time (get_or times k d) ≡ false = fails_before_first is_too_great times k d before in
     grind (arith, nat_tests)
@@ -45,11 +48,14 @@ within-times : (times : List ℕ) → All (λ time. time ≤ greatest_time) time
 within-times times small = split (nat_lt (position_or_len is_too_great times) (length times)) refl
   where
     split : (b : Bool) → nat_lt (position_or_len is_too_great times) (length times) ≡ b → time_fault times ≡ None
-    split false e = ap (λ b. option_map (λ index. Time (index + 1)) (cond b (Some (position_or_len is_too_great times)) None)) e
+    split false e = ap (λ b. option_map (λ index. Time (index
+        + 1)) (cond b (Some (position_or_len is_too_great times)) None)) e
     split true e =
         let below : position_or_len is_too_great times < length times = grind (arith, nat_tests) in
-        let great : nat_lt greatest_time (get_or times (position_or_len is_too_great times) 0) ≡ true = passes_at_first is_too_great times 0 below in
-        let fits : get_or times (position_or_len is_too_great times) 0 ≤ greatest_time = small (position_or_len is_too_great times) 0 below in
+        let great : nat_lt greatest_time (get_or times (position_or_len is_too_great times) 0) ≡ true =
+        passes_at_first is_too_great times 0 below in
+        let fits : get_or times (position_or_len is_too_great times) 0 ≤ greatest_time =
+        small (position_or_len is_too_great times) 0 below in
         absurd (false≢true (grind (arith, nat_tests)))
 
 pub range-in : (most n : ℕ) → is_in_range 1 most n ≡ true → (1 ≤ n) × (n ≤ most)
@@ -58,9 +64,11 @@ range-in most n e = grind (arith, nat_tests)
 in-range : (most n : ℕ) → 1 ≤ n → n ≤ most → is_in_range 1 most n ≡ true
 in-range most n low high = grind (arith, nat_tests)
 
-pub instance-fault-none-is : (shop : Shop) → instance_fault shop.jobs shop.machines shop.times ≡ None → IsWithinLimits shop
+pub instance-fault-none-is : (shop : Shop) → instance_fault shop.jobs shop.machines shop.times ≡ None →
+    IsWithinLimits shop
 instance-fault-none-is shop e =
-    let tests = tests-none (is_in_range 1 most_jobs shop.jobs) (is_in_range 1 most_machines shop.machines) (nat_eq (length shop.times) (shop.jobs * shop.machines)) (time_fault shop.times) e in
+    let tests = tests-none (is_in_range 1 most_jobs shop.jobs) (is_in_range 1 most_machines shop.machines) (nat_eq
+    (length shop.times) (shop.jobs * shop.machines)) (time_fault shop.times) e in
     let jobs = range-in most_jobs shop.jobs tests.0 in
     let machines = range-in most_machines shop.machines tests.1 in
     let count : nat_eq (length shop.times) (shop.jobs * shop.machines) ≡ true = tests.2 in
@@ -73,10 +81,15 @@ instance-fault-none-is shop e =
       times = times-within shop.times tests.3;
     }
 
-tests-pass : (p q r : Bool) (times : Option InstanceFault) → p ≡ true → q ≡ true → r ≡ true → times ≡ None → first_fault (fault_unless p Jobs ∷ fault_unless q Machines ∷ fault_unless r Count ∷ times ∷ []) ≡ None
+tests-pass : (p q r : Bool) (times : Option InstanceFault) → p ≡ true → q ≡ true → r ≡ true → times ≡ None →
+    first_fault (fault_unless p Jobs ∷ fault_unless q Machines ∷ fault_unless r Count ∷ times ∷ []) ≡ None
 tests-pass p q r times e f g h = rw (e, f, g, h) refl
 
-pub is-instance-fault-none : (shop : Shop) → IsWithinLimits shop → instance_fault shop.jobs shop.machines shop.times ≡ None
+pub is-instance-fault-none : (shop : Shop) → IsWithinLimits shop →
+    instance_fault shop.jobs shop.machines shop.times ≡ None
 is-instance-fault-none shop is =
-    tests-pass (is_in_range 1 most_jobs shop.jobs) (is_in_range 1 most_machines shop.machines) (nat_eq (length shop.times) (shop.jobs * shop.machines)) (time_fault shop.times)
-    (in-range most_jobs shop.jobs is.some_job is.jobs) (in-range most_machines shop.machines is.some_machine is.machines) (eq-eqb _ _ is.count) (within-times shop.times is.times)
+    tests-pass (is_in_range 1 most_jobs shop.jobs) (is_in_range 1 most_machines shop.machines) (nat_eq
+    (length shop.times) (shop.jobs * shop.machines)) (time_fault shop.times)
+    (in-range most_jobs shop.jobs is.some_job is.jobs)
+    (in-range most_machines shop.machines is.some_machine is.machines) (eq-eqb _ _ is.count)
+    (within-times shop.times is.times)

@@ -15,8 +15,10 @@ use Rattle.flow_core.specs.declared.text.fault.LineFault.TheVariants as line
 abbrev pub numbers_after : Option ℕ → List ℕ → List ℕ
 numbers_after None [] = []
 numbers_after (Some n) [] = n ∷ []
-numbers_after None (b ∷ bs) = cond (is_blank b) (numbers_after None bs) (numbers_after (Some (0 * 10 + digit_value b)) bs)
-numbers_after (Some n) (b ∷ bs) = cond (is_blank b) (n ∷ numbers_after None bs) (numbers_after (Some (n * 10 + digit_value b)) bs)
+numbers_after None (b ∷ bs) =
+    cond (is_blank b) (numbers_after None bs) (numbers_after (Some (0 * 10 + digit_value b)) bs)
+numbers_after (Some n) (b ∷ bs) =
+    cond (is_blank b) (n ∷ numbers_after None bs) (numbers_after (Some (n * 10 + digit_value b)) bs)
 
 -- the numbers of some parts
 abbrev values : List (List ℕ) → List ℕ
@@ -27,20 +29,23 @@ abbrev values_after : ℕ → List (List ℕ) → List ℕ
 values_after n [] = n ∷ []
 values_after n (part ∷ parts) = digits_value_after 10 n part ∷ values parts
 
-values-onto : (b : ℕ) (parts : List (List ℕ)) → values (onto_first b parts) ≡ values_after (0 * 10 + digit_value b) parts
+values-onto : (b : ℕ) (parts : List (List ℕ)) → values (onto_first b parts)
+    ≡ values_after (0 * 10 + digit_value b) parts
 values-onto b [] = refl
 values-onto b (part ∷ parts) =
     let some : nat_lt 0 (length (b ∷ part)) ≡ true = grind (arith, nat_tests) in
     let others = filter (λ word. nat_lt 0 (length word)) parts in
     ap (λ p. map (digits_value 10) (cond p ((b ∷ part) ∷ others) others)) some
 
-values_after-onto : (n b : ℕ) (parts : List (List ℕ)) → values_after n (onto_first b parts) ≡ values_after (n * 10 + digit_value b) parts
+values_after-onto : (n b : ℕ) (parts : List (List ℕ)) → values_after n (onto_first b parts)
+    ≡ values_after (n * 10 + digit_value b) parts
 values_after-onto n b [] = refl
 values_after-onto n b (part ∷ parts) = refl
 
 -- what the reader of bytes gives is what the parts give
 abbrev Agree : List ℕ → Type 0
-Agree l = ((n : ℕ) → numbers_after (Some n) l ≡ values_after n (slice_split is_blank l)) × (numbers_after None l ≡ values (slice_split is_blank l))
+Agree l = ((n : ℕ) → numbers_after (Some n) l ≡ values_after n (slice_split is_blank l))
+    × (numbers_after None l ≡ values (slice_split is_blank l))
 
 agree-more : (b : ℕ) (l : List ℕ) (p : Bool) → is_blank b ≡ p → Agree l → Agree (b ∷ l)
 agree-more b l true e more = (λ n. rw e (ap (λ x. n ∷ x) more.1), rw e more.1)
@@ -64,25 +69,32 @@ numbers_after-large n (b ∷ bs) h = go (digit_value b) (numbers_after-large (n 
     large : nat_le n greatest_number ≡ false
     large = grind (arith, nat_tests)
 
-    go : (d : ℕ) → (greatest_number < n * 10 + d → are_small (numbers_after (Some (n * 10 + d)) bs) ≡ false) → are_small (cond (is_blank b) (n ∷ numbers_after None bs) (numbers_after (Some (n * 10 + d)) bs)) ≡ false
+    go : (d : ℕ) → (greatest_number < n * 10 + d → are_small (numbers_after (Some (n * 10 + d)) bs) ≡ false) →
+        are_small (cond (is_blank b) (n ∷ numbers_after None bs) (numbers_after (Some (n * 10 + d)) bs)) ≡ false
     go d more = pick (is_blank b)
       where
-        pick : (p : Bool) → are_small (cond p (n ∷ numbers_after None bs) (numbers_after (Some (n * 10 + d)) bs)) ≡ false
+        pick : (p : Bool) → are_small (cond p (n ∷ numbers_after None bs) (numbers_after (Some (n * 10 + d)) bs))
+            ≡ false
         pick true = rw large refl
         pick false = more (omega arith)
 
 -- one byte on, in a line of which some numbers were read
-pub numbers-close : (read all line : List ℕ) (n i : ℕ) → i < length line → is_blank (get_or line i 0) ≡ true → read ++ numbers_after (Some n) (drop i line) ≡ all → (read ++ n ∷ []) ++ numbers_after None (drop (i + 1) line) ≡ all
+pub numbers-close : (read all line : List ℕ) (n i : ℕ) → i < length line → is_blank (get_or line i 0) ≡ true →
+    read ++ numbers_after (Some n) (drop i line) ≡ all → (read ++ n ∷ []) ++ numbers_after None (drop (i + 1) line)
+    ≡ all
 numbers-close read all line n i h b e =
     let step = at_drop_more (numbers_after (Some n)) line i 0 h in
     grind (arith, step, append_assoc)
 
-pub numbers-skip : (read all line : List ℕ) (i : ℕ) → i < length line → is_blank (get_or line i 0) ≡ true → read ++ numbers_after None (drop i line) ≡ all → read ++ numbers_after None (drop (i + 1) line) ≡ all
+pub numbers-skip : (read all line : List ℕ) (i : ℕ) → i < length line → is_blank (get_or line i 0) ≡ true →
+    read ++ numbers_after None (drop i line) ≡ all → read ++ numbers_after None (drop (i + 1) line) ≡ all
 numbers-skip read all line i h b e =
     let step = at_drop_more (numbers_after None) line i 0 h in
     grind (arith, step)
 
-pub numbers-digit : (read all line : List ℕ) (got : Option ℕ) (i : ℕ) → i < length line → is_blank (get_or line i 0) ≡ false → read ++ numbers_after got (drop i line) ≡ all → read ++ numbers_after (Some (unwrap_or got 0 * 10 + digit_value (get_or line i 0))) (drop (i + 1) line) ≡ all
+pub numbers-digit : (read all line : List ℕ) (got : Option ℕ) (i : ℕ) → i < length line →
+    is_blank (get_or line i 0) ≡ false → read ++ numbers_after got (drop i line) ≡ all →
+    read ++ numbers_after (Some (unwrap_or got 0 * 10 + digit_value (get_or line i 0))) (drop (i + 1) line) ≡ all
 numbers-digit read all line None i h b e =
     let step = at_drop_more (numbers_after None) line i 0 h in
     grind (arith, step)
@@ -90,16 +102,19 @@ numbers-digit read all line (Some n) i h b e =
     let step = at_drop_more (numbers_after (Some n)) line i 0 h in
     grind (arith, step)
 
-pub small-push : (read : List ℕ) (n : ℕ) → are_small read ≡ true → n ≤ greatest_number → are_small (read ++ n ∷ []) ≡ true
+pub small-push : (read : List ℕ) (n : ℕ) → are_small read ≡ true → n ≤ greatest_number →
+    are_small (read ++ n ∷ []) ≡ true
 small-push read n h k = grind (arith, nat_tests, list_all-append)
 
 -- a number that is too large makes the whole too large
-pub large-all : (read all line : List ℕ) (n i : ℕ) → greatest_number < n → read ++ numbers_after (Some n) (drop (i + 1) line) ≡ all → are_small all ≡ false
+pub large-all : (read all line : List ℕ) (n i : ℕ) → greatest_number < n →
+    read ++ numbers_after (Some n) (drop (i + 1) line) ≡ all → are_small all ≡ false
 large-all read all line n i h e =
     let large = numbers_after-large n (drop (i + 1) line) h in
     let both = list_all-append (λ m. nat_le m greatest_number) read (numbers_after (Some n) (drop (i + 1) line)) in
     grind (arith, large, both)
 
-pub line_numbers-large : (l : List ℕ) → is_plain l ≡ true → are_small (numbers_of l) ≡ false → line_numbers l ≡ Err line.Number
+pub line_numbers-large : (l : List ℕ) → is_plain l ≡ true → are_small (numbers_of l) ≡ false →
+    line_numbers l ≡ Err line.Number
 unfolding line_numbers
 line_numbers-large l p q = rw (p, q) refl

@@ -16,18 +16,22 @@ use Rattle.flow_core.proofs.TextFaultLemmas.{fault_of, text_fault-walk}
 abbrev answer_of : List ℕ → Result (List Block) TextFault
 answer_of bytes = walk start 0 (lines_of bytes)
 
-pub reads-of-answer : {X : Type 0} (view : X → List Block) (result : Result X TextFault) (bytes : List ℕ) → TextGives view result (answer_of bytes) → IfOk result (λ x. Reads bytes (view x))
+pub reads-of-answer : {X : Type 0} (view : X → List Block) (result : Result X TextFault) (bytes : List ℕ) →
+    TextGives view result (answer_of bytes) → IfOk result (λ x. Reads bytes (view x))
 reads-of-answer view (Ok x) bytes gives = Reads-walk bytes (view x) gives
 reads-of-answer view (Err fault) bytes gives = tt
 
-pub accepted-of-answer : {X : Type 0} (view : X → List Block) (result : Result X TextFault) (bytes : List ℕ) → TextGives view result (answer_of bytes) → OnOk result (text_fault bytes ≡ None)
+pub accepted-of-answer : {X : Type 0} (view : X → List Block) (result : Result X TextFault) (bytes : List ℕ) →
+    TextGives view result (answer_of bytes) → OnOk result (text_fault bytes ≡ None)
 accepted-of-answer view (Ok x) bytes gives = text_fault-walk bytes ∙ ap fault_of gives
 accepted-of-answer view (Err fault) bytes gives = tt
 
 refused : (fault : TextFault) (bytes : List ℕ) → answer_of bytes ≡ Err fault → text_fault bytes ≡ Some fault
 refused fault bytes e = text_fault-walk bytes ∙ ap fault_of e
 
-pub refused-of-answer : {X : Type 0} (view : X → List Block) (result : Result X TextFault) (bytes : List ℕ) → TextGives view result (answer_of bytes) → IfErr result (λ fault. fault ≢ text.Memory → text_fault bytes ≡ Some fault)
+pub refused-of-answer : {X : Type 0} (view : X → List Block) (result : Result X TextFault) (bytes : List ℕ) →
+    TextGives view result (answer_of bytes) →
+    IfErr result (λ fault. fault ≢ text.Memory → text_fault bytes ≡ Some fault)
 refused-of-answer view (Ok x) t gives = tt
 refused-of-answer view (Err text.Memory) t gives = λ other. absurd (other refl)
 refused-of-answer view (Err text.NoBlock) t gives = λ _. refused text.NoBlock t gives
@@ -41,7 +45,9 @@ refused-of-answer view (Err (text.Times n)) t gives = λ _. refused (text.Times 
 read : (fault : TextFault) (bytes : List ℕ) (blocks : List Block) → Reads bytes blocks → answer_of bytes ≡ Err fault → ⊥
 read fault bytes blocks reads e = let is : answer_of bytes ≡ Ok blocks = walk-Reads bytes blocks reads in cc
 
-pub only-of-answer : {X : Type 0} (view : X → List Block) (result : Result X TextFault) (bytes : List ℕ) → TextGives view result (answer_of bytes) → (blocks : List Block) → Reads bytes blocks → IfErr result (λ fault. fault ≡ text.Memory)
+pub only-of-answer : {X : Type 0} (view : X → List Block) (result : Result X TextFault) (bytes : List ℕ) →
+    TextGives view result (answer_of bytes) → (blocks : List Block) → Reads bytes blocks →
+    IfErr result (λ fault. fault ≡ text.Memory)
 only-of-answer view (Ok x) t gives blocks reads = tt
 only-of-answer view (Err text.Memory) t gives blocks reads = refl
 only-of-answer view (Err text.NoBlock) t gives blocks reads = absurd (read text.NoBlock t blocks reads gives)
@@ -56,13 +62,15 @@ only-of-answer view (Err (text.Times n)) t gives blocks reads = absurd (read (te
 pub none-reads : (bytes : List ℕ) → text_fault bytes ≡ None → (blocks : List Block) × Reads bytes blocks
 none-reads bytes e = go (answer_of bytes) refl
   where
-    go : (answer : Result (List Block) TextFault) → answer_of bytes ≡ answer → (blocks : List Block) × Reads bytes blocks
+    go : (answer : Result (List Block) TextFault) → answer_of bytes ≡ answer → (blocks : List Block)
+        × Reads bytes blocks
     go (Ok blocks) is = (blocks, Reads-walk bytes blocks is)
     go (Err fault) is = let bad : None ≡ Some fault = sym e ∙ refused fault bytes is in cc
 
 pub reads-none : (bytes : List ℕ) (blocks : List Block) → Reads bytes blocks → text_fault bytes ≡ None
 reads-none bytes blocks reads = text_fault-walk bytes ∙ ap fault_of (walk-Reads bytes blocks reads)
 
-pub reads-one : (bytes : List ℕ) (blocks others : List Block) → Reads bytes blocks → Reads bytes others → blocks ≡ others
+pub reads-one : (bytes : List ℕ) (blocks others : List Block) → Reads bytes blocks → Reads bytes others →
+    blocks ≡ others
 reads-one bytes blocks others reads more =
     let is : Ok blocks ≡ Ok others = sym (walk-Reads bytes blocks reads) ∙ walk-Reads bytes others more in cc

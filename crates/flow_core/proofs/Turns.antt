@@ -19,7 +19,8 @@ turned-length n m xs = length-map-range_with_len (λ place. slice_index xs (take
 pub turned-at : (n m place : ℕ) (xs : List ℕ) → place < n * m →
     slice_index (turned n m xs) place ≡ slice_index xs (taken_from n m place)
 turned-at n m place xs below =
-    get_or-map-range_with_len (λ place. slice_index xs (taken_from n m place)) 0 (n * m) place place 0 below (omega arith)
+    get_or-map-range_with_len (λ place. slice_index xs (taken_from n m place)) 0 (n * m) place place 0 below
+    (omega arith)
 
 column-below : (n m place : ℕ) → 0 < n → place < n * m → place / n < m
 column-below n m place some below = (div-lt_iff_lt-mul some).1 (subst (λ count. place < count) (mul_comm n m) below)
@@ -40,7 +41,8 @@ turned-twice n m xs some count =
     (λ place below.
     let here : place < n * m = subst (λ size. place < size) (turned-length n m (turned m n xs)) below in
     let column = column-below n m place some here in
-    let there : taken_from n m place < m * n = subst (λ size. taken_from n m place < size) (mul_comm n m) (taken-within n m place some here) in
+    let there : taken_from n m place < m * n =
+    subst (λ size. taken_from n m place < size) (mul_comm n m) (taken-within n m place some here) in
     let back : taken_from m n (taken_from n m place) ≡ place =
     ap (λ r. r * n + taken_from n m place / m) (mod-mul-add (place % n) m (place / n) column)
     ∙ ap (λ q. place / n * n + q) (div-mul-add (place % n) m (place / n) column)
@@ -56,13 +58,15 @@ row-time shop rows job machine is from to first last =
     let job_below : job - 1 < shop.jobs = omega arith in
     let lists : (machine - 1 + 1) * shop.jobs ≤ shop.machines * shop.jobs =
     mul-le-mul_right shop.jobs (let h : machine - 1 + 1 ≤ shop.machines = omega arith in h) in
-    let one : (machine - 1 + 1) * shop.jobs ≡ (machine - 1) * shop.jobs + 1 * shop.jobs = add-mul (machine - 1) 1 shop.jobs in
+    let one : (machine - 1 + 1) * shop.jobs ≡ (machine - 1) * shop.jobs + 1 * shop.jobs =
+    add-mul (machine - 1) 1 shop.jobs in
     let swapped : shop.jobs * shop.machines ≡ shop.machines * shop.jobs = mul_comm shop.jobs shop.machines in
     let below : place < shop.jobs * shop.machines = omega (arith, job_below, lists, one, swapped) in
     let from_row : taken_from shop.jobs shop.machines place ≡ (job - 1) * shop.machines + (machine - 1) =
     ap (λ r. r * shop.machines + place / shop.jobs) (mod-mul-add (machine - 1) shop.jobs (job - 1) job_below)
     ∙ ap (λ q. (job - 1) * shop.machines + q) (div-mul-add (machine - 1) shop.jobs (job - 1) job_below) in
-    sym (ap (λ times. slice_index times place) is ∙ turned-at shop.jobs shop.machines place rows below ∙ ap (slice_index rows) from_row)
+    sym (ap (λ times. slice_index times place) is ∙ turned-at shop.jobs shop.machines place rows below
+    ∙ ap (slice_index rows) from_row)
 
 -- a row's number stands within the rows
 pub row-within : (jobs machines job machine : ℕ) → 1 ≤ job → job ≤ jobs → 1 ≤ machine → machine ≤ machines →
@@ -88,7 +92,8 @@ turned-same n m xs ys some xs_count ys_count =
     both-ways (pointwise nat_eq xs ys) (pointwise nat_eq (turned n m xs) (turned n m ys))
     (λ same. (bytes_decides (turned n m xs) (turned n m ys)).1 (ap (turned n m) ((bytes_decides xs ys).0 same)))
     (λ same. (bytes_decides xs ys).1
-    (sym (back xs xs_count) ∙ ap (turned m n) ((bytes_decides (turned n m xs) (turned n m ys)).0 same) ∙ back ys ys_count))
+    (sym (back xs xs_count) ∙ ap (turned m n) ((bytes_decides (turned n m xs) (turned n m ys)).0 same)
+    ∙ back ys ys_count))
 
 both-true : (p q : Bool) → (p && q) ≡ true → (p ≡ true) × (q ≡ true)
 both-true true q h = (refl, h)

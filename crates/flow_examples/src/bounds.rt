@@ -133,12 +133,18 @@ fn rests_of_three_machines_are_the_worked_ones(rt: HostRuntime) -> Result<(), Fa
     let mut front = Front::empty();
     let all = Rest::of(&instance, &left);
     let row = sums_tails_and_bounds(alloc, &all, &front)?;
-    assert_eq!(rt; row.as_slice(), [(4, 3, 7), (10, 0, 10), (5, 0, 5)].as_slice());
+    assert_eq!(rt;
+        row.as_slice(),
+        [(4, 3, 7), (10, 0, 10), (5, 0, 5)].as_slice()
+    );
     left.remove(3);
     front_push(&instance, &mut front, 3);
     let rest = all.step(&instance, &left, 3);
     let row = sums_tails_and_bounds(alloc, &rest, &front)?;
-    assert_eq!(rt; row.as_slice(), [(4, 4, 8), (8, 0, 10), (4, 0, 7)].as_slice());
+    assert_eq!(rt;
+        row.as_slice(),
+        [(4, 4, 8), (8, 0, 10), (4, 0, 7)].as_slice()
+    );
     assert_eq!(rt; rest, Rest::of(&instance, &left));
     Ok(())
 }

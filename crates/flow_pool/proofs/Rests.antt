@@ -3,7 +3,8 @@ use Rattle.std.proofs.Common.{◌≡◌, ℕ, List, [], ◌∷◌, ◌++◌, len
 use Rattle.std.proofs.Math.Seq.{drop-append_seam}
 use Rattle.std.proofs.lemmas.List.{length-map}
 
-map_push-append : {X Z : Type 0} (f : X → Z) (xs : List X) (x : X) (rest : List Z) → map f (xs ++ x ∷ []) ++ rest ≡ map f xs ++ f x ∷ rest
+map_push-append : {X Z : Type 0} (f : X → Z) (xs : List X) (x : X) (rest : List Z) →
+    map f (xs ++ x ∷ []) ++ rest ≡ map f xs ++ f x ∷ rest
 map_push-append f [] x rest = refl
 map_push-append f (y ∷ xs) x rest = ap (λ l. f y ∷ l) (map_push-append f xs x rest)
 
@@ -23,4 +24,6 @@ pub rest-dropped : {X Z : Type 0} (f : X → Z) (before after : List Z) (ends cl
     → (rest : List Z) → before ≡ map f ends ++ rest → after ≡ map f cleared ++ rest
 rest-dropped f before after ends cleared first dropped all none rest e =
     let many : first ≡ length (map f ends) = all ∙ sym (length-map ends f) in
-    dropped ∙ (ap (λ n. drop n before) many ∙ (ap (drop (length (map f ends))) e ∙ (drop-append_seam (map f ends) rest ∙ ap (λ l. map f l ++ rest) (sym none))))
+    dropped ∙ (ap (λ n. drop n before) many
+    ∙ (ap (drop (length (map f ends))) e
+    ∙ (drop-append_seam (map f ends) rest ∙ ap (λ l. map f l ++ rest) (sym none))))

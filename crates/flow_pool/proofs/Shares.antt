@@ -11,14 +11,18 @@ use Rattle.flow_pool.proofs.Undeal.{filter-here, filter-other}
 abbrev times : ℕ → ℕ → ℕ → List ℕ → ℕ
 times k worker number xs = times_asked number (asking (filter (λ x. nat_eq (x % k) worker) xs) ++ End ∷ [])
 
-times-here : (k worker number a : ℕ) (xs : List ℕ) → a % k ≡ worker → times k worker number (a ∷ xs) ≡ cond (nat_eq a number) 1 0 + times k worker number xs
+times-here : (k worker number a : ℕ) (xs : List ℕ) → a % k ≡ worker →
+    times k worker number (a ∷ xs) ≡ cond (nat_eq a number) 1 0 + times k worker number xs
 times-here k worker number a xs e = ap (λ ys. times_asked number (asking ys ++ End ∷ [])) (filter-here k worker a xs e)
 
-times-other : (k worker number a : ℕ) (xs : List ℕ) → a % k ≢ worker → times k worker number (a ∷ xs) ≡ times k worker number xs
-times-other k worker number a xs e = ap (λ ys. times_asked number (asking ys ++ End ∷ [])) (filter-other k worker a xs e)
+times-other : (k worker number a : ℕ) (xs : List ℕ) → a % k ≢ worker →
+    times k worker number (a ∷ xs) ≡ times k worker number xs
+times-other k worker number a xs e =
+    ap (λ ys. times_asked number (asking ys ++ End ∷ [])) (filter-other k worker a xs e)
 
 -- a head that is another prefix changes nothing
-times-skip : (k worker number a : ℕ) (xs : List ℕ) → a ≢ number → times k worker number (a ∷ xs) ≡ times k worker number xs
+times-skip : (k worker number a : ℕ) (xs : List ℕ) → a ≢ number →
+    times k worker number (a ∷ xs) ≡ times k worker number xs
 times-skip k worker number a xs away =
     elim (eqb_tells (a % k) worker) [
       | inl e ↦ (let here = times-here k worker number a xs e.1 in grind (arith, nat_tests))
@@ -31,7 +35,8 @@ times-of_other k worker number a zero away = refl
 times-of_other k worker number a (suc n) away =
     let rest = times-of_other k worker number (a + 1) n away in
     elim (eqb_tells a number) [
-      | inl e ↦ times-other k worker number a (range_with_len (a + 1) n) (λ same. away (sym same ∙ ap (λ m. m % k) e.1)) ∙ rest
+      | inl e ↦ times-other k worker number a (range_with_len (a + 1) n) (λ same. away (sym same ∙ ap (λ m. m % k) e.1))
+          ∙ rest
       | inr e ↦ times-skip k worker number a (range_with_len (a + 1) n) e.1 ∙ rest
     ]
 
@@ -39,12 +44,14 @@ times-of_other k worker number a (suc n) away =
 times-below : (k worker number a n : ℕ) → number < a → times k worker number (range_with_len a n) ≡ 0
 times-below k worker number a zero l = refl
 times-below k worker number a (suc n) l =
-    times-skip k worker number a (range_with_len (a + 1) n) (λ e. absurd (omega arith)) ∙ times-below k worker number (a + 1) n (omega arith)
+    times-skip k worker number a (range_with_len (a + 1) n) (λ e. absurd (omega arith))
+    ∙ times-below k worker number (a + 1) n (omega arith)
 
 times-beyond : (k worker number a n : ℕ) → a + n ≤ number → times k worker number (range_with_len a n) ≡ 0
 times-beyond k worker number a zero l = refl
 times-beyond k worker number a (suc n) l =
-    times-skip k worker number a (range_with_len (a + 1) n) (λ e. absurd (omega arith)) ∙ times-beyond k worker number (a + 1) n (omega arith)
+    times-skip k worker number a (range_with_len (a + 1) n) (λ e. absurd (omega arith))
+    ∙ times-beyond k worker number (a + 1) n (omega arith)
 
 -- a prefix of the worker
 times-of_own : (k number a n : ℕ) → a ≤ number → number < a + n → times k (number % k) number (range_with_len a n) ≡ 1

@@ -29,24 +29,28 @@ use Rattle.flow_pool.proofs.Undeal.{same_from_dealt, All-from_dealt, length-deal
 use Rattle.flow_pool.proofs.Turns.{get_or-dealt}
 use Rattle.flow_pool.proofs.Settles.{ends_once-asking, asking-injective}
 
-pub by_lane-length : {X Y : Type 0} (f : X → Y) (g : ℕ → Y) (xs : List X) (k : ℕ) → map f xs ≡ by_lane k g → length xs ≡ k
+pub by_lane-length : {X Y : Type 0} (f : X → Y) (g : ℕ → Y) (xs : List X) (k : ℕ) → map f xs ≡ by_lane k g →
+    length xs ≡ k
 by_lane-length {X} {Y} f g xs k e =
     let both : length (map f xs) ≡ length (by_lane k g) = ap length e in
     let left : length (map f xs) ≡ length xs = rw length-map refl in
     omega (arith, length-map-range_with_len g 0 k)
 
 -- what is so of the lists is so of each element
-pub by_lane-at : {X Y : Type 0} (f : X → Y) (g : ℕ → Y) (xs : List X) (k : ℕ) → map f xs ≡ by_lane k g → (i : ℕ) (d : X) → i < length xs → f (get_or xs i d) ≡ g i
+pub by_lane-at : {X Y : Type 0} (f : X → Y) (g : ℕ → Y) (xs : List X) (k : ℕ) → map f xs ≡ by_lane k g →
+    (i : ℕ) (d : X) → i < length xs → f (get_or xs i d) ≡ g i
 by_lane-at {X} {Y} f g xs k e i d l =
     let long = by_lane-length f g xs k e in
-    sym (get_or-map f xs i d (f d) l) ∙ (ap (λ ys. get_or ys i (f d)) e ∙ get_or-map-range_with_len g 0 k i i (f d) (omega arith) (omega arith))
+    sym (get_or-map f xs i d (f d) l)
+    ∙ (ap (λ ys. get_or ys i (f d)) e ∙ get_or-map-range_with_len g 0 k i i (f d) (omega arith) (omega arith))
 
 some_item : {X : Type 0} (xs : List X) → 0 < length xs → X
 some_item [] l = absurd (omega arith)
 some_item (x ∷ xs) l = x
 
 -- and the other way round
-by_lane-from_at : {X Y : Type 0} (f : X → Y) (g : ℕ → Y) (xs : List X) (k : ℕ) (e : Y) → length xs ≡ k → ((i : ℕ) (d : X) → i < length xs → f (get_or xs i d) ≡ g i) → map f xs ≡ by_lane k g
+by_lane-from_at : {X Y : Type 0} (f : X → Y) (g : ℕ → Y) (xs : List X) (k : ℕ) (e : Y) → length xs ≡ k →
+    ((i : ℕ) (d : X) → i < length xs → f (get_or xs i d) ≡ g i) → map f xs ≡ by_lane k g
 by_lane-from_at {X} {Y} f g xs k e long at =
     let left : length (map f xs) ≡ length xs = rw length-map refl in
     fill_by_all g (map f xs) k e (left ∙ long) (λ i l.
@@ -55,18 +59,23 @@ by_lane-from_at {X} {Y} f g xs k e long at =
     get_or-map f xs i d e within ∙ at i d within)
 
 -- a worker's turns have as many answers as its share has prefixes
-length-dealt-share : (k n worker : ℕ) (answers : List Answer) → length answers ≡ n → length (dealt k worker answers) ≡ length (share k n worker)
+length-dealt-share : (k n worker : ℕ) (answers : List Answer) → length answers ≡ n →
+    length (dealt k worker answers) ≡ length (share k n worker)
 length-dealt-share k n worker answers long =
-    length-dealt_from k worker 0 answers (range_with_len 0 n) (long ∙ sym (length-range_with_len 0 n)) ∙ ap length (dealt_from-range k worker 0 n)
+    length-dealt_from k worker 0 answers (range_with_len 0 n) (long ∙ sym (length-range_with_len 0 n))
+    ∙ ap length (dealt_from-range k worker 0 n)
 
 -- the hub has sent each worker one end, and taken an answer for each prefix that it sent
-pub All-IsCollected : (plan : Planned) (before hubs : List HubEnds) (answers : List Answer) → HasCollected plan before hubs answers → All IsCollected hubs
+pub All-IsCollected : (plan : Planned) (before hubs : List HubEnds) (answers : List Answer) →
+    HasCollected plan before hubs answers → All IsCollected hubs
 All-IsCollected plan before hubs answers has i d l =
     let k = plan.options.workers in
     let n = prefix_count plan in
     let numbers = share k n i in
-    let sent : (get_or hubs i d).tasks.sent ≡ asking numbers ++ End ∷ [] = by_lane-at (λ (h : HubEnds). h.tasks.sent) (tasks_of k n) hubs k has.sent i d l in
-    let got : (get_or hubs i d).answers.received ≡ dealt k i answers = by_lane-at (λ (h : HubEnds). h.answers.received) (λ lane. dealt k lane answers) hubs k has.received i d l in
+    let sent : (get_or hubs i d).tasks.sent ≡ asking numbers ++ End ∷ [] =
+    by_lane-at (λ (h : HubEnds). h.tasks.sent) (tasks_of k n) hubs k has.sent i d l in
+    let got : (get_or hubs i d).answers.received ≡ dealt k i answers =
+    by_lane-at (λ (h : HubEnds). h.answers.received) (λ lane. dealt k lane answers) hubs k has.received i d l in
     let as_many : length (dealt k i answers) ≡ length numbers = length-dealt-share k n i answers has.count in
     let asked : length (asking numbers) ≡ length numbers = rw length-map refl in
     record {
@@ -77,12 +86,14 @@ All-IsCollected plan before hubs answers has i d l =
 -- each worker has answered just its share
 pub answered-by_lane : (plan : Planned) (before hubs : List HubEnds) (ends : List WorkerEnds) (answers : List Answer)
     → HasCollected plan before hubs answers → All (IsServed plan) ends → map worker_tasks ends ≡ sent_lists hubs
-    → map (λ e. answered (worker_answers e)) ends ≡ by_lane plan.options.workers (share plan.options.workers (prefix_count plan))
+    → map (λ e. answered (worker_answers e)) ends
+    ≡ by_lane plan.options.workers (share plan.options.workers (prefix_count plan))
 answered-by_lane plan before hubs ends answers has served same =
     let k = plan.options.workers in
     let n = prefix_count plan in
     let tasks : map worker_tasks ends ≡ by_lane k (tasks_of k n) = same ∙ has.sent in
-    by_lane-from_at (λ (e : WorkerEnds). answered (worker_answers e)) (share k n) ends k [] (by_lane-length worker_tasks (tasks_of k n) ends k tasks) (λ i d l.
+    by_lane-from_at (λ (e : WorkerEnds). answered (worker_answers e)) (share k n) ends k [] (by_lane-length worker_tasks
+    (tasks_of k n) ends k tasks) (λ i d l.
     let e = get_or ends i d in
     let both : asking (answered (worker_answers e)) ++ End ∷ [] ≡ asking (share k n i) ++ End ∷ [] =
     sym (served i d l).asked ∙ by_lane-at worker_tasks (tasks_of k n) ends k tasks i d l in
@@ -90,7 +101,8 @@ answered-by_lane plan before hubs ends answers has served same =
 
 -- item i of the answers has number i
 pub answered-in_order : (plan : Planned) (before hubs : List HubEnds) (ends : List WorkerEnds) (answers : List Answer)
-    → HasCollected plan before hubs answers → All (IsServed plan) ends → map worker_tasks ends ≡ sent_lists hubs → map worker_answers ends ≡ received_lists hubs → 0 < plan.options.workers
+    → HasCollected plan before hubs answers → All (IsServed plan) ends → map worker_tasks ends ≡ sent_lists hubs →
+    map worker_answers ends ≡ received_lists hubs → 0 < plan.options.workers
     → answered answers ≡ range_with_len 0 (prefix_count plan)
 answered-in_order plan before hubs ends answers has served same_tasks same_answers some =
     let k = plan.options.workers in
@@ -98,15 +110,18 @@ answered-in_order plan before hubs ends answers has served same_tasks same_answe
     let numbers = answered-by_lane plan before hubs ends answers has served same_tasks in
     let long = by_lane-length (λ (e : WorkerEnds). answered (worker_answers e)) (share k n) ends k numbers in
     let d = some_item ends (omega arith) in
-    same_from_dealt (λ (a : Answer). a.number) k 0 answers (range_with_len 0 n) some (has.count ∙ sym (length-range_with_len 0 n)) (λ lane l.
+    same_from_dealt (λ (a : Answer). a.number) k 0 answers (range_with_len 0 n) some (has.count
+    ∙ sym (length-range_with_len 0 n)) (λ lane l.
     let within : lane < length ends = omega arith in
-    ap answered (sym (by_lane-at worker_answers (λ lane'. dealt k lane' answers) ends k (same_answers ∙ has.received) lane d within))
+    ap answered (sym (by_lane-at worker_answers (λ lane'. dealt k lane' answers) ends k (same_answers
+    ∙ has.received) lane d within))
     ∙ (by_lane-at (λ (e : WorkerEnds). answered (worker_answers e)) (share k n) ends k numbers lane d within
     ∙ sym (dealt_from-range k lane 0 n)))
 
 -- each answer is lawful
 pub All-IsLawfulAnswer : (plan : Planned) (before hubs : List HubEnds) (ends : List WorkerEnds) (answers : List Answer)
-    → HasCollected plan before hubs answers → All (IsServed plan) ends → map worker_answers ends ≡ received_lists hubs → 0 < plan.options.workers
+    → HasCollected plan before hubs answers → All (IsServed plan) ends → map worker_answers ends ≡ received_lists hubs →
+    0 < plan.options.workers
     → All (IsLawfulAnswer plan) answers
 All-IsLawfulAnswer plan before hubs ends answers has served same some =
     let k = plan.options.workers in
@@ -115,13 +130,16 @@ All-IsLawfulAnswer plan before hubs ends answers has served same some =
     let d = some_item ends (omega arith) in
     All-from_dealt (IsLawfulAnswer plan) k 0 answers some (λ lane l.
     let within : lane < length ends = omega arith in
-    All-same (IsLawfulAnswer plan) _ _ (sym (by_lane-at worker_answers (λ lane'. dealt k lane' answers) ends k got lane d within)) (served lane d within).lawful)
+    All-same (IsLawfulAnswer plan) _ _ (sym (by_lane-at worker_answers
+    (λ lane'. dealt k lane' answers) ends k got lane d within)) (served lane d within).lawful)
 
 -- both, once all lanes are settled
-pub answers-of-run : (plan : Planned) (before hubs : List HubEnds) (ends : List WorkerEnds) (answers : List Answer) (lanes : List (Settled Task × Settled Answer))
+pub answers-of-run : (plan : Planned) (before hubs : List HubEnds) (ends : List WorkerEnds) (answers : List Answer)
+    (lanes : List (Settled Task × Settled Answer))
     → HasCollected plan before hubs answers → All (IsServed plan) ends
     → (map pair_tasks lanes ≡ sent_lists hubs) × (map pair_tasks lanes ≡ map worker_tasks ends)
-    → (map pair_answers lanes ≡ received_lists hubs) × (map pair_answers lanes ≡ map worker_answers ends) → 0 < plan.options.workers
+    → (map pair_answers lanes ≡ received_lists hubs) × (map pair_answers lanes ≡ map worker_answers ends) →
+    0 < plan.options.workers
     → (answered answers ≡ range_with_len 0 (prefix_count plan)) × All (IsLawfulAnswer plan) answers
 answers-of-run plan before hubs ends answers lanes has served tasks got some =
     let same_answers = sym got.1 ∙ got.0 in (
@@ -130,12 +148,15 @@ answers-of-run plan before hubs ends answers lanes has served tasks got some =
     )
 
 -- the number of an answer is its place
-number-at : (answers : List Answer) (n : ℕ) → answered answers ≡ range_with_len 0 n → length answers ≡ n → (i : ℕ) (d : Answer) → i < length answers → (get_or answers i d).number ≡ i
+number-at : (answers : List Answer) (n : ℕ) → answered answers ≡ range_with_len 0 n → length answers ≡ n →
+    (i : ℕ) (d : Answer) → i < length answers → (get_or answers i d).number ≡ i
 number-at answers n numbers long i d within =
-    sym (get_or-map (λ (b : Answer). b.number) answers i d 0 within) ∙ (ap (λ ns. get_or ns i 0) numbers ∙ (get_or-range_with_len 0 n i 0 (omega arith) ∙ zero-add i))
+    sym (get_or-map (λ (b : Answer). b.number) answers i d 0 within)
+    ∙ (ap (λ ns. get_or ns i 0) numbers ∙ (get_or-range_with_len 0 n i 0 (omega arith) ∙ zero-add i))
 
 -- outcome i is lawful for prefix i
-pub AreLawful-outcomes : (plan : Planned) (answers : List Answer) (outcomes : List Outcome) → length answers ≡ prefix_count plan → answered answers ≡ range_with_len 0 (prefix_count plan)
+pub AreLawful-outcomes : (plan : Planned) (answers : List Answer) (outcomes : List Outcome) →
+    length answers ≡ prefix_count plan → answered answers ≡ range_with_len 0 (prefix_count plan)
     → All (IsLawfulAnswer plan) answers → outcomes ≡ map (λ a. a.outcome) answers → AreLawful plan outcomes
 AreLawful-outcomes plan answers outcomes long numbers lawful same i d l =
     let n = prefix_count plan in
@@ -144,72 +165,96 @@ AreLawful-outcomes plan answers outcomes long numbers lawful same i d l =
     let da = some_item answers (omega arith) in
     let a = get_or answers i da in
     let number : a.number ≡ i = number-at answers n numbers long i da within in
-    let outcome : get_or outcomes i d ≡ a.outcome = ap (λ os. get_or os i d) same ∙ get_or-map (λ (b : Answer). b.outcome) answers i da d within in
+    let outcome : get_or outcomes i d ≡ a.outcome = ap (λ os. get_or os i d) same
+    ∙ get_or-map (λ (b : Answer). b.outcome) answers i da d within in
     let here : IsLawful plan a.number a.outcome = (lawful i da within).within (omega arith) in
     let P : ℕ → Type 0 = λ m. IsLawful plan m a.outcome in
     let Q : Outcome → Type 0 = λ o. IsLawful plan i o in
     subst Q (sym outcome) (subst P number here)
 
 -- each answer is done, and lawful
-pub All-IsDoneAnswer : (plan : Planned) (answers : List Answer) (outcomes : List Outcome) → length answers ≡ prefix_count plan → answered answers ≡ range_with_len 0 (prefix_count plan)
-    → All (IsLawfulAnswer plan) answers → outcomes ≡ map (λ a. a.outcome) answers → All IsDone outcomes → All (IsDoneAnswer plan) answers
+pub All-IsDoneAnswer : (plan : Planned) (answers : List Answer) (outcomes : List Outcome) →
+    length answers ≡ prefix_count plan → answered answers ≡ range_with_len 0 (prefix_count plan)
+    → All (IsLawfulAnswer plan) answers → outcomes ≡ map (λ a. a.outcome) answers → All IsDone outcomes →
+    All (IsDoneAnswer plan) answers
 All-IsDoneAnswer plan answers outcomes long numbers lawful same done i da within =
     let n = prefix_count plan in
     let as_many : length (map (λ (a : Answer). a.outcome) answers) ≡ length answers = rw length-map refl in
     let a = get_or answers i da in
     let number : a.number ≡ i = number-at answers n numbers long i da within in
-    let outcome : get_or outcomes i da.outcome ≡ a.outcome = ap (λ os. get_or os i da.outcome) same ∙ get_or-map (λ (b : Answer). b.outcome) answers i da da.outcome within in
+    let outcome : get_or outcomes i da.outcome ≡ a.outcome = ap (λ os. get_or os i da.outcome) same
+    ∙ get_or-map (λ (b : Answer). b.outcome) answers i da da.outcome within in
     record {
       lawful = (lawful i da within).within (omega arith);
       done = subst IsDone outcome (done i da.outcome (omega (arith, ap length same)));
     }
 
 -- the settled lanes of each worker hold its whole work
-pub AreWholeWork-from_parts : (plan : Planned) (before hubs : List HubEnds) (ends : List WorkerEnds) (answers : List Answer) (lanes : List (Settled Task × Settled Answer))
+pub AreWholeWork-from_parts : (plan : Planned) (before hubs : List HubEnds) (ends : List WorkerEnds)
+    (answers : List Answer) (lanes : List (Settled Task × Settled Answer))
     → HasCollected plan before hubs answers → All (IsServed plan) ends → All (IsDoneAnswer plan) answers
     → map pair_tasks lanes ≡ sent_lists hubs → map pair_tasks lanes ≡ map worker_tasks ends
     → map pair_answers lanes ≡ received_lists hubs → map pair_answers lanes ≡ map worker_answers ends
-    → map pair_lanes lanes ≡ map hub_lanes hubs → map hub_slots before ≡ by_lane plan.options.workers (λ lane. (run_slots, run_slots))
+    → map pair_lanes lanes ≡ map hub_lanes hubs → map hub_slots before
+    ≡ by_lane plan.options.workers (λ lane. (run_slots, run_slots))
     → AreWholeWork plan lanes
 AreWholeWork-from_parts plan before hubs ends answers lanes has served done t0 t1 a0 a1 c0 c1 =
     let k = plan.options.workers in
     let n = prefix_count plan in
     let tasks : map pair_tasks lanes ≡ by_lane k (tasks_of k n) = t0 ∙ has.sent in
     let numbers : map (λ (q : Settled Task × Settled Answer). answered (pair_answers q)) lanes ≡ by_lane k (share k n) =
-    sym (map-map answered pair_answers lanes) ∙ (ap (map answered) a1 ∙ (map-map answered worker_answers ends ∙ answered-by_lane plan before hubs ends answers has served (sym t1 ∙ t0))) in
+    sym (map-map answered pair_answers lanes)
+    ∙ (ap (map answered) a1
+    ∙ (map-map answered worker_answers ends
+    ∙ answered-by_lane plan before hubs ends answers has served (sym t1 ∙ t0))) in
     let got : map pair_answers lanes ≡ by_lane k (λ lane. dealt k lane answers) = a0 ∙ has.received in
     let slots_of : Lane × Lane → ℕ × ℕ = λ q. (q.0.capacity, q.1.capacity) in
-    let slots : map (λ (q : Settled Task × Settled Answer). slots_of (pair_lanes q)) lanes ≡ by_lane k (λ lane. (run_slots, run_slots)) =
-    sym (map-map slots_of pair_lanes lanes) ∙ (ap (map slots_of) (c0 ∙ has.lanes) ∙ (map-map slots_of hub_lanes before ∙ c1)) in
+    let slots : map (λ (q : Settled Task × Settled Answer). slots_of (pair_lanes q)) lanes
+    ≡ by_lane k (λ lane. (run_slots, run_slots)) =
+    sym (map-map slots_of pair_lanes lanes)
+    ∙ (ap (map slots_of) (c0 ∙ has.lanes) ∙ (map-map slots_of hub_lanes before ∙ c1)) in
     let count : length lanes ≡ k = by_lane-length pair_tasks (tasks_of k n) lanes k tasks in
     record {
       count = count;
       each = λ worker within d.
           let here : worker < length lanes = omega arith in
-          let both = by_lane-at (λ (q : Settled Task × Settled Answer). slots_of (pair_lanes q)) (λ lane. (run_slots, run_slots)) lanes k slots worker d here in
+          let both = by_lane-at (λ (q : Settled Task
+          × Settled Answer). slots_of (pair_lanes q)) (λ lane.
+          (run_slots, run_slots)) lanes k slots worker d here in
           record {
             tasks = by_lane-at pair_tasks (tasks_of k n) lanes k tasks worker d here;
-            numbers = by_lane-at (λ (q : Settled Task × Settled Answer). answered (pair_answers q)) (share k n) lanes k numbers worker d here;
-            answers = All-same (IsDoneAnswer plan) _ _ (by_lane-at pair_answers (λ lane. dealt k lane answers) lanes k got worker d here) (All-dealt_from (IsDoneAnswer plan) k worker 0 answers done);
+            numbers = by_lane-at (λ (q : Settled Task
+                × Settled Answer). answered (pair_answers q)) (share k n) lanes k numbers worker d here;
+            answers = All-same (IsDoneAnswer plan) _ _ (by_lane-at pair_answers
+                (λ lane. dealt k lane answers) lanes k got worker d here) (All-dealt_from
+                (IsDoneAnswer plan) k worker 0 answers done);
             slots = (ap (λ (s : ℕ × ℕ). s.0) both, ap (λ (s : ℕ × ℕ). s.1) both);
           };
     }
 
 -- as many answers came from each worker as it was sent prefixes
-pub answers-as_many : (plan : Planned) (before hubs : List HubEnds) (answers : List Answer) → HasCollected plan before hubs answers → (worker : ℕ) → worker < plan.options.workers
-    → HoldsAt (λ h. length h.answers.received ≡ length (share plan.options.workers (prefix_count plan) worker)) hubs worker
+pub answers-as_many : (plan : Planned) (before hubs : List HubEnds) (answers : List Answer) →
+    HasCollected plan before hubs answers → (worker : ℕ) → worker < plan.options.workers
+    → HoldsAt (λ h. length h.answers.received
+    ≡ length (share plan.options.workers (prefix_count plan) worker)) hubs worker
 answers-as_many plan before hubs answers has worker within h =
     let k = plan.options.workers in
-    let long = by_lane-length (λ (h' : HubEnds). h'.answers.received) (λ lane. dealt k lane answers) hubs k has.received in
-    ap length (by_lane-at (λ (h' : HubEnds). h'.answers.received) (λ lane. dealt k lane answers) hubs k has.received worker h (omega arith))
+    let long = by_lane-length (λ (h' : HubEnds). h'.answers.received)
+    (λ lane. dealt k lane answers) hubs k has.received in
+    ap length (by_lane-at (λ (h' : HubEnds). h'.answers.received)
+    (λ lane. dealt k lane answers) hubs k has.received worker h (omega arith))
     ∙ length-dealt-share k (prefix_count plan) worker answers has.count
 
 -- answer i is answer i / k of worker i % k
-pub answer-in_turn : (plan : Planned) (before hubs : List HubEnds) (answers : List Answer) → HasCollected plan before hubs answers → 0 < plan.options.workers → (i : ℕ) (d : Answer) → i < length answers
-    → HoldsAt (λ h. slice_index_or h.answers.received (i / plan.options.workers) d ≡ slice_index_or answers i d) hubs (i % plan.options.workers)
+pub answer-in_turn : (plan : Planned) (before hubs : List HubEnds) (answers : List Answer) →
+    HasCollected plan before hubs answers → 0 < plan.options.workers → (i : ℕ) (d : Answer) → i < length answers
+    → HoldsAt (λ h. slice_index_or h.answers.received (i / plan.options.workers) d
+    ≡ slice_index_or answers i d) hubs (i % plan.options.workers)
 answer-in_turn plan before hubs answers has some i d l h =
     let k = plan.options.workers in
-    let long = by_lane-length (λ (h' : HubEnds). h'.answers.received) (λ lane. dealt k lane answers) hubs k has.received in
+    let long = by_lane-length (λ (h' : HubEnds). h'.answers.received)
+    (λ lane. dealt k lane answers) hubs k has.received in
     let within : i % k < length hubs = (let m = mod-lt i some in omega arith) in
-    ap (λ xs. slice_index_or xs (i / k) d) (by_lane-at (λ (h' : HubEnds). h'.answers.received) (λ lane. dealt k lane answers) hubs k has.received (i % k) h within)
+    ap (λ xs. slice_index_or xs (i / k) d) (by_lane-at (λ (h' : HubEnds). h'.answers.received)
+    (λ lane. dealt k lane answers) hubs k has.received (i % k) h within)
     ∙ get_or-dealt k answers i d some l

@@ -20,12 +20,15 @@ use Rattle.flow_search.proofs.Taken.{left-sum, left-count, left-split, left-with
 use Rattle.flow_search.proofs.TwoLeast.{Without, without-one, least-below-cap}
 use Rattle.flow_search.proofs.RowSteps.{tail-small}
 
-pub frame-within : (shop : Shop) (node : List ℕ) (left : ℕ) (frame : Frame) → IsWithinLimits shop → IsFrame shop node left frame →
+pub frame-within : (shop : Shop) (node : List ℕ) (left : ℕ) (frame : Frame) → IsWithinLimits shop →
+    IsFrame shop node left frame →
     IsWithinFront shop frame.front
-frame-within shop node left frame limits is = front-within shop node frame.front limits (omega (arith, is.count)) is.times
+frame-within shop node left frame limits is =
+    front-within shop node frame.front limits (omega (arith, is.count)) is.times
 
 -- the completion time of a child
-pub child-completion : (shop : Shop) (node front : List ℕ) (job machine : ℕ) → machine ≤ shop.machines → IsFrontOf shop node front →
+pub child-completion : (shop : Shop) (node front : List ℕ) (job machine : ℕ) → machine ≤ shop.machines →
+    IsFrontOf shop node front →
     after shop (free_at front) job machine ≡ completion shop (node ++ job ∷ []) machine
 child-completion shop node front job machine to is =
     after-same shop job (free_at front) (completed shop (λ _. 0) node) machine
@@ -39,7 +42,8 @@ tails-append shop machine (u ∷ us) vs =
     ap (λ xs. time_between shop u (machine + 1) shop.machines ∷ xs) (tails-append shop machine us vs)
 
 -- what stands behind a machine at a child: the second least tail where its job has the least, else the least
-pub child-tail : (shop : Shop) (node : List ℕ) (left job machine tail behind : ℕ) (frame : Frame) → IsWithinLimits shop →
+pub child-tail : (shop : Shop) (node : List ℕ) (left job machine tail behind : ℕ) (frame : Frame) →
+    IsWithinLimits shop →
     IsFrame shop node (suc (suc left)) frame → IsChild shop.jobs node job → 1 ≤ machine → machine ≤ shop.machines →
     tail ≡ time_between shop job (machine + 1) shop.machines →
     Without tail (slice_index frame.rest.tails (machine - 1)) (slice_index frame.second (machine - 1)) behind →
@@ -50,21 +54,28 @@ child-tail shop node left job machine tail behind frame limits is kid from to is
     let us : List ℕ = left_under node job in
     let vs : List ℕ = left_from shop.jobs node (job + 1) in
     let whole : tails shop machine (jobs_left shop.jobs node) ≡ tails shop machine us ++ f job ∷ tails shop machine vs =
-    ap (tails shop machine) (left-split shop.jobs node job kid.from kid.to kid.fresh) ∙ tails-append shop machine us (job ∷ vs) in
-    let rest : tails shop machine (jobs_left shop.jobs (node ++ job ∷ [])) ≡ tails shop machine us ++ tails shop machine vs =
+    ap (tails shop machine) (left-split shop.jobs node job kid.from kid.to kid.fresh)
+    ∙ tails-append shop machine us (job ∷ vs) in
+    let rest : tails shop machine (jobs_left shop.jobs (node ++ job ∷ [])) ≡ tails shop machine us
+    ++ tails shop machine vs =
     ap (tails shop machine) (left-without shop.jobs node job kid.from kid.to) ∙ tails-append shop machine us vs in
     let one : Without (f job) (least_below unknown (tails shop machine us ++ f job ∷ tails shop machine vs))
     (second_below unknown unknown (tails shop machine us ++ f job ∷ tails shop machine vs))
     (least_below unknown (tails shop machine us ++ tails shop machine vs)) =
     without-one (f job) unknown unknown (tails shop machine us) (tails shop machine vs) (omega arith) in
-    let cap = least-below-cap unknown (most_machines * greatest_time) f (jobs_left shop.jobs node) (omega (arith, is.some))
-    (λ j. omega (arith, tail-small shop j (shop.machines - machine) machine limits (omega (arith, to)), most)) (omega arith) in
-    let least_is : slice_index frame.rest.tails (machine - 1) ≡ least_below unknown (tails shop machine us ++ f job ∷ tails shop machine vs) =
+    let cap = least-below-cap unknown (most_machines * greatest_time) f (jobs_left shop.jobs node) (omega
+    (arith, is.some))
+    (λ j. omega (arith, tail-small shop j (shop.machines - machine) machine limits (omega (arith, to)), most))
+    (omega arith) in
+    let least_is : slice_index frame.rest.tails (machine - 1)
+    ≡ least_below unknown (tails shop machine us ++ f job ∷ tails shop machine vs) =
     is.rest_is.tails_are machine from to ∙ sym cap.0 ∙ ap (least_below unknown) whole in
-    let second_is : slice_index frame.second (machine - 1) ≡ second_below unknown unknown (tails shop machine us ++ f job ∷ tails shop machine vs) =
+    let second_is : slice_index frame.second (machine - 1)
+    ≡ second_below unknown unknown (tails shop machine us ++ f job ∷ tails shop machine vs) =
     is.second_is machine from to ∙ ap (second_below unknown unknown) whole in
     same-without tail (f job) (slice_index frame.rest.tails (machine - 1))
-    (least_below unknown (tails shop machine us ++ f job ∷ tails shop machine vs)) (slice_index frame.second (machine - 1))
+    (least_below unknown (tails shop machine us ++ f job
+    ∷ tails shop machine vs)) (slice_index frame.second (machine - 1))
     (second_below unknown unknown (tails shop machine us ++ f job ∷ tails shop machine vs)) behind
     (least_below unknown (tails shop machine us ++ tails shop machine vs)) is_tail least_is second_is picked one
     ∙ sym (ap (least_below unknown) rest)
@@ -76,7 +87,8 @@ child-tail shop node left job machine tail behind frame limits is kid from to is
     ]
 
 -- the bound of a child with jobs left: when its job starts, the time owed at the node, and what stands behind
-pub child-bound : (shop : Shop) (node : List ℕ) (left job machine start t tail behind : ℕ) (frame : Frame) → IsWithinLimits shop →
+pub child-bound : (shop : Shop) (node : List ℕ) (left job machine start t tail behind : ℕ) (frame : Frame) →
+    IsWithinLimits shop →
     IsFrame shop node (suc (suc left)) frame → IsChild shop.jobs node job → 1 ≤ machine → machine ≤ shop.machines →
     start + t ≡ completion shop (node ++ job ∷ []) machine → t ≡ time shop job machine →
     tail ≡ time_between shop job (machine + 1) shop.machines →
@@ -90,8 +102,10 @@ child-bound shop node left job machine start t tail behind frame limits is kid f
     let count = left-count shop.jobs node job kid.from kid.to kid.fresh in
     let cap = least-below-cap unknown (most_machines * greatest_time) f (jobs_left shop.jobs (node ++ job ∷ []))
     (omega (arith, is.some, count))
-    (λ j. omega (arith, tail-small shop j (shop.machines - machine) machine limits (omega (arith, to)), most)) (omega arith) in
-    let front : completion shop (node ++ job ∷ []) machine ≡ slice_index (front_of shop (node ++ job ∷ [])) (machine - 1) =
+    (λ j. omega (arith, tail-small shop j (shop.machines - machine) machine limits (omega (arith, to)), most))
+    (omega arith) in
+    let front : completion shop (node ++ job ∷ []) machine
+    ≡ slice_index (front_of shop (node ++ job ∷ [])) (machine - 1) =
     sym (front_of-is shop (node ++ job ∷ []) machine from to) in
     let sum = left-sum (λ j. time shop j machine) shop.jobs node job kid.from kid.to kid.fresh in (
       omega (arith, is_free, front, is.rest_is.sums_are machine from to, sum, is_t, behind_is, cap.0),
@@ -110,7 +124,8 @@ filter-take p (suc n) low there =
     ∙ ap (λ t. filter p (numbers 1 n) ++ cond t (suc n ∷ []) []) there
     ∙ ap (λ m. filter p (numbers 1 m) ++ suc n ∷ []) b
 
-pub filter-leave : (p : ℕ → Bool) (job : ℕ) → 1 ≤ job → p job ≡ false → filter p (numbers 1 (job + 1 - 1)) ≡ filter p (numbers 1 (job - 1))
+pub filter-leave : (p : ℕ → Bool) (job : ℕ) → 1 ≤ job → p job ≡ false →
+    filter p (numbers 1 (job + 1 - 1)) ≡ filter p (numbers 1 (job - 1))
 filter-leave p zero low out = absurd (omega arith)
 filter-leave p (suc n) low out =
     let a : suc n + 1 - 1 ≡ suc n = omega arith in

@@ -35,17 +35,21 @@ left-size n jobs f =
     omega (arith, used, both, ones)
 
 -- pieces of one size
-pieces-size : (R : ℕ → Type 0) (g : ℕ → List (List ℕ)) (size : ℕ) (xs : List ℕ) → ((x : ℕ) → R x → length (g x) ≡ size) → AllByRecursion R xs → length (flat_map g xs) ≡ length xs * size
+pieces-size : (R : ℕ → Type 0) (g : ℕ → List (List ℕ)) (size : ℕ) (xs : List ℕ) →
+    ((x : ℕ) → R x → length (g x) ≡ size) → AllByRecursion R xs → length (flat_map g xs) ≡ length xs * size
 pieces-size R g size [] h r = omega arith
 pieces-size R g size (x ∷ xs) h r =
     let here : length (g x) ≡ size = h x r.0 in
-    let all : length (flat_map g (x ∷ xs)) ≡ length (g x) + length (flat_map g xs) = length-append (g x) (flat_map g xs) in
+    let all : length (flat_map g (x ∷ xs)) ≡ length (g x) + length (flat_map g xs) =
+    length-append (g x) (flat_map g xs) in
     omega (arith, here, all, pieces-size R g size xs h r.1)
 
-pub extensions-size : (n more : ℕ) (jobs : List ℕ) → Fresh n jobs → length (extensions n more jobs) ≡ falling (n - length jobs) more
+pub extensions-size : (n more : ℕ) (jobs : List ℕ) → Fresh n jobs →
+    length (extensions n more jobs) ≡ falling (n - length jobs) more
 extensions-size n zero jobs f = refl
 extensions-size n (suc more) jobs f =
-    pieces-size (IsLeft n jobs) (λ job. extensions n more (jobs ++ job ∷ [])) (falling (n - length jobs - 1) more) (jobs_left n jobs)
+    pieces-size (IsLeft n jobs) (λ job. extensions n more (jobs ++ job
+    ∷ [])) (falling (n - length jobs - 1) more) (jobs_left n jobs)
     (λ job l.
     let shorter : n - length (jobs ++ job ∷ []) ≡ n - length jobs - 1 = omega (arith, length-append jobs (job ∷ [])) in
     extensions-size n more (jobs ++ job ∷ []) (fresh-push n jobs job f l) ∙ ap (λ m. falling m more) shorter)
@@ -53,7 +57,8 @@ extensions-size n (suc more) jobs f =
     ∙ ap (λ c. c * falling (n - length jobs - 1) more) (left-size n jobs f)
 
 pub cut-size : (n depth : ℕ) → length (cut n depth) ≡ falling n depth
-cut-size n depth = let whole : n - 0 ≡ n = omega arith in extensions-size n depth [] (tt, tt) ∙ ap (λ m. falling m depth) whole
+cut-size n depth = let whole : n - 0 ≡ n = omega arith in extensions-size n depth [] (tt, tt)
+    ∙ ap (λ m. falling m depth) whole
 
 -- one more factor
 pub factor : (n depth used count : ℕ) → used < depth →
@@ -77,22 +82,27 @@ no-factor count m k e = ap (λ k. count * falling m k) e ∙ one count
 
 -- what the children of a list from a job on add
 abbrev pub added : ℕ → ℕ → List ℕ → ℕ → List (List ℕ)
-added n below list job = flat_map (λ k. extensions n below (list ++ k ∷ [])) (filter (λ k. not (has list k)) (numbers job n))
+added n below list job =
+    flat_map (λ k. extensions n below (list ++ k ∷ [])) (filter (λ k. not (has list k)) (numbers job n))
 
 pub added-first : (n more below : ℕ) (list : List ℕ) → more ≡ suc below → added n below list 1 ≡ extensions n more list
 added-first n more below list e = sym (ap (λ m. extensions n m list) e)
 
 pub added-none : (n below : ℕ) (list : List ℕ) → added n below list (n + 1) ≡ []
-added-none n below list = ap (λ xs. flat_map (λ k. extensions n below (list ++ k ∷ [])) (filter (λ k. not (has list k)) xs)) (numbers-none n)
+added-none n below list =
+    ap (λ xs. flat_map (λ k. extensions n below (list ++ k ∷ [])) (filter (λ k. not (has list k)) xs)) (numbers-none n)
 
-pub added-skip : (n below : ℕ) (list : List ℕ) (job : ℕ) → job ≤ n → has list job ≡ true → added n below list (job + 1) ≡ added n below list job
+pub added-skip : (n below : ℕ) (list : List ℕ) (job : ℕ) → job ≤ n → has list job ≡ true →
+    added n below list (job + 1) ≡ added n below list job
 added-skip n below list job high there =
-    ap (flat_map (λ k. extensions n below (list ++ k ∷ []))) (sym (filter-skip (λ k. not (has list k)) job n high (ap not there)))
+    ap (flat_map (λ k. extensions n below (list ++ k
+    ∷ []))) (sym (filter-skip (λ k. not (has list k)) job n high (ap not there)))
 
 pub added-here : (n below : ℕ) (list : List ℕ) (job : ℕ) → job ≤ n → has list job ≡ false →
     added n below list job ≡ extensions n below (list ++ job ∷ []) ++ added n below list (job + 1)
 added-here n below list job high free =
-    ap (flat_map (λ k. extensions n below (list ++ k ∷ []))) (filter-here (λ k. not (has list k)) job n high (ap not free))
+    ap (flat_map (λ k. extensions n below (list ++ k
+    ∷ []))) (filter-here (λ k. not (has list k)) job n high (ap not free))
 
 pub added-taken : (n below : ℕ) (list : List ℕ) (job : ℕ) (now next whole : List ℕ) → job ≤ n → has list job ≡ false →
     next ≡ now ++ concat (extensions n below (list ++ job ∷ [])) → now ++ concat (added n below list job) ≡ whole →
@@ -106,27 +116,32 @@ added-taken n below list job now next whole high free e w =
     ∙ ap (λ ls. now ++ concat ls) (sym (added-here n below list job high free))
     ∙ w
 
-pub added-done : (n below : ℕ) (list now whole : List ℕ) → now ++ concat (added n below list (n + 1)) ≡ whole → now ≡ whole
-added-done n below list now whole w = sym (append-nil now) ∙ ap (λ ls. now ++ concat ls) (sym (added-none n below list)) ∙ w
+pub added-done : (n below : ℕ) (list now whole : List ℕ) → now ++ concat (added n below list (n + 1)) ≡ whole →
+    now ≡ whole
+added-done n below list now whole w = sym (append-nil now) ∙ ap (λ ls. now ++ concat ls) (sym (added-none n below list))
+    ∙ w
 
 -- no job more
 pub itself : (n more : ℕ) (list old : List ℕ) → more ≡ 0 → old ++ concat (extensions n more list) ≡ old ++ list
 itself n more list old e = ap (λ m. old ++ concat (extensions n m list)) e ∙ ap (λ xs. old ++ xs) (append-nil list)
 
 -- lists of one length, one after another
-pub joined-size : (size : ℕ) (lists : List (List ℕ)) → AllByRecursion (λ l. length l ≡ size) lists → length (concat lists) ≡ length lists * size
+pub joined-size : (size : ℕ) (lists : List (List ℕ)) → AllByRecursion (λ l. length l ≡ size) lists →
+    length (concat lists) ≡ length lists * size
 joined-size size [] h = omega arith
 joined-size size (l ∷ ls) h =
     let here : length l ≡ size = h.0 in
     let all : length (concat (l ∷ ls)) ≡ length l + length (concat ls) = length-append l (concat ls) in
     omega (arith, here, all, joined-size size ls h.1)
 
-pub joined-at : (size : ℕ) (lists : List (List ℕ)) (i : ℕ) → AllByRecursion (λ l. length l ≡ size) lists → i < length lists →
+pub joined-at : (size : ℕ) (lists : List (List ℕ)) (i : ℕ) → AllByRecursion (λ l. length l ≡ size) lists →
+    i < length lists →
     take size (drop (i * size) (concat lists)) ≡ slice_index_or lists i []
 joined-at size [] i h low = absurd (omega arith)
 joined-at size (l ∷ ls) zero h low =
     let none : 0 * size ≡ 0 = omega arith in
-    ap (λ k. take size (drop k (l ++ concat ls))) none ∙ ap (λ k. take k (l ++ concat ls)) (sym h.0) ∙ first l (concat ls)
+    ap (λ k. take size (drop k (l ++ concat ls))) none ∙ ap (λ k. take k (l ++ concat ls)) (sym h.0)
+    ∙ first l (concat ls)
   where
     first : (xs ys : List ℕ) → take (length xs) (xs ++ ys) ≡ xs
     first [] ys = start ys
@@ -137,7 +152,8 @@ joined-at size (l ∷ ls) zero h low =
 joined-at size (l ∷ ls) (suc i) h low =
     let size_is : length l ≡ size = h.0 in
     let at : suc i * size ≡ length l + i * size = omega (arith, size_is) in
-    ap (λ k. take size (drop k (l ++ concat ls))) at ∙ ap (take size) (past l (concat ls) (i * size)) ∙ joined-at size ls i h.1 (omega arith)
+    ap (λ k. take size (drop k (l ++ concat ls))) at ∙ ap (take size) (past l (concat ls) (i * size))
+    ∙ joined-at size ls i h.1 (omega arith)
   where
     past : (xs ys : List ℕ) (k : ℕ) → drop (length xs + k) (xs ++ ys) ≡ drop k ys
     past [] ys k = let same : 0 + k ≡ k = omega arith in ap (λ m. drop m ys) same

@@ -23,7 +23,8 @@ use Rattle.flow_search.proofs.JobsTaken.{filter-has, left-here}
 has-at : (xs : List ℕ) (k : ℕ) → k < length xs → has xs (slice_index xs k) ≡ true
 has-at [] k low = absurd (omega (arith, low))
 has-at (x ∷ xs) zero low = or_left (nat_eq x x) (has xs x) (eq-eqb x x refl)
-has-at (x ∷ xs) (suc k) low = or_right (nat_eq (slice_index xs k) x) (has xs (slice_index xs k)) (has-at xs k (omega (arith, low)))
+has-at (x ∷ xs) (suc k) low =
+    or_right (nat_eq (slice_index xs k) x) (has xs (slice_index xs k)) (has-at xs k (omega (arith, low)))
 
 pub place-of : (xs : List ℕ) (job : ℕ) → has xs job ≡ true → (k : ℕ) × (k < length xs) × (slice_index xs k ≡ job)
 place-of [] job h = absurd (false≢true h)
@@ -47,7 +48,8 @@ pub increases-filter : (p : ℕ → Bool) (a n : ℕ) → Increases a (filter p 
 increases-filter p a zero = tt
 increases-filter p a (suc n) =
     let rest : Increases (a + 1) (filter p (range_with_len (a + 1) n)) = increases-filter p (a + 1) n in
-    elim (p a) as (λ b. Increases a (cond b (a ∷ filter p (range_with_len (a + 1) n)) (filter p (range_with_len (a + 1) n)))) [
+    elim (p a) as (λ b. Increases a (cond b (a ∷ filter p (range_with_len (a + 1) n)) (filter p (range_with_len (a
+    + 1) n)))) [
       | true ↦ (omega arith, rest)
       | false ↦ increases-weak a (a + 1) (filter p (range_with_len (a + 1) n)) (omega arith) rest
     ]
@@ -57,29 +59,38 @@ increases-from from [] k is low = absurd (omega (arith, low))
 increases-from from (x ∷ xs) zero is low = is.0
 increases-from from (x ∷ xs) (suc k) is low = omega (arith, is.0, increases-from (x + 1) xs k is.1 (omega (arith, low)))
 
-increases-order : (from : ℕ) (xs : List ℕ) (i j : ℕ) → Increases from xs → i < j → j < length xs → slice_index xs i < slice_index xs j
+increases-order : (from : ℕ) (xs : List ℕ) (i j : ℕ) → Increases from xs → i < j → j < length xs →
+    slice_index xs i < slice_index xs j
 increases-order from [] i j is less low = absurd (omega (arith, low))
 increases-order from (x ∷ xs) i zero is less low = absurd (omega (arith, less))
-increases-order from (x ∷ xs) zero (suc j) is less low = omega (arith, increases-from (x + 1) xs j is.1 (omega (arith, low)))
-increases-order from (x ∷ xs) (suc i) (suc j) is less low = increases-order (x + 1) xs i j is.1 (omega (arith, less)) (omega (arith, low))
+increases-order from (x ∷ xs) zero (suc j) is less low =
+    omega (arith, increases-from (x + 1) xs j is.1 (omega (arith, low)))
+increases-order from (x ∷ xs) (suc i) (suc j) is less low =
+    increases-order (x + 1) xs i j is.1 (omega (arith, less)) (omega (arith, low))
 
-left-at : (shop : Shop) (list front jobs : List ℕ) (lane : ℕ) → IsFew shop list front jobs → lane < length jobs → (1 ≤ slice_index jobs lane) × (slice_index jobs lane ≤ shop.jobs) × (has list (slice_index jobs lane) ≡ false)
+left-at : (shop : Shop) (list front jobs : List ℕ) (lane : ℕ) → IsFew shop list front jobs → lane < length jobs →
+    (1 ≤ slice_index jobs lane) × (slice_index jobs lane ≤ shop.jobs) × (has list (slice_index jobs lane) ≡ false)
 left-at shop list front jobs lane is low =
-    let there = filter-has (λ k. not (has list k)) shop.jobs (slice_index jobs lane) (ap (λ js. has js (slice_index jobs lane)) (sym is.left) ∙ has-at jobs lane low) in
+    let there = filter-has (λ k. not (has list k)) shop.jobs (slice_index jobs lane) (ap (λ js. has js
+    (slice_index jobs lane)) (sym is.left) ∙ has-at jobs lane low) in
     (there.1, there.2, not-true (has list (slice_index jobs lane)) there.0)
 
 pub jobs-of : (shop : Shop) (list front jobs : List ℕ) → IsFew shop list front jobs → AreJobsOf shop jobs
 jobs-of shop list front jobs is lane low = let there = left-at shop list front jobs lane is low in (there.0, there.1)
 
 -- the machines that are done
-pub record AreDone (shop : Shop) (front jobs : List ℕ) (rows : List LaneRow) (times sums : List ℕ) (machine : ℕ) : Type 0 where
-  pub each : (row : LaneRow) (k lane : ℕ) → machine < k → k ≤ shop.machines → lane < length jobs → IsRowOf shop (slice_index_or rows (k - 1) row) lane (slice_index jobs lane) k
-  pub small : (row : LaneRow) (k lane : ℕ) → machine < k → k ≤ shop.machines → lane < 8 → IsSmallRow (slice_index_or rows (k - 1) row) lane
+pub record AreDone (shop : Shop) (front jobs : List ℕ) (rows : List LaneRow) (times sums : List ℕ)
+    (machine : ℕ) : Type 0 where
+  pub each : (row : LaneRow) (k lane : ℕ) → machine < k → k ≤ shop.machines → lane < length jobs →
+      IsRowOf shop (slice_index_or rows (k - 1) row) lane (slice_index jobs lane) k
+  pub small : (row : LaneRow) (k lane : ℕ) → machine < k → k ≤ shop.machines → lane < 8 →
+      IsSmallRow (slice_index_or rows (k - 1) row) lane
   pub begins : (k : ℕ) → machine < k → k ≤ shop.machines → slice_index times (k - 1) ≡ slice_index front (k - 1)
   pub owes : (k : ℕ) → machine < k → k ≤ shop.machines → slice_index sums (k - 1) ≡ sum_by (λ job. time shop job k) jobs
 
 -- one more place of a list, from the back
-more : {A : Type 0} (P : ℕ → A → Type 0) (xs : List A) (other value : A) (machine most : ℕ) → 1 ≤ machine → machine - 1 < length xs → P machine value →
+more : {A : Type 0} (P : ℕ → A → Type 0) (xs : List A) (other value : A) (machine most : ℕ) → 1 ≤ machine →
+    machine - 1 < length xs → P machine value →
     ((k : ℕ) → machine < k → k ≤ most → P k (slice_index_or xs (k - 1) other)) →
     (k : ℕ) → machine - 1 < k → k ≤ most → P k (slice_index_or (set xs (machine - 1) value) (k - 1) other)
 more P xs other value machine most low within here done k above to = elim (cases_lt machine k) [
@@ -88,23 +99,35 @@ more P xs other value machine most low within here done k above to = elim (cases
       subst (P k) (sym (get_or-set_other xs (machine - 1) (k - 1) value other apart)) (done k later to)
   | inr last ↦
       let e : machine ≡ k = omega (arith, last, above) in
-      subst (λ i. P i (slice_index_or (set xs (machine - 1) value) (i - 1) other)) e (subst (P machine) (sym (get_or-set_same xs (machine - 1) value other within)) here)
+      subst (λ i. P i (slice_index_or (set xs (machine - 1) value) (i - 1) other)) e (subst (P machine) (sym
+      (get_or-set_same xs (machine - 1) value other within)) here)
 ]
 
-pub done-next : (shop : Shop) (front jobs : List ℕ) (rows : List LaneRow) (times sums : List ℕ) (machine : ℕ) (value : LaneRow) (free sum : ℕ) → AreDone shop front jobs rows times sums machine → 1 ≤ machine →
+pub done-next : (shop : Shop) (front jobs : List ℕ) (rows : List LaneRow) (times sums : List ℕ) (machine : ℕ)
+    (value : LaneRow) (free sum : ℕ) → AreDone shop front jobs rows times sums machine → 1 ≤ machine →
     machine - 1 < length rows → machine - 1 < length times → machine - 1 < length sums →
-    ((lane : ℕ) → lane < length jobs → IsRowOf shop value lane (slice_index jobs lane) machine) → ((lane : ℕ) → lane < 8 → IsSmallRow value lane) →
+    ((lane : ℕ) → lane < length jobs → IsRowOf shop value lane (slice_index jobs lane) machine) →
+    ((lane : ℕ) → lane < 8 → IsSmallRow value lane) →
     free ≡ slice_index front (machine - 1) → sum ≡ sum_by (λ job. time shop job machine) jobs →
-    AreDone shop front jobs (set rows (machine - 1) value) (set times (machine - 1) free) (set sums (machine - 1) sum) (machine - 1)
-done-next shop front jobs rows times sums machine value free sum is low in_rows in_times in_sums row small free_is sum_is = record {
-  each = λ other k lane above to within. more (λ i r. IsRowOf shop r lane (slice_index jobs lane) i) rows other value machine shop.machines low in_rows (row lane within) (λ i a b. is.each other i lane a b within) k above to;
-  small = λ other k lane above to within. more (λ i r. IsSmallRow r lane) rows other value machine shop.machines low in_rows (small lane within) (λ i a b. is.small other i lane a b within) k above to;
-  begins = more (λ i v. v ≡ slice_index front (i - 1)) times 0 free machine shop.machines low in_times free_is is.begins;
-  owes = more (λ i v. v ≡ sum_by (λ job. time shop job i) jobs) sums 0 sum machine shop.machines low in_sums sum_is is.owes;
-}
+    AreDone shop front jobs (set rows (machine - 1) value) (set times (machine - 1) free) (set sums (machine - 1) sum)
+    (machine - 1)
+done-next shop front jobs rows times sums machine value free sum is low in_rows in_times in_sums row small free_is
+    sum_is = record {
+      each = λ other k lane above to within. more (λ i r. IsRowOf shop r lane
+          (slice_index jobs lane) i) rows other value machine shop.machines low in_rows (row lane within)
+          (λ i a b. is.each other i lane a b within) k above to;
+      small = λ other k lane above to within. more
+          (λ i r. IsSmallRow r lane) rows other value machine shop.machines low in_rows (small lane within)
+          (λ i a b. is.small other i lane a b within) k above to;
+      begins = more (λ i v. v
+          ≡ slice_index front (i - 1)) times 0 free machine shop.machines low in_times free_is is.begins;
+      owes = more (λ i v. v
+          ≡ sum_by (λ job. time shop job i) jobs) sums 0 sum machine shop.machines low in_sums sum_is is.owes;
+    }
 
 -- the first machine apart
-pub time_between-first : (shop : Shop) (job a b : ℕ) → a ≤ b → time_between shop job a b ≡ time shop job a + time_between shop job (a + 1) b
+pub time_between-first : (shop : Shop) (job a b : ℕ) → a ≤ b →
+    time_between shop job a b ≡ time shop job a + time_between shop job (a + 1) b
 time_between-first shop job a b h =
     let n : b + 1 - a ≡ suc (b - a) = omega arith in
     let m : b - a ≡ b + 1 - (a + 1) = omega arith in
@@ -113,45 +136,76 @@ time_between-first shop job a b h =
     ∙ ap (λ k. time shop job a + sum_by (time shop job) (range_with_len (a + 1) k)) m
 
 -- once all machines and lanes are filled
-pub entered : (shop : Shop) (list front jobs : List ℕ) (group : Group) (frame : LaneFrame) (machine : ℕ) → IsFew shop list front jobs → machine ≡ 0 →
+pub entered : (shop : Shop) (list front jobs : List ℕ) (group : Group) (frame : LaneFrame) (machine : ℕ) →
+    IsFew shop list front jobs → machine ≡ 0 →
     AreDone shop front jobs group.rows frame.front frame.sum machine →
     ((lane : ℕ) → lane < length jobs → slice_index group.jobs lane ≡ slice_index jobs lane) →
-    ((lane : ℕ) → lane < 8 → lane < length jobs → slice_index frame.gone lane ≡ 0) → ((lane : ℕ) → lane < 8 → length jobs ≤ lane → slice_index frame.gone lane ≡ GONE) →
+    ((lane : ℕ) → lane < 8 → lane < length jobs → slice_index frame.gone lane ≡ 0) →
+    ((lane : ℕ) → lane < 8 → length jobs ≤ lane → slice_index frame.gone lane ≡ GONE) →
     IsFrameOf shop list group frame
 entered shop list front jobs group frame machine is e done lanes left gone =
-    let filled : (lane : ℕ) → IsLaneLeft frame lane → lane < length jobs = λ lane here. elim (cases_lt lane (length jobs)) [
+    let filled : (lane : ℕ) → IsLaneLeft frame lane → lane < length jobs =
+    λ lane here. elim (cases_lt lane (length jobs)) [
       | inl there ↦ there
       | inr past ↦ absurd (omega (arith, gone lane here.within past, here.left))
     ] in
-    let job : (lane : ℕ) → IsLaneLeft frame lane → slice_index group.jobs lane ≡ slice_index jobs lane = λ lane here. lanes lane (filled lane here) in
+    let job : (lane : ℕ) → IsLaneLeft frame lane → slice_index group.jobs lane ≡ slice_index jobs lane =
+    λ lane here. lanes lane (filled lane here) in
     record {
       count = omega (arith, is.count, ap length is.left);
       times = λ k from to. done.begins k (omega (arith, e, from)) to ∙ is.times k from to;
       owed = λ k from to. done.owes k (omega (arith, e, from)) to ∙ ap (sum_by (λ j. time shop j k)) is.left;
-      gone = λ lane within. elim (cases_lt lane (length jobs)) [ inl there ↦ inl (left lane within there) | inr past ↦ inr (gone lane within past) ];
+      gone = λ lane within. elim (cases_lt lane (length jobs)) [
+        | inl there ↦ inl
+            (left lane within there)
+        | inr past ↦ inr (gone lane within past)
+      ];
       small = λ row k lane from to within. done.small row k lane (omega (arith, e, from)) to within;
       from = λ lane here. omega (arith, job lane here, (left-at shop list front jobs lane is (filled lane here)).0);
       to = λ lane here. omega (arith, job lane here, (left-at shop list front jobs lane is (filled lane here)).1);
       fresh = λ lane here. ap (has list) (job lane here) ∙ (left-at shop list front jobs lane is (filled lane here)).2;
       rows = λ row lane k here from to.
-          subst (λ j. IsRowOf shop (slice_index_or group.rows (k - 1) row) lane j k) (sym (job lane here)) (done.each row k lane (omega (arith, e, from)) to (filled lane here));
+          subst (λ j. IsRowOf shop (slice_index_or group.rows (k - 1) row) lane j k) (sym (job lane here))
+          (done.each row k lane (omega (arith, e, from)) to (filled lane here));
       each = λ j low high fresh.
           let stands = place-of jobs j (ap (λ js. has js j) is.left ∙ left-here shop.jobs list j low high fresh) in
-          let within : stands.0 < 8 = omega (arith, stands.1, is.few) in
-          (stands.0, record { within = within; left = left stands.0 within stands.1 }, lanes stands.0 stands.1 ∙ stands.2);
+          let within : stands.0 < 8 = omega (arith, stands.1, is.few) in (
+            stands.0,
+            record { within = within; left = left stands.0 within stands.1 },
+            lanes stands.0 stands.1
+                ∙ stands.2,
+          );
       order = λ lane other here there less.
-          let whole : Increases 1 jobs = subst (Increases 1) (sym is.left) (increases-filter (λ k. not (has list k)) 1 (shop.jobs + 1 - 1)) in
-          omega (arith, job lane here, job other there, increases-order 1 jobs lane other whole less (filled other there));
+          let whole : Increases 1 jobs =
+          subst (Increases 1) (sym is.left) (increases-filter (λ k. not (has list k)) 1 (shop.jobs + 1 - 1)) in
+          omega (
+            arith,
+            job lane here,
+            job other there,
+            increases-order 1 jobs lane other whole less
+                (filled other there),
+          );
     }
 
 -- the jobs that pass a test, gathered in increasing order: one more, and none more
-pub gathered-more : (p : ℕ → Bool) (made : List ℕ) (count job n : ℕ) → length made ≡ 8 → count ≤ 8 → length (filter p (numbers 1 n)) ≤ 8 →
+pub gathered-more : (p : ℕ → Bool) (made : List ℕ) (count job n : ℕ) → length made ≡ 8 → count ≤ 8 →
+    length (filter p (numbers 1 n)) ≤ 8 →
     job ≤ n → p job ≡ true → take count made ++ filter p (numbers job n) ≡ filter p (numbers 1 n) →
     (count < 8) × (take (count + 1) (set made count job) ++ filter p (numbers (job + 1) n) ≡ filter p (numbers 1 n))
 gathered-more p made count job n size few all to pass so_far =
     let here : filter p (numbers job n) ≡ job ∷ filter p (numbers (job + 1) n) = filter-here p job n to pass in
     let room : count < 8 =
-    omega (arith, few, all, size, length-take count made, ap length so_far, length-append (take count made) (filter p (numbers job n)), ap length here) in (
+    omega (
+      arith,
+      few,
+      all,
+      size,
+      length-take count made,
+      ap length so_far,
+      length-append (take count made) (filter p
+          (numbers job n)),
+      ap length here,
+    ) in (
       room,
       ap (λ xs. xs ++ filter p (numbers (job + 1) n)) (take_more_set made count job (omega (arith, size, room)))
           ∙ append_assoc (take count made) (job ∷ []) (filter p (numbers (job + 1) n))
@@ -164,24 +218,30 @@ pub gathered-all : (p : ℕ → Bool) (made : List ℕ) (count job n : ℕ) → 
     take (length (filter p (numbers 1 n))) made ≡ filter p (numbers 1 n)
 gathered-all p made count job n end size few so_far =
     let none : filter p (numbers job n) ≡ [] = ap (λ k. filter p (numbers k n)) end ∙ ap (filter p) (numbers-none n) in
-    let all : take count made ≡ filter p (numbers 1 n) = sym (append-nil (take count made)) ∙ ap (λ xs. take count made ++ xs) (sym none) ∙ so_far in
-    let long : length (filter p (numbers 1 n)) ≡ count = omega (arith, ap length all, length-take count made, size, few) in
+    let all : take count made ≡ filter p (numbers 1 n) = sym (append-nil (take count made))
+    ∙ ap (λ xs. take count made ++ xs) (sym none) ∙ so_far in
+    let long : length (filter p (numbers 1 n)) ≡ count =
+    omega (arith, ap length all, length-take count made, size, few) in
     ap (λ k. take k made) long ∙ all
 
 -- how many jobs are left at a node
-pub count-is : (shop : Shop) (node front : List ℕ) (unscheduled : List Bool) (count : ℕ) → IsAt shop node front unscheduled count →
+pub count-is : (shop : Shop) (node front : List ℕ) (unscheduled : List Bool) (count : ℕ) →
+    IsAt shop node front unscheduled count →
     length (filter (contains unscheduled) (numbers 1 shop.jobs)) ≡ count
 count-is shop node front unscheduled count at =
     ap length (left-is shop node front unscheduled count at ∙ sym (members-are shop node front unscheduled count at))
     ∙ left-count shop node front unscheduled count at
 
 -- the jobs that were gathered at a node
-pub few-at : (shop : Shop) (node front : List ℕ) (unscheduled : List Bool) (count : ℕ) (made : List ℕ) → IsAt shop node front unscheduled count → count ≤ 8 →
-    take (length (filter (contains unscheduled) (numbers 1 shop.jobs))) made ≡ filter (contains unscheduled) (numbers 1 shop.jobs) →
+pub few-at : (shop : Shop) (node front : List ℕ) (unscheduled : List Bool) (count : ℕ) (made : List ℕ) →
+    IsAt shop node front unscheduled count → count ≤ 8 →
+    take (length (filter (contains unscheduled) (numbers 1 shop.jobs))) made
+    ≡ filter (contains unscheduled) (numbers 1 shop.jobs) →
     IsFew shop node front (take count made)
 few-at shop node front unscheduled count made at few is =
     let size = count-is shop node front unscheduled count at in
-    let all : take count made ≡ filter (contains unscheduled) (numbers 1 shop.jobs) = ap (λ k. take k made) (sym size) ∙ is in
+    let all : take count made ≡ filter (contains unscheduled) (numbers 1 shop.jobs) = ap (λ k. take k made) (sym size)
+    ∙ is in
     record {
       few = omega (arith, ap length all, size, few);
       left = all ∙ left-is shop node front unscheduled count at;

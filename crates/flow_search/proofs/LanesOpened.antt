@@ -15,9 +15,11 @@ use Rattle.flow_search.specs.internal.Lanes.{IsLaneLeft, IsFrameOf, IsOpened, jo
 use Rattle.flow_search.proofs.JobsTaken.{left-sum, left-count, has-other, has-more, has-same}
 
 -- a node that differs in the answers only
-at-same : (shop : Shop) (list : List ℕ) (group : Group) (a b : LaneFrame) → b.front ≡ a.front → b.sum ≡ a.sum → b.gone ≡ a.gone → IsFrameOf shop list group a → IsFrameOf shop list group b
+at-same : (shop : Shop) (list : List ℕ) (group : Group) (a b : LaneFrame) → b.front ≡ a.front → b.sum ≡ a.sum →
+    b.gone ≡ a.gone → IsFrameOf shop list group a → IsFrameOf shop list group b
 at-same shop list group a b front sum gone at =
-    let back : (lane : ℕ) → IsLaneLeft b lane → IsLaneLeft a lane = λ lane left. record { within = left.within; left = sym (ap (λ g. slice_index g lane) gone) ∙ left.left } in
+    let back : (lane : ℕ) → IsLaneLeft b lane → IsLaneLeft a lane =
+    λ lane left. record { within = left.within; left = sym (ap (λ g. slice_index g lane) gone) ∙ left.left } in
     record {
       count = at.count;
       times = λ machine from to. ap (λ f. slice_index f (machine - 1)) front ∙ at.times machine from to;
@@ -32,44 +34,69 @@ at-same shop list group a b front sum gone at =
       fresh = λ lane left. at.fresh lane (back lane left);
       rows = λ row lane machine left. at.rows row lane machine (back lane left);
       each = λ job low high fresh.
-          let stands = at.each job low high fresh in
-          (stands.0, record { within = stands.1.within; left = ap (λ g. slice_index g stands.0) gone ∙ stands.1.left }, stands.2);
+          let stands = at.each job low high fresh in (
+            stands.0,
+            record {
+              within = stands.1.within;
+              left = ap (λ g. slice_index g stands.0) gone
+                  ∙ stands.1.left;
+            },
+            stands.2,
+          );
       order = λ lane other here there. at.order lane other (back lane here) (back other there);
     }
 
-pub opened-same : (shop : Shop) (list : List ℕ) (group : Group) (a b : LaneFrame) → b.front ≡ a.front → b.sum ≡ a.sum → b.gone ≡ a.gone → IsFrameOf shop list group a →
-    ((place lane : ℕ) → IsLaneLeft a lane → place < shop.machines → slice_index (slice_index_or b.free place []) lane ≡ completion shop (child list group lane) (place + 1)) →
+pub opened-same : (shop : Shop) (list : List ℕ) (group : Group) (a b : LaneFrame) → b.front ≡ a.front → b.sum ≡ a.sum →
+    b.gone ≡ a.gone → IsFrameOf shop list group a →
+    ((place lane : ℕ) → IsLaneLeft a lane → place < shop.machines →
+    slice_index (slice_index_or b.free place []) lane ≡ completion shop (child list group lane) (place + 1)) →
     IsOpened shop list group b
 opened-same shop list group a b front sum gone at free = record {
   at = at-same shop list group a b front sum gone at;
-  free = λ place lane left. free place lane (record { within = left.within; left = sym (ap (λ g. slice_index g lane) gone) ∙ left.left });
+  free = λ place lane left. free place lane (record {
+    within = left.within;
+    left =
+        sym (ap (λ g. slice_index g lane) gone) ∙ left.left;
+  });
 }
 
 -- a job that is left fits into what is owed
-pub time-owed : (shop : Shop) (list : List ℕ) (group : Group) (frame : LaneFrame) (row : LaneRow) (lane place : ℕ) → IsFrameOf shop list group frame → IsLaneLeft frame lane → place < shop.machines →
-    slice_index frame.sum place ≡ slice_index (slice_index_or group.rows place row).time lane + sum_by (λ job. time shop job (place + 1)) (jobs_left shop.jobs (child list group lane))
+pub time-owed : (shop : Shop) (list : List ℕ) (group : Group) (frame : LaneFrame) (row : LaneRow) (lane place : ℕ) →
+    IsFrameOf shop list group frame → IsLaneLeft frame lane → place < shop.machines →
+    slice_index frame.sum place ≡ slice_index (slice_index_or group.rows place row).time lane
+    + sum_by (λ job. time shop job (place + 1)) (jobs_left shop.jobs (child list group lane))
 time-owed shop list group frame row lane place at here to =
     let e : place + 1 - 1 ≡ place = omega arith in
     let low : 1 ≤ place + 1 = omega arith in
     let high : place + 1 ≤ shop.machines = omega (arith, to) in
     let owed = sym (ap (slice_index frame.sum) e) ∙ at.owed (place + 1) low high in
-    let row_is : slice_index (slice_index_or group.rows place row).time lane ≡ time shop (job_of group lane) (place + 1) =
-    sym (ap (λ k. slice_index (slice_index_or group.rows k row).time lane) e) ∙ (at.rows row lane (place + 1) here low high).time in
-    let sum = left-sum (λ job. time shop job (place + 1)) shop.jobs list (job_of group lane) (at.from lane here) (at.to lane here) (at.fresh lane here) in
+    let row_is : slice_index (slice_index_or group.rows place row).time lane
+    ≡ time shop (job_of group lane) (place + 1) =
+    sym (ap (λ k. slice_index (slice_index_or group.rows k row).time lane) e)
+    ∙ (at.rows row lane (place + 1) here low high).time in
+    let sum = left-sum (λ job. time shop job (place
+    + 1)) shop.jobs list (job_of group lane) (at.from lane here) (at.to lane here) (at.fresh lane here) in
     omega (arith, owed, row_is, sum)
 
-pub child-at : (shop : Shop) (list : List ℕ) (group : Group) (parent made : LaneFrame) (row : LaneRow) (lane : ℕ) → IsOpened shop list group parent → IsLaneLeft parent lane →
-    ((place : ℕ) → place < shop.machines → slice_index made.front place ≡ slice_index (slice_index_or parent.free place []) lane) →
-    ((place : ℕ) → place < shop.machines → slice_index made.sum place ≡ slice_index parent.sum place - slice_index (slice_index_or group.rows place row).time lane) →
+pub child-at : (shop : Shop) (list : List ℕ) (group : Group) (parent made : LaneFrame) (row : LaneRow) (lane : ℕ) →
+    IsOpened shop list group parent → IsLaneLeft parent lane →
+    ((place : ℕ) → place < shop.machines → slice_index made.front place
+    ≡ slice_index (slice_index_or parent.free place []) lane) →
+    ((place : ℕ) → place < shop.machines → slice_index made.sum place
+    ≡ slice_index parent.sum place - slice_index (slice_index_or group.rows place row).time lane) →
     made.gone ≡ set parent.gone lane GONE → length parent.gone ≡ 8 →
     IsFrameOf shop (child list group lane) group made
 child-at shop list group parent made row lane is here front sum gone size =
     let at : IsFrameOf shop list group parent = is.at in
     let job : ℕ = job_of group lane in
-    let there : slice_index made.gone lane ≡ GONE = ap (λ g. slice_index g lane) gone ∙ get_or-set_same parent.gone lane GONE 0 (omega (arith, size, here.within)) in
-    let elsewhere : (k : ℕ) → k ≢ lane → slice_index made.gone k ≡ slice_index parent.gone k = λ k other. ap (λ g. slice_index g k) gone ∙ get_or-set_other parent.gone lane k GONE 0 other in
-    let apart : (k : ℕ) → IsLaneLeft made k → k ≢ lane = λ k left e. omega (arith, there, left.left, ap (slice_index made.gone) e) in
-    let back : (k : ℕ) → IsLaneLeft made k → IsLaneLeft parent k = λ k left. record { within = left.within; left = sym (elsewhere k (apart k left)) ∙ left.left } in
+    let there : slice_index made.gone lane ≡ GONE = ap (λ g. slice_index g lane) gone
+    ∙ get_or-set_same parent.gone lane GONE 0 (omega (arith, size, here.within)) in
+    let elsewhere : (k : ℕ) → k ≢ lane → slice_index made.gone k ≡ slice_index parent.gone k =
+    λ k other. ap (λ g. slice_index g k) gone ∙ get_or-set_other parent.gone lane k GONE 0 other in
+    let apart : (k : ℕ) → IsLaneLeft made k → k ≢ lane =
+    λ k left e. omega (arith, there, left.left, ap (slice_index made.gone) e) in
+    let back : (k : ℕ) → IsLaneLeft made k → IsLaneLeft parent k =
+    λ k left. record { within = left.within; left = sym (elsewhere k (apart k left)) ∙ left.left } in
     let differ : (k : ℕ) → IsLaneLeft made k → job_of group k ≢ job = λ k left e. elim (cases_order k lane) [
       | inl same ↦ apart k left same
       | inr two ↦ elim two [
@@ -78,21 +105,33 @@ child-at shop list group parent made row lane is here front sum gone size =
       ]
     ] in
     record {
-      count = omega (arith, at.count, length-append list (job ∷ []), left-count shop.jobs list job (at.from lane here) (at.to lane here) (at.fresh lane here));
+      count = omega (
+        arith,
+        at.count,
+        length-append list (job
+            ∷ []),
+        left-count shop.jobs list job (at.from lane here) (at.to lane here) (at.fresh lane here),
+      );
       times = λ machine from to.
           let e : machine - 1 + 1 ≡ machine = omega (arith, from) in
           let low : machine - 1 < shop.machines = omega (arith, from, to) in
-          front (machine - 1) low ∙ is.free (machine - 1) lane here low ∙ ap (completion shop (child list group lane)) e;
+          front (machine - 1) low ∙ is.free (machine - 1) lane here low
+          ∙ ap (completion shop (child list group lane)) e;
       owed = λ machine from to.
           let e : machine - 1 + 1 ≡ machine = omega (arith, from) in
           let low : machine - 1 < shop.machines = omega (arith, from, to) in
           let whole = time-owed shop list group parent row lane (machine - 1) at here low in
-          let same : sum_by (λ j. time shop j (machine - 1 + 1)) (jobs_left shop.jobs (child list group lane)) ≡ sum_by (λ j. time shop j machine) (jobs_left shop.jobs (child list group lane)) =
+          let same : sum_by (λ j. time shop j (machine - 1 + 1)) (jobs_left shop.jobs (child list group lane))
+          ≡ sum_by (λ j. time shop j machine) (jobs_left shop.jobs (child list group lane)) =
           ap (λ m. sum_by (λ j. time shop j m) (jobs_left shop.jobs (child list group lane))) e in
           omega (arith, sum (machine - 1) low, whole, same);
       gone = λ k low. elim (cases_eq k lane) [
         | inl same ↦ inr (ap (slice_index made.gone) same ∙ there)
-        | inr other ↦ elim (at.gone k low) [ inl none ↦ inl (elsewhere k other ∙ none) | inr was ↦ inr (elsewhere k other ∙ was) ]
+        | inr other ↦ elim (at.gone k low) [
+          | inl none ↦ inl (elsewhere k other
+              ∙ none)
+          | inr was ↦ inr (elsewhere k other ∙ was)
+        ]
       ];
       small = at.small;
       from = λ k left. at.from k (back k left);
@@ -100,9 +139,16 @@ child-at shop list group parent made row lane is here front sum gone size =
       fresh = λ k left. has-other list job (job_of group k) (differ k left) (at.fresh k (back k left));
       rows = λ r k machine left. at.rows r k machine (back k left);
       each = λ j low high fresh.
-          let before : has list j ≡ false = elim (bool_cases (has list j)) [ inl old ↦ absurd (false≢true (sym fresh ∙ has-more list job j old)) | inr none ↦ none ] in
+          let before : has list j ≡ false =
+          elim (bool_cases (has list j)) [
+            | inl old ↦ absurd (false≢true (sym fresh
+                ∙ has-more list job j old))
+            | inr none ↦ none
+          ] in
           let stands = at.each j low high before in
-          let other : stands.0 ≢ lane = λ e. false≢true (sym fresh ∙ ap (has (list ++ job ∷ [])) (sym stands.2 ∙ ap (job_of group) e) ∙ has-same list job) in
+          let other : stands.0 ≢ lane =
+          λ e. false≢true (sym fresh ∙ ap (has (list ++ job ∷ [])) (sym stands.2 ∙ ap (job_of group) e)
+          ∙ has-same list job) in
           (stands.0, record { within = stands.1.within; left = elsewhere stands.0 other ∙ stands.1.left }, stands.2);
       order = λ k other a b. at.order k other (back k a) (back other b);
     }

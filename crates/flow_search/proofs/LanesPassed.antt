@@ -22,7 +22,9 @@ use Rattle.flow_search.specs.internal.Lanes.{IsLaneLeft, IsFrameOf, IsLetter, Is
 use Rattle.flow_search.proofs.JobsTaken.{left-here, left-child, least-is, left-sum, has-other}
 
 -- the jobs of two lanes that are left differ
-lanes-differ : (shop : Shop) (list : List ℕ) (group : Group) (frame : LaneFrame) (lane other : ℕ) → IsFrameOf shop list group frame → IsLaneLeft frame lane → IsLaneLeft frame other → other ≢ lane → job_of group other ≢ job_of group lane
+lanes-differ : (shop : Shop) (list : List ℕ) (group : Group) (frame : LaneFrame) (lane other : ℕ) →
+    IsFrameOf shop list group frame → IsLaneLeft frame lane → IsLaneLeft frame other → other ≢ lane →
+    job_of group other ≢ job_of group lane
 lanes-differ shop list group frame lane other at here there differ e = elim (cases_order lane other) [
   | inl same ↦ differ (sym same)
   | inr apart ↦ elim apart [
@@ -32,25 +34,41 @@ lanes-differ shop list group frame lane other at here there differ e = elim (cas
 ]
 
 -- the least time behind a machine of the jobs that a child leaves
-behind-is : (shop : Shop) (list : List ℕ) (group : Group) (frame : LaneFrame) (row : LaneRow) (lane other machine value : ℕ) (tails : List ℕ) →
-    IsFrameOf shop list group frame → IsLaneLeft frame lane → IsLaneLeft frame other → other ≢ lane → 1 ≤ machine → machine ≤ shop.machines →
-    ((k : ℕ) → k < 8 → slice_index tails k ≡ max (slice_index (slice_index_or group.rows (machine - 1) row).tail k) (slice_index frame.gone k)) →
+behind-is : (shop : Shop) (list : List ℕ) (group : Group) (frame : LaneFrame) (row : LaneRow)
+    (lane other machine value : ℕ) (tails : List ℕ) →
+    IsFrameOf shop list group frame → IsLaneLeft frame lane → IsLaneLeft frame other → other ≢ lane → 1 ≤ machine →
+    machine ≤ shop.machines →
+    ((k : ℕ) → k < 8 → slice_index tails k
+    ≡ max (slice_index (slice_index_or group.rows (machine - 1) row).tail k) (slice_index frame.gone k)) →
     IsLeastOfOthers tails lane value →
-    value ≡ least (map (λ job. time_between shop job (machine + 1) shop.machines) (jobs_left shop.jobs (child list group lane)))
+    value ≡ least (map (λ job. time_between shop job (machine
+    + 1) shop.machines) (jobs_left shop.jobs (child list group lane)))
 behind-is shop list group frame row lane other machine value tails at here there differ from to made is =
     let f : ℕ → ℕ = λ job. time_between shop job (machine + 1) shop.machines in
     let tail-of : (k : ℕ) → IsLaneLeft frame k → slice_index tails k ≡ f (job_of group k) =
     λ k left. omega (arith, made k left.within, left.left, (at.rows row k machine left from to).tail) in
     let best : ℕ = is.one.0 in
-    let low : value < GONE = omega (arith, is.least other there.within differ, made other there.within, there.left, (at.small row machine other from to there.within).tail) in
+    let low : value < GONE =
+    omega (
+      arith,
+      is.least other there.within differ,
+      made other there.within,
+      there.left,
+      (at.small row machine other from to there.within).tail,
+    ) in
     let still : IsLaneLeft frame best = record {
       within = is.one.1;
-      left = elim (at.gone best is.one.1) [ inl none ↦ none | inr gone ↦ absurd (omega (arith, low, is.one.3, made best is.one.1, gone)) ];
+      left = elim (at.gone best is.one.1) [
+        | inl none ↦ none
+        | inr gone ↦ absurd (omega
+            (arith, low, is.one.3, made best is.one.1, gone))
+      ];
     } in
     let apart = lanes-differ shop list group frame lane best at here still is.one.2 in
     let left = left-here shop.jobs (child list group lane) (job_of group best) (at.from best still) (at.to best still)
     (has-other list (job_of group lane) (job_of group best) apart (at.fresh best still)) in
-    least-is f (jobs_left shop.jobs (child list group lane)) (job_of group best) value left (is.one.3 ∙ tail-of best still)
+    least-is f (jobs_left shop.jobs (child list group lane)) (job_of group best) value left (is.one.3
+    ∙ tail-of best still)
     (λ job h.
     let parts = left-child shop.jobs list (job_of group lane) job h in
     let stands = at.each job parts.0 parts.1 parts.2 in
@@ -59,37 +77,51 @@ behind-is shop list group frame row lane other machine value tails at here there
     omega (arith, is.least stands.0 stands.1.within elsewhere, tail-of stands.0 stands.1, same))
 
 -- when a child leaves a machine
-pub free-is : (shop : Shop) (list : List ℕ) (group : Group) (frame : LaneFrame) (row : LaneRow) (lane place free start : ℕ) →
+pub free-is : (shop : Shop) (list : List ℕ) (group : Group) (frame : LaneFrame) (row : LaneRow)
+    (lane place free start : ℕ) →
     IsFrameOf shop list group frame → IsLaneLeft frame lane → place < shop.machines →
     free ≡ completion shop (child list group lane) place → start ≡ max free (slice_index frame.front place) →
-    start + slice_index (slice_index_or group.rows place row).time lane ≡ completion shop (child list group lane) (place + 1)
+    start + slice_index (slice_index_or group.rows place row).time lane
+    ≡ completion shop (child list group lane) (place + 1)
 free-is shop list group frame row lane place free start at here to was is =
     let e : place + 1 - 1 ≡ place = omega arith in
-    let front : slice_index frame.front place ≡ completion shop list (place + 1) = sym (ap (slice_index frame.front) e) ∙ at.times (place + 1) (omega arith) (omega (arith, to)) in
-    let row_is : slice_index (slice_index_or group.rows place row).time lane ≡ time shop (job_of group lane) (place + 1) =
-    sym (ap (λ k. slice_index (slice_index_or group.rows k row).time lane) e) ∙ (at.rows row lane (place + 1) here (omega arith) (omega (arith, to))).time in
+    let front : slice_index frame.front place ≡ completion shop list (place + 1) = sym (ap (slice_index frame.front) e)
+    ∙ at.times (place + 1) (omega arith) (omega (arith, to)) in
+    let row_is : slice_index (slice_index_or group.rows place row).time lane
+    ≡ time shop (job_of group lane) (place + 1) =
+    sym (ap (λ k. slice_index (slice_index_or group.rows k row).time lane) e)
+    ∙ (at.rows row lane (place + 1) here (omega arith) (omega (arith, to))).time in
     omega (arith, completion-push shop list (job_of group lane) place, front, row_is, was, is)
 
 -- the bound of a child with jobs left
-pub bound-is : (shop : Shop) (list : List ℕ) (group : Group) (frame : LaneFrame) (row : LaneRow) (lane other place free start behind : ℕ) (tails : List ℕ) →
-    IsFrameOf shop list group frame → IsLaneLeft frame lane → IsLaneLeft frame other → other ≢ lane → place < shop.machines →
+pub bound-is : (shop : Shop) (list : List ℕ) (group : Group) (frame : LaneFrame) (row : LaneRow)
+    (lane other place free start behind : ℕ) (tails : List ℕ) →
+    IsFrameOf shop list group frame → IsLaneLeft frame lane → IsLaneLeft frame other → other ≢ lane →
+    place < shop.machines →
     free ≡ completion shop (child list group lane) place → start ≡ max free (slice_index frame.front place) →
-    ((k : ℕ) → k < 8 → slice_index tails k ≡ max (slice_index (slice_index_or group.rows place row).tail k) (slice_index frame.gone k)) →
+    ((k : ℕ) → k < 8 → slice_index tails k
+    ≡ max (slice_index (slice_index_or group.rows place row).tail k) (slice_index frame.gone k)) →
     IsLeastOfOthers tails lane behind →
     start + behind + slice_index frame.sum place ≡ bound_at shop (child list group lane) (place + 1)
-bound-is shop list group frame row lane other place free start behind tails at here there differ to was is made is_least =
+bound-is shop list group frame row lane other place free start behind tails at here there differ to was is made
+    is_least =
     let e : place + 1 - 1 ≡ place = omega arith in
     let low : 1 ≤ place + 1 = omega arith in
     let high : place + 1 ≤ shop.machines = omega (arith, to) in
     let leaves = free-is shop list group frame row lane place free start at here to was is in
-    let row_is : slice_index (slice_index_or group.rows place row).time lane ≡ time shop (job_of group lane) (place + 1) =
-    sym (ap (λ k. slice_index (slice_index_or group.rows k row).time lane) e) ∙ (at.rows row lane (place + 1) here low high).time in
+    let row_is : slice_index (slice_index_or group.rows place row).time lane
+    ≡ time shop (job_of group lane) (place + 1) =
+    sym (ap (λ k. slice_index (slice_index_or group.rows k row).time lane) e)
+    ∙ (at.rows row lane (place + 1) here low high).time in
     let front = front_of-is shop (child list group lane) (place + 1) low high in
     let owed : slice_index frame.sum place ≡ sum_by (λ job. time shop job (place + 1)) (jobs_left shop.jobs list) =
     sym (ap (slice_index frame.sum) e) ∙ at.owed (place + 1) low high in
-    let sum = left-sum (λ job. time shop job (place + 1)) shop.jobs list (job_of group lane) (at.from lane here) (at.to lane here) (at.fresh lane here) in
+    let sum = left-sum (λ job. time shop job (place
+    + 1)) shop.jobs list (job_of group lane) (at.from lane here) (at.to lane here) (at.fresh lane here) in
     let tail = behind-is shop list group frame row lane other (place + 1) behind tails at here there differ low high
-    (λ k within. made k within ∙ ap (λ i. max (slice_index (slice_index_or group.rows i row).tail k) (slice_index frame.gone k)) (sym e)) is_least in
+    (λ k within. made k within
+    ∙ ap (λ i. max (slice_index (slice_index_or group.rows i row).tail k) (slice_index frame.gone k))
+    (sym e)) is_least in
     omega (arith, leaves, row_is, front, owed, sum, tail)
 
 -- the state of a child's letter after some machines: still open, or cut before
@@ -99,12 +131,19 @@ pub record IsPassed (shop : Shop) (list : List ℕ) (limit machines letter flag 
 
 passed-none : (shop : Shop) (list : List ℕ) (limit : ℕ) → IsPassed shop list limit 0 0 1
 passed-none shop list limit = record {
-  is = record { within = omega arith; above = λ machine from to. absurd (omega (arith, from, to)); cut = λ h. absurd (omega (arith, h)) };
+  is = record {
+    within = omega arith;
+    above = λ machine from to. absurd (omega (arith, from, to));
+    cut =
+        λ h. absurd (omega (arith, h));
+  };
   state = inl (refl, refl);
 }
 
-pub passed-more : (shop : Shop) (list : List ℕ) (limit place letter flag next more : ℕ) → IsPassed shop list limit place letter flag →
-    (bound_at shop list (place + 1) < limit → next ≡ flag) → (limit ≤ bound_at shop list (place + 1) → next ≡ 0) → more ≡ letter + next →
+pub passed-more : (shop : Shop) (list : List ℕ) (limit place letter flag next more : ℕ) →
+    IsPassed shop list limit place letter flag →
+    (bound_at shop list (place + 1) < limit → next ≡ flag) → (limit ≤ bound_at shop list (place + 1) → next ≡ 0) →
+    more ≡ letter + next →
     IsPassed shop list limit (place + 1) more next
 passed-more shop list limit place letter flag next more was kept cut is = elim was.state [
   | inl still ↦ elim (cases_lt (bound_at shop list (place + 1)) limit) [
@@ -115,7 +154,8 @@ passed-more shop list limit place letter flag next more was kept cut is = elim w
           is = record {
             within = omega (arith, whole);
             above = λ machine from to. elim (cases_lt place machine) [
-              | inl last ↦ let e : machine ≡ place + 1 = omega (arith, last, to, whole) in subst (λ m. bound_at shop list m < limit) (sym e) under
+              | inl last ↦ let e : machine ≡ place + 1 = omega (arith, last, to, whole) in
+                  subst (λ m. bound_at shop list m < limit) (sym e) under
               | inr before ↦ was.is.above machine from (omega (arith, before, still.1))
             ];
             cut = λ h. absurd (omega (arith, h, whole));
@@ -135,7 +175,11 @@ passed-more shop list limit place letter flag next more was kept cut is = elim w
         }
   ]
   | inr closed ↦
-      let none : next ≡ 0 = elim (cases_lt (bound_at shop list (place + 1)) limit) [ inl under ↦ kept under ∙ closed.0 | inr over ↦ cut over ] in
+      let none : next ≡ 0 = elim (cases_lt (bound_at shop list (place + 1)) limit) [
+        | inl under ↦ kept under
+            ∙ closed.0
+        | inr over ↦ cut over
+      ] in
       let same : more ≡ letter = omega (arith, is, none) in
       record {
         is = record {
@@ -151,7 +195,8 @@ passed-more shop list limit place letter flag next more was kept cut is = elim w
 
 kept-small : (f : ℕ → ℕ) (p : ℕ → Bool) (most n : ℕ) → ((k : ℕ) → f k ≤ most) → kept f p n ≤ n * most
 kept-small f p most zero small = omega arith
-kept-small f p most (suc n) small = omega (arith, kept-more f p n, kept-small f p most n small, one (p (suc n)) (f (suc n)), small (suc n))
+kept-small f p most (suc n) small =
+    omega (arith, kept-more f p n, kept-small f p most n small, one (p (suc n)) (f (suc n)), small (suc n))
   where
     one : (b : Bool) (v : ℕ) → cond b v 0 ≤ v
     one true v = omega arith
@@ -163,12 +208,15 @@ pub sum-small : (shop : Shop) (list : List ℕ) (group : Group) (frame : LaneFra
 sum-small shop list group frame place limits at to =
     let e : place + 1 - 1 ≡ place = omega arith in
     let owed = sym (ap (slice_index frame.sum) e) ∙ at.owed (place + 1) (omega arith) (omega (arith, to)) in
-    let small = kept-small (λ job. time shop job (place + 1)) (λ job. not (has list job)) greatest_time shop.jobs (λ job. time-small shop job (place + 1) limits) in
+    let small = kept-small (λ job. time shop job (place
+    + 1)) (λ job. not (has list job)) greatest_time shop.jobs (λ job. time-small shop job (place + 1) limits) in
     omega (arith, owed, small, limits.jobs)
 
 -- a machine's time fits
-front-small : (shop : Shop) (list : List ℕ) (group : Group) (frame : LaneFrame) (place : ℕ) → IsWithinLimits shop → IsFrameOf shop list group frame → place < shop.machines → slice_index frame.front place ≤ greatest_completion
-front-small shop list group frame place limits at to = front-within shop list frame.front limits (omega (arith, at.count)) at.times place to
+front-small : (shop : Shop) (list : List ℕ) (group : Group) (frame : LaneFrame) (place : ℕ) → IsWithinLimits shop →
+    IsFrameOf shop list group frame → place < shop.machines → slice_index frame.front place ≤ greatest_completion
+front-small shop list group frame place limits at to =
+    front-within shop list frame.front limits (omega (arith, at.count)) at.times place to
 
 -- the child list begins at time 0
 pub free-none : (shop : Shop) (list : List ℕ) (job : ℕ) → 0 ≡ completion shop (list ++ job ∷ []) 0
@@ -179,23 +227,32 @@ all-same zero v lane h = absurd (omega (arith, h))
 all-same (suc n) v zero h = refl
 all-same (suc n) v (suc lane) h = all-same n v lane (omega (arith, h))
 
-pub passed-start : (shop : Shop) (list : List ℕ) (limit letter flag : ℕ) → letter ≡ 0 → flag ≡ 1 → IsPassed shop list limit 0 letter flag
+pub passed-start : (shop : Shop) (list : List ℕ) (limit letter flag : ℕ) → letter ≡ 0 → flag ≡ 1 →
+    IsPassed shop list limit 0 letter flag
 passed-start shop list limit letter flag none whole =
-    subst (λ a. IsPassed shop list limit 0 a flag) (sym none) (subst (λ b. IsPassed shop list limit 0 0 b) (sym whole) (passed-none shop list limit))
+    subst (λ a. IsPassed shop list limit 0 a flag) (sym none) (subst (λ b. IsPassed shop list limit 0 0 b) (sym whole)
+    (passed-none shop list limit))
 
-pub start-small : (shop : Shop) (list : List ℕ) (group : Group) (frame : LaneFrame) (place free start : ℕ) → IsWithinLimits shop → IsFrameOf shop list group frame → place < shop.machines →
-    free ≤ greatest_completion + place * greatest_time → start ≡ max free (slice_index frame.front place) → start ≤ greatest_completion + place * greatest_time
-start-small shop list group frame place free start limits at to small is = omega (arith, front-small shop list group frame place limits at to, small, is)
+pub start-small : (shop : Shop) (list : List ℕ) (group : Group) (frame : LaneFrame) (place free start : ℕ) →
+    IsWithinLimits shop → IsFrameOf shop list group frame → place < shop.machines →
+    free ≤ greatest_completion + place * greatest_time → start ≡ max free (slice_index frame.front place) →
+    start ≤ greatest_completion + place * greatest_time
+start-small shop list group frame place free start limits at to small is =
+    omega (arith, front-small shop list group frame place limits at to, small, is)
 
 -- a lane's row is small
-pub row-small : (shop : Shop) (list : List ℕ) (group : Group) (frame : LaneFrame) (row : LaneRow) (place lane : ℕ) → IsFrameOf shop list group frame → place < shop.machines → lane < 8 →
+pub row-small : (shop : Shop) (list : List ℕ) (group : Group) (frame : LaneFrame) (row : LaneRow) (place lane : ℕ) →
+    IsFrameOf shop list group frame → place < shop.machines → lane < 8 →
     IsSmallRow (slice_index_or group.rows place row) lane
 row-small shop list group frame row place lane at to within =
     let e : place + 1 - 1 ≡ place = omega arith in
-    subst (λ k. IsSmallRow (slice_index_or group.rows k row) lane) e (at.small row (place + 1) lane (omega arith) (omega (arith, to)) within)
+    subst (λ k. IsSmallRow (slice_index_or group.rows k row) lane) e (at.small row (place
+    + 1) lane (omega arith) (omega (arith, to)) within)
 
-pub behind-small : (shop : Shop) (list : List ℕ) (group : Group) (frame : LaneFrame) (row : LaneRow) (place lane value : ℕ) (tails : List ℕ) → IsFrameOf shop list group frame → place < shop.machines →
-    ((k : ℕ) → k < 8 → slice_index tails k ≡ max (slice_index (slice_index_or group.rows place row).tail k) (slice_index frame.gone k)) →
+pub behind-small : (shop : Shop) (list : List ℕ) (group : Group) (frame : LaneFrame) (row : LaneRow)
+    (place lane value : ℕ) (tails : List ℕ) → IsFrameOf shop list group frame → place < shop.machines →
+    ((k : ℕ) → k < 8 → slice_index tails k
+    ≡ max (slice_index (slice_index_or group.rows place row).tail k) (slice_index frame.gone k)) →
     IsLeastOfOthers tails lane value → value ≤ GONE
 behind-small shop list group frame row place lane value tails at to made is =
     let small = (row-small shop list group frame row place is.one.0 at to is.one.1).tail in
@@ -205,7 +262,8 @@ behind-small shop list group frame row place lane value tails at to made is =
     ]
 
 -- one more place of a list of lists
-pub done-more : (P : ℕ → List ℕ → Type 0) (lists : List (List ℕ)) (place : ℕ) (value : List ℕ) → place < length lists → P place value → ((k : ℕ) → k < place → P k (slice_index_or lists k [])) →
+pub done-more : (P : ℕ → List ℕ → Type 0) (lists : List (List ℕ)) (place : ℕ) (value : List ℕ) → place < length lists →
+    P place value → ((k : ℕ) → k < place → P k (slice_index_or lists k [])) →
     (k : ℕ) → k < place + 1 → P k (slice_index_or (set lists place value) k [])
 done-more P lists place value within here done k low = elim (cases_lt k place) [
   | inl earlier ↦
@@ -213,5 +271,6 @@ done-more P lists place value within here done k low = elim (cases_lt k place) [
       subst (P k) (sym (get_or-set_other lists place k value [] other)) (done k earlier)
   | inr last ↦
       let e : place ≡ k = omega (arith, last, low) in
-      subst (λ i. P i (slice_index_or (set lists place value) i [])) e (subst (P place) (sym (get_or-set_same lists place value [] within)) here)
+      subst (λ i. P i (slice_index_or (set lists place value) i [])) e (subst (P place) (sym
+      (get_or-set_same lists place value [] within)) here)
 ]

@@ -34,73 +34,95 @@ pub find-here : (p : ℕ → Bool) (k n : ℕ) → k ≤ n → p k ≡ true → 
 find-here p k n h pass = ap (find p) (numbers-next k n h) ∙ cond-true (p k) (Some k) (find p (numbers (k + 1) n)) pass
 
 pub find-skip : (p : ℕ → Bool) (k n : ℕ) → k ≤ n → p k ≡ false → find p (numbers (k + 1) n) ≡ find p (numbers k n)
-find-skip p k n h fail = sym (ap (find p) (numbers-next k n h) ∙ cond-false (p k) (Some k) (find p (numbers (k + 1) n)) fail)
+find-skip p k n h fail = sym (ap (find p) (numbers-next k n h)
+    ∙ cond-false (p k) (Some k) (find p (numbers (k + 1) n)) fail)
 
 pub find-past : (p : ℕ → Bool) (k n : ℕ) → n < k → None ≡ find p (numbers k n)
 find-past p k n h = let e : 0 ≡ n + 1 - k = omega arith in ap (λ len. find p (range_with_len k len)) e
 
-pub filter-here : (p : ℕ → Bool) (k n : ℕ) → k ≤ n → p k ≡ true → filter p (numbers k n) ≡ k ∷ filter p (numbers (k + 1) n)
-filter-here p k n h pass = ap (filter p) (numbers-next k n h) ∙ cond-true (p k) (k ∷ filter p (numbers (k + 1) n)) (filter p (numbers (k + 1) n)) pass
+pub filter-here : (p : ℕ → Bool) (k n : ℕ) → k ≤ n → p k ≡ true →
+    filter p (numbers k n) ≡ k ∷ filter p (numbers (k + 1) n)
+filter-here p k n h pass = ap (filter p) (numbers-next k n h)
+    ∙ cond-true (p k) (k ∷ filter p (numbers (k + 1) n)) (filter p (numbers (k + 1) n)) pass
 
 pub filter-skip : (p : ℕ → Bool) (k n : ℕ) → k ≤ n → p k ≡ false → filter p (numbers k n) ≡ filter p (numbers (k + 1) n)
-filter-skip p k n h fail = ap (filter p) (numbers-next k n h) ∙ cond-false (p k) (k ∷ filter p (numbers (k + 1) n)) (filter p (numbers (k + 1) n)) fail
+filter-skip p k n h fail = ap (filter p) (numbers-next k n h)
+    ∙ cond-false (p k) (k ∷ filter p (numbers (k + 1) n)) (filter p (numbers (k + 1) n)) fail
 
-find-same : (p q : ℕ → Bool) (a n : ℕ) → ((k : ℕ) → a ≤ k → k < a + n → p k ≡ q k) → find p (range_with_len a n) ≡ find q (range_with_len a n)
+find-same : (p q : ℕ → Bool) (a n : ℕ) → ((k : ℕ) → a ≤ k → k < a + n → p k ≡ q k) →
+    find p (range_with_len a n) ≡ find q (range_with_len a n)
 find-same p q a zero h = refl
 find-same p q a (suc n) h =
     ap (λ b. cond b (Some a) (find p (range_with_len (a + 1) n))) (h a (omega arith) (omega arith))
     ∙ ap (cond (q a) (Some a)) (find-same p q (a + 1) n (λ k low high. h k (omega arith) (omega arith)))
 
 -- the jobs of the set, in the numbers of the shop
-pub left-is : (shop : Shop) (node front : List ℕ) (unscheduled : List Bool) (count : ℕ) → IsAt shop node front unscheduled count →
+pub left-is : (shop : Shop) (node front : List ℕ) (unscheduled : List Bool) (count : ℕ) →
+    IsAt shop node front unscheduled count →
     filter (contains unscheduled) (numbers 1 shop.jobs) ≡ jobs_left shop.jobs node
-left-is shop node front unscheduled count at = filter-same (contains unscheduled) (λ job. not (has node job)) shop.jobs at.left
+left-is shop node front unscheduled count at =
+    filter-same (contains unscheduled) (λ job. not (has node job)) shop.jobs at.left
 
-pub members-are : (shop : Shop) (node front : List ℕ) (unscheduled : List Bool) (count : ℕ) → IsAt shop node front unscheduled count →
+pub members-are : (shop : Shop) (node front : List ℕ) (unscheduled : List Bool) (count : ℕ) →
+    IsAt shop node front unscheduled count →
     members unscheduled ≡ jobs_left shop.jobs node
-members-are shop node front unscheduled count at = members-is unscheduled shop.jobs at.none ∙ left-is shop node front unscheduled count at
+members-are shop node front unscheduled count at = members-is unscheduled shop.jobs at.none
+    ∙ left-is shop node front unscheduled count at
 
 pub kept-both : (p : ℕ → Bool) (n : ℕ) → kept (λ _. 1) p n + kept (λ _. 1) (λ k. not (p k)) n ≡ n
 kept-both p zero = refl
-kept-both p (suc n) = omega (arith, kept-more (λ _. 1) p n, kept-more (λ _. 1) (λ k. not (p k)) n, kept-both p n, one (p (suc n)))
+kept-both p (suc n) =
+    omega (arith, kept-more (λ _. 1) p n, kept-more (λ _. 1) (λ k. not (p k)) n, kept-both p n, one (p (suc n)))
   where
     one : (b : Bool) → cond {A = ℕ} b 1 0 + cond {A = ℕ} (not b) 1 0 ≡ 1
     one true = refl
     one false = refl
 
 -- how many are left
-pub left-count : (shop : Shop) (node front : List ℕ) (unscheduled : List Bool) (count : ℕ) → IsAt shop node front unscheduled count →
+pub left-count : (shop : Shop) (node front : List ℕ) (unscheduled : List Bool) (count : ℕ) →
+    IsAt shop node front unscheduled count →
     length (members unscheduled) ≡ count
 left-count shop node front unscheduled count at =
     let range = recursion_from_All (λ job. (1 ≤ job) × (job ≤ shop.jobs)) node at.jobs.range in
-    let used : kept (λ _. 1) (has node) shop.jobs ≡ length node = kept-has (λ _. 1) shop.jobs node range at.jobs.distinct ∙ sum_by-ones node in
+    let used : kept (λ _. 1) (has node) shop.jobs ≡ length node =
+    kept-has (λ _. 1) shop.jobs node range at.jobs.distinct ∙ sum_by-ones node in
     let both = kept-both (has node) shop.jobs in
-    let ones : kept (λ _. 1) (λ k. not (has node k)) shop.jobs ≡ length (jobs_left shop.jobs node) = sum_by-ones (jobs_left shop.jobs node) in
-    let size : length (members unscheduled) ≡ length (jobs_left shop.jobs node) = ap length (members-are shop node front unscheduled count at) in
+    let ones : kept (λ _. 1) (λ k. not (has node k)) shop.jobs ≡ length (jobs_left shop.jobs node) =
+    sum_by-ones (jobs_left shop.jobs node) in
+    let size : length (members unscheduled) ≡ length (jobs_left shop.jobs node) =
+    ap length (members-are shop node front unscheduled count at) in
     let whole : length node + count ≡ shop.jobs = at.whole in
     omega (arith, used, both, ones, size, whole)
 
-pub within-front : (shop : Shop) (node front : List ℕ) (unscheduled : List Bool) (count : ℕ) → IsAt shop node front unscheduled count → IsWithinFront shop front
+pub within-front : (shop : Shop) (node front : List ℕ) (unscheduled : List Bool) (count : ℕ) →
+    IsAt shop node front unscheduled count → IsWithinFront shop front
 within-front shop node front unscheduled count at =
     let whole : length node + count ≡ shop.jobs = at.whole in
     front-within shop node front at.limits (omega arith) at.is_front
 
 -- the code's search for the machine is that of the definition
-pub find-is : (shop : Shop) (node front : List ℕ) (unscheduled : List Bool) (count value : ℕ) → IsAt shop node front unscheduled count →
+pub find-is : (shop : Shop) (node front : List ℕ) (unscheduled : List Bool) (count value : ℕ) →
+    IsAt shop node front unscheduled count →
     find (λ machine. nat_le value (machine_bound shop front (members unscheduled) machine)) (numbers 1 shop.machines)
     ≡ find (λ machine. nat_le value (bound_at shop node machine)) (numbers 1 shop.machines)
 find-is shop node front unscheduled count value at =
-    find-same (λ machine. nat_le value (machine_bound shop front (members unscheduled) machine)) (λ machine. nat_le value (bound_at shop node machine)) 1 (shop.machines + 1 - 1)
+    find-same (λ machine. nat_le value (machine_bound shop front (members unscheduled) machine))
+    (λ machine. nat_le value (bound_at shop node machine)) 1 (shop.machines + 1 - 1)
     (λ k low high.
-    let same : slice_index front (k - 1) ≡ slice_index (front_of shop node) (k - 1) = at.is_front k low (omega arith) ∙ sym (front_of-is shop node k low (omega arith)) in
-    ap (λ left. nat_le value (slice_index front (k - 1) + sum_by (λ job. time shop job k) left + least (map (λ job. time_between shop job (k + 1) shop.machines) left)))
+    let same : slice_index front (k - 1) ≡ slice_index (front_of shop node) (k - 1) = at.is_front k low (omega arith)
+    ∙ sym (front_of-is shop node k low (omega arith)) in
+    ap (λ left. nat_le value (slice_index front (k - 1) + sum_by (λ job. time shop job k) left
+    + least (map (λ job. time_between shop job (k + 1) shop.machines) left)))
     (members-are shop node front unscheduled count at)
-    ∙ ap (λ x. nat_le value (x + sum_by (λ job. time shop job k) (jobs_left shop.jobs node) + least (map (λ job. time_between shop job (k + 1) shop.machines) (jobs_left shop.jobs node)))) same)
+    ∙ ap (λ x. nat_le value (x + sum_by (λ job. time shop job k) (jobs_left shop.jobs node)
+    + least (map (λ job. time_between shop job (k + 1) shop.machines) (jobs_left shop.jobs node)))) same)
 
 -- a machine that was found
-pub machine-is : (shop : Shop) (p : ℕ → Bool) (machine : ℕ) → IsWithinLimits shop → Some machine ≡ find p (numbers 1 shop.machines) → (1 ≤ machine) × (machine ≤ most_machines)
+pub machine-is : (shop : Shop) (p : ℕ → Bool) (machine : ℕ) → IsWithinLimits shop →
+    Some machine ≡ find p (numbers 1 shop.machines) → (1 ≤ machine) × (machine ≤ most_machines)
 machine-is shop p machine limits e =
-    let at = find-some p (λ k. (1 ≤ k) × (k ≤ shop.machines)) (numbers 1 shop.machines) machine (range-all shop.machines) (sym e) in
+    let at = find-some p (λ k. (1 ≤ k)
+    × (k ≤ shop.machines)) (numbers 1 shop.machines) machine (range-all shop.machines) (sym e) in
     let most : shop.machines ≤ most_machines = limits.machines in
     (at.1.0, omega (arith, at.1.1))
 
@@ -118,8 +140,10 @@ not-false true e = absurd (cc)
 not-false false e = refl
 
 -- the next node
-pub at-child : (shop : Shop) (node front next : List ℕ) (unscheduled : List Bool) (count left job : ℕ) → IsAt shop node front unscheduled count →
-    count ≡ suc left → 1 ≤ job → job ≤ shop.jobs → contains unscheduled job ≡ true → IsFrontOf shop (node ++ job ∷ []) next →
+pub at-child : (shop : Shop) (node front next : List ℕ) (unscheduled : List Bool) (count left job : ℕ) →
+    IsAt shop node front unscheduled count →
+    count ≡ suc left → 1 ≤ job → job ≤ shop.jobs → contains unscheduled job ≡ true →
+    IsFrontOf shop (node ++ job ∷ []) next →
     IsAt shop (node ++ job ∷ []) next (slice_set unscheduled (job - 1) false) left
 at-child shop node front next unscheduled count left job at e low high there is_next =
     let whole : length node + count ≡ shop.jobs = at.whole in
@@ -128,11 +152,19 @@ at-child shop node front next unscheduled count left job at e low high there is_
     let within : job - 1 < length unscheduled = omega arith in
     let free : has node job ≡ false = not-false (has node job) (sym there ∙ at.left job low high) in
     let fresh : Fresh shop.jobs (node ++ job ∷ []) =
-    fresh-push shop.jobs node job (recursion_from_All (λ job. (1 ≤ job) × (job ≤ shop.jobs)) node at.jobs.range, at.jobs.distinct) (low, high, free) in
+    fresh-push shop.jobs node job (
+      recursion_from_All (λ job. (1 ≤ job)
+          × (job ≤ shop.jobs)) node at.jobs.range,
+      at.jobs.distinct,
+    ) (low, high, free) in
     record {
       limits = at.limits;
       whole = omega (arith, length-append node (job ∷ []));
-      jobs = record { range = All-from_recursion (λ job. (1 ≤ job) × (job ≤ shop.jobs)) (node ++ job ∷ []) fresh.0; distinct = fresh.1 };
+      jobs = record {
+        range = All-from_recursion (λ job. (1 ≤ job)
+            × (job ≤ shop.jobs)) (node ++ job ∷ []) fresh.0;
+        distinct = fresh.1;
+      };
       is_front = is_next;
       left = λ k from to. elim (eqb_tells k job) [
         | inl same ↦
@@ -145,7 +177,8 @@ at-child shop node front next unscheduled count left job at e low high there is_
             let far : k - 1 ≢ job - 1 = omega arith in
             get_or-set_other unscheduled (job - 1) (k - 1) false false far
             ∙ at.left k from to
-            ∙ ap not (sym (list_any-append (nat_eq k) node (job ∷ []) ∙ ap (λ b. has node k || (b || false)) other.0 ∙ or-none (has node k)))
+            ∙ ap not (sym (list_any-append (nat_eq k) node (job ∷ []) ∙ ap (λ b. has node k || (b || false)) other.0
+            ∙ or-none (has node k)))
       ];
       none = λ k past.
           let far : k - 1 ≢ job - 1 = omega arith in
@@ -154,7 +187,8 @@ at-child shop node front next unscheduled count left job at e low high there is_
     }
 
 -- taking a member out and putting it in again
-pub put-back : (set : List Bool) (place : ℕ) → slice_index_or set place false ≡ true → slice_set (slice_set set place false) place true ≡ set
+pub put-back : (set : List Bool) (place : ℕ) → slice_index_or set place false ≡ true →
+    slice_set (slice_set set place false) place true ≡ set
 put-back [] place e = refl
 put-back (flag ∷ flags) zero e = ap (λ b. b ∷ flags) (sym e)
 put-back (flag ∷ flags) (suc place) e = ap (λ ys. flag ∷ ys) (put-back flags place e)
@@ -163,15 +197,19 @@ put-back (flag ∷ flags) (suc place) e = ap (λ ys. flag ∷ ys) (put-back flag
 
 -- a cut, where one is found
 abbrev pub Finds : Shop → List ℕ → List Bool → ℕ → Option ℕ → Type 0
-Finds shop front unscheduled value o = o ≡ find (λ machine. nat_le value (machine_bound shop front (members unscheduled) machine)) (numbers 1 shop.machines)
+Finds shop front unscheduled value o =
+    o ≡ find (λ machine. nat_le value (machine_bound shop front (members unscheduled) machine))
+    (numbers 1 shop.machines)
 
 pub cut-here : (shop : Shop) (front : List ℕ) (budget count left machine : ℕ) (old new : Search) →
-    IsAt shop old.node.items front old.unscheduled count → count ≡ suc left → Finds shop front old.unscheduled old.value (Some machine) →
+    IsAt shop old.node.items front old.unscheduled count → count ≡ suc left →
+    Finds shop front old.unscheduled old.value (Some machine) →
     Wrote budget (64 + machine) old new → Walked shop budget count old new
 cut-here shop front budget count left machine old new at e finds wrote =
     let here : walked shop count old ≡ (letter machine ∷ [], incumbent_of old) =
     ap (λ c. walked shop c old) e
-    ∙ ap (answer_of (incumbent_of old) (children_walked shop left old)) (sym (finds ∙ find-is shop old.node.items front old.unscheduled count old.value at)) in
+    ∙ ap (answer_of (incumbent_of old) (children_walked shop left old)) (sym (finds
+    ∙ find-is shop old.node.items front old.unscheduled count old.value at)) in
     record {
       tree = wrote.tree ∙ ap (λ w. old.tree.items ++ w) (sym (ap (λ w. w.0) here));
       incumbent = wrote.incumbent ∙ sym (ap (λ w. w.1) here);

@@ -27,15 +27,24 @@ pub record IsPrefix (n depth : ℕ) (prefix : List ℕ) : Type 0 where
   pub jobs : AreJobs n prefix
   pub size : length prefix ≡ depth
 
-pub cut-prefixes : (n depth : ℕ) (number : ℕ) → number < length (cut n depth) → IsPrefix n depth (slice_index_or (cut n depth) number [])
+pub cut-prefixes : (n depth : ℕ) (number : ℕ) → number < length (cut n depth) →
+    IsPrefix n depth (slice_index_or (cut n depth) number [])
 cut-prefixes n depth number h =
     All-from_recursion (IsPrefix n depth) (cut n depth)
     (all-weaken (λ p. Fresh n p × (length p ≡ 0 + depth)) (IsPrefix n depth) (cut n depth)
-    (λ p h. record { jobs = record { range = All-from_recursion (λ job. (1 ≤ job) × (job ≤ n)) p h.0.0; distinct = h.0.1 }; size = omega (arith, h.1) })
+    (λ p h. record {
+      jobs = record {
+        range = All-from_recursion (λ job. (1 ≤ job) × (job ≤ n)) p h.0.0;
+        distinct =
+            h.0.1;
+      };
+      size = omega (arith, h.1);
+    })
     (cut-fresh n depth [] (tt, tt)))
     number [] h
 
-pub prefix-is : (plan : Planned) (number : ℕ) → number < length (prefixes_of plan) → IsPrefix plan.shop.jobs plan.options.depth (prefix_of plan number)
+pub prefix-is : (plan : Planned) (number : ℕ) → number < length (prefixes_of plan) →
+    IsPrefix plan.shop.jobs plan.options.depth (prefix_of plan number)
 prefix-is plan number h = cut-prefixes plan.shop.jobs plan.options.depth number h
 
 has-get : (xs : List ℕ) (i : ℕ) → i < length xs → has xs (get_or xs i 0) ≡ true
@@ -61,7 +70,8 @@ pub record IsOnTheWay (plan : Planned) (prefix : List ℕ) (i : ℕ) (front : Li
   pub incumbent : incumbent_of search ≡ (plan.start.value, None)
   pub tree : search.tree.items ≡ []
 
-pub way-begins : (plan : Planned) (prefix front : List ℕ) (search : Search) → IsWithinLimits plan.shop → IsFrontOf plan.shop [] front →
+pub way-begins : (plan : Planned) (prefix front : List ℕ) (search : Search) → IsWithinLimits plan.shop →
+    IsFrontOf plan.shop [] front →
     IsFresh plan.shop plan.start.value search → IsOnTheWay plan prefix 0 front search
 way-begins plan prefix front search limits is_front fresh =
     let empty : length search.node.items ≡ 0 = ap length fresh.node in
@@ -81,19 +91,23 @@ way-begins plan prefix front search limits is_front fresh =
     }
 
 -- one more job of the prefix
-pub way-goes-on : (plan : Planned) (prefix front next_front : List ℕ) (i : ℕ) (now next : Search) → AreJobs plan.shop.jobs prefix → length prefix ≤ plan.shop.jobs → i < length prefix →
+pub way-goes-on : (plan : Planned) (prefix front next_front : List ℕ) (i : ℕ) (now next : Search) →
+    AreJobs plan.shop.jobs prefix → length prefix ≤ plan.shop.jobs → i < length prefix →
     IsOnTheWay plan prefix i front now → Entered (get_or prefix i 0) now next →
-    IsFrontOf plan.shop (now.node.items ++ get_or prefix i 0 ∷ []) next_front → IsOnTheWay plan prefix (i + 1) next_front next
+    IsFrontOf plan.shop (now.node.items ++ get_or prefix i 0 ∷ []) next_front →
+    IsOnTheWay plan prefix (i + 1) next_front next
 way-goes-on plan prefix front next_front i now next are short h way entered is_next =
     let job : ℕ = get_or prefix i 0 in
     let range : (1 ≤ job) × (job ≤ plan.shop.jobs) = are.range i 0 h in
     let free : has now.node.items job ≡ false = ap (λ q. has q job) way.node ∙ fresh-at prefix i are.distinct h in
     let there : contains now.unscheduled job ≡ true = way.at.left job range.0 range.1 ∙ ap not free in
     let count : plan.shop.jobs - i ≡ suc (plan.shop.jobs - (i + 1)) = omega arith in
-    let child = at-child plan.shop now.node.items front next_front now.unscheduled (plan.shop.jobs - i) (plan.shop.jobs - (i + 1)) job way.at count range.0 range.1 there is_next in
+    let child = at-child plan.shop now.node.items front next_front now.unscheduled (plan.shop.jobs - i)
+    (plan.shop.jobs - (i + 1)) job way.at count range.0 range.1 there is_next in
     record {
       at = subst (λ q. IsAt plan.shop q next_front next.unscheduled (plan.shop.jobs - (i + 1))) (sym entered.node)
-          (subst (λ u. IsAt plan.shop (now.node.items ++ job ∷ []) next_front u (plan.shop.jobs - (i + 1))) (sym entered.unscheduled) child);
+          (subst (λ u. IsAt plan.shop (now.node.items ++ job ∷ []) next_front u (plan.shop.jobs - (i
+          + 1))) (sym entered.unscheduled) child);
       node = entered.node ∙ ap (λ q. q ++ job ∷ []) way.node ∙ sym (take_more prefix i 0 h);
       incumbent = entered.incumbent ∙ way.incumbent;
       tree = entered.tree ∙ way.tree;
@@ -105,25 +119,34 @@ take-all (x ∷ xs) = ap (λ ys. x ∷ ys) (take-all xs)
 
 -- at the end of the way
 arrived : (prefix node : List ℕ) (i : ℕ) → i ≤ length prefix → length prefix ≤ i → node ≡ take i prefix → node ≡ prefix
-arrived prefix node i low high e = let same : i ≡ length prefix = omega arith in e ∙ ap (λ k. take k prefix) same ∙ take-all prefix
+arrived prefix node i low high e = let same : i ≡ length prefix = omega arith in e ∙ ap (λ k. take k prefix) same
+    ∙ take-all prefix
 
-prefix-walk : (plan : Planned) (prefix front : List ℕ) (i count : ℕ) (search : Search) → count ≡ plan.shop.jobs - length prefix → i ≤ length prefix → length prefix ≤ i →
+prefix-walk : (plan : Planned) (prefix front : List ℕ) (i count : ℕ) (search : Search) →
+    count ≡ plan.shop.jobs - length prefix → i ≤ length prefix → length prefix ≤ i →
     IsOnTheWay plan prefix i front search →
-    walked plan.shop count search ≡ walk plan.shop bound_at (plan.shop.jobs - length prefix) prefix (plan.start.value, None)
+    walked plan.shop count search
+    ≡ walk plan.shop bound_at (plan.shop.jobs - length prefix) prefix (plan.start.value, None)
 prefix-walk plan prefix front i count search left low high way =
     ap (λ c. walk plan.shop bound_at c search.node.items (incumbent_of search)) left
-    ∙ ap (λ q. walk plan.shop bound_at (plan.shop.jobs - length prefix) q (incumbent_of search)) (arrived prefix search.node.items i low high way.node)
+    ∙ ap (λ q. walk plan.shop bound_at (plan.shop.jobs - length prefix) q (incumbent_of search))
+    (arrived prefix search.node.items i low high way.node)
     ∙ ap (walk plan.shop bound_at (plan.shop.jobs - length prefix) prefix) way.incumbent
 
-pub way-ends : (plan : Planned) (prefix front : List ℕ) (i count : ℕ) (search : Search) → count ≡ plan.shop.jobs - length prefix → i ≤ length prefix → length prefix ≤ i →
+pub way-ends : (plan : Planned) (prefix front : List ℕ) (i count : ℕ) (search : Search) →
+    count ≡ plan.shop.jobs - length prefix → i ≤ length prefix → length prefix ≤ i →
     IsOnTheWay plan prefix i front search → IsAt plan.shop search.node.items front search.unscheduled count
 way-ends plan prefix front i count search left low high way =
     let same : i ≡ length prefix = omega arith in
-    subst (IsAt plan.shop search.node.items front search.unscheduled) (ap (λ k. plan.shop.jobs - k) same ∙ sym left) way.at
+    subst (IsAt plan.shop search.node.items front search.unscheduled) (ap (λ k. plan.shop.jobs - k) same
+    ∙ sym left) way.at
 
-prefix-done : (plan : Planned) (prefix front : List ℕ) (i budget count : ℕ) (old new : Search) → AreJobs plan.shop.jobs prefix → length prefix ≤ plan.shop.jobs →
-    count ≡ plan.shop.jobs - length prefix → i ≤ length prefix → length prefix ≤ i → IsOnTheWay plan prefix i front old → Walked plan.shop budget count old new →
-    (found_if new ≡ best plan.shop plan.start.value prefix) × (new.tree.items ≡ tree plan.shop bound_at plan.start.value prefix)
+prefix-done : (plan : Planned) (prefix front : List ℕ) (i budget count : ℕ) (old new : Search) →
+    AreJobs plan.shop.jobs prefix → length prefix ≤ plan.shop.jobs →
+    count ≡ plan.shop.jobs - length prefix → i ≤ length prefix → length prefix ≤ i →
+    IsOnTheWay plan prefix i front old → Walked plan.shop budget count old new →
+    (found_if new ≡ best plan.shop plan.start.value prefix)
+    × (new.tree.items ≡ tree plan.shop bound_at plan.start.value prefix)
 prefix-done plan prefix front i budget count old new are short left low high way w =
     let walk_is = prefix-walk plan prefix front i count old left low high way in
     let law = walk_is_tree plan.shop bound_at plan.start.value prefix bound_is_admissible are short in (
@@ -132,18 +155,30 @@ prefix-done plan prefix front i budget count old new are short left low high way
     )
 
 -- the best and the tree of a prefix of the plan, once its walk is done; the code knows the instance as `shop`
-pub prefix-answered : (plan : Planned) (shop : Shop) (prefix front : List ℕ) (number i budget jobs : ℕ) (old new : Search) → shop ≡ plan.shop → jobs ≡ shop.jobs → prefix ≡ prefix_of plan number →
-    AreJobs plan.shop.jobs prefix → length prefix ≤ plan.shop.jobs → i ≤ length prefix → length prefix ≤ i → IsOnTheWay plan prefix i front old →
-    Walked shop budget (jobs - length prefix) old new → (found_if new ≡ best_of plan number) × (new.tree.items ≡ tree_of plan number)
+pub prefix-answered : (plan : Planned) (shop : Shop) (prefix front : List ℕ) (number i budget jobs : ℕ)
+    (old new : Search) → shop ≡ plan.shop → jobs ≡ shop.jobs → prefix ≡ prefix_of plan number →
+    AreJobs plan.shop.jobs prefix → length prefix ≤ plan.shop.jobs → i ≤ length prefix → length prefix ≤ i →
+    IsOnTheWay plan prefix i front old →
+    Walked shop budget (jobs - length prefix) old new → (found_if new ≡ best_of plan number)
+    × (new.tree.items ≡ tree_of plan number)
 prefix-answered plan shop prefix front number i budget jobs old new shop_is jobs_is prefix_is are short low high way w =
-    let count : jobs - length prefix ≡ plan.shop.jobs - length prefix = ap (λ n. n - length prefix) (jobs_is ∙ ap (λ s. s.jobs) shop_is) in
-    let walk_done : Walked plan.shop budget (jobs - length prefix) old new = subst (λ s. Walked s budget (jobs - length prefix) old new) shop_is w in
-    let is = prefix-done plan prefix front i budget (jobs - length prefix) old new are short count low high way walk_done in
-    (is.0 ∙ ap (best plan.shop plan.start.value) prefix_is, is.1 ∙ ap (tree plan.shop bound_at plan.start.value) prefix_is)
+    let count : jobs - length prefix ≡ plan.shop.jobs - length prefix =
+    ap (λ n. n - length prefix) (jobs_is ∙ ap (λ s. s.jobs) shop_is) in
+    let walk_done : Walked plan.shop budget (jobs - length prefix) old new =
+    subst (λ s. Walked s budget (jobs - length prefix) old new) shop_is w in
+    let is = prefix-done plan prefix front i budget
+    (jobs - length prefix) old new are short count low high way walk_done in (
+      is.0 ∙ ap (best plan.shop plan.start.value) prefix_is,
+      is.1
+          ∙ ap (tree plan.shop bound_at plan.start.value) prefix_is,
+    )
 
-pub prefix-over : (plan : Planned) (prefix front : List ℕ) (i budget count : ℕ) (old : Search) → AreJobs plan.shop.jobs prefix → length prefix ≤ plan.shop.jobs →
-    count ≡ plan.shop.jobs - length prefix → i ≤ length prefix → length prefix ≤ i → IsOnTheWay plan prefix i front old →
-    budget < length old.tree.items + length (walked plan.shop count old).0 → budget < length (tree plan.shop bound_at plan.start.value prefix)
+pub prefix-over : (plan : Planned) (prefix front : List ℕ) (i budget count : ℕ) (old : Search) →
+    AreJobs plan.shop.jobs prefix → length prefix ≤ plan.shop.jobs →
+    count ≡ plan.shop.jobs - length prefix → i ≤ length prefix → length prefix ≤ i →
+    IsOnTheWay plan prefix i front old →
+    budget < length old.tree.items + length (walked plan.shop count old).0 →
+    budget < length (tree plan.shop bound_at plan.start.value prefix)
 prefix-over plan prefix front i budget count old are short left low high way over =
     let law = walk_is_tree plan.shop bound_at plan.start.value prefix bound_is_admissible are short in
     let same : length (walked plan.shop count old).0 ≡ length (tree plan.shop bound_at plan.start.value prefix) =
@@ -152,32 +187,41 @@ prefix-over plan prefix front i budget count old are short left low high way ove
     omega (arith, over, same, nothing)
 
 -- the prefixes of a plan, one after another
-pub stored-size : (plan : Planned) (count : ℕ) (lists : List ℕ) → IsStored plan count lists → length lists ≡ length (prefixes_of plan) * plan.options.depth
+pub stored-size : (plan : Planned) (count : ℕ) (lists : List ℕ) → IsStored plan count lists →
+    length lists ≡ length (prefixes_of plan) * plan.options.depth
 stored-size plan count lists s =
     ap length s.lists_are
     ∙ joined-size plan.options.depth (prefixes_of plan)
-    (all-weaken (λ p. Fresh plan.shop.jobs p × (length p ≡ 0 + plan.options.depth)) (λ p. length p ≡ plan.options.depth) (prefixes_of plan) (λ p h. omega (arith, h.1))
+    (all-weaken (λ p. Fresh plan.shop.jobs p × (length p ≡ 0 + plan.options.depth)) (λ p. length p
+    ≡ plan.options.depth) (prefixes_of plan) (λ p h. omega (arith, h.1))
     (cut-fresh plan.shop.jobs plan.options.depth [] (tt, tt)))
 
-pub stored-prefix : (plan : Planned) (count : ℕ) (lists : List ℕ) (number : ℕ) → IsStored plan count lists → number < length (prefixes_of plan) →
-    take (number * plan.options.depth + plan.options.depth - number * plan.options.depth) (drop (number * plan.options.depth) lists) ≡ prefix_of plan number
+pub stored-prefix : (plan : Planned) (count : ℕ) (lists : List ℕ) (number : ℕ) → IsStored plan count lists →
+    number < length (prefixes_of plan) →
+    take (number * plan.options.depth
+    + plan.options.depth - number * plan.options.depth) (drop (number * plan.options.depth) lists)
+    ≡ prefix_of plan number
 stored-prefix plan count lists number s h =
     let depth : ℕ = plan.options.depth in
     let size : number * depth + depth - number * depth ≡ depth = omega arith in
     ap (λ k. take k (drop (number * depth) lists)) size
     ∙ ap (λ xs. take depth (drop (number * depth) xs)) s.lists_are
     ∙ joined-at depth (prefixes_of plan) number
-    (all-weaken (λ p. Fresh plan.shop.jobs p × (length p ≡ 0 + depth)) (λ p. length p ≡ depth) (prefixes_of plan) (λ p h. omega (arith, h.1)) (cut-fresh plan.shop.jobs depth [] (tt, tt)))
+    (all-weaken (λ p. Fresh plan.shop.jobs p × (length p ≡ 0 + depth)) (λ p. length p
+    ≡ depth) (prefixes_of plan) (λ p h. omega (arith, h.1)) (cut-fresh plan.shop.jobs depth [] (tt, tt)))
     h
 
 -- the best of a prefix is a sequence
-pub best-sequence : (plan : Planned) (number : ℕ) (search : Search) → IsPlan plan → number < length (prefixes_of plan) → found_if search ≡ best_of plan number →
+pub best-sequence : (plan : Planned) (number : ℕ) (search : Search) → IsPlan plan → number < length (prefixes_of plan) →
+    found_if search ≡ best_of plan number →
     search.improved ≡ true → IsSequence plan.shop.jobs search.best.items
 best-sequence plan number search is h e improved =
     let prefix : IsPrefix plan.shop.jobs plan.options.depth (prefix_of plan number) = prefix-is plan number h in
-    let range = recursion_from_All (λ job. (1 ≤ job) × (job ≤ plan.shop.jobs)) (prefix_of plan number) prefix.jobs.range in
+    let range = recursion_from_All (λ job. (1 ≤ job)
+    × (job ≤ plan.shop.jobs)) (prefix_of plan number) prefix.jobs.range in
     let deep : plan.options.depth ≤ plan.shop.jobs = is.deep in
     let short : length (prefix_of plan number) ≤ plan.shop.jobs = omega (arith, prefix.size, deep) in
     let found : Found = record { value = search.value; sequence = search.best.items } in
     let some : best_of plan number ≡ Some found = sym e ∙ cond-true search.improved (Some found) None improved in
-    (best-is plan.shop plan.start.value (prefix_of plan number) (Some found) (range, prefix.jobs.distinct) short some).0.0.0
+    (best-is plan.shop plan.start.value (prefix_of plan number) (Some found)
+    (range, prefix.jobs.distinct) short some).0.0.0

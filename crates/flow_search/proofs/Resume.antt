@@ -28,8 +28,10 @@ pub reverse-push : {A : Type 0} (xs new : List A) (x : A) → new ≡ xs ++ x �
 reverse-push xs new x e = ap reverse e ∙ reverse-append xs (x ∷ [])
 
 -- the first of some numbers that pass a test, which agrees with another test on them
-next-in : (p q : ℕ → Bool) (a len j : ℕ) → ((k : ℕ) → a ≤ k → k < a + len → p k ≡ q k) → Some j ≡ find p (range_with_len a len) →
-    (filter q (range_with_len a len) ≡ j ∷ filter q (range_with_len (j + 1) (a + len - (j + 1)))) × (a ≤ j) × (j < a + len) × (p j ≡ true)
+next-in : (p q : ℕ → Bool) (a len j : ℕ) → ((k : ℕ) → a ≤ k → k < a + len → p k ≡ q k) →
+    Some j ≡ find p (range_with_len a len) →
+    (filter q (range_with_len a len) ≡ j ∷ filter q (range_with_len (j + 1) (a + len - (j + 1)))) × (a ≤ j)
+    × (j < a + len) × (p j ≡ true)
 next-in p q a zero j same e = absurd (cc)
 next-in p q a (suc len) j same e =
     let rest : List ℕ = range_with_len (a + 1) len in
@@ -62,7 +64,8 @@ next-in p q a (suc len) j same e =
           )
     ]
 
-none-in : (p q : ℕ → Bool) (a len : ℕ) → ((k : ℕ) → a ≤ k → k < a + len → p k ≡ q k) → None ≡ find p (range_with_len a len) →
+none-in : (p q : ℕ → Bool) (a len : ℕ) → ((k : ℕ) → a ≤ k → k < a + len → p k ≡ q k) →
+    None ≡ find p (range_with_len a len) →
     filter q (range_with_len a len) ≡ []
 none-in p q a zero same e = refl
 none-in p q a (suc len) same e =
@@ -74,14 +77,17 @@ none-in p q a (suc len) same e =
       | inr fail ↦
           let there : q a ≡ false = sym (same a (omega arith) (omega arith)) ∙ fail in
           ap (λ b. cond b (a ∷ filter q rest) (filter q rest)) there
-          ∙ none-in p q (a + 1) len (λ k low high. same k (omega arith) (omega arith)) (e ∙ ap (λ b. cond b (Some a) (find p rest)) fail)
+          ∙ none-in p q (a + 1) len (λ k low high. same k (omega arith) (omega arith)) (e
+          ∙ ap (λ b. cond b (Some a) (find p rest)) fail)
     ]
 
 -- the jobs that a node leaves, where the next one is found in the set of them
 
-pub left-next : (shop : Shop) (node front : List ℕ) (set : List Bool) (count from j : ℕ) → IsAt shop node front set count → 1 ≤ from →
+pub left-next : (shop : Shop) (node front : List ℕ) (set : List Bool) (count from j : ℕ) →
+    IsAt shop node front set count → 1 ≤ from →
     from ≤ shop.jobs + 1 → Some j ≡ find (contains set) (numbers from shop.jobs) →
-    (left_from shop.jobs node from ≡ j ∷ left_from shop.jobs node (j + 1)) × IsChild shop.jobs node j × (from ≤ j) × (contains set j ≡ true)
+    (left_from shop.jobs node from ≡ j ∷ left_from shop.jobs node (j + 1)) × IsChild shop.jobs node j × (from ≤ j)
+    × (contains set j ≡ true)
 left-next shop node front set count from j at low high e =
     let found = next-in (contains set) (λ k. not (has node k)) from (shop.jobs + 1 - from) j
     (λ k a b. at.left k (omega arith) (omega arith)) e in
@@ -97,10 +103,12 @@ left-next shop node front set count from j at low high e =
     not-has true e = absurd (cc)
     not-has false e = refl
 
-pub left-none : (shop : Shop) (node front : List ℕ) (set : List Bool) (count from : ℕ) → IsAt shop node front set count → 1 ≤ from →
+pub left-none : (shop : Shop) (node front : List ℕ) (set : List Bool) (count from : ℕ) →
+    IsAt shop node front set count → 1 ≤ from →
     from ≤ shop.jobs + 1 → None ≡ find (contains set) (numbers from shop.jobs) → left_from shop.jobs node from ≡ []
 left-none shop node front set count from at low high e =
-    none-in (contains set) (λ k. not (has node k)) from (shop.jobs + 1 - from) (λ k a b. at.left k (omega arith) (omega arith)) e
+    none-in (contains set) (λ k. not (has node k)) from (shop.jobs
+    + 1 - from) (λ k a b. at.left k (omega arith) (omega arith)) e
 
 -- walks one after another
 
@@ -111,8 +119,10 @@ then-assoc : (a : Walk) (f g : Incumbent → Walk) → then_walk (then_walk a f)
 then-assoc a f g = ap (λ t. (t, (g (f a.1).1).1)) (append_assoc a.0 (f a.1).0 (g (f a.1).1).0)
 
 resume-next : (shop : Shop) (root : List ℕ) (left job : ℕ) (here later : Frame) (fs : List Frame) (st : Incumbent) →
-    left_from shop.jobs (path root fs) here.next ≡ job ∷ left_from shop.jobs (path root fs) (job + 1) → later.next ≡ job + 1 →
-    resume shop root left (here ∷ fs) st ≡ then_walk (walk shop bound_at left (path root fs ++ job ∷ []) st) (resume shop root left (later ∷ fs))
+    left_from shop.jobs (path root fs) here.next ≡ job ∷ left_from shop.jobs (path root fs) (job + 1) →
+    later.next ≡ job + 1 →
+    resume shop root left (here ∷ fs) st
+    ≡ then_walk (walk shop bound_at left (path root fs ++ job ∷ []) st) (resume shop root left (later ∷ fs))
 resume-next shop root left job here later fs st e next =
     let w : ℕ → Incumbent → Walk = λ k. walk shop bound_at left (path root fs ++ k ∷ []) in
     let more : Incumbent → Walk = resume shop root (suc left) fs in
@@ -121,20 +131,24 @@ resume-next shop root left job here later fs st e next =
     ∙ ap (λ k. then_walk (w job st) (λ s. then_walk (walk_from shop left (path root fs) k s) more)) (sym next)
 
 resume-none : (shop : Shop) (root : List ℕ) (left : ℕ) (here : Frame) (fs : List Frame) (st : Incumbent) →
-    left_from shop.jobs (path root fs) here.next ≡ [] → resume shop root left (here ∷ fs) st ≡ resume shop root (suc left) fs st
+    left_from shop.jobs (path root fs) here.next ≡ [] → resume shop root left (here ∷ fs) st
+    ≡ resume shop root (suc left) fs st
 resume-none shop root left here fs st e =
-    ap (λ js. then_walk (walk_each (λ k. walk shop bound_at left (path root fs ++ k ∷ [])) js st) (resume shop root (suc left) fs)) e
+    ap (λ js. then_walk (walk_each (λ k. walk shop bound_at left (path root fs ++ k
+    ∷ [])) js st) (resume shop root (suc left) fs)) e
 
 -- a frame whose next child is another
 abbrev pub moved : Frame → ℕ → Frame
 moved here next = record { front = here.front; rest = here.rest; second = here.second; next = next }
 
-moved-frame : (shop : Shop) (node : List ℕ) (left : ℕ) (here : Frame) (next : ℕ) → IsFrame shop node left here → IsFrame shop node left (moved here next)
+moved-frame : (shop : Shop) (node : List ℕ) (left : ℕ) (here : Frame) (next : ℕ) → IsFrame shop node left here →
+    IsFrame shop node left (moved here next)
 moved-frame shop node left here next is =
     record { times = is.times; rest_is = is.rest_is; second_is = is.second_is; count = is.count; some = is.some }
 
 -- a walk writes something
-pub walk-some : (shop : Shop) (left : ℕ) (node : List ℕ) (st : Incumbent) → 1 ≤ length (walk shop bound_at left node st).0
+pub walk-some : (shop : Shop) (left : ℕ) (node : List ℕ) (st : Incumbent) →
+    1 ≤ length (walk shop bound_at left node st).0
 walk-some shop zero node st = omega arith
 walk-some shop (suc left) node st =
     some (walk_each (λ k. walk shop bound_at left (node ++ k ∷ [])) (jobs_left shop.jobs node) st)
@@ -146,7 +160,8 @@ walk-some shop (suc left) node st =
 
 -- the walk before its first child
 pub walking-start : (shop : Shop) (budget below : ℕ) (old : Search) (here : Frame) →
-    IsAt shop old.node.items here.front old.unscheduled (suc below) → IsFrame shop old.node.items (suc below) here → here.next ≡ 1 →
+    IsAt shop old.node.items here.front old.unscheduled (suc below) → IsFrame shop old.node.items (suc below) here →
+    here.next ≡ 1 →
     8 ≤ below → length old.tree.items ≤ budget →
     IsWalking shop budget old.node.items (children_walked shop below old) old here below [] old
 walking-start shop budget below old here at frame next many within =
@@ -168,7 +183,8 @@ walking-start shop budget below old here at frame next many within =
     }
 
 -- a job that a node leaves
-pub kid-of : (shop : Shop) (node front : List ℕ) (set : List Bool) (count job : ℕ) → IsAt shop node front set count → 1 ≤ job → job ≤ shop.jobs →
+pub kid-of : (shop : Shop) (node front : List ℕ) (set : List Bool) (count job : ℕ) → IsAt shop node front set count →
+    1 ≤ job → job ≤ shop.jobs →
     contains set job ≡ true → IsChild shop.jobs node job
 kid-of shop node front set count job at low high there =
     record { from = low; to = high; fresh = not-has (has node job) (sym (at.left job low high) ∙ there) }
@@ -178,9 +194,11 @@ kid-of shop node front set count job at low high there =
     not-has false e = refl
 
 -- the frame of a node, from its rest
-pub frame-of : (shop : Shop) (node front : List ℕ) (set : List Bool) (left : ℕ) (frame : Frame) → IsAt shop node front set left →
+pub frame-of : (shop : Shop) (node front : List ℕ) (set : List Bool) (left : ℕ) (frame : Frame) →
+    IsAt shop node front set left →
     IsFrontOf shop node frame.front → IsRestOf shop (members set) frame.rest →
-    ((machine : ℕ) → 1 ≤ machine → machine ≤ shop.machines → slice_index_or frame.second (machine - 1) 0 ≡ second_tail shop (members set) machine) →
+    ((machine : ℕ) → 1 ≤ machine → machine ≤ shop.machines →
+    slice_index_or frame.second (machine - 1) 0 ≡ second_tail shop (members set) machine) →
     IsFrame shop node left frame
 frame-of shop node front set left frame at times rest second =
     let left_is : members set ≡ jobs_left shop.jobs node = members-are shop node front set left at in
@@ -196,7 +214,8 @@ frame-of shop node front set left frame at times rest second =
 child-walk : (shop : Shop) (below job : ℕ) (old in_child : Search) → Entered job old in_child →
     walked shop below in_child ≡ walk shop bound_at below (old.node.items ++ job ∷ []) (incumbent_of old)
 child-walk shop below job old in_child entered =
-    ap (λ q. walk shop bound_at below q (incumbent_of in_child)) entered.node ∙ ap (walk shop bound_at below (old.node.items ++ job ∷ [])) entered.incumbent
+    ap (λ q. walk shop bound_at below q (incumbent_of in_child)) entered.node
+    ∙ ap (walk shop bound_at below (old.node.items ++ job ∷ [])) entered.incumbent
 
 pub child-done : (shop : Shop) (budget below job : ℕ) (old in_child after new : Search) → Entered job old in_child →
     Walked shop budget below in_child after → Left job old.node.items after new → contains old.unscheduled job ≡ true →
@@ -204,7 +223,8 @@ pub child-done : (shop : Shop) (budget below job : ℕ) (old in_child after new 
 child-done shop budget below job old in_child after new entered w left there =
     let same = child-walk shop below job old in_child entered in
     record {
-      tree = left.tree ∙ w.tree ∙ ap (λ t. t ++ (walked shop below in_child).0) entered.tree ∙ ap (λ p. old.tree.items ++ p.0) same;
+      tree = left.tree ∙ w.tree ∙ ap (λ t. t ++ (walked shop below in_child).0) entered.tree
+          ∙ ap (λ p. old.tree.items ++ p.0) same;
       incumbent = left.incumbent ∙ w.incumbent ∙ ap (λ p. p.1) same;
       node = left.node;
       unscheduled =
@@ -222,15 +242,18 @@ child-over shop budget below job old in_child entered over =
 
 -- a child that a bound cuts
 pub cut-done : (shop : Shop) (budget below job machine : ℕ) (old new : Search) → below ≢ 0 →
-    Some machine ≡ find (λ m. nat_le old.value (bound_at shop (old.node.items ++ job ∷ []) m)) (numbers 1 shop.machines) →
-    Wrote budget (64 + machine) old new → Gave budget (walk shop bound_at below (old.node.items ++ job ∷ []) (incumbent_of old)) old new
+    Some machine ≡ find (λ m. nat_le old.value (bound_at shop (old.node.items ++ job
+    ∷ []) m)) (numbers 1 shop.machines) →
+    Wrote budget (64 + machine) old new →
+    Gave budget (walk shop bound_at below (old.node.items ++ job ∷ []) (incumbent_of old)) old new
 cut-done shop budget below job machine old new some found w =
     let node : List ℕ = old.node.items ++ job ∷ [] in
     let st : Incumbent = incumbent_of old in
     let more : below ≡ suc (below - 1) = omega arith in
     let cut : walk shop bound_at below node st ≡ (letter machine ∷ [], st) =
     ap (λ n. walk shop bound_at n node st) more
-    ∙ ap (answer_of st (walk_each (λ k. walk shop bound_at (below - 1) (node ++ k ∷ [])) (jobs_left shop.jobs node) st)) (sym found) in
+    ∙ ap (answer_of st (walk_each (λ k. walk shop bound_at (below - 1) (node ++ k
+    ∷ [])) (jobs_left shop.jobs node) st)) (sym found) in
     record {
       tree = w.tree ∙ ap (λ p. old.tree.items ++ p.0) (sym cut);
       incumbent = w.incumbent ∙ ap (λ p. p.1) (sym cut);
@@ -240,8 +263,10 @@ cut-done shop budget below job machine old new some found w =
     }
 
 -- the jobs left at a node, once its child's job is put back
-at-parent : (shop : Shop) (node front : List ℕ) (set : List Bool) (count left job : ℕ) (f : Frame) → IsAt shop (node ++ job ∷ []) front set count →
-    IsFrame shop node left f → IsChild shop.jobs node job → AreJobs shop.jobs node → IsAt shop node f.front (slice_set set (job - 1) true) left
+at-parent : (shop : Shop) (node front : List ℕ) (set : List Bool) (count left job : ℕ) (f : Frame) →
+    IsAt shop (node ++ job ∷ []) front set count →
+    IsFrame shop node left f → IsChild shop.jobs node job → AreJobs shop.jobs node →
+    IsAt shop node f.front (slice_set set (job - 1) true) left
 at-parent shop node front set count left job f at frame kid jobs =
     let most : shop.jobs ≤ most_jobs = at.limits.jobs in
     let low : 1 ≤ job = kid.from in
@@ -274,7 +299,8 @@ same-set : (shop : Shop) (node front other_front : List ℕ) (set other : List B
 same-set shop node front other_front set other count other_count a b =
     ext_get_or false set other (a.size ∙ sym b.size) (λ i within.
     let e : i + 1 - 1 ≡ i = omega arith in
-    ap (λ n. slice_index_or set n false) (sym e) ∙ each (i + 1) (omega arith) ∙ ap (λ n. slice_index_or other n false) e)
+    ap (λ n. slice_index_or set n false) (sym e) ∙ each (i + 1) (omega arith)
+    ∙ ap (λ n. slice_index_or other n false) e)
   where
     each : (k : ℕ) → 1 ≤ k → contains set k ≡ contains other k
     each k low = elim (cases_lt shop.jobs k) [
@@ -282,20 +308,25 @@ same-set shop node front other_front set other count other_count a b =
       | inr in_range ↦ a.left k low in_range ∙ sym (b.left k low in_range)
     ]
 
-module _ {shop : Shop} {budget : ℕ} {root : List ℕ} {whole : List ℕ × Incumbent} {old : Search} {here : Frame} {below : ℕ} {fs : List Frame} {now : Search} (i : IsWalking shop budget root whole old here below fs now) where
+module _ {shop : Shop} {budget : ℕ} {root : List ℕ} {whole : List ℕ
+    × Incumbent} {old : Search} {here : Frame} {below : ℕ} {fs : List Frame} {now : Search}
+    (i : IsWalking shop budget root whole old here below fs now) where
   -- the next child
   pub walking-child : (job : ℕ) → Some job ≡ find (contains now.unscheduled) (numbers here.next shop.jobs) →
-      (left_from shop.jobs (path root fs) here.next ≡ job ∷ left_from shop.jobs (path root fs) (job + 1)) × IsChild shop.jobs (path root fs) job
+      (left_from shop.jobs (path root fs) here.next ≡ job ∷ left_from shop.jobs (path root fs) (job + 1))
+      × IsChild shop.jobs (path root fs) job
       × (contains now.unscheduled job ≡ true)
   walking-child job found =
-      let next = left-next shop now.node.items here.front now.unscheduled (suc below) here.next job i.at i.next i.past found in (
+      let next = left-next shop now.node.items here.front now.unscheduled
+      (suc below) here.next job i.at i.next i.past found in (
         subst (λ q. left_from shop.jobs q here.next ≡ job ∷ left_from shop.jobs q (job + 1)) i.node next.0,
         subst (λ q. IsChild shop.jobs q job) i.node next.1,
         next.3,
       )
 
   -- a child's subtree was walked
-  pub walking-whole : (job : ℕ) (new : Search) → Some job ≡ find (contains now.unscheduled) (numbers here.next shop.jobs) →
+  pub walking-whole : (job : ℕ) (new : Search) →
+      Some job ≡ find (contains now.unscheduled) (numbers here.next shop.jobs) →
       Gave budget (walk shop bound_at below (now.node.items ++ job ∷ []) (incumbent_of now)) now new →
       IsWalking shop budget root whole old (moved here (job + 1)) below fs new
   walking-whole job new found gave =
@@ -331,7 +362,8 @@ module _ {shop : Shop} {budget : ℕ} {root : List ℕ} {whole : List ℕ × Inc
 
   -- a child's text is longer than the budget
   pub walking-over : (job : ℕ) → Some job ≡ find (contains now.unscheduled) (numbers here.next shop.jobs) →
-      budget < length now.tree.items + length (walk shop bound_at below (now.node.items ++ job ∷ []) (incumbent_of now)).0 →
+      budget < length now.tree.items
+      + length (walk shop bound_at below (now.node.items ++ job ∷ []) (incumbent_of now)).0 →
       budget < length old.tree.items + length whole.0
   walking-over job found over =
       let kid = walking-child job found in
@@ -341,7 +373,8 @@ module _ {shop : Shop} {budget : ℕ} {root : List ℕ} {whole : List ℕ × Inc
       let first_is : length (walk shop bound_at below (now.node.items ++ job ∷ []) st).0 ≡ length first.0 =
       ap (λ q. length (walk shop bound_at below (q ++ job ∷ []) st).0) i.node in
       let all : now.tree.items ++ (first.0 ++ rest.0) ≡ old.tree.items ++ whole.0 =
-      ap (λ w. now.tree.items ++ w.0) (sym (resume-next shop root below job here (moved here (job + 1)) fs st kid.0 refl)) ∙ i.text in
+      ap (λ w. now.tree.items ++ w.0) (sym (resume-next shop root below job here (moved here (job
+      + 1)) fs st kid.0 refl)) ∙ i.text in
       let sizes : length (now.tree.items ++ (first.0 ++ rest.0)) ≡ length (old.tree.items ++ whole.0) = ap length all in
       omega (
         arith,
@@ -354,10 +387,13 @@ module _ {shop : Shop} {budget : ℕ} {root : List ℕ} {whole : List ℕ × Inc
       )
 
   -- the plus of a child is written, and its node entered
-  pub walking-down : (job : ℕ) (mid new : Search) (child : Frame) → Some job ≡ find (contains now.unscheduled) (numbers here.next shop.jobs) →
-      Opens shop budget below job now mid → Entered job mid new → IsFrontOf shop (now.node.items ++ job ∷ []) child.front →
+  pub walking-down : (job : ℕ) (mid new : Search) (child : Frame) →
+      Some job ≡ find (contains now.unscheduled) (numbers here.next shop.jobs) →
+      Opens shop budget below job now mid → Entered job mid new →
+      IsFrontOf shop (now.node.items ++ job ∷ []) child.front →
       IsRestOf shop (members new.unscheduled) child.rest →
-      ((machine : ℕ) → 1 ≤ machine → machine ≤ shop.machines → slice_index_or child.second (machine - 1) 0 ≡ second_tail shop (members new.unscheduled) machine) →
+      ((machine : ℕ) → 1 ≤ machine → machine ≤ shop.machines →
+      slice_index_or child.second (machine - 1) 0 ≡ second_tail shop (members new.unscheduled) machine) →
       child.next ≡ 1 →
       IsWalking shop budget root whole old child (below - 1) (moved here (job + 1) ∷ fs) new
   walking-down job mid new child found opens entered front rest_given second next =
@@ -367,31 +403,44 @@ module _ {shop : Shop} {budget : ℕ} {root : List ℕ} {whole : List ℕ × Inc
       let left : ℕ = below - 1 in
       let later : Frame = moved here (job + 1) in
       let back : job + 1 - 1 ≡ job = omega arith in
-      let here_at : path root fs ++ (job + 1 - 1) ∷ [] ≡ now.node.items ++ job ∷ [] = ap (λ j. path root fs ++ j ∷ []) back ∙ ap (λ q. q ++ job ∷ []) (sym i.node) in
-      let node : new.node.items ≡ now.node.items ++ job ∷ [] = entered.node ∙ ap (λ q. q ++ job ∷ []) opens.wrote.node in
-      let set : new.unscheduled ≡ slice_set now.unscheduled (job - 1) false = entered.unscheduled ∙ ap (λ u. slice_set u (job - 1) false) opens.wrote.unscheduled in
+      let here_at : path root fs ++ (job + 1 - 1) ∷ [] ≡ now.node.items ++ job ∷ [] =
+      ap (λ j. path root fs ++ j ∷ []) back ∙ ap (λ q. q ++ job ∷ []) (sym i.node) in
+      let node : new.node.items ≡ now.node.items ++ job ∷ [] = entered.node
+      ∙ ap (λ q. q ++ job ∷ []) opens.wrote.node in
+      let set : new.unscheduled ≡ slice_set now.unscheduled (job - 1) false = entered.unscheduled
+      ∙ ap (λ u. slice_set u (job - 1) false) opens.wrote.unscheduled in
       let st_is : incumbent_of new ≡ st = entered.incumbent ∙ opens.wrote.incumbent in
-      let at_kid = at-child shop now.node.items here.front child.front now.unscheduled (suc below) below job i.at refl kid.1.from kid.1.to kid.2 front in
+      let at_kid = at-child shop now.node.items here.front child.front now.unscheduled
+      (suc below) below job i.at refl kid.1.from kid.1.to kid.2 front in
       let at_new : IsAt shop new.node.items child.front new.unscheduled (suc left) =
       subst (λ q. IsAt shop q child.front new.unscheduled (suc left)) (sym node)
       (subst (λ u. IsAt shop (now.node.items ++ job ∷ []) child.front u (suc left)) (sym set)
-      (subst (IsAt shop (now.node.items ++ job ∷ []) child.front (slice_set now.unscheduled (job - 1) false)) more at_kid)) in
-      let members_is : members new.unscheduled ≡ jobs_left shop.jobs new.node.items = members-are shop new.node.items child.front new.unscheduled (suc left) at_new in
-      let left_is : members new.unscheduled ≡ jobs_left shop.jobs (path root (later ∷ fs)) = members_is ∙ ap (jobs_left shop.jobs) (node ∙ sym here_at) in
+      (subst (IsAt shop (now.node.items ++ job
+      ∷ []) child.front (slice_set now.unscheduled (job - 1) false)) more at_kid)) in
+      let members_is : members new.unscheduled ≡ jobs_left shop.jobs new.node.items =
+      members-are shop new.node.items child.front new.unscheduled (suc left) at_new in
+      let left_is : members new.unscheduled ≡ jobs_left shop.jobs (path root (later ∷ fs)) = members_is
+      ∙ ap (jobs_left shop.jobs) (node ∙ sym here_at) in
       let first : Walk = walk shop bound_at below (path root fs ++ job ∷ []) st in
       let deeper : Incumbent → Walk = walk_from shop left (path root (later ∷ fs)) 1 in
       let rest : Incumbent → Walk = resume shop root below (later ∷ fs) in
-      let uncut : find (λ machine. nat_le st.0 (bound_at shop (path root fs ++ job ∷ []) machine)) (numbers 1 shop.machines) ≡ None =
-      ap (λ q. find (λ machine. nat_le st.0 (bound_at shop (q ++ job ∷ []) machine)) (numbers 1 shop.machines)) (sym i.node) ∙ opens.uncut in
+      let uncut : find (λ machine. nat_le st.0 (bound_at shop (path root fs ++ job
+      ∷ []) machine)) (numbers 1 shop.machines) ≡ None =
+      ap (λ q. find (λ machine. nat_le st.0 (bound_at shop (q ++ job
+      ∷ []) machine)) (numbers 1 shop.machines)) (sym i.node) ∙ opens.uncut in
       let first_is : first ≡ (43 ∷ (deeper st).0, (deeper st).1) =
       ap (λ n. walk shop bound_at n (path root fs ++ job ∷ []) st) more
-      ∙ ap (answer_of st (walk_each (λ k. walk shop bound_at left ((path root fs ++ job ∷ []) ++ k ∷ [])) (jobs_left shop.jobs (path root fs ++ job ∷ [])) st)) uncut
-      ∙ ap (λ q. (43 ∷ (walk_from shop left q 1 st).0, (walk_from shop left q 1 st).1)) (ap (λ j. path root fs ++ j ∷ []) (sym back)) in
-      let all : resume shop root below (here ∷ fs) st ≡ then_walk first rest = resume-next shop root below job here later fs st kid.0 refl in
+      ∙ ap (answer_of st (walk_each (λ k. walk shop bound_at left ((path root fs ++ job ∷ []) ++ k
+      ∷ [])) (jobs_left shop.jobs (path root fs ++ job ∷ [])) st)) uncut
+      ∙ ap (λ q. (43 ∷ (walk_from shop left q 1 st).0, (walk_from shop left q 1 st).1)) (ap (λ j. path root fs ++ j
+      ∷ []) (sym back)) in
+      let all : resume shop root below (here ∷ fs) st ≡ then_walk first rest =
+      resume-next shop root below job here later fs st kid.0 refl in
       let tree : new.tree.items ≡ now.tree.items ++ 43 ∷ [] = entered.tree ∙ opens.wrote.tree in
       let child_rest : Incumbent → Walk = resume shop root left (child ∷ later ∷ fs) in
       let child_is : (s : Incumbent) → child_rest s ≡ then_walk (deeper s) rest = λ s.
-      ap (λ n. then_walk (walk_from shop left (path root (later ∷ fs)) n s) (resume shop root (suc left) (later ∷ fs))) next
+      ap (λ n. then_walk (walk_from shop left (path root (later ∷ fs)) n s) (resume shop root (suc left) (later
+      ∷ fs))) next
       ∙ ap (λ n. then_walk (deeper s) (resume shop root n (later ∷ fs))) (sym more) in
       let whole_is : resume shop root below (here ∷ fs) st ≡ (43 ∷ (child_rest st).0, (child_rest st).1) =
       all ∙ ap (λ f. then_walk f rest) first_is ∙ ap (λ r. (43 ∷ r.0, r.1)) (sym (child_is st)) in
@@ -408,7 +457,8 @@ module _ {shop : Shop} {budget : ℕ} {root : List ℕ} {whole : List ℕ × Inc
         next = omega (arith, next);
         past = omega (arith, next);
         stack = (
-          moved-frame shop (path root fs) (suc (suc left)) here (job + 1) (subst (λ n. IsFrame shop (path root fs) (suc n) here) more i.frame),
+          moved-frame shop (path root fs) (suc (suc left)) here (job
+              + 1) (subst (λ n. IsFrame shop (path root fs) (suc n) here) more i.frame),
           subst (IsChild shop.jobs (path root fs)) (sym back) kid.1,
           subst (AreJobs shop.jobs) i.node i.at.jobs,
           subst (λ n. IsStack shop root (suc (suc n)) fs) more i.stack,
@@ -425,16 +475,20 @@ module _ {shop : Shop} {budget : ℕ} {root : List ℕ} {whole : List ℕ × Inc
       }
 
   -- the node of a child whose plus is written
-  pub walking-entered : (job : ℕ) (mid new : Search) → Some job ≡ find (contains now.unscheduled) (numbers here.next shop.jobs) →
+  pub walking-entered : (job : ℕ) (mid new : Search) → Some job
+      ≡ find (contains now.unscheduled) (numbers here.next shop.jobs) →
       Opens shop budget below job now mid → Entered job mid new →
       IsAt shop new.node.items (front_of shop (now.node.items ++ job ∷ [])) new.unscheduled below
       × IsRestOf shop (members (slice_set new.unscheduled (job - 1) true)) here.rest
   walking-entered job mid new found opens entered =
       let kid = walking-child job found in
-      let node : new.node.items ≡ now.node.items ++ job ∷ [] = entered.node ∙ ap (λ q. q ++ job ∷ []) opens.wrote.node in
-      let set : new.unscheduled ≡ slice_set now.unscheduled (job - 1) false = entered.unscheduled ∙ ap (λ u. slice_set u (job - 1) false) opens.wrote.unscheduled in
+      let node : new.node.items ≡ now.node.items ++ job ∷ [] = entered.node
+      ∙ ap (λ q. q ++ job ∷ []) opens.wrote.node in
+      let set : new.unscheduled ≡ slice_set now.unscheduled (job - 1) false = entered.unscheduled
+      ∙ ap (λ u. slice_set u (job - 1) false) opens.wrote.unscheduled in
       let front : List ℕ = front_of shop (now.node.items ++ job ∷ []) in
-      let at_kid = at-child shop now.node.items here.front front now.unscheduled (suc below) below job i.at refl kid.1.from kid.1.to kid.2
+      let at_kid = at-child shop now.node.items here.front front now.unscheduled
+      (suc below) below job i.at refl kid.1.from kid.1.to kid.2
       (front_of-is shop (now.node.items ++ job ∷ [])) in
       let whole : slice_set new.unscheduled (job - 1) true ≡ now.unscheduled =
       ap (λ u. slice_set u (job - 1) true) set ∙ put-back now.unscheduled (job - 1) kid.2 in
@@ -448,12 +502,15 @@ module _ {shop : Shop} {budget : ℕ} {root : List ℕ} {whole : List ℕ × Inc
       )
 
   -- no child is left: back at the node above
-  pub walking-up : (f : Frame) (gs : List Frame) (new : Search) → None ≡ find (contains now.unscheduled) (numbers here.next shop.jobs) →
+  pub walking-up : (f : Frame) (gs : List Frame) (new : Search) →
+      None ≡ find (contains now.unscheduled) (numbers here.next shop.jobs) →
       fs ≡ f ∷ gs → Left (f.next - 1) (path root gs) now new →
       IsWalking shop budget root whole old f (suc below) gs new
   walking-up f gs new none e left =
       let empty : left_from shop.jobs (path root fs) here.next ≡ [] =
-      subst (λ q. left_from shop.jobs q here.next ≡ []) i.node (left-none shop now.node.items here.front now.unscheduled (suc below) here.next i.at i.next i.past none) in
+      subst (λ q. left_from shop.jobs q here.next
+      ≡ []) i.node (left-none shop now.node.items here.front now.unscheduled
+      (suc below) here.next i.at i.next i.past none) in
       let st : Incumbent = incumbent_of now in
       let above = subst (IsStack shop root (suc (suc below))) e i.stack in
       let job : ℕ = f.next - 1 in
@@ -466,7 +523,8 @@ module _ {shop : Shop} {budget : ℕ} {root : List ℕ} {whole : List ℕ × Inc
         at =
             subst (λ q. IsAt shop q f.front new.unscheduled (suc (suc below))) (sym left.node)
             (subst (λ u. IsAt shop (path root gs) f.front u (suc (suc below))) (sym left.unscheduled)
-            (at-parent shop (path root gs) here.front now.unscheduled (suc below) (suc (suc below)) job f at_now above.0 above.1 above.2));
+            (at-parent shop (path root gs) here.front now.unscheduled (suc below) (suc
+            (suc below)) job f at_now above.0 above.1 above.2));
         node = left.node;
         frame = above.0;
         next = omega (arith, above.1.from);
@@ -476,17 +534,21 @@ module _ {shop : Shop} {budget : ℕ} {root : List ℕ} {whole : List ℕ × Inc
             ∙ ap (λ t. t ++ (resume shop root (suc below) (f ∷ gs) st).0) left.tree
             ∙ ap (λ w. now.tree.items ++ w.0) (sym same)
             ∙ i.text;
-        state = ap (λ s. (resume shop root (suc below) (f ∷ gs) s).1) left.incumbent ∙ ap (λ w. w.1) (sym same) ∙ i.state;
+        state = ap (λ s. (resume shop root (suc below) (f ∷ gs) s).1) left.incumbent ∙ ap (λ w. w.1) (sym same)
+            ∙ i.state;
         many = omega (arith, i.many);
         within = subst (λ t. length t ≤ budget) (sym left.tree) i.within;
       }
 
   -- no child is left, of the root
-  pub walking-done : (front : List ℕ) (count : ℕ) → None ≡ find (contains now.unscheduled) (numbers here.next shop.jobs) → fs ≡ [] →
+  pub walking-done : (front : List ℕ) (count : ℕ) →
+      None ≡ find (contains now.unscheduled) (numbers here.next shop.jobs) → fs ≡ [] →
       IsAt shop old.node.items front old.unscheduled count → root ≡ old.node.items → Gave budget whole old now
   walking-done front count none e start root_is =
       let empty : left_from shop.jobs (path root fs) here.next ≡ [] =
-      subst (λ q. left_from shop.jobs q here.next ≡ []) i.node (left-none shop now.node.items here.front now.unscheduled (suc below) here.next i.at i.next i.past none) in
+      subst (λ q. left_from shop.jobs q here.next
+      ≡ []) i.node (left-none shop now.node.items here.front now.unscheduled
+      (suc below) here.next i.at i.next i.past none) in
       let st : Incumbent = incumbent_of now in
       let node : now.node.items ≡ old.node.items = i.node ∙ ap (path root) e ∙ root_is in
       let same : resume shop root below (here ∷ fs) st ≡ ([], st) =

@@ -42,13 +42,17 @@ range-split a zero d = ap (λ n. range_with_len n (0 + d)) (omega arith) ∙ ap 
 range-split a (suc c) d =
     let n : suc c + d ≡ suc (c + d) = omega arith in
     let m : a + 1 + c ≡ a + suc c = omega arith in
-    ap (range_with_len a) n ∙ ap (λ xs. a ∷ xs) (range-split (a + 1) c d) ∙ ap (λ k. a ∷ range_with_len (a + 1) c ++ range_with_len k d) m
+    ap (range_with_len a) n ∙ ap (λ xs. a ∷ xs) (range-split (a + 1) c d)
+    ∙ ap (λ k. a ∷ range_with_len (a + 1) c ++ range_with_len k d) m
 
-range-same : (p q : ℕ → Bool) (a len : ℕ) → ((k : ℕ) → a ≤ k → k < a + len → p k ≡ q k) → filter p (range_with_len a len) ≡ filter q (range_with_len a len)
+range-same : (p q : ℕ → Bool) (a len : ℕ) → ((k : ℕ) → a ≤ k → k < a + len → p k ≡ q k) →
+    filter p (range_with_len a len) ≡ filter q (range_with_len a len)
 range-same p q a zero h = refl
 range-same p q a (suc len) h =
-    ap (λ b. cond b (a ∷ filter p (range_with_len (a + 1) len)) (filter p (range_with_len (a + 1) len))) (h a (omega arith) (omega arith))
-    ∙ ap (λ xs. cond (q a) (a ∷ xs) xs) (range-same p q (a + 1) len (λ k low high. h k (omega arith) (omega (arith, high))))
+    ap (λ b. cond b (a ∷ filter p (range_with_len (a + 1) len)) (filter p (range_with_len (a
+    + 1) len))) (h a (omega arith) (omega arith))
+    ∙ ap (λ xs. cond (q a) (a ∷ xs) xs) (range-same p q (a
+    + 1) len (λ k low high. h k (omega arith) (omega (arith, high))))
 
 -- the numbers before one, it, and those behind it
 numbers-split : (n job : ℕ) → 1 ≤ job → job ≤ n → numbers 1 n ≡ numbers 1 (job - 1) ++ job ∷ numbers (job + 1) n
@@ -65,34 +69,47 @@ abbrev pub left_under : List ℕ → ℕ → List ℕ
 left_under list job = filter (λ k. not (has list k)) (numbers 1 (job - 1))
 
 -- the jobs left, parted at one of them
-pub left-split : (n : ℕ) (list : List ℕ) (job : ℕ) → 1 ≤ job → job ≤ n → has list job ≡ false → jobs_left n list ≡ left_under list job ++ job ∷ left_from n list (job + 1)
+pub left-split : (n : ℕ) (list : List ℕ) (job : ℕ) → 1 ≤ job → job ≤ n → has list job ≡ false →
+    jobs_left n list ≡ left_under list job ++ job ∷ left_from n list (job + 1)
 left-split n list job low high fresh =
     let p : ℕ → Bool = λ k. not (has list k) in
     ap (filter p) (numbers-split n job low high)
     ∙ filter-append p (numbers 1 (job - 1)) (job ∷ numbers (job + 1) n)
-    ∙ ap (λ b. filter p (numbers 1 (job - 1)) ++ cond b (job ∷ filter p (numbers (job + 1) n)) (filter p (numbers (job + 1) n))) (ap not fresh)
+    ∙ ap (λ b. filter p (numbers 1 (job - 1))
+    ++ cond b (job ∷ filter p (numbers (job + 1) n)) (filter p (numbers (job + 1) n))) (ap not fresh)
 
 -- and those left once it is taken
-pub left-without : (n : ℕ) (list : List ℕ) (job : ℕ) → 1 ≤ job → job ≤ n → jobs_left n (list ++ job ∷ []) ≡ left_under list job ++ left_from n list (job + 1)
+pub left-without : (n : ℕ) (list : List ℕ) (job : ℕ) → 1 ≤ job → job ≤ n →
+    jobs_left n (list ++ job ∷ []) ≡ left_under list job ++ left_from n list (job + 1)
 left-without n list job low high =
     let p : ℕ → Bool = λ k. not (has list k) in
     let q : ℕ → Bool = λ k. not (has (list ++ job ∷ []) k) in
     ap (filter q) (numbers-split n job low high)
     ∙ filter-append q (numbers 1 (job - 1)) (job ∷ numbers (job + 1) n)
-    ∙ ap (λ b. filter q (numbers 1 (job - 1)) ++ cond b (job ∷ filter q (numbers (job + 1) n)) (filter q (numbers (job + 1) n))) (ap not (has-same list job))
-    ∙ ap (λ xs. xs ++ filter q (numbers (job + 1) n)) (range-same q p 1 (job - 1 + 1 - 1) (λ k a b. ap not (has-other list job k (omega (arith, b)))))
-    ∙ ap (λ xs. filter p (numbers 1 (job - 1)) ++ xs) (range-same q p (job + 1) (n + 1 - (job + 1)) (λ k a b. ap not (has-other list job k (omega (arith, a)))))
+    ∙ ap (λ b. filter q (numbers 1 (job - 1))
+    ++ cond b (job ∷ filter q (numbers (job + 1) n)) (filter q (numbers (job + 1) n))) (ap not (has-same list job))
+    ∙ ap (λ xs. xs ++ filter q (numbers (job + 1) n)) (range-same q p 1 (job - 1
+    + 1 - 1) (λ k a b. ap not (has-other list job k (omega (arith, b)))))
+    ∙ ap (λ xs. filter p (numbers 1 (job - 1))
+    ++ xs) (range-same q p (job + 1) (n + 1 - (job
+    + 1)) (λ k a b. ap not (has-other list job k (omega (arith, a)))))
 
 -- sums and counts over the jobs left
-pub left-sum : (f : ℕ → ℕ) (n : ℕ) (list : List ℕ) (job : ℕ) → 1 ≤ job → job ≤ n → has list job ≡ false → sum_by f (jobs_left n list) ≡ f job + sum_by f (jobs_left n (list ++ job ∷ []))
+pub left-sum : (f : ℕ → ℕ) (n : ℕ) (list : List ℕ) (job : ℕ) → 1 ≤ job → job ≤ n → has list job ≡ false →
+    sum_by f (jobs_left n list) ≡ f job + sum_by f (jobs_left n (list ++ job ∷ []))
 left-sum f n list job low high fresh =
-    let a = ap (sum_by f) (left-split n list job low high fresh) ∙ sum_by-append f (left_under list job) (job ∷ left_from n list (job + 1)) in
+    let a = ap (sum_by f) (left-split n list job low high fresh)
+    ∙ sum_by-append f (left_under list job) (job ∷ left_from n list (job + 1)) in
     let b = sum_by-cons f job (left_from n list (job + 1)) in
-    let c = ap (sum_by f) (left-without n list job low high) ∙ sum_by-append f (left_under list job) (left_from n list (job + 1)) in
+    let c = ap (sum_by f) (left-without n list job low high)
+    ∙ sum_by-append f (left_under list job) (left_from n list (job + 1)) in
     omega (arith, a, b, c)
 
-pub left-count : (n : ℕ) (list : List ℕ) (job : ℕ) → 1 ≤ job → job ≤ n → has list job ≡ false → length (jobs_left n list) ≡ suc (length (jobs_left n (list ++ job ∷ [])))
+pub left-count : (n : ℕ) (list : List ℕ) (job : ℕ) → 1 ≤ job → job ≤ n → has list job ≡ false →
+    length (jobs_left n list) ≡ suc (length (jobs_left n (list ++ job ∷ [])))
 left-count n list job low high fresh =
-    let a = ap length (left-split n list job low high fresh) ∙ length-append (left_under list job) (job ∷ left_from n list (job + 1)) in
-    let c = ap length (left-without n list job low high) ∙ length-append (left_under list job) (left_from n list (job + 1)) in
+    let a = ap length (left-split n list job low high fresh)
+    ∙ length-append (left_under list job) (job ∷ left_from n list (job + 1)) in
+    let c = ap length (left-without n list job low high)
+    ∙ length-append (left_under list job) (left_from n list (job + 1)) in
     omega (arith, a, c)

@@ -52,7 +52,8 @@ first-bounded v (f ∷ fs) g all e =
     ]
 
 -- a lower one at the end wins
-lower-end : (v : ℕ) (fs : List Found) (g : Found) (o : Option Found) → at_least v fs ≡ true → g.value < v → first fs ≡ o → lower o (Some g) ≡ Some g
+lower-end : (v : ℕ) (fs : List Found) (g : Found) (o : Option Found) → at_least v fs ≡ true → g.value < v →
+    first fs ≡ o → lower o (Some g) ≡ Some g
 lower-end v fs g None all below e = refl
 lower-end v fs g (Some f) all below e =
     let low : v ≤ f.value = first-bounded v fs f all e in
@@ -72,22 +73,27 @@ first-push [] g = refl
 first-push (f ∷ fs) g =
     let ih = first-push fs g in
     let test : at_least f.value (fs ++ g ∷ []) ≡ (at_least f.value fs && nat_le f.value g.value) =
-    list_all-append (λ h. nat_le f.value h.value) fs (g ∷ []) ∙ ap (λ b. at_least f.value fs && b) (and-true (nat_le f.value g.value)) in
+    list_all-append (λ h. nat_le f.value h.value) fs (g ∷ [])
+    ∙ ap (λ b. at_least f.value fs && b) (and-true (nat_le f.value g.value)) in
     let rest : Option Found = first (fs ++ g ∷ []) in
     elim (cases_Bool (at_least f.value fs)) [
       | inl all ↦
           let here : first (f ∷ fs) ≡ Some f = cond-true (at_least f.value fs) (Some f) (first fs) all in
           elim (cases_lt g.value f.value) [
             | inl below ↦
-                let no : at_least f.value (fs ++ g ∷ []) ≡ false = test ∙ ap (λ b. b && nat_le f.value g.value) all ∙ lt-leb f.value g.value below in
+                let no : at_least f.value (fs ++ g ∷ []) ≡ false = test ∙ ap (λ b. b && nat_le f.value g.value) all
+                ∙ lt-leb f.value g.value below in
                 cond-false (at_least f.value (fs ++ g ∷ [])) (Some f) rest no
                 ∙ ih
                 ∙ lower-end f.value fs g (first fs) all below refl
-                ∙ sym (ap (λ o. lower o (Some g)) here ∙ cond-true (nat_lt g.value f.value) (Some g) (Some f) (lt-ltb g.value f.value below))
+                ∙ sym (ap (λ o. lower o (Some g)) here
+                ∙ cond-true (nat_lt g.value f.value) (Some g) (Some f) (lt-ltb g.value f.value below))
             | inr above ↦
-                let yes : at_least f.value (fs ++ g ∷ []) ≡ true = test ∙ ap (λ b. b && nat_le f.value g.value) all ∙ le-leb f.value g.value above in
+                let yes : at_least f.value (fs ++ g ∷ []) ≡ true = test ∙ ap (λ b. b && nat_le f.value g.value) all
+                ∙ le-leb f.value g.value above in
                 cond-true (at_least f.value (fs ++ g ∷ [])) (Some f) rest yes
-                ∙ sym (ap (λ o. lower o (Some g)) here ∙ cond-false (nat_lt g.value f.value) (Some g) (Some f) (le-ltb g.value f.value above))
+                ∙ sym (ap (λ o. lower o (Some g)) here
+                ∙ cond-false (nat_lt g.value f.value) (Some g) (Some f) (le-ltb g.value f.value above))
           ]
       | inr some ↦
           let no : at_least f.value (fs ++ g ∷ []) ≡ false = test ∙ ap (λ b. b && nat_le f.value g.value) some in
@@ -106,9 +112,11 @@ first-more fs (Some g) = first-push fs g
 
 -- the bests of the first prefixes
 abbrev pub bests : Planned → ℕ → List Found
-bests plan count = flat_map (λ prefix. option_to_list (best plan.shop plan.start.value prefix)) (take count (prefixes_of plan))
+bests plan count = flat_map (λ prefix. option_to_list (best plan.shop plan.start.value prefix)) (take count
+    (prefixes_of plan))
 
-pub bests-more : (plan : Planned) (number : ℕ) → number < length (prefixes_of plan) → first (bests plan (number + 1)) ≡ lower (first (bests plan number)) (best_of plan number)
+pub bests-more : (plan : Planned) (number : ℕ) → number < length (prefixes_of plan) →
+    first (bests plan (number + 1)) ≡ lower (first (bests plan number)) (best_of plan number)
 bests-more plan number h =
     let f : List ℕ → List Found = λ prefix. option_to_list (best plan.shop plan.start.value prefix) in
     let more : bests plan (number + 1) ≡ bests plan number ++ option_to_list (best_of plan number) =
@@ -128,28 +136,35 @@ take-all (x ∷ xs) = ap (λ ys. x ∷ ys) (take-all xs)
 pub trees-count : (plan : Planned) → length (trees_of plan) ≡ length (prefixes_of plan)
 trees-count plan = length-map (prefixes_of plan) (tree plan.shop bound_at plan.start.value)
 
-pub tree-at : (plan : Planned) (number : ℕ) → number < length (prefixes_of plan) → slice_index_or (trees_of plan) number [] ≡ tree_of plan number
+pub tree-at : (plan : Planned) (number : ℕ) → number < length (prefixes_of plan) →
+    slice_index_or (trees_of plan) number [] ≡ tree_of plan number
 tree-at plan number h = get_or-map (tree plan.shop bound_at plan.start.value) (prefixes_of plan) number [] [] h
 
-pub trees-more : (plan : Planned) (number : ℕ) → number < length (prefixes_of plan) → take (number + 1) (trees_of plan) ≡ take number (trees_of plan) ++ tree_of plan number ∷ []
+pub trees-more : (plan : Planned) (number : ℕ) → number < length (prefixes_of plan) →
+    take (number + 1) (trees_of plan) ≡ take number (trees_of plan) ++ tree_of plan number ∷ []
 trees-more plan number h =
     let low : number < length (trees_of plan) = omega (arith, h, trees-count plan) in
     take_more (trees_of plan) number [] low ∙ ap (λ t. take number (trees_of plan) ++ t ∷ []) (tree-at plan number h)
 
-pub bests-all : (plan : Planned) → bests plan (length (prefixes_of plan)) ≡ flat_map (λ prefix. option_to_list (best plan.shop plan.start.value prefix)) (prefixes_of plan)
-bests-all plan = ap (flat_map (λ prefix. option_to_list (best plan.shop plan.start.value prefix))) (take-all (prefixes_of plan))
+pub bests-all : (plan : Planned) → bests plan (length (prefixes_of plan))
+    ≡ flat_map (λ prefix. option_to_list (best plan.shop plan.start.value prefix)) (prefixes_of plan)
+bests-all plan = ap (flat_map (λ prefix. option_to_list (best plan.shop plan.start.value prefix))) (take-all
+    (prefixes_of plan))
 
 -- the first trees of a plan are within the budget
 abbrev pub AreWithin : Planned → ℕ → Type 0
 AreWithin plan count = AllByRecursion (λ text. length text ≤ plan.options.budget) (take count (trees_of plan))
 
-pub within-more : (plan : Planned) (number : ℕ) → number < length (prefixes_of plan) → length (tree_of plan number) ≤ plan.options.budget → AreWithin plan number → AreWithin plan (number + 1)
+pub within-more : (plan : Planned) (number : ℕ) → number < length (prefixes_of plan) →
+    length (tree_of plan number) ≤ plan.options.budget → AreWithin plan number → AreWithin plan (number + 1)
 within-more plan number h fits w =
     subst (AllByRecursion (λ text. length text ≤ plan.options.budget)) (sym (trees-more plan number h))
-    (all-append (λ text. length text ≤ plan.options.budget) (take number (trees_of plan)) (tree_of plan number ∷ []) w (fits, tt))
+    (all-append (λ text. length text ≤ plan.options.budget) (take number (trees_of plan)) (tree_of plan number
+    ∷ []) w (fits, tt))
 
 -- where the first text beyond a budget stands
-over-place : (budget : ℕ) (texts : List (List ℕ)) (i : ℕ) → i < length texts → AllByRecursion (λ text. length text ≤ budget) (take i texts) →
+over-place : (budget : ℕ) (texts : List (List ℕ)) (i : ℕ) → i < length texts →
+    AllByRecursion (λ text. length text ≤ budget) (take i texts) →
     budget < length (slice_index_or texts i []) → prefix_len (λ text. not (nat_lt budget (length text))) texts ≡ i
 over-place budget [] i h w over = absurd (omega arith)
 over-place budget (t ∷ ts) zero h w over =
@@ -158,47 +173,59 @@ over-place budget (t ∷ ts) zero h w over =
 over-place budget (t ∷ ts) (suc i) h w over =
     let test : not (nat_lt budget (length t)) ≡ true = ap not (le-ltb budget (length t) w.0) in
     let rest = over-place budget ts i (omega arith) w.1 over in
-    cond-true (not (nat_lt budget (length t))) (1 + prefix_len (λ text. not (nat_lt budget (length text))) ts) 0 test ∙ omega (arith, rest)
+    cond-true (not (nat_lt budget (length t))) (1 + prefix_len (λ text. not (nat_lt budget (length text))) ts) 0 test
+    ∙ omega (arith, rest)
 
-none-over : (budget : ℕ) (texts : List (List ℕ)) → AllByRecursion (λ text. length text ≤ budget) texts → prefix_len (λ text. not (nat_lt budget (length text))) texts ≡ length texts
+none-over : (budget : ℕ) (texts : List (List ℕ)) → AllByRecursion (λ text. length text ≤ budget) texts →
+    prefix_len (λ text. not (nat_lt budget (length text))) texts ≡ length texts
 none-over budget [] w = refl
 none-over budget (t ∷ ts) w =
     let test : not (nat_lt budget (length t)) ≡ true = ap not (le-ltb budget (length t) w.0) in
     let rest = none-over budget ts w.1 in
-    cond-true (not (nat_lt budget (length t))) (1 + prefix_len (λ text. not (nat_lt budget (length text))) ts) 0 test ∙ omega (arith, rest)
+    cond-true (not (nat_lt budget (length t))) (1 + prefix_len (λ text. not (nat_lt budget (length text))) ts) 0 test
+    ∙ omega (arith, rest)
 
-pub first-over : (plan : Planned) (number : ℕ) → number < length (prefixes_of plan) → AreWithin plan number → plan.options.budget < length (tree_of plan number) →
+pub first-over : (plan : Planned) (number : ℕ) → number < length (prefixes_of plan) → AreWithin plan number →
+    plan.options.budget < length (tree_of plan number) →
     first_over_budget plan ≡ Some number
 first-over plan number h w over =
     let texts : List (List ℕ) = trees_of plan in
     let low : number < length texts = omega (arith, h, trees-count plan) in
-    let longer : plan.options.budget < length (slice_index_or texts number []) = subst (λ t. plan.options.budget < length t) (sym (tree-at plan number h)) over in
+    let longer : plan.options.budget < length (slice_index_or texts number []) =
+    subst (λ t. plan.options.budget < length t) (sym (tree-at plan number h)) over in
     let place = over-place plan.options.budget texts number low w longer in
-    ap (λ k. cond (nat_lt k (length texts)) (Some k) None) place ∙ cond-true (nat_lt number (length texts)) (Some number) None (lt-ltb number (length texts) low)
+    ap (λ k. cond (nat_lt k (length texts)) (Some k) None) place
+    ∙ cond-true (nat_lt number (length texts)) (Some number) None (lt-ltb number (length texts) low)
 
 pub no-over : (plan : Planned) → AreWithin plan (length (prefixes_of plan)) → first_over_budget plan ≡ None
 no-over plan w =
     let texts : List (List ℕ) = trees_of plan in
     let whole : AllByRecursion (λ text. length text ≤ plan.options.budget) texts =
-    subst (AllByRecursion (λ text. length text ≤ plan.options.budget)) (ap (λ k. take k texts) (sym (trees-count plan)) ∙ take-all texts) w in
+    subst (AllByRecursion (λ text. length text ≤ plan.options.budget)) (ap (λ k. take k texts) (sym (trees-count plan))
+    ∙ take-all texts) w in
     let place = none-over plan.options.budget texts whole in
     let past : nat_lt (length texts) (length texts) ≡ false = le-ltb (length texts) (length texts) (omega arith) in
-    ap (λ k. cond (nat_lt k (length texts)) (Some k) None) place ∙ cond-false (nat_lt (length texts) (length texts)) (Some (length texts)) None past
+    ap (λ k. cond (nat_lt k (length texts)) (Some k) None) place
+    ∙ cond-false (nat_lt (length texts) (length texts)) (Some (length texts)) None past
 
 -- Tallies.
 
-lower-is : (next least : Option Best) → option_map found_of (cond (undercuts next least) next least) ≡ lower (option_map found_of least) (option_map found_of next)
+lower-is : (next least : Option Best) → option_map found_of (cond (undercuts next least) next least)
+    ≡ lower (option_map found_of least) (option_map found_of next)
 lower-is None None = refl
 lower-is None (Some least) = refl
 lower-is (Some next) None = refl
 lower-is (Some next) (Some least) = pick (nat_lt next.value least.value)
   where
-    pick : (b : Bool) → option_map found_of (cond b (Some next) (Some least)) ≡ cond b (Some (found_of next)) (Some (found_of least))
+    pick : (b : Bool) → option_map found_of (cond b (Some next) (Some least))
+        ≡ cond b (Some (found_of next)) (Some (found_of least))
     pick true = refl
     pick false = refl
 
-pub tally-more : (plan : Planned) (number : ℕ) (old new : Tally) (best : Option Best) (text : Vec ℕ Global) → number < length (prefixes_of plan) → IsTally plan number old →
-    IsLawful plan number (Done best text) → new.best ≡ cond (undercuts best old.best) best old.best → new.trees.items ≡ old.trees.items ++ text ∷ [] → IsTally plan (number + 1) new
+pub tally-more : (plan : Planned) (number : ℕ) (old new : Tally) (best : Option Best) (text : Vec ℕ Global) →
+    number < length (prefixes_of plan) → IsTally plan number old →
+    IsLawful plan number (Done best text) → new.best ≡ cond (undercuts best old.best) best old.best →
+    new.trees.items ≡ old.trees.items ++ text ∷ [] → IsTally plan (number + 1) new
 tally-more plan number old new best text h is lawful best_is trees_are = record {
   trees =
       ap (map (λ tree. tree.items)) trees_are
@@ -221,9 +248,11 @@ pub record Refuses (plan : Planned) (refused : Option RunFault) : Type 0 where
   pub none : refused ≡ None → first_over_budget plan ≡ None
 
 abbrev LawfulFrom : Planned → ℕ → List Outcome → Type 0
-LawfulFrom plan number outcomes = (i : ℕ) (other : Outcome) → i < length outcomes → IsLawful plan (number + i) (slice_index_or outcomes i other)
+LawfulFrom plan number outcomes = (i : ℕ) (other : Outcome) → i < length outcomes →
+    IsLawful plan (number + i) (slice_index_or outcomes i other)
 
-refusal-from : (plan : Planned) (number : ℕ) (outcomes : List Outcome) → number + length outcomes ≡ length (prefixes_of plan) → LawfulFrom plan number outcomes →
+refusal-from : (plan : Planned) (number : ℕ) (outcomes : List Outcome) →
+    number + length outcomes ≡ length (prefixes_of plan) → LawfulFrom plan number outcomes →
     AreWithin plan number → Refuses plan (first_refusal number outcomes)
 refusal-from plan number [] size lawful w =
     let all : number ≡ length (prefixes_of plan) = omega arith in
@@ -238,22 +267,33 @@ refusal-from plan number (o ∷ os) size lawful w =
     let rest : LawfulFrom plan (number + 1) os = λ i other h.
     let place : number + suc i ≡ number + 1 + i = omega arith in
     subst (λ k. IsLawful plan k (slice_index_or os i other)) place (lawful (suc i) other (omega arith)) in
-    go o (subst (λ k. IsLawful plan k o) zero_is here) low (λ more. refusal-from plan (number + 1) os (omega arith) rest more)
+    go o (subst (λ k. IsLawful plan k o) zero_is here) low (λ more. refusal-from plan (number
+    + 1) os (omega arith) rest more)
   where
-    go : (o : Outcome) → IsLawful plan number o → number < length (prefixes_of plan) → (AreWithin plan (number + 1) → Refuses plan (first_refusal (number + 1) os)) →
+    go : (o : Outcome) → IsLawful plan number o → number < length (prefixes_of plan) →
+        (AreWithin plan (number + 1) → Refuses plan (first_refusal (number + 1) os)) →
         Refuses plan (first_refusal number (o ∷ os))
-    go (Done best text) here low rest = rest (within-more plan number low (subst (λ t. length t ≤ plan.options.budget) here.1 here.2) w)
-    go outcome.OverBudget here low rest = record { over = λ k e. let same : number ≡ k = cc in first-over plan number low w here ∙ ap (λ k. Some k) same; none = λ e. absurd (cc) }
+    go (Done best text) here low rest =
+        rest (within-more plan number low (subst (λ t. length t ≤ plan.options.budget) here.1 here.2) w)
+    go outcome.OverBudget here low rest =
+        record {
+          over = λ k e. let same : number ≡ k = cc in first-over plan number low w here
+              ∙ ap (λ k. Some k) same;
+          none = λ e. absurd (cc);
+        }
     go NoMemory here low rest = record { over = λ k e. absurd (cc); none = λ e. absurd (cc) }
     go NoPrefix here low rest = absurd here
 
-pub refusals : (plan : Planned) (outcomes : List Outcome) → length outcomes ≡ length (prefixes_of plan) → AreLawful plan outcomes → Refuses plan (first_refusal 0 outcomes)
+pub refusals : (plan : Planned) (outcomes : List Outcome) → length outcomes ≡ length (prefixes_of plan) →
+    AreLawful plan outcomes → Refuses plan (first_refusal 0 outcomes)
 refusals plan outcomes size lawful =
     let whole : 0 + length outcomes ≡ length (prefixes_of plan) = omega (arith, size) in
-    refusal-from plan 0 outcomes whole (λ i other h. let same : i ≡ 0 + i = omega arith in subst (λ k. IsLawful plan k (slice_index_or outcomes i other)) same (lawful i other h)) tt
+    refusal-from plan 0 outcomes whole (λ i other h. let same : i ≡ 0 + i = omega arith in
+    subst (λ k. IsLawful plan k (slice_index_or outcomes i other)) same (lawful i other h)) tt
 
 -- outcomes that refuse nothing are all done
-pub done-at : (number : ℕ) (outcomes : List Outcome) (i : ℕ) (other : Outcome) → first_refusal number outcomes ≡ None → i < length outcomes → IsDone (slice_index_or outcomes i other)
+pub done-at : (number : ℕ) (outcomes : List Outcome) (i : ℕ) (other : Outcome) → first_refusal number outcomes ≡ None →
+    i < length outcomes → IsDone (slice_index_or outcomes i other)
 done-at number [] i other e h = absurd (omega arith)
 done-at number (o ∷ os) zero other e h = go o e
   where
@@ -271,12 +311,15 @@ done-at number (o ∷ os) (suc i) other e h = done-at (number + 1) os i other (g
     go NoPrefix e = absurd (cc)
 
 -- the verdict of a tally of all prefixes
-pub best-verdict : (plan : Planned) (tally : Tally) (b : Best) → IsTally plan (length (prefixes_of plan)) tally → tally.best ≡ Some b → found_of b ≡ verdict_of plan
+pub best-verdict : (plan : Planned) (tally : Tally) (b : Best) → IsTally plan (length (prefixes_of plan)) tally →
+    tally.best ≡ Some b → found_of b ≡ verdict_of plan
 best-verdict plan tally b is e =
-    let some : Some (found_of b) ≡ first (bests plan (length (prefixes_of plan))) = sym (ap (option_map found_of) e) ∙ is.best in
+    let some : Some (found_of b) ≡ first (bests plan (length (prefixes_of plan))) = sym (ap (option_map found_of) e)
+    ∙ is.best in
     ap (λ o. unwrap_or o plan.start) (some ∙ ap first (bests-all plan))
 
-pub start-verdict : (plan : Planned) (tally : Tally) → IsTally plan (length (prefixes_of plan)) tally → tally.best ≡ None → plan.start ≡ verdict_of plan
+pub start-verdict : (plan : Planned) (tally : Tally) → IsTally plan (length (prefixes_of plan)) tally →
+    tally.best ≡ None → plan.start ≡ verdict_of plan
 start-verdict plan tally is e =
     let none : None ≡ first (bests plan (length (prefixes_of plan))) = sym (ap (option_map found_of) e) ∙ is.best in
     ap (λ o. unwrap_or o plan.start) (none ∙ ap first (bests-all plan))
@@ -300,6 +343,7 @@ done-is NoMemory d = absurd d
 done-is NoPrefix d = absurd d
 
 -- the item after some others
-pub item-behind : (os : List Outcome) (o : Outcome) (rest : List Outcome) (other : Outcome) → slice_index_or (os ++ o ∷ rest) (length os) other ≡ o
+pub item-behind : (os : List Outcome) (o : Outcome) (rest : List Outcome) (other : Outcome) →
+    slice_index_or (os ++ o ∷ rest) (length os) other ≡ o
 item-behind [] o rest other = refl
 item-behind (p ∷ os) o rest other = item-behind os o rest other

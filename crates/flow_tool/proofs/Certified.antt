@@ -9,8 +9,16 @@ use Rattle.flow_cert.specs.Written.{certificate_of, text_with}
 use Rattle.flow_cert.proofs.Lawful.{verdict_is_certified}
 use Rattle.flow_tool.specs.Runs.{WroteCertificate}
 
-pub wrote-certificate : (shop : Shop) (plan : Planned) (verdict : Verdict) (old new : Option (List ℕ)) → plan.shop ≡ shop → IsPlan plan → IsVerdict plan verdict →
+pub wrote-certificate : (shop : Shop) (plan : Planned) (verdict : Verdict) (old new : Option (List ℕ)) →
+    plan.shop ≡ shop → IsPlan plan → IsVerdict plan verdict →
     Appends old new (text_with plan verdict) → WroteCertificate shop old new
 wrote-certificate shop plan verdict old new of is_plan is_verdict adds =
     let is = verdict_is_certified plan verdict is_plan is_verdict in
-    subst (λ s. WroteCertificate s old new) of (certificate_of plan, verdict.value, subst (Appends old new) is.text adds, is.lawful, is.least)
+    subst (λ s. WroteCertificate s old new) of (
+      certificate_of plan,
+      verdict.value,
+      subst
+          (Appends old new) is.text adds,
+      is.lawful,
+      is.least,
+    )

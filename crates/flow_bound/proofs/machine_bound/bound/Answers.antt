@@ -32,12 +32,16 @@ loop-job-preserved c =
       | then-contains w ↦
           let there : contains set job ≡ true = sym c.contains.ensures.value ∙ w.if-contains.true in
           let more : cond {A = ℕ} (contains set job) (f job) 0 ≡ f job = ap (λ b. cond b (f job) 0) there in
-          let lower : cond {A = ℕ} (contains set job) (min (least_to (job - 1)) (tail job)) (least_to (job - 1)) ≡ min (least_to (job - 1)) (tail job) =
+          let lower : cond {A = ℕ} (contains set job) (min (least_to (job - 1)) (tail job)) (least_to (job - 1))
+          ≡ min (least_to (job - 1)) (tail job) =
           ap (λ b. cond b (min (least_to (job - 1)) (tail job)) (least_to (job - 1))) there in
-          let value : slice_index_or c.sum_times.new.sums (job - 1) 0 ≡ tail job = c.sum_times.ensures job (omega arith) (omega arith) in
-          let new_owed : c.if-contains.owed ≡ kept f (contains set) (job + 1 - 1) = omega (arith, sum, owed, more, w.owed-is, c.time-time.ensures.value) in
+          let value : slice_index_or c.sum_times.new.sums (job - 1) 0 ≡ tail job =
+          c.sum_times.ensures job (omega arith) (omega arith) in
+          let new_owed : c.if-contains.owed ≡ kept f (contains set) (job + 1 - 1) =
+          omega (arith, sum, owed, more, w.owed-is, c.time-time.ensures.value) in
           let new_tail : c.if-contains.least_tail ≡ least_to (job + 1 - 1) =
-          w.least_tail-is ∙ w.min-least_tail.ensures ∙ ap (λ n. min n (slice_index_or c.sum_times.new.sums (job - 1) 0)) least_tail
+          w.least_tail-is ∙ w.min-least_tail.ensures
+          ∙ ap (λ n. min n (slice_index_or c.sum_times.new.sums (job - 1) 0)) least_tail
           ∙ ap (λ n. min (least_to (job - 1)) n) value ∙ sym lower ∙ sym least in
           record {
             end = c.loop-job.invariant.end;
@@ -49,10 +53,13 @@ loop-job-preserved c =
       | else-contains w ↦
           let there : contains set job ≡ false = sym c.contains.ensures.value ∙ w.if-contains.false in
           let same : cond {A = ℕ} (contains set job) (f job) 0 ≡ 0 = ap (λ b. cond b (f job) 0) there in
-          let kept_tail : cond {A = ℕ} (contains set job) (min (least_to (job - 1)) (tail job)) (least_to (job - 1)) ≡ least_to (job - 1) =
+          let kept_tail : cond {A = ℕ} (contains set job) (min (least_to (job - 1)) (tail job)) (least_to (job - 1))
+          ≡ least_to (job - 1) =
           ap (λ b. cond b (min (least_to (job - 1)) (tail job)) (least_to (job - 1))) there in
-          let new_owed : c.if-contains.owed ≡ kept f (contains set) (job + 1 - 1) = omega (arith, sum, owed, same, w.owed-is) in
-          let new_tail : c.if-contains.least_tail ≡ least_to (job + 1 - 1) = w.least_tail-is ∙ least_tail ∙ sym kept_tail ∙ sym least in
+          let new_owed : c.if-contains.owed ≡ kept f (contains set) (job + 1 - 1) =
+          omega (arith, sum, owed, same, w.owed-is) in
+          let new_tail : c.if-contains.least_tail ≡ least_to (job + 1 - 1) = w.least_tail-is ∙ least_tail
+          ∙ sym kept_tail ∙ sym least in
           record {
             end = c.loop-job.invariant.end;
             owed = new_owed;
@@ -65,7 +72,8 @@ loop-job-preserved c =
 -- the sum and the least tail of the whole set
 whole : (c : After-from-2) →
     (c.loop-job.owed ≡ sum_by (λ job. time c.args.instance.now job c.args.machine) (members c.args.unscheduled.now))
-    × (c.loop-job.least_tail ≡ least (map (λ job. time_between c.args.instance.now job (c.args.machine + 1) c.args.instance.now.machines) (members c.args.unscheduled.now)))
+    × (c.loop-job.least_tail ≡ least (map (λ job. time_between c.args.instance.now job (c.args.machine
+    + 1) c.args.instance.now.machines) (members c.args.unscheduled.now)))
 whole c =
     let shop = c.args.instance.now in
     let set = c.args.unscheduled.now in
@@ -75,24 +83,38 @@ whole c =
     let same : filter (contains set) (numbers 1 (c.loop-job.job - 1)) ≡ members set =
     ap (λ n. filter (contains set) (numbers 1 n)) last ∙ sym (members-is set shop.jobs c.requires.jobs) in
     let capped_is = capped-least-all 4294967295 (most_machines * greatest_time) tail (members set)
-    (λ job. tail-small shop job c.args.machine c.jobs-end.ensures.limits) (omega arith) c.requires.some in
-    (c.loop-job.invariant.owed ∙ ap (sum_by f) same, c.loop-job.invariant.tail ∙ ap (λ xs. capped 4294967295 (map tail xs)) same ∙ capped_is.0)
+    (λ job. tail-small shop job c.args.machine c.jobs-end.ensures.limits) (omega arith) c.requires.some in (
+      c.loop-job.invariant.owed ∙ ap (sum_by f) same,
+      c.loop-job.invariant.tail
+          ∙ ap (λ xs. capped 4294967295 (map tail xs)) same ∙ capped_is.0,
+    )
 
 pub overflow_add-result : goal.overflow_add-result
 overflow_add-result c =
-    let front : slice_index c.args.front.now (c.args.machine - 1) ≤ greatest_completion = c.requires.within (c.args.machine - 1) (omega arith) in
+    let front : slice_index c.args.front.now (c.args.machine - 1) ≤ greatest_completion =
+    c.requires.within (c.args.machine - 1) (omega arith) in
     omega (arith, front, c.at.ensures, c.from.ensures, c.loop-job.invariant.small)
 
 pub overflow_add-result-2 : goal.overflow_add-result-2
 overflow_add-result-2 c =
-    let front : slice_index c.args.front.now (c.args.machine - 1) ≤ greatest_completion = c.requires.within (c.args.machine - 1) (omega arith) in
-    omega (arith, front, c.at.ensures, c.from.ensures, c.from-2.ensures, c.loop-job.invariant.small, c.loop-job.invariant.tail_fits)
+    let front : slice_index c.args.front.now (c.args.machine - 1) ≤ greatest_completion =
+    c.requires.within (c.args.machine - 1) (omega arith) in
+    omega (
+      arith,
+      front,
+      c.at.ensures,
+      c.from.ensures,
+      c.from-2.ensures,
+      c.loop-job.invariant.small,
+      c.loop-job.invariant.tail_fits,
+    )
 
 pub returns-clause-value : goal.returns-clause-value
 returns-clause-value c = omega (arith, c.at.ensures, c.from.ensures, c.from-2.ensures, (whole c).0, (whole c).1)
 
 pub returns-clause-admissible : goal.returns-clause-admissible
 returns-clause-admissible c scheduled sequence front left is extends =
-    admissible-members c.args.instance.now scheduled sequence c.args.front.now (members c.args.unscheduled.now) c.args.machine
+    admissible-members c.args.instance.now scheduled sequence c.args.front.now
+    (members c.args.unscheduled.now) c.args.machine
     (c.at.result + c.from.result + c.from-2.result)
     c.requires.from c.requires.to is extends c.requires.some left front (returns-clause-value c)

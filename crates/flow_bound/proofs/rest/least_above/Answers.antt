@@ -11,8 +11,10 @@ pub returns-then-tail-floor : goal.returns-then-tail-floor
 returns-then-tail-floor c =
     let shop = c.args.instance.now in
     let there : contains c.args.set.now c.loop-job.job ≡ true = sym c.contains.ensures.value ∙ c.if-contains.true in
-    least-until (λ job. time_between shop job (c.args.machine + 1) shop.machines) c.args.set.now shop.jobs c.loop-job.job c.args.floor
-    c.requires.jobs (omega arith) (omega arith) there c.requires.floor (sym c.tail_of-tail.ensures ∙ c.if-tail-floor.true)
+    least-until (λ job. time_between shop job (c.args.machine
+    + 1) shop.machines) c.args.set.now shop.jobs c.loop-job.job c.args.floor
+    c.requires.jobs (omega arith) (omega arith) there c.requires.floor (sym c.tail_of-tail.ensures
+    ∙ c.if-tail-floor.true)
 
 pub loop-job-preserved : goal.loop-job-preserved
 loop-job-preserved c =
@@ -28,13 +30,16 @@ loop-job-preserved c =
           ∙ sym (least-take 4294967295 f (contains c.args.set.now) job c.loop-job.auto.job there)
       | else-contains w ↦
           let out : contains c.args.set.now job ≡ false = sym c.contains.ensures.value ∙ w.if-contains.false in
-          w.least-is ∙ c.loop-job.invariant ∙ sym (least-skip 4294967295 f (contains c.args.set.now) job c.loop-job.auto.job out)
+          w.least-is ∙ c.loop-job.invariant
+          ∙ sym (least-skip 4294967295 f (contains c.args.set.now) job c.loop-job.auto.job out)
     ]
 
 pub returns : goal.returns
 returns c =
     let shop = c.args.instance.now in
     c.loop-job.invariant
-    ∙ least-whole 4294967295 (most_machines * greatest_time) (λ job. time_between shop job (c.args.machine + 1) shop.machines)
-    c.args.set.now shop.jobs c.loop-job.job (λ job. tail-small shop job c.args.machine c.jobs-job-end.ensures.limits) (omega arith)
+    ∙ least-whole 4294967295 (most_machines * greatest_time) (λ job. time_between shop job (c.args.machine
+    + 1) shop.machines)
+    c.args.set.now shop.jobs c.loop-job.job (λ job. tail-small shop job c.args.machine c.jobs-job-end.ensures.limits)
+    (omega arith)
     c.requires.some c.requires.jobs (omega arith)

@@ -7,4 +7,5 @@ use Rattle.flow_bound.proofs.rest.least_above.Given as goal
 -- the least is that of the jobs so far that the set has
 abbrev pub invariant-loop-job : goal.invariant-loop-job
 invariant-loop-job l =
-    l.least ≡ least_kept 4294967295 (λ job. time_between l.instance job (l.machine + 1) l.instance.machines) (contains l.set) (l.job - 1)
+    l.least ≡ least_kept 4294967295 (λ job. time_between l.instance job (l.machine
+    + 1) l.instance.machines) (contains l.set) (l.job - 1)

@@ -7,6 +7,7 @@ use Rattle.flow_bound.proofs.rest.least_of.Given as goal
 -- the least is that of the jobs so far that the set has
 abbrev pub invariant-loop-job : goal.invariant-loop-job
 invariant-loop-job l = record {
-  is : l.least ≡ least_kept 4294967295 (λ job. time_between l.instance job (l.machine + 1) l.instance.machines) (contains l.set) (l.job - 1);
+  is : l.least ≡ least_kept 4294967295 (λ job. time_between l.instance job (l.machine
+      + 1) l.instance.machines) (contains l.set) (l.job - 1);
   fits : l.least ≤ 4294967295;
 }

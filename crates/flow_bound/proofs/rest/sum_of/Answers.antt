@@ -14,15 +14,30 @@ loop-job-preserved c =
     let f : ℕ → ℕ = λ job. time c.args.instance.now job c.args.machine in
     elim c.if-contains.branch [
       | then-contains w ↦
-          let there : contains c.args.set.now c.loop-job.job ≡ true = sym c.contains.ensures.value ∙ w.if-contains.true in
+          let there : contains c.args.set.now c.loop-job.job ≡ true = sym c.contains.ensures.value
+          ∙ w.if-contains.true in
           record {
-            is = omega (arith, sum-take f (contains c.args.set.now) c.loop-job.job c.loop-job.auto.job there, c.loop-job.invariant.is, w.sum-is, w.time-sum.ensures.value);
+            is = omega (
+              arith,
+              sum-take f
+                  (contains c.args.set.now) c.loop-job.job c.loop-job.auto.job there,
+              c.loop-job.invariant.is,
+              w.sum-is,
+              w.time-sum.ensures.value,
+            );
             small = omega (arith, c.loop-job.invariant.small, w.sum-is, w.time-sum.ensures.limit);
           }
       | else-contains w ↦
-          let out : contains c.args.set.now c.loop-job.job ≡ false = sym c.contains.ensures.value ∙ w.if-contains.false in
+          let out : contains c.args.set.now c.loop-job.job ≡ false = sym c.contains.ensures.value
+          ∙ w.if-contains.false in
           record {
-            is = omega (arith, sum-skip f (contains c.args.set.now) c.loop-job.job c.loop-job.auto.job out, c.loop-job.invariant.is, w.sum-is);
+            is = omega (
+              arith,
+              sum-skip f
+                  (contains c.args.set.now) c.loop-job.job c.loop-job.auto.job out,
+              c.loop-job.invariant.is,
+              w.sum-is,
+            );
             small = omega (arith, c.loop-job.invariant.small, w.sum-is);
           }
     ]
@@ -30,4 +45,5 @@ loop-job-preserved c =
 pub returns : goal.returns
 returns c =
     c.loop-job.invariant.is
-    ∙ sum-whole (λ job. time c.args.instance.now job c.args.machine) c.args.set.now c.args.instance.now.jobs c.loop-job.job c.requires.jobs (omega arith)
+    ∙ sum-whole (λ job. time c.args.instance.now job c.args.machine) c.args.set.now c.args.instance.now.jobs
+    c.loop-job.job c.requires.jobs (omega arith)

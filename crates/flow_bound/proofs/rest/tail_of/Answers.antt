@@ -8,7 +8,8 @@ use Rattle.flow_bound.proofs.rest.tail_of.Goals as goal
 pub loop-later-init : goal.loop-later-init
 loop-later-init c = record {
   end_is = ap (λ n. n + 1) c.machines-end.ensures.value;
-  is = sym (time_between-none c.args.instance.now c.args.job (c.args.machine + 1) (c.args.machine + 1 - 1) (omega arith));
+  is = sym (time_between-none c.args.instance.now c.args.job (c.args.machine + 1) (c.args.machine
+      + 1 - 1) (omega arith));
 }
 
 pub overflow_add-tail : goal.overflow_add-tail
@@ -18,7 +19,8 @@ overflow_add-tail c =
       arith,
       c.loop-later.invariant.is,
       most,
-      time_between-small c.args.instance.now c.args.job (c.args.machine + 1) (c.loop-later.later - 1) (omega arith) c.machines-end.ensures.limits,
+      time_between-small c.args.instance.now c.args.job (c.args.machine
+          + 1) (c.loop-later.later - 1) (omega arith) c.machines-end.ensures.limits,
       c.time-tail.ensures.limit,
     )
 
@@ -30,7 +32,8 @@ loop-later-preserved c = record {
         arith,
         c.loop-later.invariant.is,
         c.time-tail.ensures.value,
-        time_between-step c.args.instance.now c.args.job (c.args.machine + 1) c.loop-later.later (omega arith) (omega arith),
+        time_between-step c.args.instance.now c.args.job (c.args.machine
+            + 1) c.loop-later.later (omega arith) (omega arith),
       );
 }
 

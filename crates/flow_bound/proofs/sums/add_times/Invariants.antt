@@ -7,6 +7,8 @@ use Rattle.flow_bound.proofs.sums.add_times.Given as goal
 abbrev pub invariant-loop-job : goal.invariant-loop-job
 invariant-loop-job l = record {
   length : length l.sums ≡ most_jobs;
-  done : (job : ℕ) → 1 ≤ job → job < l.job → slice_index l.sums (job - 1) ≡ slice_index l.initial.sums (job - 1) + time l.instance job l.machine;
-  others : (job : ℕ) → l.job ≤ job → job ≤ l.instance.jobs → slice_index l.sums (job - 1) ≡ slice_index l.initial.sums (job - 1);
+  done : (job : ℕ) → 1 ≤ job → job < l.job → slice_index l.sums (job - 1) ≡ slice_index l.initial.sums (job - 1)
+      + time l.instance job l.machine;
+  others : (job : ℕ) → l.job ≤ job → job ≤ l.instance.jobs →
+      slice_index l.sums (job - 1) ≡ slice_index l.initial.sums (job - 1);
 }

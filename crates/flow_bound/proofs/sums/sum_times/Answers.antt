@@ -7,7 +7,8 @@ use Rattle.flow_bound.proofs.sums.sum_times.Goals as goal
 pub loop-machine-init : goal.loop-machine-init
 loop-machine-init c = record {
   end = ap (λ n. n + 1) c.machines-end.ensures.value;
-  sums = λ job from to. c.requires.zeros job from to ∙ sym (time_between-none c.args.instance.now job c.args.first (c.args.first - 1) (omega arith));
+  sums = λ job from to. c.requires.zeros job from to
+      ∙ sym (time_between-none c.args.instance.now job c.args.first (c.args.first - 1) (omega arith));
 }
 
 pub add_times-requires-clause-small : goal.add_times-requires-clause-small
@@ -17,7 +18,8 @@ add_times-requires-clause-small c job from to =
       arith,
       most,
       c.loop-machine.invariant.sums job from to,
-      time_between-small c.args.instance.now job c.args.first (c.loop-machine.machine - 1) c.requires.from c.machines-end.ensures.limits,
+      time_between-small c.args.instance.now job c.args.first
+          (c.loop-machine.machine - 1) c.requires.from c.machines-end.ensures.limits,
     )
 
 pub loop-machine-preserved : goal.loop-machine-preserved

@@ -23,7 +23,8 @@ overflow_sub-totals c =
     let shop = c.args.instance.now in
     omega (
       arith,
-      get_or-set_same c.loop-job.heads (c.loop-job.job - 1) (slice_index_or c.loop-job.heads (c.loop-job.job - 1) 0 + c.time-time.result) 0 (omega arith),
+      get_or-set_same c.loop-job.heads (c.loop-job.job - 1) (slice_index_or c.loop-job.heads (c.loop-job.job - 1) 0
+          + c.time-time.result) 0 (omega arith),
       c.loop-job.invariant.others c.loop-job.job (omega arith) (omega arith),
       c.requires.totals c.loop-job.job (omega arith) (omega arith),
       c.time-time.ensures.value,
@@ -41,26 +42,50 @@ loop-job-preserved c =
     let head = before.others job (omega arith) (omega arith) in
     let value : slice_index_or c.loop-job.heads (job - 1) 0 + c.time-time.result ≡ time_between shop job 1 machine =
     omega (arith, head, c.time-time.ensures.value, head-step shop job machine c.requires.from) in
-    let written = get_or-set_same c.loop-job.heads (job - 1) (slice_index_or c.loop-job.heads (job - 1) 0 + c.time-time.result) 0 within in
+    let written = get_or-set_same c.loop-job.heads (job - 1) (slice_index_or c.loop-job.heads (job - 1) 0
+    + c.time-time.result) 0 within in
     let total = c.requires.totals job (omega arith) (omega arith) in
     let split = time_between-split shop job machine shop.machines c.requires.to in
-    let least_head : c.loop-job.least_head ≡ capped 4294967295 (map (λ job. time_between shop job 1 (machine - 1)) (numbers 1 (job - 1))) = before.head in
+    let least_head : c.loop-job.least_head
+    ≡ capped 4294967295 (map (λ job. time_between shop job 1 (machine - 1)) (numbers 1 (job - 1))) = before.head in
     let owed : c.loop-job.owed ≡ sum_by (λ job. time shop job machine) (numbers 1 (job - 1)) = before.owed in
-    let least_tail : c.loop-job.least_tail ≡ capped 4294967295 (map (λ job. time_between shop job (machine + 1) shop.machines) (numbers 1 (job - 1))) = before.tail in
+    let least_tail : c.loop-job.least_tail
+    ≡ capped 4294967295 (map (λ job. time_between shop job (machine + 1) shop.machines) (numbers 1 (job - 1))) =
+    before.tail in
     record {
       length = grind (arith, common_steps);
-      done = done-more (λ job. time_between shop job 1 machine) c.loop-job.heads job (slice_index_or c.loop-job.heads (job - 1) 0 + c.time-time.result) (omega arith) within value before.done;
-      others = others-stay (λ job. time_between shop job 1 (machine - 1)) c.loop-job.heads job (slice_index_or c.loop-job.heads (job - 1) 0 + c.time-time.result) shop.jobs (omega arith) before.others;
-      head = omega (arith, least-step 4294967295 (λ job. time_between shop job 1 (machine - 1)) job (omega arith), least_head, head, c.min-least_head.ensures);
+      done = done-more (λ job. time_between shop job 1 machine) c.loop-job.heads job (slice_index_or c.loop-job.heads
+          (job - 1) 0 + c.time-time.result) (omega arith) within value before.done;
+      others = others-stay (λ job. time_between shop job 1 (machine - 1)) c.loop-job.heads job
+          (slice_index_or c.loop-job.heads (job - 1) 0 + c.time-time.result) shop.jobs (omega arith) before.others;
+      head = omega (
+        arith,
+        least-step 4294967295 (λ job. time_between shop job 1 (machine - 1)) job
+            (omega arith),
+        least_head,
+        head,
+        c.min-least_head.ensures,
+      );
       head_fits = omega (arith, before.head_fits, c.min-least_head.ensures);
       owed = omega (arith, sum-step (λ job. time shop job machine) job (omega arith), owed, c.time-time.ensures.value);
       small = omega (arith, before.small, c.time-time.ensures.limit);
-      tail = omega (arith, least-step 4294967295 (λ job. time_between shop job (machine + 1) shop.machines) job (omega arith), least_tail, written, value, total, split, c.min-least_tail.ensures);
+      tail = omega (
+        arith,
+        least-step 4294967295 (λ job. time_between shop job (machine
+            + 1) shop.machines) job (omega arith),
+        least_tail,
+        written,
+        value,
+        total,
+        split,
+        c.min-least_tail.ensures,
+      );
       tail_fits = omega (arith, before.tail_fits, c.min-least_tail.ensures);
     }
 
 pub overflow_add-result : goal.overflow_add-result
-overflow_add-result c = omega (arith, c.from.ensures, c.from-2.ensures, c.loop-job.invariant.head_fits, c.loop-job.invariant.small)
+overflow_add-result c =
+    omega (arith, c.from.ensures, c.from-2.ensures, c.loop-job.invariant.head_fits, c.loop-job.invariant.small)
 
 pub overflow_add-result-2 : goal.overflow_add-result-2
 overflow_add-result-2 c =
@@ -73,10 +98,19 @@ returns-clause-value c =
     let machine = c.args.machine in
     let last : c.loop-job.job ≡ shop.jobs + 1 = omega arith in
     let some : 1 ≤ shop.jobs = c.jobs-job-end.ensures.limits.some_job in
-    let head = least-of-jobs 4294967295 (most_machines * greatest_time) (λ job. time_between shop job 1 (machine - 1)) shop.jobs c.loop-job.job (λ job. head-small shop job (machine - 1) c.jobs-job-end.ensures.limits (omega arith)) (omega arith) some last in
-    let tail = least-of-jobs 4294967295 (most_machines * greatest_time) (λ job. time_between shop job (machine + 1) shop.machines) shop.jobs c.loop-job.job (λ job. tail-small shop job machine c.jobs-job-end.ensures.limits) (omega arith) some last in
-    let least_head : c.loop-job.least_head ≡ least (map (λ job. time_between shop job 1 (machine - 1)) (numbers 1 shop.jobs)) = c.loop-job.invariant.head ∙ head.0 in
-    let least_tail : c.loop-job.least_tail ≡ least (map (λ job. time_between shop job (machine + 1) shop.machines) (numbers 1 shop.jobs)) = c.loop-job.invariant.tail ∙ tail.0 in
+    let head = least-of-jobs 4294967295 (most_machines * greatest_time) (λ job. time_between shop job 1
+    (machine - 1)) shop.jobs c.loop-job.job (λ job. head-small shop job (machine - 1) c.jobs-job-end.ensures.limits
+    (omega arith)) (omega arith) some last in
+    let tail = least-of-jobs 4294967295 (most_machines * greatest_time) (λ job. time_between shop job (machine
+    + 1) shop.machines) shop.jobs c.loop-job.job (λ job. tail-small shop job machine c.jobs-job-end.ensures.limits)
+    (omega arith) some last in
+    let least_head : c.loop-job.least_head
+    ≡ least (map (λ job. time_between shop job 1 (machine - 1)) (numbers 1 shop.jobs)) = c.loop-job.invariant.head
+    ∙ head.0 in
+    let least_tail : c.loop-job.least_tail
+    ≡ least (map (λ job. time_between shop job (machine + 1) shop.machines) (numbers 1 shop.jobs)) =
+    c.loop-job.invariant.tail ∙ tail.0 in
     let e : c.loop-job.job - 1 ≡ shop.jobs = omega arith in
-    let owed : c.loop-job.owed ≡ sum_by (λ job. time shop job machine) (numbers 1 shop.jobs) = c.loop-job.invariant.owed ∙ ap (λ n. sum_by (λ job. time shop job machine) (numbers 1 n)) e in
+    let owed : c.loop-job.owed ≡ sum_by (λ job. time shop job machine) (numbers 1 shop.jobs) = c.loop-job.invariant.owed
+    ∙ ap (λ n. sum_by (λ job. time shop job machine) (numbers 1 n)) e in
     omega (arith, c.from.ensures, c.from-2.ensures, c.from-3.ensures, least_head, owed, least_tail)

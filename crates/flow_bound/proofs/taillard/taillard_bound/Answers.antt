@@ -14,8 +14,10 @@ sum_times-requires-clause-zeros c job from to = zeros most_jobs (job - 1)
 pub loop-machine-init : goal.loop-machine-init
 loop-machine-init c =
     let shop = c.args.instance.now in
-    let totals : c.greatest_total.result ≡ greatest (map (total shop) (numbers 1 shop.jobs)) = c.greatest_total.ensures in
-    let most : c.from-most.result ≡ max 0 (greatest (map (total shop) (numbers 1 shop.jobs))) = omega (arith, c.from-most.ensures, totals) in
+    let totals : c.greatest_total.result ≡ greatest (map (total shop) (numbers 1 shop.jobs)) =
+    c.greatest_total.ensures in
+    let most : c.from-most.result ≡ max 0 (greatest (map (total shop) (numbers 1 shop.jobs))) =
+    omega (arith, c.from-most.ensures, totals) in
     record {
       heads = λ job from to. times-none shop most_jobs job 1 (omega arith);
       most = most;
@@ -25,7 +27,9 @@ pub loop-machine-preserved : goal.loop-machine-preserved
 loop-machine-preserved c =
     let shop = c.args.instance.now in
     let next : c.loop-machine.machine ≡ c.loop-machine.machine + 1 - 1 = omega arith in
-    let before : c.loop-machine.most ≡ max (greatest (map (machine_load shop) (numbers 1 (c.loop-machine.machine - 1)))) (greatest (map (total shop) (numbers 1 shop.jobs))) = c.loop-machine.invariant.most in
+    let before : c.loop-machine.most
+    ≡ max (greatest (map (machine_load shop) (numbers 1 (c.loop-machine.machine - 1)))) (greatest (map (total shop)
+    (numbers 1 shop.jobs))) = c.loop-machine.invariant.most in
     let step = greatest-step (machine_load shop) c.loop-machine.machine (omega arith) in
     record {
       heads = λ job from to. c.load_of.ensures.heads job from to ∙ ap (time_between shop job 1) next;
@@ -37,5 +41,7 @@ returns-clause-admissible c sequence is =
     let shop = c.args.instance.now in
     let last : c.loop-machine.machine - 1 ≡ shop.machines = omega arith in
     let most : c.loop-machine.most ≡ taillard_bound shop =
-    c.loop-machine.invariant.most ∙ ap (λ k. max (greatest (map (machine_load shop) (numbers 1 k))) (greatest (map (total shop) (numbers 1 shop.jobs)))) last in
+    c.loop-machine.invariant.most
+    ∙ ap (λ k. max (greatest (map (machine_load shop) (numbers 1 k))) (greatest (map (total shop)
+    (numbers 1 shop.jobs)))) last in
     omega (arith, most, taillard-below shop sequence c.machines-machine-end.ensures.limits is)

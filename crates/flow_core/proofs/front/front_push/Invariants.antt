@@ -11,6 +11,8 @@ invariant-loop-machine l = record {
   free : l.free ≡ after l.instance (free_at l.initial.front-inside.times) l.job (l.machine - 1);
   length : length l.front-inside.times ≡ most_machines;
   small : l.free ≤ greatest_completion + (l.machine - 1) * greatest_time;
-  done : (machine : ℕ) → 1 ≤ machine → machine < l.machine → free_at l.front-inside.times machine ≡ after l.instance (free_at l.initial.front-inside.times) l.job machine;
-  others : (place : ℕ) → l.machine ≤ place + 1 → slice_index l.front-inside.times place ≡ slice_index l.initial.front-inside.times place;
+  done : (machine : ℕ) → 1 ≤ machine → machine < l.machine →
+      free_at l.front-inside.times machine ≡ after l.instance (free_at l.initial.front-inside.times) l.job machine;
+  others : (place : ℕ) → l.machine ≤ place + 1 → slice_index l.front-inside.times place
+      ≡ slice_index l.initial.front-inside.times place;
 }

@@ -26,5 +26,6 @@ from_times-requires c =
       some_machine = omega arith;
       machines = omega arith;
       count = omega (arith, c.loop.times.ok.0);
-      times = drawn-are-times c.args.seed c.loop.counter c.as_slice-times.result.now (c.as_slice-times.ensures.value ∙ drawn.times);
+      times = drawn-are-times c.args.seed c.loop.counter c.as_slice-times.result.now (c.as_slice-times.ensures.value
+          ∙ drawn.times);
     }

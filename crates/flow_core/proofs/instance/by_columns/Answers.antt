@@ -12,5 +12,6 @@ loop-place-preserved c =
       count = omega (arith, c.push_reserved.ensures.len, c.loop-place.invariant.count);
       taken = c.push_reserved.ensures.items
           ∙ ap (λ numbers. numbers ++ number ∷ []) c.loop-place.invariant.taken
-          ∙ sym (map-range_with_len_more (λ place. slice_index c.args.numbers.now (taken_from c.args.lists c.args.each place)) 0 place place (omega arith));
+          ∙ sym (map-range_with_len_more (λ place. slice_index c.args.numbers.now
+          (taken_from c.args.lists c.args.each place)) 0 place place (omega arith));
     }

@@ -8,5 +8,6 @@ abbrev pub invariant-loop-place : goal.invariant-loop-place
 invariant-loop-place l = record {
   capacity : vec_capacity l.taken ≡ l.count;
   count : vec_len l.taken ≡ l.place;
-  taken : l.taken.items ≡ map (λ place. slice_index l.numbers (taken_from l.lists l.each place)) (range_with_len 0 l.place);
+  taken : l.taken.items
+      ≡ map (λ place. slice_index l.numbers (taken_from l.lists l.each place)) (range_with_len 0 l.place);
 }

@@ -3,7 +3,12 @@ use Rattle.flow_pool.proofs.Asked.{ended-none, ended-all, pushed_at-ended}
 use Rattle.flow_pool.proofs.hub.send_ends.Goals as goal
 
 pub ending-init : goal.ending-init
-ending-init g c = record { lanes = refl; sent = c.requires.asked ∙ ended-none (length c.args.hubs.now) c.args.count; taken = c.requires.taken }
+ending-init g c = record {
+  lanes = refl;
+  sent = c.requires.asked
+      ∙ ended-none (length c.args.hubs.now) c.args.count;
+  taken = c.requires.taken;
+}
 
 pub ending-preserved : goal.ending-preserved
 ending-preserved g c =

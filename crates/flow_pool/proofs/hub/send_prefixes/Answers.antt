@@ -11,9 +11,11 @@ asking-init g c =
     let k = length hubs in
     record {
       lanes = refl;
-      sent = map-by_lane (λ (h : HubEnds). h.tasks.sent) (asked k 0) hubs (λ i d l. (c.requires.fresh i d l).0) (asked-none k);
+      sent = map-by_lane (λ (h : HubEnds). h.tasks.sent) (asked k 0) hubs (λ i d l. (c.requires.fresh i d l).0)
+          (asked-none k);
       taken = record {
-        dealt = rw c.requires.empty (map-by_lane (λ (h : HubEnds). h.answers.received) (λ lane. dealt k lane []) hubs (λ i d l. (c.requires.fresh i d l).1) (dealt-nil k));
+        dealt = rw c.requires.empty (map-by_lane (λ (h : HubEnds). h.answers.received) (λ lane. dealt k lane []) hubs
+            (λ i d l. (c.requires.fresh i d l).1) (dealt-nil k));
         few = search rules;
         room = c.requires.room;
       };

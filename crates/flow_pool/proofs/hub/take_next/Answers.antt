@@ -12,7 +12,9 @@ pub returns-in_default-clause-sent : goal.returns-in_default-clause-sent
 returns-in_default-clause-sent c = map-set_same (λ (h : HubEnds). h.tasks.sent) _ _ _ c.index-hubs-turn.result cc
 
 pub returns-in_default-clause-dealt : goal.returns-in_default-clause-dealt
-returns-in_default-clause-dealt c = map-set_same (λ (h : HubEnds). h.answers.received) _ _ _ c.index-hubs-turn.result (ap (λ r. r.received) c.in_default.ensures.unchanged_at_none) ∙ c.requires.dealt
+returns-in_default-clause-dealt c =
+    map-set_same (λ (h : HubEnds). h.answers.received) _ _ _ c.index-hubs-turn.result (ap
+    (λ r. r.received) c.in_default.ensures.unchanged_at_none) ∙ c.requires.dealt
 
 pub returns-clause-lanes : goal.returns-clause-lanes
 returns-clause-lanes c = map-set_same hub_lanes _ _ _ c.index-hubs-turn.result cc
@@ -23,4 +25,5 @@ returns-clause-sent c = map-set_same (λ (h : HubEnds). h.tasks.sent) _ _ _ c.in
 pub returns-clause-dealt : goal.returns-clause-dealt
 returns-clause-dealt c =
     all_dealt-push c.args.hubs.now c.args.answers.now.items _ _ _ c.index-hubs-turn.result c.in-Some.answer
-    (ap (λ n. n % length c.args.hubs.now) (omega arith)) (omega arith) c.push_reserved.ensures.items c.in-Some.ensures.at_the_end c.requires.dealt
+    (ap (λ n. n % length c.args.hubs.now) (omega arith))
+    (omega arith) c.push_reserved.ensures.items c.in-Some.ensures.at_the_end c.requires.dealt

@@ -8,4 +8,5 @@ use Rattle.flow_pool.proofs.settling.settle_pair.Goals as goal
 pub unreachable-requires : goal.unreachable-requires
 unreachable-requires c =
     let e = c.in_default.ensures in
-    false≢true (e.ok_where_all_received.1 (prefix-ended _ _ (ap ends_once c.requires.worker ∙ ends_once-asking (answered c.args.worker.answers.sent)) c.requires.hub.ends e.received_in_order))
+    false≢true (e.ok_where_all_received.1 (prefix-ended _ _ (ap ends_once c.requires.worker
+    ∙ ends_once-asking (answered c.args.worker.answers.sent)) c.requires.hub.ends e.received_in_order))

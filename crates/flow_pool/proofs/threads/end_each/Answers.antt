@@ -18,6 +18,11 @@ each-preserved c =
     let sent : c.try_send.new.self.sent ≡ End ∷ [] = c.in-Ok.ensures.at_the_end ∙ ap (λ l. l ++ End ∷ []) ready.sent in
     record {
       lanes = map-set_same hub_lanes _ _ _ hub (cc) ∙ i.lanes;
-      ended = AllWithin-more_set hubs lane _ (omega arith) IsCollected i.ended (record { ends = ap ends_once sent; count = ap length sent ∙ sym (ap (λ l. length l + 1) ready.received) });
-      ready = λ k d low high. subst IsReadyHub (sym (get_or-set_other hubs lane k _ d (λ e. absurd (omega arith)))) (i.ready k d (omega arith) high);
+      ended = AllWithin-more_set hubs lane _ (omega arith) IsCollected i.ended (record {
+        ends =
+            ap ends_once sent;
+        count = ap length sent ∙ sym (ap (λ l. length l + 1) ready.received);
+      });
+      ready = λ k d low high. subst IsReadyHub (sym (get_or-set_other hubs lane k _ d (λ e. absurd (omega arith))))
+          (i.ready k d (omega arith) high);
     }

@@ -11,19 +11,26 @@ loop-job-preserved t c =
     let n : ℕ = c.args.jobs in
     let list : List ℕ = c.args.list.now.items in
     let job : ℕ = c.loop-job.job in
-    let holds : c.holds.result ≡ has list job = c.holds.ensures ∙ ap (λ q. has q job) (c.deref-in-loop-job.ensures.value ∙ c.loop-job.invariant.list) in
+    let holds : c.holds.result ≡ has list job = c.holds.ensures
+    ∙ ap (λ q. has q job) (c.deref-in-loop-job.ensures.value ∙ c.loop-job.invariant.list) in
     elim c.if-not-holds.branch [
       | then-not-holds+in_ok-push+in_ok-extend w ↦
           let free : has list job ≡ false = sym holds ∙ w.if-not-holds.true in
-          let pushed : w.push.new.self.items ≡ list ++ job ∷ [] = w.in_ok-push.ensures.items ∙ ap (λ q. q ++ job ∷ []) c.loop-job.invariant.list in
-          let more : w.extend.new.lists.items ≡ c.loop-job.lists.items ++ concat (extensions n (c.args.more - 1) (list ++ job ∷ [])) =
-          w.in_ok-extend.ensures.lists ∙ ap (λ q. c.loop-job.lists.items ++ concat (extensions n (c.args.more - 1) q)) pushed in
+          let pushed : w.push.new.self.items ≡ list ++ job ∷ [] = w.in_ok-push.ensures.items
+          ∙ ap (λ q. q ++ job ∷ []) c.loop-job.invariant.list in
+          let more : w.extend.new.lists.items ≡ c.loop-job.lists.items
+          ++ concat (extensions n (c.args.more - 1) (list ++ job ∷ [])) =
+          w.in_ok-extend.ensures.lists
+          ∙ ap (λ q. c.loop-job.lists.items ++ concat (extensions n (c.args.more - 1) q)) pushed in
           let back : w.pop.new.self.items ≡ list =
-          w.pop.ensures.rest ∙ take-last (vec_len w.extend.new.list) w.extend.new.list.items list job (w.in_ok-extend.ensures.list ∙ pushed) w.extend.new.list.ok.0 in
+          w.pop.ensures.rest ∙ take-last (vec_len w.extend.new.list) w.extend.new.list.items list job
+          (w.in_ok-extend.ensures.list ∙ pushed) w.extend.new.list.ok.0 in
           record {
             lists =
                 ap (λ ls. ls.items ++ concat (added n (c.args.more - 1) list (job + 1))) w.lists-is
-                ∙ added-taken n (c.args.more - 1) list job c.loop-job.lists.items w.extend.new.lists.items (c.args.lists.now.items ++ concat (extensions n c.args.more list)) (omega arith) free more c.loop-job.invariant.lists;
+                ∙ added-taken n (c.args.more - 1) list job c.loop-job.lists.items w.extend.new.lists.items
+                (c.args.lists.now.items
+                ++ concat (extensions n c.args.more list)) (omega arith) free more c.loop-job.invariant.lists;
             list = ap (λ q. q.items) w.list-is ∙ back;
           }
       | else-not-holds w ↦
@@ -31,7 +38,8 @@ loop-job-preserved t c =
           record {
             lists =
                 ap (λ ls. ls.items ++ concat (added n (c.args.more - 1) list (job + 1))) w.lists-is
-                ∙ ap (λ ls. c.loop-job.lists.items ++ concat ls) (added-skip n (c.args.more - 1) list job (omega arith) there)
+                ∙ ap (λ ls. c.loop-job.lists.items
+                ++ concat ls) (added-skip n (c.args.more - 1) list job (omega arith) there)
                 ∙ c.loop-job.invariant.lists;
             list = ap (λ q. q.items) w.list-is ∙ c.loop-job.invariant.list;
           }

@@ -9,6 +9,7 @@ decreases-extend l = l.more
 
 abbrev pub invariant-loop-job : goal.invariant-loop-job
 invariant-loop-job l = record {
-  lists : l.lists.items ++ concat (added l.jobs l.below l.fn.list.items l.job) ≡ l.fn.lists.items ++ concat (extensions l.jobs l.more l.fn.list.items);
+  lists : l.lists.items ++ concat (added l.jobs l.below l.fn.list.items l.job) ≡ l.fn.lists.items
+      ++ concat (extensions l.jobs l.more l.fn.list.items);
   list : l.list.items ≡ l.fn.list.items;
 }

@@ -20,13 +20,20 @@ loop-job-preserved c =
       | then-contains w ↦
           let there : contains set job ≡ true = sym c.contains.ensures.value ∙ w.if-contains.true in
           subst (λ l. AreLows shop (filter (contains set) (numbers 1 (job + 1 - 1))) l) (sym w.lows-is)
-          (subst (λ js. AreLows shop js w.take.new.self) (sym (filter-take (contains set) job c.loop-job.auto.job there))
+          (subst (λ js. AreLows shop js w.take.new.self) (sym (filter-take
+          (contains set) job c.loop-job.auto.job there))
           (w.take.ensures shop (filter (contains set) (numbers 1 (job - 1))) job c.requires.rows.limits
-          (c.requires.rows.each job (record { times = []; tails = [] }) c.loop-job.auto.job (omega (arith, c.loop-job-test.true, c.jobs-job-end.ensures.value))) c.loop-job.invariant))
+          (c.requires.rows.each job (record {
+            times =
+                [];
+            tails = [];
+          }) c.loop-job.auto.job (omega
+          (arith, c.loop-job-test.true, c.jobs-job-end.ensures.value))) c.loop-job.invariant))
       | else-contains w ↦
           let out : contains set job ≡ false = sym c.contains.ensures.value ∙ w.if-contains.false in
           subst (λ l. AreLows shop (filter (contains set) (numbers 1 (job + 1 - 1))) l) (sym w.lows-is)
-          (subst (λ js. AreLows shop js c.loop-job.lows) (sym (filter-leave (contains set) job c.loop-job.auto.job out)) c.loop-job.invariant)
+          (subst (λ js. AreLows shop js c.loop-job.lows) (sym (filter-leave
+          (contains set) job c.loop-job.auto.job out)) c.loop-job.invariant)
     ]
 
 pub returns : goal.returns
@@ -35,4 +42,5 @@ returns c =
     let set = c.args.set.now in
     let last : c.loop-job.job - 1 ≡ shop.jobs = omega arith in
     subst (λ js. AreLows shop js c.loop-job.lows)
-    (ap (λ n. filter (contains set) (numbers 1 n)) last ∙ sym (members-is set shop.jobs c.requires.jobs)) c.loop-job.invariant
+    (ap (λ n. filter (contains set) (numbers 1 n)) last
+    ∙ sym (members-is set shop.jobs c.requires.jobs)) c.loop-job.invariant

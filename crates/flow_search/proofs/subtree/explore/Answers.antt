@@ -17,38 +17,47 @@ use Rattle.flow_search.proofs.subtree.explore.Goals.{After-cutting_machine, In_d
 
 pub of-rest-requires-clause-some : goal.of-rest-requires-clause-some
 of-rest-requires-clause-some c =
-    let size = left-count c.args.setting.now.instance.now c.args.search.now.node.items c.args.front.now c.args.search.now.unscheduled c.args.count c.requires.at in
+    let size = left-count c.args.setting.now.instance.now c.args.search.now.node.items c.args.front.now
+    c.args.search.now.unscheduled c.args.count c.requires.at in
     omega (arith, size, c.if-count-eq0.false)
 
 pub cutting_machine-requires-clause-within : goal.cutting_machine-requires-clause-within
 cutting_machine-requires-clause-within c =
-    within-front c.args.setting.now.instance.now c.args.search.now.node.items c.args.front.now c.args.search.now.unscheduled c.args.count c.requires.at
+    within-front c.args.setting.now.instance.now c.args.search.now.node.items c.args.front.now
+    c.args.search.now.unscheduled c.args.count c.requires.at
 
 -- what the search for the machine found
 found : (c : After-cutting_machine) →
     c.cutting_machine.result
-    ≡ find (λ machine. nat_le c.args.search.now.value (machine_bound c.args.setting.now.instance.now c.args.front.now (members c.args.search.now.unscheduled) machine))
+    ≡ find (λ machine. nat_le c.args.search.now.value (machine_bound c.args.setting.now.instance.now c.args.front.now
+    (members c.args.search.now.unscheduled) machine))
     (numbers 1 c.args.setting.now.instance.now.machines)
 found c = c.cutting_machine.ensures (members c.args.search.now.unscheduled) c.of-rest.ensures.rest
 
 pub overflow_cast-machine : goal.overflow_cast-machine
 overflow_cast-machine c =
     let shop = c.args.setting.now.instance.now in
-    let p : ℕ → Bool = λ machine. nat_le c.args.search.now.value (machine_bound shop c.args.front.now (members c.args.search.now.unscheduled) machine) in
-    let is = machine-is shop p c.in-Some.machine c.requires.rows.limits (sym c.in-Some.is ∙ found (goal.at.overflow_cast-machine c).After-cutting_machine) in
+    let p : ℕ → Bool = λ machine. nat_le c.args.search.now.value (machine_bound shop c.args.front.now
+    (members c.args.search.now.unscheduled) machine) in
+    let is = machine-is shop p c.in-Some.machine c.requires.rows.limits (sym c.in-Some.is
+    ∙ found (goal.at.overflow_cast-machine c).After-cutting_machine) in
     omega (arith, is.1)
 
 pub overflow_add-machine : goal.overflow_add-machine
 overflow_add-machine c =
     let shop = c.args.setting.now.instance.now in
-    let p : ℕ → Bool = λ machine. nat_le c.args.search.now.value (machine_bound shop c.args.front.now (members c.args.search.now.unscheduled) machine) in
-    let is = machine-is shop p c.in-Some.machine c.requires.rows.limits (sym c.in-Some.is ∙ found (goal.at.overflow_add-machine c).After-cutting_machine) in
+    let p : ℕ → Bool = λ machine. nat_le c.args.search.now.value (machine_bound shop c.args.front.now
+    (members c.args.search.now.unscheduled) machine) in
+    let is = machine-is shop p c.in-Some.machine c.requires.rows.limits (sym c.in-Some.is
+    ∙ found (goal.at.overflow_add-machine c).After-cutting_machine) in
     omega (arith, is.1)
 
 pub returns-in-Some-clause-done : goal.returns-in-Some-clause-done
 returns-in-Some-clause-done c =
-    cut-here c.args.setting.now.instance.now c.args.front.now c.args.setting.now.budget c.args.count (c.args.count - 1) c.in-Some.machine c.args.search.now c.write-in-Some.new.self
-    c.requires.at (omega (arith, c.if-count-eq0.false)) (sym c.in-Some.is ∙ found (goal.at.returns-in-Some-clause-done c).After-cutting_machine) c.in_ok-write-2.ensures.done
+    cut-here c.args.setting.now.instance.now c.args.front.now c.args.setting.now.budget c.args.count
+    (c.args.count - 1) c.in-Some.machine c.args.search.now c.write-in-Some.new.self
+    c.requires.at (omega (arith, c.if-count-eq0.false)) (sym c.in-Some.is
+    ∙ found (goal.at.returns-in-Some-clause-done c).After-cutting_machine) c.in_ok-write-2.ensures.done
 
 pub walk_children-requires-clause-frame : goal.walk_children-requires-clause-frame
 walk_children-requires-clause-frame c =
@@ -62,34 +71,42 @@ walk_children-requires-clause-frame c =
     (frame-of shop old.node.items c.args.front.now old.unscheduled (suc (c.args.count - 1)) c.new-here.result at
     (subst (IsFrontOf shop old.node.items) (sym c.new-here.ensures.front) c.requires.at.is_front)
     (subst (IsRestOf shop (members old.unscheduled)) (sym c.new-here.ensures.rest) c.of-rest.ensures.rest)
-    (λ machine from to. c.new-here.ensures.second machine from to ∙ ap (λ u. second_tail shop (members u) machine) w.unscheduled))
+    (λ machine from to. c.new-here.ensures.second machine from to
+    ∙ ap (λ u. second_tail shop (members u) machine) w.unscheduled))
 
 -- no machine cuts the root
-uncut : (c : In_default) → IsUncut c.args.setting.now.instance.now c.args.count c.args.search.now.node.items (incumbent_of c.args.search.now)
+uncut : (c : In_default) →
+    IsUncut c.args.setting.now.instance.now c.args.count c.args.search.now.node.items (incumbent_of c.args.search.now)
 uncut c =
-    uncut-found c.args.setting.now.instance.now c.args.front.now c.args.count c.args.search.now (omega (arith, c.if-count-eq0.false)) c.requires.at
+    uncut-found c.args.setting.now.instance.now c.args.front.now c.args.count c.args.search.now (omega
+    (arith, c.if-count-eq0.false)) c.requires.at
     (sym c.in_default.is ∙ c.cutting_machine.ensures (members c.args.search.now.unscheduled) c.of-rest.ensures.rest)
 
 pub returns-then-count-le8-clause-done : goal.returns-then-count-le8-clause-done
 returns-then-count-le8-clause-done c =
     on_ok_weaker c.walk_few.result
-    (node-done c.args.setting.now.instance.now c.args.setting.now.budget c.args.count c.args.search.now c.write-2.new.self c.walk_few.new.search
+    (node-done c.args.setting.now.instance.now c.args.setting.now.budget c.args.count c.args.search.now
+    c.write-2.new.self c.walk_few.new.search
     (uncut (goal.at.returns-then-count-le8-clause-done c).In_default) c.in_ok-write-3.ensures.done)
     c.walk_few.ensures.done
 
 pub returns-then-count-le8-clause-over : goal.returns-then-count-le8-clause-over
 returns-then-count-le8-clause-over c e =
-    node-over c.args.setting.now.instance.now c.args.setting.now.budget c.args.count c.args.search.now c.write-2.new.self
-    (uncut (goal.at.returns-then-count-le8-clause-over c).In_default) c.in_ok-write-3.ensures.done (c.walk_few.ensures.over e)
+    node-over c.args.setting.now.instance.now c.args.setting.now.budget c.args.count c.args.search.now
+    c.write-2.new.self
+    (uncut (goal.at.returns-then-count-le8-clause-over c).In_default) c.in_ok-write-3.ensures.done
+    (c.walk_few.ensures.over e)
 
 pub returns-clause-done : goal.returns-clause-done
 returns-clause-done c =
     on_ok_weaker c.walk_children.result
-    (node-done c.args.setting.now.instance.now c.args.setting.now.budget c.args.count c.args.search.now c.write-2.new.self c.walk_children.new.search
+    (node-done c.args.setting.now.instance.now c.args.setting.now.budget c.args.count c.args.search.now
+    c.write-2.new.self c.walk_children.new.search
     (uncut (goal.at.returns-clause-done c).In_default) c.in_ok-write-3.ensures.done)
     c.walk_children.ensures.done
 
 pub returns-clause-over : goal.returns-clause-over
 returns-clause-over c e =
-    node-over c.args.setting.now.instance.now c.args.setting.now.budget c.args.count c.args.search.now c.write-2.new.self
+    node-over c.args.setting.now.instance.now c.args.setting.now.budget c.args.count c.args.search.now
+    c.write-2.new.self
     (uncut (goal.at.returns-clause-over c).In_default) c.in_ok-write-3.ensures.done (c.walk_children.ensures.over e)

@@ -14,8 +14,10 @@ kid : (c : After-cutting_machine) →
     × IsChild c.args.setting.now.instance.now.jobs c.args.search.now.node.items c.args.job
 kid c =
     let more : c.args.below ≡ suc (c.args.below - 1) = omega (arith, c.requires.many) in (
-      subst (λ n. IsFrame c.args.setting.now.instance.now c.args.search.now.node.items (suc n) c.args.here.now) more c.requires.frame,
-      kid-of c.args.setting.now.instance.now c.args.search.now.node.items c.args.here.now.front c.args.search.now.unscheduled (suc c.args.below) c.args.job
+      subst (λ n. IsFrame c.args.setting.now.instance.now c.args.search.now.node.items
+          (suc n) c.args.here.now) more c.requires.frame,
+      kid-of c.args.setting.now.instance.now c.args.search.now.node.items c.args.here.now.front
+          c.args.search.now.unscheduled (suc c.args.below) c.args.job
           c.requires.at c.requires.from c.requires.to c.requires.left,
     )
 
@@ -24,36 +26,45 @@ cutting_machine-requires-clause-at c =
     let more : c.args.below ≡ suc (c.args.below - 1) = omega (arith, c.requires.many) in (
       c.args.search.now.node.items,
       c.args.below - 1,
-      subst (λ n. IsFrame c.args.setting.now.instance.now c.args.search.now.node.items (suc n) c.args.here.now) more c.requires.frame,
-      kid-of c.args.setting.now.instance.now c.args.search.now.node.items c.args.here.now.front c.args.search.now.unscheduled (suc c.args.below) c.args.job
+      subst (λ n. IsFrame c.args.setting.now.instance.now c.args.search.now.node.items
+          (suc n) c.args.here.now) more c.requires.frame,
+      kid-of c.args.setting.now.instance.now c.args.search.now.node.items c.args.here.now.front
+          c.args.search.now.unscheduled (suc c.args.below) c.args.job
           c.requires.at c.requires.from c.requires.to c.requires.left,
     )
 
 -- what the search for the machine found
 found : (c : After-cutting_machine) →
     c.cutting_machine.result
-    ≡ find (λ machine. nat_le c.args.search.now.value (bound_at c.args.setting.now.instance.now (c.args.search.now.node.items ++ c.args.job ∷ []) machine))
+    ≡ find (λ machine. nat_le c.args.search.now.value (bound_at c.args.setting.now.instance.now
+    (c.args.search.now.node.items ++ c.args.job ∷ []) machine))
     (numbers 1 c.args.setting.now.instance.now.machines)
 found c = c.cutting_machine.ensures c.args.search.now.node.items (c.args.below - 1) (kid c).0 (kid c).1
 
 pub overflow_cast-machine : goal.overflow_cast-machine
 overflow_cast-machine c =
     let shop = c.args.setting.now.instance.now in
-    let p : ℕ → Bool = λ machine. nat_le c.args.search.now.value (bound_at shop (c.args.search.now.node.items ++ c.args.job ∷ []) machine) in
-    let is = machine-is shop p c.in-Some.machine c.requires.rows.limits (sym c.in-Some.is ∙ found (goal.at.overflow_cast-machine c).After-cutting_machine) in
+    let p : ℕ → Bool = λ machine. nat_le c.args.search.now.value (bound_at shop (c.args.search.now.node.items
+    ++ c.args.job ∷ []) machine) in
+    let is = machine-is shop p c.in-Some.machine c.requires.rows.limits (sym c.in-Some.is
+    ∙ found (goal.at.overflow_cast-machine c).After-cutting_machine) in
     omega (arith, is.1)
 
 pub overflow_add-machine : goal.overflow_add-machine
 overflow_add-machine c =
     let shop = c.args.setting.now.instance.now in
-    let p : ℕ → Bool = λ machine. nat_le c.args.search.now.value (bound_at shop (c.args.search.now.node.items ++ c.args.job ∷ []) machine) in
-    let is = machine-is shop p c.in-Some.machine c.requires.rows.limits (sym c.in-Some.is ∙ found (goal.at.overflow_add-machine c).After-cutting_machine) in
+    let p : ℕ → Bool = λ machine. nat_le c.args.search.now.value (bound_at shop (c.args.search.now.node.items
+    ++ c.args.job ∷ []) machine) in
+    let is = machine-is shop p c.in-Some.machine c.requires.rows.limits (sym c.in-Some.is
+    ∙ found (goal.at.overflow_add-machine c).After-cutting_machine) in
     omega (arith, is.1)
 
 pub returns-in-Some-clause-whole : goal.returns-in-Some-clause-whole
 returns-in-Some-clause-whole c e =
-    cut-done c.args.setting.now.instance.now c.args.setting.now.budget c.args.below c.args.job c.in-Some.machine c.args.search.now c.write.new.self
-    (omega (arith, c.requires.many)) (sym c.in-Some.is ∙ found (goal.at.returns-in-Some-clause-whole c).After-cutting_machine) c.in_ok-write.ensures.done
+    cut-done c.args.setting.now.instance.now c.args.setting.now.budget c.args.below c.args.job c.in-Some.machine
+    c.args.search.now c.write.new.self
+    (omega (arith, c.requires.many)) (sym c.in-Some.is
+    ∙ found (goal.at.returns-in-Some-clause-whole c).After-cutting_machine) c.in_ok-write.ensures.done
 
 pub returns-clause-opens : goal.returns-clause-opens
 returns-clause-opens c e = record {
@@ -63,4 +74,5 @@ returns-clause-opens c e = record {
 }
 
 pub walk_small-requires-clause-uncut : goal.walk_small-requires-clause-uncut
-walk_small-requires-clause-uncut c = sym (found (goal.at.walk_small-requires-clause-uncut c).After-cutting_machine) ∙ c.in_default.is
+walk_small-requires-clause-uncut c = sym (found (goal.at.walk_small-requires-clause-uncut c).After-cutting_machine)
+    ∙ c.in_default.is

@@ -20,27 +20,35 @@ use Rattle.flow_search.proofs.subtree.walk_children.Goals.{After-first_of, In-So
 
 -- what the search for the next child found
 found : (c : After-first_of) →
-    c.first_of.result ≡ find (contains c.walk.search.unscheduled) (numbers c.walk.here.next c.args.setting.now.instance.now.jobs)
-found c = c.first_of.ensures ∙ ap (λ n. find (contains c.walk.search.unscheduled) (numbers c.walk.here.next n)) c.jobs-jobs.ensures.value
+    c.first_of.result ≡ find (contains c.walk.search.unscheduled)
+    (numbers c.walk.here.next c.args.setting.now.instance.now.jobs)
+found c = c.first_of.ensures
+    ∙ ap (λ n. find (contains c.walk.search.unscheduled) (numbers c.walk.here.next n)) c.jobs-jobs.ensures.value
 
 found-job : (c : In-Some) →
-    Some c.in-Some.job ≡ find (contains c.walk.search.unscheduled) (numbers c.walk.here.next c.args.setting.now.instance.now.jobs)
-found-job c = sym c.in-Some.is ∙ c.first_of.ensures ∙ ap (λ n. find (contains c.walk.search.unscheduled) (numbers c.walk.here.next n)) c.jobs-jobs.ensures.value
+    Some c.in-Some.job ≡ find (contains c.walk.search.unscheduled)
+    (numbers c.walk.here.next c.args.setting.now.instance.now.jobs)
+found-job c = sym c.in-Some.is ∙ c.first_of.ensures
+    ∙ ap (λ n. find (contains c.walk.search.unscheduled) (numbers c.walk.here.next n)) c.jobs-jobs.ensures.value
 
 pub returns-in_default-pop-clause-done : goal.returns-in_default-pop-clause-done
 returns-in_default-pop-clause-done c =
     let empty : c.walk.stack.items ≡ [] =
-    c.in_default-pop.ensures.items ∙ ap (λ xs. xs ++ []) (c.in_default-pop.ensures.rest ∙ ap (λ n. take (n - 1) c.walk.stack.items) c.in_default-pop.ensures.cases.0) in
+    c.in_default-pop.ensures.items
+    ∙ ap (λ xs. xs ++ []) (c.in_default-pop.ensures.rest
+    ∙ ap (λ n. take (n - 1) c.walk.stack.items) c.in_default-pop.ensures.cases.0) in
     walking-done c.walk.invariant c.args.here.front (suc c.args.below)
-    (sym c.in_default.is ∙ found (goal.at.returns-in_default-pop-clause-done c).After-first_of) (ap reverse empty) c.requires.at refl
+    (sym c.in_default.is ∙ found (goal.at.returns-in_default-pop-clause-done c).After-first_of)
+    (ap reverse empty) c.requires.at refl
 
 -- the frame above, and the node after its child
 above : (c : After-leave) →
     (reverse c.walk.stack.items ≡ c.in-Some-pop.parent ∷ reverse c.pop.new.self.items)
-    × Left (c.in-Some-pop.parent.next - 1) (path c.args.search.now.node.items (reverse c.pop.new.self.items)) c.walk.search c.leave.new.self
+    × Left (c.in-Some-pop.parent.next - 1) (path c.args.search.now.node.items
+    (reverse c.pop.new.self.items)) c.walk.search c.leave.new.self
 above c =
-    let popped = reverse-push c.pop.new.self.items c.walk.stack.items c.in-Some-pop.parent c.in-Some-pop.ensures.items in
-    (
+    let popped = reverse-push c.pop.new.self.items c.walk.stack.items c.in-Some-pop.parent
+    c.in-Some-pop.ensures.items in (
       popped,
       c.leave.ensures (path c.args.search.now.node.items (reverse c.pop.new.self.items))
           (c.walk.invariant.node ∙ ap (path c.args.search.now.node.items) popped),
@@ -50,7 +58,8 @@ pub walk-smaller-in_default : goal.walk-smaller-in_default
 walk-smaller-in_default c =
     let left = (above c).1 in
     let tree : length c.leave.new.self.tree.items ≡ length c.walk.search.tree.items = ap length left.tree in
-    let stack : length c.walk.stack.items ≡ length (c.pop.new.self.items ++ c.in-Some-pop.parent ∷ []) = ap length c.in-Some-pop.ensures.items in
+    let stack : length c.walk.stack.items ≡ length (c.pop.new.self.items ++ c.in-Some-pop.parent ∷ []) =
+    ap length c.in-Some-pop.ensures.items in
     omega (arith, tree, stack, length-append c.pop.new.self.items (c.in-Some-pop.parent ∷ []))
 
 pub walk-preserved-in_default : goal.walk-preserved-in_default
@@ -60,14 +69,18 @@ walk-preserved-in_default c =
     let up = walking-up c.walk.invariant c.in-Some-pop.parent (reverse c.pop.new.self.items) c.leave.new.self
     (sym c.in_default.is ∙ found (goal.at.walk-preserved-in_default c).After-first_of) (above c).0 (above c).1 in
     let more : suc c.walk.below ≡ c.walk.below + 1 = omega arith in
-    subst (λ n. IsWalking shop c.args.setting.now.budget old.node.items (children_walked shop c.args.below old) old c.in-Some-pop.parent n (reverse c.pop.new.self.items) c.leave.new.self) more up
+    subst (λ n. IsWalking shop c.args.setting.now.budget old.node.items
+    (children_walked shop c.args.below old) old c.in-Some-pop.parent n
+    (reverse c.pop.new.self.items) c.leave.new.self) more up
 
 -- the child's job
 kid : (c : In-Some) →
-    IsChild c.args.setting.now.instance.now.jobs (path c.args.search.now.node.items (reverse c.walk.stack.items)) c.in-Some.job
+    IsChild c.args.setting.now.instance.now.jobs (path c.args.search.now.node.items
+    (reverse c.walk.stack.items)) c.in-Some.job
     × (contains c.walk.search.unscheduled c.in-Some.job ≡ true)
     × (c.args.setting.now.instance.now.jobs ≤ most_jobs)
-kid c = let next = walking-child c.walk.invariant c.in-Some.job (found-job c) in (next.1, next.2, c.requires.rows.limits.jobs)
+kid c = let next = walking-child c.walk.invariant c.in-Some.job (found-job c) in
+    (next.1, next.2, c.requires.rows.limits.jobs)
 
 pub overflow_add-here : goal.overflow_add-here
 overflow_add-here c = let k = kid c in omega (arith, k.0.to, k.2)
@@ -88,7 +101,8 @@ returns-in_err-visit-clause-over c e =
     let put_bool : Stop → Result Bool Stop = λ stop. Err stop in
     let was : p.0 ≡ OverBudget = let r : put p.0 ≡ put OverBudget = sym p.1 ∙ e in cc in
     let same : put_bool c.in_err-visit.field-0.0 ≡ put_bool OverBudget = ap put_bool (sym p.2 ∙ was) in
-    walking-over c.walk.invariant c.in-Some.job (found-job (goal.at.returns-in_err-visit-clause-over c).In-Some) (c.in_err-visit.ensures.over same)
+    walking-over c.walk.invariant c.in-Some.job (found-job (goal.at.returns-in_err-visit-clause-over c).In-Some)
+    (c.in_err-visit.ensures.over same)
 
 pub enter-requires-clause-from : goal.enter-requires-clause-from
 enter-requires-clause-from c = (kid (goal.at.enter-requires-clause-from c).In-Some).0.from
@@ -97,20 +111,27 @@ pub enter-requires-clause-to : goal.enter-requires-clause-to
 enter-requires-clause-to c = let k = kid (goal.at.enter-requires-clause-to c).In-Some in omega (arith, k.0.to, k.2)
 
 -- the plus that was written
-opens : (c : Then-branch) → Opens c.args.setting.now.instance.now c.args.setting.now.budget c.walk.below c.in-Some.job c.walk.search c.visit.new.search
+opens : (c : Then-branch) →
+    Opens c.args.setting.now.instance.now c.args.setting.now.budget c.walk.below c.in-Some.job c.walk.search
+    c.visit.new.search
 opens c = let put : Bool → Result Bool Stop = λ b. Ok b in c.in_ok-visit.ensures.opens (ap put c.if-branch.true)
 
 -- the child's node
 entered : (c : In_ok-enter) →
-    IsAt c.args.setting.now.instance.now c.enter.new.self.node.items (front_of c.args.setting.now.instance.now (c.walk.search.node.items ++ c.in-Some.job ∷ [])) c.enter.new.self.unscheduled c.walk.below
-    × IsRestOf c.args.setting.now.instance.now (members (slice_set c.enter.new.self.unscheduled (c.in-Some.job - 1) true)) c.walk.here.rest
+    IsAt c.args.setting.now.instance.now c.enter.new.self.node.items (front_of c.args.setting.now.instance.now
+    (c.walk.search.node.items ++ c.in-Some.job ∷ [])) c.enter.new.self.unscheduled c.walk.below
+    × IsRestOf c.args.setting.now.instance.now (members (slice_set c.enter.new.self.unscheduled
+    (c.in-Some.job - 1) true)) c.walk.here.rest
     × (1 ≤ c.walk.below)
 entered c =
     let put : Bool → Result Bool Stop = λ b. Ok b in
     let o = c.in_ok-visit.ensures.opens (ap put c.if-branch.true) in
-    let found : Some c.in-Some.job ≡ find (contains c.walk.search.unscheduled) (numbers c.walk.here.next c.args.setting.now.instance.now.jobs) =
-    sym c.in-Some.is ∙ c.first_of.ensures ∙ ap (λ n. find (contains c.walk.search.unscheduled) (numbers c.walk.here.next n)) c.jobs-jobs.ensures.value in
-    let is = walking-entered c.walk.invariant c.in-Some.job c.visit.new.search c.enter.new.self found o c.in_ok-enter.ensures in
+    let found : Some c.in-Some.job
+    ≡ find (contains c.walk.search.unscheduled) (numbers c.walk.here.next c.args.setting.now.instance.now.jobs) =
+    sym c.in-Some.is ∙ c.first_of.ensures
+    ∙ ap (λ n. find (contains c.walk.search.unscheduled) (numbers c.walk.here.next n)) c.jobs-jobs.ensures.value in
+    let is = walking-entered c.walk.invariant c.in-Some.job c.visit.new.search c.enter.new.self found o
+    c.in_ok-enter.ensures in
     (is.0, is.1, omega (arith, o.more))
 
 pub step-rest-requires-clause-job_from : goal.step-rest-requires-clause-job_from
@@ -122,7 +143,8 @@ step-rest-requires-clause-job_to c = (kid (goal.at.step-rest-requires-clause-job
 pub step-rest-requires-clause-some : goal.step-rest-requires-clause-some
 step-rest-requires-clause-some c =
     let is = entered (goal.at.step-rest-requires-clause-some c).In_ok-enter in
-    let size = left-count c.args.setting.now.instance.now c.enter.new.self.node.items (front_of c.args.setting.now.instance.now (c.walk.search.node.items ++ c.in-Some.job ∷ []))
+    let size = left-count c.args.setting.now.instance.now c.enter.new.self.node.items
+    (front_of c.args.setting.now.instance.now (c.walk.search.node.items ++ c.in-Some.job ∷ []))
     c.enter.new.self.unscheduled c.walk.below is.0 in
     omega (arith, size, is.2)
 
@@ -137,7 +159,8 @@ front_push-requires-clause-job_to c = (kid (goal.at.front_push-requires-clause-j
 
 pub front_push-requires-clause-within : goal.front_push-requires-clause-within
 front_push-requires-clause-within c =
-    within-front c.args.setting.now.instance.now c.walk.search.node.items c.walk.here.front c.walk.search.unscheduled (suc c.walk.below) c.walk.invariant.at
+    within-front c.args.setting.now.instance.now c.walk.search.node.items c.walk.here.front c.walk.search.unscheduled
+    (suc c.walk.below) c.walk.invariant.at
 
 pub new-here-requires-clause-jobs : goal.new-here-requires-clause-jobs
 new-here-requires-clause-jobs c = (entered (goal.at.new-here-requires-clause-jobs c).In_ok-enter).0.none
@@ -145,9 +168,13 @@ new-here-requires-clause-jobs c = (entered (goal.at.new-here-requires-clause-job
 pub walk-smaller-then-branch : goal.walk-smaller-then-branch
 walk-smaller-then-branch c =
     let o = opens (goal.at.walk-smaller-then-branch c).Then-branch in
-    let tree : length c.enter.new.self.tree.items ≡ length c.visit.new.search.tree.items = ap length c.in_ok-enter.ensures.tree in
-    let wrote : length c.visit.new.search.tree.items ≡ length (c.walk.search.tree.items ++ 43 ∷ []) = ap length o.wrote.tree in
-    let stack : length c.push.new.self.items ≡ length (c.walk.stack.items ++ moved c.walk.here (c.in-Some.job + 1) ∷ []) = ap length c.in_ok-push.ensures.items in
+    let tree : length c.enter.new.self.tree.items ≡ length c.visit.new.search.tree.items =
+    ap length c.in_ok-enter.ensures.tree in
+    let wrote : length c.visit.new.search.tree.items ≡ length (c.walk.search.tree.items ++ 43 ∷ []) =
+    ap length o.wrote.tree in
+    let stack : length c.push.new.self.items
+    ≡ length (c.walk.stack.items ++ moved c.walk.here (c.in-Some.job + 1) ∷ []) =
+    ap length c.in_ok-push.ensures.items in
     omega (
       arith,
       tree,
@@ -163,28 +190,39 @@ walk-preserved-then-branch c =
     let shop = c.args.setting.now.instance.now in
     let old = c.args.search.now in
     let pushed : reverse c.push.new.self.items ≡ moved c.walk.here (c.in-Some.job + 1) ∷ reverse c.walk.stack.items =
-    reverse-push c.walk.stack.items c.push.new.self.items (moved c.walk.here (c.in-Some.job + 1)) c.in_ok-push.ensures.items in
-    subst (λ xs. IsWalking shop c.args.setting.now.budget old.node.items (children_walked shop c.args.below old) old c.new-here.result (c.walk.below - 1) xs c.enter.new.self) (sym pushed)
+    reverse-push c.walk.stack.items c.push.new.self.items (moved c.walk.here (c.in-Some.job
+    + 1)) c.in_ok-push.ensures.items in
+    subst (λ xs. IsWalking shop c.args.setting.now.budget old.node.items
+    (children_walked shop c.args.below old) old c.new-here.result (c.walk.below - 1) xs c.enter.new.self)
+    (sym pushed)
     (walking-down c.walk.invariant c.in-Some.job c.visit.new.search c.enter.new.self c.new-here.result
-    (found-job (goal.at.walk-preserved-then-branch c).In-Some) (opens (goal.at.walk-preserved-then-branch c).Then-branch) c.in_ok-enter.ensures
-    (subst (IsFrontOf shop (c.walk.search.node.items ++ c.in-Some.job ∷ [])) (sym c.new-here.ensures.front) (c.front_push.ensures.front c.walk.search.node.items c.walk.invariant.at.is_front))
-    (subst (IsRestOf shop (members c.enter.new.self.unscheduled)) (sym c.new-here.ensures.rest) c.step-rest.ensures.rest)
+    (found-job (goal.at.walk-preserved-then-branch c).In-Some) (opens
+    (goal.at.walk-preserved-then-branch c).Then-branch) c.in_ok-enter.ensures
+    (subst (IsFrontOf shop (c.walk.search.node.items ++ c.in-Some.job
+    ∷ [])) (sym c.new-here.ensures.front)
+    (c.front_push.ensures.front c.walk.search.node.items c.walk.invariant.at.is_front))
+    (subst (IsRestOf shop (members c.enter.new.self.unscheduled))
+    (sym c.new-here.ensures.rest) c.step-rest.ensures.rest)
     c.new-here.ensures.second c.new-here.ensures.next)
 
 -- the child's subtree that was walked
 whole : (c : goal.Else-branch) → Gave c.args.setting.now.budget
-    (walk c.args.setting.now.instance.now bound_at c.walk.below (c.walk.search.node.items ++ c.in-Some.job ∷ []) (incumbent_of c.walk.search)) c.walk.search c.visit.new.search
+    (walk c.args.setting.now.instance.now bound_at c.walk.below (c.walk.search.node.items ++ c.in-Some.job
+    ∷ []) (incumbent_of c.walk.search)) c.walk.search c.visit.new.search
 whole c = let put : Bool → Result Bool Stop = λ b. Ok b in c.in_ok-visit.ensures.whole (ap put c.if-branch.false)
 
 pub walk-smaller : goal.walk-smaller
 walk-smaller c =
     let shop = c.args.setting.now.instance.now in
     let g = whole c in
-    let text : List ℕ = (walk shop bound_at c.walk.below (c.walk.search.node.items ++ c.in-Some.job ∷ []) (incumbent_of c.walk.search)).0 in
-    let some : 1 ≤ length text = walk-some shop c.walk.below (c.walk.search.node.items ++ c.in-Some.job ∷ []) (incumbent_of c.walk.search) in
+    let text : List ℕ = (walk shop bound_at c.walk.below (c.walk.search.node.items ++ c.in-Some.job
+    ∷ []) (incumbent_of c.walk.search)).0 in
+    let some : 1 ≤ length text =
+    walk-some shop c.walk.below (c.walk.search.node.items ++ c.in-Some.job ∷ []) (incumbent_of c.walk.search) in
     let tree : length c.visit.new.search.tree.items ≡ length (c.walk.search.tree.items ++ text) = ap length g.tree in
     omega (arith, some, tree, g.within, length-append c.walk.search.tree.items text)
 
 pub walk-preserved : goal.walk-preserved
 walk-preserved c =
-    walking-whole c.walk.invariant c.in-Some.job c.visit.new.search (found-job (goal.at.walk-preserved c).In-Some) (whole c)
+    walking-whole c.walk.invariant c.in-Some.job c.visit.new.search (found-job (goal.at.walk-preserved c).In-Some)
+    (whole c)

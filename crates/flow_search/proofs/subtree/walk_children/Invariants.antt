@@ -6,7 +6,8 @@ use Rattle.flow_search.proofs.subtree.walk_children.Given as goal
 abbrev pub invariant-walk : goal.invariant-walk
 invariant-walk l =
     IsWalking l.setting.instance.now l.setting.budget l.fn.search.node.items
-    (children_walked l.setting.instance.now l.fn.below l.fn.search) l.fn.search l.here l.below (reverse l.stack.items) l.search
+    (children_walked l.setting.instance.now l.fn.below l.fn.search) l.fn.search l.here l.below
+    (reverse l.stack.items) l.search
 
 abbrev pub decreases-walk : goal.decreases-walk
 decreases-walk l = 2 * (l.setting.budget - length l.search.tree.items) + length l.stack.items

@@ -11,7 +11,8 @@ use Rattle.flow_search.proofs.subtree.walk_small.Goals.{In_ok-write}
 
 pub front_push-requires-clause-within : goal.front_push-requires-clause-within
 front_push-requires-clause-within c =
-    within-front c.args.setting.now.instance.now c.args.search.now.node.items c.args.front c.args.search.now.unscheduled (suc c.args.below) c.requires.at
+    within-front c.args.setting.now.instance.now c.args.search.now.node.items c.args.front c.args.search.now.unscheduled
+    (suc c.args.below) c.requires.at
 
 pub walk_few-requires-clause-at : goal.walk_few-requires-clause-at
 walk_few-requires-clause-at c =
@@ -19,14 +20,20 @@ walk_few-requires-clause-at c =
     let old = c.args.search.now in
     let in_child = c.in_ok-enter.ensures in
     let wrote = c.in_ok-write.ensures.done in
-    let kid = at-child shop old.node.items c.args.front c.front_push.new.front old.unscheduled (suc c.args.below) c.args.below c.args.job
-    c.requires.at refl c.requires.from c.requires.to c.requires.left (c.front_push.ensures.front old.node.items c.requires.at.is_front) in
-    subst (λ q. IsAt shop q c.front_push.new.front c.write.new.self.unscheduled c.args.below) (sym (wrote.node ∙ in_child.node))
-    (subst (λ u. IsAt shop (old.node.items ++ c.args.job ∷ []) c.front_push.new.front u c.args.below) (sym (wrote.unscheduled ∙ in_child.unscheduled)) kid)
+    let kid = at-child shop old.node.items c.args.front c.front_push.new.front old.unscheduled
+    (suc c.args.below) c.args.below c.args.job
+    c.requires.at refl c.requires.from c.requires.to c.requires.left
+    (c.front_push.ensures.front old.node.items c.requires.at.is_front) in
+    subst (λ q. IsAt shop q c.front_push.new.front c.write.new.self.unscheduled c.args.below) (sym (wrote.node
+    ∙ in_child.node))
+    (subst (λ u. IsAt shop (old.node.items ++ c.args.job
+    ∷ []) c.front_push.new.front u c.args.below) (sym (wrote.unscheduled ∙ in_child.unscheduled)) kid)
 
 -- no machine cuts the child that was entered
-uncut : (c : In_ok-write) → IsUncut c.args.setting.now.instance.now c.args.below c.enter.new.self.node.items (incumbent_of c.enter.new.self)
-uncut c = uncut-child c.args.setting.now.instance.now c.args.below c.args.job c.args.search.now c.enter.new.self c.requires.some c.in_ok-enter.ensures c.requires.uncut
+uncut : (c : In_ok-write) →
+    IsUncut c.args.setting.now.instance.now c.args.below c.enter.new.self.node.items (incumbent_of c.enter.new.self)
+uncut c = uncut-child c.args.setting.now.instance.now c.args.below c.args.job c.args.search.now c.enter.new.self
+    c.requires.some c.in_ok-enter.ensures c.requires.uncut
 
 pub returns-in_err-walk_few-clause-over : goal.returns-in_err-walk_few-clause-over
 returns-in_err-walk_few-clause-over c e =
@@ -34,9 +41,11 @@ returns-in_err-walk_few-clause-over c e =
     let p = err_from_is_err_and c.from_residual-in_err-walk_few.result c.from_residual-in_err-walk_few.ensures.1 in
     let put : Stop → Result (Unit {0}) Stop = λ stop. Err stop in
     let same : put c.in_err-walk_few.field-0.0 ≡ put OverBudget = ap put (sym p.2) ∙ sym p.1 ∙ e in
-    child-over shop c.args.setting.now.budget c.args.below c.args.job c.args.search.now c.enter.new.self c.in_ok-enter.ensures
+    child-over shop c.args.setting.now.budget c.args.below c.args.job c.args.search.now c.enter.new.self
+    c.in_ok-enter.ensures
     (node-over shop c.args.setting.now.budget c.args.below c.enter.new.self c.write.new.self
-    (uncut (goal.at.returns-in_err-walk_few-clause-over c).In_ok-write) c.in_ok-write.ensures.done (c.in_err-walk_few.ensures.over same))
+    (uncut (goal.at.returns-in_err-walk_few-clause-over c).In_ok-write) c.in_ok-write.ensures.done
+    (c.in_err-walk_few.ensures.over same))
 
 pub returns-clause-done : goal.returns-clause-done
 returns-clause-done c =
@@ -45,5 +54,6 @@ returns-clause-done c =
     let w : Walked shop c.args.setting.now.budget c.args.below c.enter.new.self c.walk_few.new.search =
     node-done shop c.args.setting.now.budget c.args.below c.enter.new.self c.write.new.self c.walk_few.new.search
     (uncut (goal.at.returns-clause-done c).In_ok-write) c.in_ok-write.ensures.done c.in_ok-walk_few.ensures.done in
-    child-done shop c.args.setting.now.budget c.args.below c.args.job old c.enter.new.self c.walk_few.new.search c.leave.new.self
+    child-done shop c.args.setting.now.budget c.args.below c.args.job old c.enter.new.self c.walk_few.new.search
+    c.leave.new.self
     c.in_ok-enter.ensures w (c.leave.ensures old.node.items (w.node ∙ c.in_ok-enter.ensures.node)) c.requires.left

@@ -14,21 +14,26 @@ refusal_among-requires c = omega (arith, c.requires.count, c.prefixes-count.ensu
 
 pub returns-in-Some-clause-over : goal.returns-in-Some-clause-over
 returns-in-Some-clause-over c number e =
-    let size : length c.args.outcomes.items ≡ length (prefixes_of c.args.plan.now) = sym c.args.outcomes.ok.0 ∙ c.requires.count in
+    let size : length c.args.outcomes.items ≡ length (prefixes_of c.args.plan.now) = sym c.args.outcomes.ok.0
+    ∙ c.requires.count in
     let fault : c.in-Some.fault ≡ OverBudget number = cc in
     let first : first_refusal 0 c.args.outcomes.items ≡ Some (OverBudget number) =
-    ap (first_refusal 0) (sym c.deref.ensures.value) ∙ sym c.refusal_among.ensures ∙ c.in-Some.is ∙ ap (λ f. Some f) fault in
+    ap (first_refusal 0) (sym c.deref.ensures.value) ∙ sym c.refusal_among.ensures ∙ c.in-Some.is
+    ∙ ap (λ f. Some f) fault in
     (refusals c.args.plan.now c.args.outcomes.items size c.requires.lawful).over number first
 
 pub returns-clause-within : goal.returns-clause-within
 returns-clause-within c =
-    let size : length c.args.outcomes.items ≡ length (prefixes_of c.args.plan.now) = sym c.args.outcomes.ok.0 ∙ c.requires.count in
-    let none : first_refusal 0 c.args.outcomes.items ≡ None = ap (first_refusal 0) (sym c.deref.ensures.value) ∙ sym c.refusal_among.ensures ∙ c.in_default.is in
+    let size : length c.args.outcomes.items ≡ length (prefixes_of c.args.plan.now) = sym c.args.outcomes.ok.0
+    ∙ c.requires.count in
+    let none : first_refusal 0 c.args.outcomes.items ≡ None = ap (first_refusal 0) (sym c.deref.ensures.value)
+    ∙ sym c.refusal_among.ensures ∙ c.in_default.is in
     (refusals c.args.plan.now c.args.outcomes.items size c.requires.lawful).none none
 
 pub returns-clause-done : goal.returns-clause-done
 returns-clause-done c i other h =
-    let none : first_refusal 0 c.args.outcomes.items ≡ None = ap (first_refusal 0) (sym c.deref.ensures.value) ∙ sym c.refusal_among.ensures ∙ c.in_default.is in
+    let none : first_refusal 0 c.args.outcomes.items ≡ None = ap (first_refusal 0) (sym c.deref.ensures.value)
+    ∙ sym c.refusal_among.ensures ∙ c.in_default.is in
     done-at 0 c.args.outcomes.items i other none h
 
 pub loop-outcome-preserved-in-Continue-branch-2 : goal.loop-outcome-preserved-in-Continue-branch-2
@@ -36,14 +41,21 @@ loop-outcome-preserved-in-Continue-branch-2 c =
     let at = c.loop-outcome in
     let o = c.in-Some-outcome.outcome in
     let k : ℕ = length at.yielded in
-    let size : length c.args.outcomes.items ≡ length (prefixes_of c.args.plan.now) = sym c.args.outcomes.ok.0 ∙ c.requires.count in
-    let steps : into_iter_items at.outcome-iterator ≡ o ∷ into_iter_items c.next.new.self = c.in-Some-outcome.ensures.steps.0 in
-    let items : at.yielded ++ o ∷ into_iter_items c.next.new.self ≡ c.args.outcomes.items = ap (λ r. at.yielded ++ r) (sym steps) ∙ at.invariant.taken in
-    let low : k < length c.args.outcomes.items = omega (arith, ap length items, length-append at.yielded (o ∷ into_iter_items c.next.new.self)) in
+    let size : length c.args.outcomes.items ≡ length (prefixes_of c.args.plan.now) = sym c.args.outcomes.ok.0
+    ∙ c.requires.count in
+    let steps : into_iter_items at.outcome-iterator ≡ o ∷ into_iter_items c.next.new.self =
+    c.in-Some-outcome.ensures.steps.0 in
+    let items : at.yielded ++ o ∷ into_iter_items c.next.new.self ≡ c.args.outcomes.items =
+    ap (λ r. at.yielded ++ r) (sym steps) ∙ at.invariant.taken in
+    let low : k < length c.args.outcomes.items =
+    omega (arith, ap length items, length-append at.yielded (o ∷ into_iter_items c.next.new.self)) in
     let here : IsLawful c.args.plan.now k o =
-    subst (IsLawful c.args.plan.now k) (ap (λ os. slice_index_or os k o) (sym items) ∙ item-behind at.yielded o (into_iter_items c.next.new.self) o) (c.requires.lawful k o low) in
-    let lawful : IsLawful c.args.plan.now k (Done c.in-Done.best c.in-Done.tree) = subst (IsLawful c.args.plan.now k) c.in-Done.is here in
-    let added : IsTally c.args.plan.now (k + 1) c.add.new.self = c.in_ok-add.ensures c.args.plan.now k (omega (arith, low, size)) at.invariant.tally lawful in
+    subst (IsLawful c.args.plan.now k) (ap (λ os. slice_index_or os k o) (sym items)
+    ∙ item-behind at.yielded o (into_iter_items c.next.new.self) o) (c.requires.lawful k o low) in
+    let lawful : IsLawful c.args.plan.now k (Done c.in-Done.best c.in-Done.tree) =
+    subst (IsLawful c.args.plan.now k) c.in-Done.is here in
+    let added : IsTally c.args.plan.now (k + 1) c.add.new.self =
+    c.in_ok-add.ensures c.args.plan.now k (omega (arith, low, size)) at.invariant.tally lawful in
     let more : length (at.yielded ++ o ∷ []) ≡ k + 1 = omega (arith, length-append at.yielded (o ∷ [])) in
     record {
       taken = append_assoc at.yielded (o ∷ []) (into_iter_items c.next.new.self) ∙ items;
@@ -60,11 +72,17 @@ loop-outcome-preserved c =
     let at = c.loop-outcome in
     let o = c.in-Some-outcome.outcome in
     let k : ℕ = length at.yielded in
-    let steps : into_iter_items at.outcome-iterator ≡ o ∷ into_iter_items c.next.new.self = c.in-Some-outcome.ensures.steps.0 in
-    let items : at.yielded ++ o ∷ into_iter_items c.next.new.self ≡ c.args.outcomes.items = ap (λ r. at.yielded ++ r) (sym steps) ∙ at.invariant.taken in
-    let low : k < length c.args.outcomes.items = omega (arith, ap length items, length-append at.yielded (o ∷ into_iter_items c.next.new.self)) in
-    let none : first_refusal 0 c.args.outcomes.items ≡ None = ap (first_refusal 0) (sym c.deref.ensures.value) ∙ sym c.refusal_among.ensures ∙ c.in_default.is in
+    let steps : into_iter_items at.outcome-iterator ≡ o ∷ into_iter_items c.next.new.self =
+    c.in-Some-outcome.ensures.steps.0 in
+    let items : at.yielded ++ o ∷ into_iter_items c.next.new.self ≡ c.args.outcomes.items =
+    ap (λ r. at.yielded ++ r) (sym steps) ∙ at.invariant.taken in
+    let low : k < length c.args.outcomes.items =
+    omega (arith, ap length items, length-append at.yielded (o ∷ into_iter_items c.next.new.self)) in
+    let none : first_refusal 0 c.args.outcomes.items ≡ None = ap (first_refusal 0) (sym c.deref.ensures.value)
+    ∙ sym c.refusal_among.ensures ∙ c.in_default.is in
     let done : IsDone o =
-    subst IsDone (ap (λ os. slice_index_or os k o) (sym items) ∙ item-behind at.yielded o (into_iter_items c.next.new.self) o) (done-at 0 c.args.outcomes.items k o none low) in
+    subst IsDone (ap (λ os. slice_index_or os k o) (sym items)
+    ∙ item-behind at.yielded o (into_iter_items c.next.new.self) o)
+    (done-at 0 c.args.outcomes.items k o none low) in
     let is = done-is o done in
     absurd (c.in_default-outcome.not-Done is.0 is.1 is.2)

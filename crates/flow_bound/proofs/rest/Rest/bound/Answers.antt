@@ -7,9 +7,11 @@ use Rattle.flow_bound.proofs.rest.Rest.bound.Goals as goal
 pub returns-clause-value : goal.returns-clause-value
 returns-clause-value c shop jobs rest =
     let high : c.args.machine ≤ shop.machines = omega (arith, c.requires.to, rest.machines_are) in
-    let sums : slice_index c.self.inside.sums (c.args.machine - 1) ≡ slice_index c.args.self.now.sums (c.args.machine - 1) =
+    let sums : slice_index c.self.inside.sums (c.args.machine - 1)
+    ≡ slice_index c.args.self.now.sums (c.args.machine - 1) =
     ap (λ o. slice_index o.sums (c.args.machine - 1)) c.self.view_is in
-    let tails : slice_index c.self.inside.tails (c.args.machine - 1) ≡ slice_index c.args.self.now.tails (c.args.machine - 1) =
+    let tails : slice_index c.self.inside.tails (c.args.machine - 1)
+    ≡ slice_index c.args.self.now.tails (c.args.machine - 1) =
     ap (λ o. slice_index o.tails (c.args.machine - 1)) c.self.view_is in
     omega (
       arith,
@@ -24,5 +26,7 @@ returns-clause-value c shop jobs rest =
 
 pub returns-clause-admissible : goal.returns-clause-admissible
 returns-clause-admissible c shop scheduled sequence rest some front is extends =
-    admissible-members shop scheduled sequence c.args.front.now (jobs_left shop.jobs scheduled) c.args.machine (c.at.result + (c.from.result + c.from-2.result))
-    c.requires.from (omega (arith, c.requires.to, rest.machines_are)) is extends some refl front (returns-clause-value c shop (jobs_left shop.jobs scheduled) rest)
+    admissible-members shop scheduled sequence c.args.front.now (jobs_left shop.jobs scheduled) c.args.machine
+    (c.at.result + (c.from.result + c.from-2.result))
+    c.requires.from (omega (arith, c.requires.to, rest.machines_are)) is extends some refl front
+    (returns-clause-value c shop (jobs_left shop.jobs scheduled) rest)

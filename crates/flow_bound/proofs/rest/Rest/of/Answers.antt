@@ -16,14 +16,21 @@ loop-machine-init c = record {
   within = omega (arith, c.machines-machines.ensures.value);
   sums_size = omega arith;
   tails_size = omega arith;
-  behind_are = λ job from to. zeros most_jobs (job - 1) ∙ sym (time_between-none c.args.instance.now job (c.machines-machines.result + 1) c.args.instance.now.machines (omega (arith, c.machines-machines.ensures.value)));
+  behind_are = λ job from to. zeros most_jobs (job - 1)
+      ∙ sym (time_between-none c.args.instance.now job (c.machines-machines.result
+      + 1) c.args.instance.now.machines (omega (arith, c.machines-machines.ensures.value)));
   sums_are = λ k low high. absurd (omega (arith, c.machines-machines.ensures.value));
   tails_are = λ k low high. absurd (omega (arith, c.machines-machines.ensures.value));
 }
 
 pub add_times-requires-clause-small : goal.add_times-requires-clause-small
 add_times-requires-clause-small c job from to =
-    omega (arith, c.loop-machine.invariant.behind_are job from to, tail-small c.args.instance.now job c.loop-machine.machine c.machines-machines.ensures.limits)
+    omega (
+      arith,
+      c.loop-machine.invariant.behind_are job from to,
+      tail-small c.args.instance.now job
+          c.loop-machine.machine c.machines-machines.ensures.limits,
+    )
 
 pub loop-machine-preserved : goal.loop-machine-preserved
 loop-machine-preserved c =
@@ -37,8 +44,12 @@ loop-machine-preserved c =
       tails_size = grind (arith, common_steps);
       behind_are = λ job from to.
           c.add_times.ensures job from to
-          ∙ tail-before shop job k (slice_index c.loop-machine.behind (job - 1)) (time shop job k) shop.machines (omega arith) c.loop-machine.invariant.within
+          ∙ tail-before shop job k (slice_index c.loop-machine.behind (job - 1)) (time shop job k) shop.machines
+          (omega arith) c.loop-machine.invariant.within
           (c.loop-machine.invariant.behind_are job from to) refl;
-      sums_are = written (λ n. sum_by (λ job. time shop job n) (members set)) c.loop-machine.sums k c.sum_of.result shop.machines (omega arith) (omega arith) c.sum_of.ensures c.loop-machine.invariant.sums_are;
-      tails_are = written (λ n. least_tail shop (members set) n) c.loop-machine.tails k c.least_of.result shop.machines (omega arith) (omega arith) c.least_of.ensures c.loop-machine.invariant.tails_are;
+      sums_are = written (λ n. sum_by (λ job. time shop job n)
+          (members set)) c.loop-machine.sums k c.sum_of.result shop.machines (omega arith)
+          (omega arith) c.sum_of.ensures c.loop-machine.invariant.sums_are;
+      tails_are = written (λ n. least_tail shop (members set) n) c.loop-machine.tails k c.least_of.result shop.machines
+          (omega arith) (omega arith) c.least_of.ensures c.loop-machine.invariant.tails_are;
     }

@@ -15,8 +15,10 @@ invariant-loop-machine l = record {
   sums_size : length l.sums ≡ most_machines;
   tails_size : length l.tails ≡ most_machines;
   behind_are : AreTimes l.instance l.behind (l.machine + 1) l.instance.machines;
-  sums_are : (k : ℕ) → l.machine < k → k ≤ l.instance.machines → slice_index l.sums (k - 1) ≡ sum_by (λ job. time l.instance job k) (members l.set);
-  tails_are : (k : ℕ) → l.machine < k → k ≤ l.instance.machines → slice_index l.tails (k - 1) ≡ least_tail l.instance (members l.set) k;
+  sums_are : (k : ℕ) → l.machine < k → k ≤ l.instance.machines →
+      slice_index l.sums (k - 1) ≡ sum_by (λ job. time l.instance job k) (members l.set);
+  tails_are : (k : ℕ) → l.machine < k → k ≤ l.instance.machines →
+      slice_index l.tails (k - 1) ≡ least_tail l.instance (members l.set) k;
 }
 
 abbrev pub decreases-loop-machine : goal.decreases-loop-machine

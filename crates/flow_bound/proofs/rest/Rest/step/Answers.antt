@@ -24,7 +24,8 @@ loop-machine-init c =
       within = omega (arith, c.machines-machines.ensures.value);
       sums_size = omega (arith, c.self.told.0);
       tails_size = omega (arith, c.self.told.1);
-      behind_is = sym (time_between-none shop c.args.job (c.machines-machines.result + 1) shop.machines (omega (arith, c.machines-machines.ensures.value)));
+      behind_is = sym (time_between-none shop c.args.job (c.machines-machines.result
+          + 1) shop.machines (omega (arith, c.machines-machines.ensures.value)));
       sums_are = λ k low high. absurd (omega (arith, c.machines-machines.ensures.value));
       tails_are = λ k low high. absurd (omega (arith, c.machines-machines.ensures.value));
     }
@@ -32,7 +33,8 @@ loop-machine-init c =
 -- the sum and the least tail on the machine, before and after
 here : (c : After-time-time) →
     (slice_index c.self.inside.sums (c.loop-machine.machine - 1)
-    ≡ c.time-time.result + sum_by (λ job. time c.args.instance.now job c.loop-machine.machine) (members c.args.after.now))
+    ≡ c.time-time.result + sum_by (λ job. time c.args.instance.now job c.loop-machine.machine)
+    (members c.args.after.now))
     × (slice_index c.self.inside.tails (c.loop-machine.machine - 1)
     ≡ min c.loop-machine.behind (least_tail c.args.instance.now (members c.args.after.now) c.loop-machine.machine))
 here c =
@@ -42,19 +44,24 @@ here c =
     let job = c.args.job in
     let limits = c.machines-machines.ensures.limits in
     let most : shop.jobs ≤ most_jobs = limits.jobs in
-    let within : job - 1 < length after = omega (arith, c.contains.ensures.size, c.requires.job_from, c.requires.job_to, most) in
+    let within : job - 1 < length after =
+    omega (arith, c.contains.ensures.size, c.requires.job_from, c.requires.job_to, most) in
     let low : 1 ≤ k = omega (arith, c.loop-machine-test.true) in
     let sums : slice_index c.self.inside.sums (k - 1) ≡ slice_index c.args.self.now.sums (k - 1) =
     ap (λ o. slice_index o.sums (k - 1)) c.self.view_is in
     let tails : slice_index c.self.inside.tails (k - 1) ≡ slice_index c.args.self.now.tails (k - 1) =
     ap (λ o. slice_index o.tails (k - 1)) c.self.view_is in
-    let more = sum-with (λ job. time shop job k) after shop.jobs job c.requires.job_from c.requires.job_to within c.requires.jobs c.requires.out in
-    let lower = least-with 4294967295 (most_machines * greatest_time) (λ job. time_between shop job (k + 1) shop.machines) after shop.jobs job
-    (λ job. tail-small shop job k limits) (omega arith) c.requires.job_from c.requires.job_to within c.requires.jobs c.requires.out c.requires.some in
+    let more = sum-with (λ job. time shop job k) after shop.jobs job c.requires.job_from c.requires.job_to within
+    c.requires.jobs c.requires.out in
+    let lower = least-with 4294967295 (most_machines * greatest_time) (λ job. time_between shop job (k
+    + 1) shop.machines) after shop.jobs job
+    (λ job. tail-small shop job k limits)
+    (omega arith) c.requires.job_from c.requires.job_to within c.requires.jobs c.requires.out c.requires.some in
     let old_sum = c.requires.rest.sums_are k low c.loop-machine.invariant.within in
     let old_tail = c.requires.rest.tails_are k low c.loop-machine.invariant.within in (
       omega (arith, sums, old_sum, more, c.time-time.ensures.value),
-      tails ∙ old_tail ∙ lower ∙ ap (λ n. min n (least_tail shop (members after) k)) (sym c.loop-machine.invariant.behind_is),
+      tails ∙ old_tail ∙ lower
+          ∙ ap (λ n. min n (least_tail shop (members after) k)) (sym c.loop-machine.invariant.behind_is),
     )
 
 pub overflow_sub-sums : goal.overflow_sub-sums
@@ -91,11 +98,14 @@ loop-machine-preserved c =
       sums_size = grind (arith, common_steps);
       tails_size = grind (arith, common_steps);
       behind_is =
-          tail-before shop c.args.job k c.loop-machine.behind c.time-time.result shop.machines (omega arith) c.loop-machine.invariant.within
+          tail-before shop c.args.job k c.loop-machine.behind c.time-time.result shop.machines
+          (omega arith) c.loop-machine.invariant.within
           c.loop-machine.invariant.behind_is c.time-time.ensures.value;
       sums_are = written (λ n. sum_by (λ job. time shop job n) (members after)) c.loop-machine.sums k
-          (slice_index c.self.inside.sums (k - 1) - c.time-time.result) shop.machines (omega arith) (omega arith) (omega (arith, is.0))
+          (slice_index c.self.inside.sums (k - 1) - c.time-time.result) shop.machines (omega arith) (omega arith) (omega
+          (arith, is.0))
           c.loop-machine.invariant.sums_are;
-      tails_are = written (least_tail shop (members after)) c.loop-machine.tails k c.if-behind-least.tails shop.machines (omega arith) (omega arith) tail
+      tails_are = written (least_tail shop (members after)) c.loop-machine.tails k c.if-behind-least.tails shop.machines
+          (omega arith) (omega arith) tail
           c.loop-machine.invariant.tails_are;
     }

@@ -14,8 +14,10 @@ invariant-loop-machine l = record {
   sums_size : length l.sums ≡ most_machines;
   tails_size : length l.tails ≡ most_machines;
   behind_is : l.behind ≡ time_between l.instance l.job (l.machine + 1) l.instance.machines;
-  sums_are : (k : ℕ) → l.machine < k → k ≤ l.instance.machines → slice_index l.sums (k - 1) ≡ sum_by (λ job. time l.instance job k) (members l.after);
-  tails_are : (k : ℕ) → l.machine < k → k ≤ l.instance.machines → slice_index l.tails (k - 1) ≡ least_tail l.instance (members l.after) k;
+  sums_are : (k : ℕ) → l.machine < k → k ≤ l.instance.machines →
+      slice_index l.sums (k - 1) ≡ sum_by (λ job. time l.instance job k) (members l.after);
+  tails_are : (k : ℕ) → l.machine < k → k ≤ l.instance.machines →
+      slice_index l.tails (k - 1) ≡ least_tail l.instance (members l.after) k;
 }
 
 abbrev pub decreases-loop-machine : goal.decreases-loop-machine

@@ -15,13 +15,15 @@ loop-place-init c =
       within = omega arith;
       behind = none;
       done = λ place low high.
-          row-written (λ place row. AreTails shop (drop place partial) row) c.args.tails.now (length partial) (replicate most_machines 0) place
+          row-written (λ place row. AreTails shop (drop place partial) row) c.args.tails.now (length partial)
+          (replicate most_machines 0) place
           c.requires.room none (λ apart. absurd (omega (arith, apart)));
     }
 
 pub push_tails-requires-clause-within : goal.push_tails-requires-clause-within
 push_tails-requires-clause-within c =
-    tails-within c.args.instance.now (drop c.loop-place.place c.args.partial.now) c.loop-place.behind c.requires.rows.limits
+    tails-within c.args.instance.now
+    (drop c.loop-place.place c.args.partial.now) c.loop-place.behind c.requires.rows.limits
     (omega (arith, length-drop c.loop-place.place c.args.partial.now, c.requires.short)) c.loop-place.invariant.behind
 
 pub loop-place-preserved : goal.loop-place-preserved
@@ -32,14 +34,24 @@ loop-place-preserved c =
     let before = c.loop-place.invariant in
     let here : place - 1 + 1 ≡ place = omega arith in
     let split : drop (place - 1) partial ≡ slice_index_or partial (place - 1) 0 ∷ drop place partial =
-    drop_more partial (place - 1) 0 (omega (arith, before.within)) ∙ ap (λ n. slice_index_or partial (place - 1) 0 ∷ drop n partial) here in
+    drop_more partial (place - 1) 0 (omega (arith, before.within))
+    ∙ ap (λ n. slice_index_or partial (place - 1) 0 ∷ drop n partial) here in
     let behind : AreTails shop (drop (place - 1) partial) c.push_tails.new.tails =
-    subst (λ jobs. AreTails shop jobs c.push_tails.new.tails) (sym split) (c.push_tails.ensures (drop place partial) before.behind) in
+    subst (λ jobs. AreTails shop jobs c.push_tails.new.tails) (sym split) (c.push_tails.ensures
+    (drop place partial) before.behind) in
     record {
       within = omega (arith, before.within);
       behind = behind;
       done = λ j low high.
-          row-written (λ place row. AreTails shop (drop place partial) row) c.loop-place.tails (place - 1) c.push_tails.new.tails j
-          (omega (arith, before.within, c.loop-place.auto.tails, c.requires.room, length-set c.args.tails.now (length partial) (replicate most_machines 0)))
+          row-written (λ place row. AreTails shop (drop place partial) row) c.loop-place.tails
+          (place - 1) c.push_tails.new.tails j
+          (omega (
+            arith,
+            before.within,
+            c.loop-place.auto.tails,
+            c.requires.room,
+            length-set c.args.tails.now
+                (length partial) (replicate most_machines 0),
+          ))
           behind (λ apart. before.done j (omega (arith, apart)) high);
     }

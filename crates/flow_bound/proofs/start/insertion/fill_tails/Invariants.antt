@@ -7,5 +7,6 @@ abbrev pub invariant-loop-place : goal.invariant-loop-place
 invariant-loop-place l = record {
   within : l.place ≤ length l.partial;
   behind : AreTails l.instance (drop l.place l.partial) l.behind;
-  done : (place : ℕ) → l.place ≤ place → place ≤ length l.partial → AreTails l.instance (drop place l.partial) (slice_index_or l.tails place []);
+  done : (place : ℕ) → l.place ≤ place → place ≤ length l.partial →
+      AreTails l.instance (drop place l.partial) (slice_index_or l.tails place []);
 }

@@ -17,16 +17,29 @@ loop-machine-preserved c =
     c.requires.rows.each c.args.job c.requires.job_from c.requires.job_to machine (omega arith) (omega arith) in
     let before = c.loop-machine.invariant in
     let within : machine - 1 < length c.loop-machine.heads = omega arith in
-    let value = after-step shop old c.loop-machine.heads c.args.job machine c.loop-machine.free from_time (c.max.result + from_time)
+    let value = after-step shop old c.loop-machine.heads c.args.job machine c.loop-machine.free from_time (c.max.result
+    + from_time)
     (omega arith) before.free (before.others (machine - 1) (omega arith)) there (omega arith) in
-    let old_small : slice_index old (machine - 1) ≤ greatest_completion = c.requires.within (machine - 1) (omega arith) in
+    let old_small : slice_index old (machine - 1) ≤ greatest_completion =
+    c.requires.within (machine - 1) (omega arith) in
     let next : machine + 1 - 1 ≡ machine = omega arith in
     record {
       free = value ∙ ap (after shop (free_at old) c.args.job) (sym next);
       length = grind (arith, common_steps);
-      small = omega (arith, before.small, before.others (machine - 1) (omega arith), old_small, there, time-small shop c.args.job machine c.machines-machine-end.ensures.limits, c.max.ensures);
-      done = done-more shop old c.loop-machine.heads c.args.job machine (c.max.result + from_time) (omega arith) within value before.done;
-      others = λ place high. let other : place ≢ machine - 1 = omega arith in rw get_or-set_other (before.others place (omega arith));
+      small = omega (
+        arith,
+        before.small,
+        before.others (machine - 1)
+            (omega arith),
+        old_small,
+        there,
+        time-small shop c.args.job machine c.machines-machine-end.ensures.limits,
+        c.max.ensures,
+      );
+      done = done-more shop old c.loop-machine.heads c.args.job machine (c.max.result
+          + from_time) (omega arith) within value before.done;
+      others = λ place high. let other : place ≢ machine - 1 = omega arith in
+          rw get_or-set_other (before.others place (omega arith));
     }
 
 pub returns : goal.returns

@@ -10,6 +10,7 @@ invariant-loop-machine l = record {
   free : l.free ≡ after l.instance (free_at l.initial.heads) l.job (l.machine - 1);
   length : length l.heads ≡ most_machines;
   small : l.free ≤ greatest_completion + (l.machine - 1) * greatest_time;
-  done : (machine : ℕ) → 1 ≤ machine → machine < l.machine → free_at l.heads machine ≡ after l.instance (free_at l.initial.heads) l.job machine;
+  done : (machine : ℕ) → 1 ≤ machine → machine < l.machine →
+      free_at l.heads machine ≡ after l.instance (free_at l.initial.heads) l.job machine;
   others : (place : ℕ) → l.machine ≤ place + 1 → slice_index l.heads place ≡ slice_index l.initial.heads place;
 }

@@ -15,7 +15,8 @@ loop-place-init c = record {
   within = omega (arith, c.machines-place.ensures.value);
   length = grind (arith, common_steps);
   small = omega (arith, c.machines-place.ensures.value);
-  behind = λ jobs are. sym (ap (λ n. tail c.args.instance.now (c.args.job ∷ jobs) (n + 1)) c.machines-place.ensures.value ∙ tail-past c.args.instance.now c.args.job jobs);
+  behind = λ jobs are. sym (ap (λ n. tail c.args.instance.now (c.args.job ∷ jobs) (n
+      + 1)) c.machines-place.ensures.value ∙ tail-past c.args.instance.now c.args.job jobs);
   done = λ jobs are machine low high. absurd (omega (arith, c.machines-place.ensures.value));
   others = λ place low. refl;
 }
@@ -24,10 +25,22 @@ pub overflow_add-behind : goal.overflow_add-behind
 overflow_add-behind c =
     let place = c.loop-place.place in
     let before = c.loop-place.invariant in
-    let there = c.requires.rows.each c.args.job c.requires.job_from c.requires.job_to place (omega arith) before.within in
-    let old_small : slice_index c.args.tails.now (place - 1) ≤ greatest_completion = c.requires.within (place - 1) (omega (arith, before.within)) in
+    let there = c.requires.rows.each c.args.job c.requires.job_from c.requires.job_to place
+    (omega arith) before.within in
+    let old_small : slice_index c.args.tails.now (place - 1) ≤ greatest_completion =
+    c.requires.within (place - 1) (omega (arith, before.within)) in
     let machines : c.args.instance.now.machines ≤ most_machines = c.machines-place.ensures.limits.machines in
-    omega (arith, before.small, before.others (place - 1) (omega arith), old_small, there, time-small c.args.instance.now c.args.job place c.machines-place.ensures.limits, c.max.ensures)
+    omega (
+      arith,
+      before.small,
+      before.others (place - 1)
+          (omega arith),
+      old_small,
+      there,
+      time-small c.args.instance.now c.args.job place
+          c.machines-place.ensures.limits,
+      c.max.ensures,
+    )
 
 pub loop-place-preserved : goal.loop-place-preserved
 loop-place-preserved c =
@@ -37,8 +50,10 @@ loop-place-preserved c =
     let from_time : ℕ = slice_index_or (slice_index_or c.args.rows.now (c.args.job - 1) []) (place - 1) 0 in
     let there : from_time ≡ time shop c.args.job place =
     c.requires.rows.each c.args.job c.requires.job_from c.requires.job_to place (omega arith) before.within in
-    let old_small : slice_index c.args.tails.now (place - 1) ≤ greatest_completion = c.requires.within (place - 1) (omega (arith, before.within)) in
-    let value : (jobs : List ℕ) → AreTails shop jobs c.args.tails.now → c.max.result + from_time ≡ tail shop (c.args.job ∷ jobs) place =
+    let old_small : slice_index c.args.tails.now (place - 1) ≤ greatest_completion =
+    c.requires.within (place - 1) (omega (arith, before.within)) in
+    let value : (jobs : List ℕ) → AreTails shop jobs c.args.tails.now →
+    c.max.result + from_time ≡ tail shop (c.args.job ∷ jobs) place =
     λ jobs are. omega (
       arith,
       c.max.ensures,
@@ -52,14 +67,25 @@ loop-place-preserved c =
     record {
       within = omega (arith, before.within);
       length = grind (arith, common_steps);
-      small = omega (arith, before.small, before.others (place - 1) (omega arith), old_small, there, time-small shop c.args.job place c.machines-place.ensures.limits, c.max.ensures);
+      small = omega (
+        arith,
+        before.small,
+        before.others (place - 1)
+            (omega arith),
+        old_small,
+        there,
+        time-small shop c.args.job place c.machines-place.ensures.limits,
+        c.max.ensures,
+      );
       behind = λ jobs are. value jobs are ∙ ap (tail shop (c.args.job ∷ jobs)) (sym here);
       done = λ jobs are machine low high. elim (cases_lt place machine) [
-        | inl later ↦ let other : machine - 1 ≢ place - 1 = omega arith in rw get_or-set_other (before.done jobs are machine later high)
+        | inl later ↦ let other : machine - 1 ≢ place - 1 = omega arith in
+            rw get_or-set_other (before.done jobs are machine later high)
         | inr not_later ↦
             let same : machine ≡ place = omega arith in
             ap (λ n. slice_index (slice_set c.loop-place.tails (place - 1) (c.max.result + from_time)) (n - 1)) same
-            ∙ get_or-set_same c.loop-place.tails (place - 1) (c.max.result + from_time) 0 (omega (arith, before.length, before.within))
+            ∙ get_or-set_same c.loop-place.tails (place - 1) (c.max.result
+            + from_time) 0 (omega (arith, before.length, before.within))
             ∙ value jobs are ∙ ap (tail shop (c.args.job ∷ jobs)) (sym same)
       ];
       others = λ k low. let other : k ≢ place - 1 = omega arith in rw get_or-set_other (before.others k (omega arith));

@@ -21,24 +21,40 @@ loop-machine-preserved c =
     let head : c.max.result + from_time ≡ after shop (free_at heads) c.args.job machine =
     after-step shop heads heads c.args.job machine c.loop-machine.head from_time (c.max.result + from_time)
     (omega arith) before.head (omega arith) there (omega (arith, c.max.ensures)) in
-    let head_small : slice_index heads (machine - 1) ≤ greatest_completion = c.requires.heads (machine - 1) (omega arith) in
-    let tail_small : slice_index tails (machine - 1) ≤ greatest_completion = c.requires.tails (machine - 1) (omega arith) in
+    let head_small : slice_index heads (machine - 1) ≤ greatest_completion =
+    c.requires.heads (machine - 1) (omega arith) in
+    let tail_small : slice_index tails (machine - 1) ≤ greatest_completion =
+    c.requires.tails (machine - 1) (omega arith) in
     let next : machine + 1 - 1 ≡ machine = omega arith in
-    let step = greatest-step (λ machine. after shop (free_at heads) c.args.job machine + free_at tails machine) machine (omega arith) in
-    let most : c.loop-machine.most ≡ greatest (map (λ machine. after shop (free_at heads) c.args.job machine + free_at tails machine) (numbers 1 (machine - 1))) =
+    let step = greatest-step (λ machine. after shop (free_at heads) c.args.job machine
+    + free_at tails machine) machine (omega arith) in
+    let most : c.loop-machine.most
+    ≡ greatest (map (λ machine. after shop (free_at heads) c.args.job machine
+    + free_at tails machine) (numbers 1 (machine - 1))) =
     before.most in
     let time_small = time-small shop c.args.job machine c.machines-machine-end.ensures.limits in
     record {
       head = head ∙ ap (after shop (free_at heads) c.args.job) (sym next);
       most = omega (arith, step, most, head, c.max-most.ensures);
       head_small = omega (arith, before.head_small, head_small, there, time_small, c.max.ensures);
-      most_small = omega (arith, before.most_small, before.head_small, head_small, tail_small, there, time_small, c.max.ensures, c.max-most.ensures);
+      most_small = omega (
+        arith,
+        before.most_small,
+        before.head_small,
+        head_small,
+        tail_small,
+        there,
+        time_small,
+        c.max.ensures,
+        c.max-most.ensures,
+      );
     }
 
 pub returns : goal.returns
 returns c front back is_front are_tails =
     let shop = c.args.instance.now in
     let last : c.loop-machine.machine - 1 ≡ shop.machines = omega arith in
-    let value : ℕ → ℕ = λ machine. after shop (free_at c.args.heads.now) c.args.job machine + free_at c.args.tails.now machine in
+    let value : ℕ → ℕ = λ machine. after shop (free_at c.args.heads.now) c.args.job machine
+    + free_at c.args.tails.now machine in
     between-is shop front back c.args.heads.now c.args.tails.now c.args.job c.from.result is_front are_tails
     (c.from.ensures ∙ c.loop-machine.invariant.most ∙ ap (λ n. greatest (map value (numbers 1 n))) last)

@@ -10,7 +10,8 @@ use Rattle.flow_bound.proofs.start.insertion.span_between.Given as goal
 abbrev pub invariant-loop-machine : goal.invariant-loop-machine
 invariant-loop-machine l = record {
   head : l.head ≡ after l.instance (free_at l.heads) l.job (l.machine - 1);
-  most : l.most ≡ greatest (map (λ machine. after l.instance (free_at l.heads) l.job machine + free_at l.tails machine) (numbers 1 (l.machine - 1)));
+  most : l.most ≡ greatest (map (λ machine. after l.instance (free_at l.heads) l.job machine
+      + free_at l.tails machine) (numbers 1 (l.machine - 1)));
   head_small : l.head ≤ greatest_completion + (l.machine - 1) * greatest_time;
   most_small : l.most ≤ 2 * greatest_completion + (l.machine - 1) * greatest_time;
 }

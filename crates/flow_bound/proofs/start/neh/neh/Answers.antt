@@ -38,10 +38,13 @@ loop-job-preserved c =
     let best : insert jobs at job ≡ inserted shop jobs job =
     subst (λ xs. insert xs at job ≡ inserted shop xs job) now c.best_place-best.ensures.list in
     let makespan : c.best_place-best.result.makespan ≡ span shop (insert jobs at job) =
-    subst (λ xs. c.best_place-best.result.makespan ≡ span shop (insert xs at job)) now c.best_place-best.ensures.makespan in
-    let more : take index items ++ job ∷ [] ≡ take (index + 1) items = sym (take_more items index 0 c.loop-job-test.true) in
+    subst (λ xs. c.best_place-best.result.makespan
+    ≡ span shop (insert xs at job)) now c.best_place-best.ensures.makespan in
+    let more : take index items ++ job ∷ [] ≡ take (index + 1) items =
+    sym (take_more items index 0 c.loop-job-test.true) in
     let range = whole.each.range index 0 c.loop-job-test.true in
-    let fresh : has jobs job ≡ false = before.same job ∙ before-lacks items index whole.each.distinct c.loop-job-test.true in
+    let fresh : has jobs job ≡ false = before.same job
+    ∙ before-lacks items index whole.each.distinct c.loop-job-test.true in
     record {
       list = new ∙ best ∙ ap (λ xs. inserted shop xs job) before.list
           ∙ sym (all_inserted-push shop [] (take index items) job) ∙ ap (all_inserted shop []) more;
@@ -50,5 +53,6 @@ loop-job-preserved c =
       tails = omega (arith, before.tails);
       spans = omega (arith, before.spans);
       each = subst (AreJobs shop.jobs) (sym new) (jobs-insert shop.jobs jobs at job before.each range.0 range.1 fresh);
-      same = λ k. ap (λ xs. has xs k) new ∙ has-more jobs (take index items) at job k (before.same k) ∙ ap (λ xs. has xs k) more;
+      same = λ k. ap (λ xs. has xs k) new ∙ has-more jobs (take index items) at job k (before.same k)
+          ∙ ap (λ xs. has xs k) more;
     }

@@ -6,5 +6,6 @@ use Rattle.flow_bound.proofs.start.rows.row_of.Given as goal
 abbrev pub invariant-loop-machine : goal.invariant-loop-machine
 invariant-loop-machine l = record {
   length : length l.row ≡ most_machines;
-  done : (machine : ℕ) → 1 ≤ machine → machine < l.machine → slice_index l.row (machine - 1) ≡ time l.instance l.job machine;
+  done : (machine : ℕ) → 1 ≤ machine → machine < l.machine →
+      slice_index l.row (machine - 1) ≡ time l.instance l.job machine;
 }

@@ -9,12 +9,14 @@ returns-in_err-heading-clause-sound c = certificate_is_sound c.args.instance.now
 
 pub returns-in_err-heading-clause-lawful : goal.returns-in_err-heading-clause-lawful
 returns-in_err-heading-clause-lawful c =
-    lawful-at c.args.instance.now c.args.bytes.now c.from_residual.result c.in_err-heading.field-0.0 c.read_heading.ensures.limits (exit c.from_residual.result c.in_err-heading.field-0.0 c.from_residual.ensures.1)
+    lawful-at c.args.instance.now c.args.bytes.now c.from_residual.result c.in_err-heading.field-0.0
+    c.read_heading.ensures.limits (exit c.from_residual.result c.in_err-heading.field-0.0 c.from_residual.ensures.1)
     (first-fault c.args.instance.now c.args.bytes.now c.in_err-heading.field-0.0 c.in_err-heading.ensures.fault)
 
 pub returns-in_err-heading-clause-none : goal.returns-in_err-heading-clause-none
 returns-in_err-heading-clause-none c =
-    none-at c.args.instance.now c.args.bytes.now c.from_residual.result c.in_err-heading.field-0.0 c.read_heading.ensures.limits (exit c.from_residual.result c.in_err-heading.field-0.0 c.from_residual.ensures.1)
+    none-at c.args.instance.now c.args.bytes.now c.from_residual.result c.in_err-heading.field-0.0
+    c.read_heading.ensures.limits (exit c.from_residual.result c.in_err-heading.field-0.0 c.from_residual.ensures.1)
     (first-fault c.args.instance.now c.args.bytes.now c.in_err-heading.field-0.0 c.in_err-heading.ensures.fault)
 
 pub returns-in_err-end-clause-sound : goal.returns-in_err-end-clause-sound
@@ -23,14 +25,20 @@ returns-in_err-end-clause-sound c = certificate_is_sound c.args.instance.now c.a
 pub returns-in_err-end-clause-lawful : goal.returns-in_err-end-clause-lawful
 returns-in_err-end-clause-lawful c =
     let heading = c.in_ok-heading.heading in
-    lawful-at c.args.instance.now c.args.bytes.now c.from_residual-in_err-end.result c.in_err-end.field-0.0 c.read_heading.ensures.limits (exit c.from_residual-in_err-end.result c.in_err-end.field-0.0 c.from_residual-in_err-end.ensures.1)
-    (trees-fault c.args.instance.now heading.depth heading.value c.args.bytes.now heading.trees.now c.in_err-end.field-0.0 c.in_ok-heading.ensures.found c.in_err-end.ensures)
+    lawful-at c.args.instance.now c.args.bytes.now c.from_residual-in_err-end.result c.in_err-end.field-0.0
+    c.read_heading.ensures.limits
+    (exit c.from_residual-in_err-end.result c.in_err-end.field-0.0 c.from_residual-in_err-end.ensures.1)
+    (trees-fault c.args.instance.now heading.depth heading.value c.args.bytes.now heading.trees.now
+    c.in_err-end.field-0.0 c.in_ok-heading.ensures.found c.in_err-end.ensures)
 
 pub returns-in_err-end-clause-none : goal.returns-in_err-end-clause-none
 returns-in_err-end-clause-none c =
     let heading = c.in_ok-heading.heading in
-    none-at c.args.instance.now c.args.bytes.now c.from_residual-in_err-end.result c.in_err-end.field-0.0 c.read_heading.ensures.limits (exit c.from_residual-in_err-end.result c.in_err-end.field-0.0 c.from_residual-in_err-end.ensures.1)
-    (trees-fault c.args.instance.now heading.depth heading.value c.args.bytes.now heading.trees.now c.in_err-end.field-0.0 c.in_ok-heading.ensures.found c.in_err-end.ensures)
+    none-at c.args.instance.now c.args.bytes.now c.from_residual-in_err-end.result c.in_err-end.field-0.0
+    c.read_heading.ensures.limits
+    (exit c.from_residual-in_err-end.result c.in_err-end.field-0.0 c.from_residual-in_err-end.ensures.1)
+    (trees-fault c.args.instance.now heading.depth heading.value c.args.bytes.now heading.trees.now
+    c.in_err-end.field-0.0 c.in_ok-heading.ensures.found c.in_err-end.ensures)
 
 pub returns-then-not-is_ending-clause-sound : goal.returns-then-not-is_ending-clause-sound
 returns-then-not-is_ending-clause-sound c = certificate_is_sound c.args.instance.now c.args.bytes.now
@@ -38,31 +46,40 @@ returns-then-not-is_ending-clause-sound c = certificate_is_sound c.args.instance
 pub returns-then-not-is_ending-clause-fault : goal.returns-then-not-is_ending-clause-fault
 returns-then-not-is_ending-clause-fault c =
     let heading = c.in_ok-heading.heading in
-    checked-end c.args.instance.now heading.depth heading.value c.in_ok-end.end c.args.bytes.now heading.trees.now c.is_ending.result c.in_ok-heading.ensures.found c.in_ok-end.ensures c.is_ending.ensures c.if-not-is_ending.true
+    checked-end c.args.instance.now heading.depth heading.value c.in_ok-end.end c.args.bytes.now heading.trees.now
+    c.is_ending.result c.in_ok-heading.ensures.found c.in_ok-end.ensures c.is_ending.ensures c.if-not-is_ending.true
 
 pub returns-then-not-is_ending-clause-lawful : goal.returns-then-not-is_ending-clause-lawful
 returns-then-not-is_ending-clause-lawful c value is =
     let heading = c.in_ok-heading.heading in
-    let first = checked-end c.args.instance.now heading.depth heading.value c.in_ok-end.end c.args.bytes.now heading.trees.now c.is_ending.result c.in_ok-heading.ensures.found c.in_ok-end.ensures c.is_ending.ensures c.if-not-is_ending.true in
+    let first = checked-end c.args.instance.now heading.depth heading.value c.in_ok-end.end c.args.bytes.now
+    heading.trees.now c.is_ending.result c.in_ok-heading.ensures.found c.in_ok-end.ensures c.is_ending.ensures
+    c.if-not-is_ending.true in
     absurd (fault-lawless c.args.instance.now c.args.bytes.now End c.read_heading.ensures.limits first value is)
 
 pub returns-then-not-is_ending-clause-none : goal.returns-then-not-is_ending-clause-none
 returns-then-not-is_ending-clause-none c value is =
     let heading = c.in_ok-heading.heading in
-    let first = checked-end c.args.instance.now heading.depth heading.value c.in_ok-end.end c.args.bytes.now heading.trees.now c.is_ending.result c.in_ok-heading.ensures.found c.in_ok-end.ensures c.is_ending.ensures c.if-not-is_ending.true in
+    let first = checked-end c.args.instance.now heading.depth heading.value c.in_ok-end.end c.args.bytes.now
+    heading.trees.now c.is_ending.result c.in_ok-heading.ensures.found c.in_ok-end.ensures c.is_ending.ensures
+    c.if-not-is_ending.true in
     fault-lawless c.args.instance.now c.args.bytes.now End c.read_heading.ensures.limits first value is
 
 pub returns-clause-value : goal.returns-clause-value
 returns-clause-value c =
     let heading = c.in_ok-heading.heading in
     (value-least c.args.instance.now c.args.bytes.now heading.value c.read_heading.ensures.limits
-    (checked-value c.args.instance.now heading.depth heading.value c.in_ok-end.end c.args.bytes.now heading.trees.now c.is_ending.result c.in_ok-heading.ensures.found c.in_ok-end.ensures c.is_ending.ensures c.if-not-is_ending.false)).0
+    (checked-value c.args.instance.now heading.depth heading.value c.in_ok-end.end c.args.bytes.now heading.trees.now
+    c.is_ending.result c.in_ok-heading.ensures.found c.in_ok-end.ensures c.is_ending.ensures
+    c.if-not-is_ending.false)).0
 
 pub returns-clause-least : goal.returns-clause-least
 returns-clause-least c =
     let heading = c.in_ok-heading.heading in
     (value-least c.args.instance.now c.args.bytes.now heading.value c.read_heading.ensures.limits
-    (checked-value c.args.instance.now heading.depth heading.value c.in_ok-end.end c.args.bytes.now heading.trees.now c.is_ending.result c.in_ok-heading.ensures.found c.in_ok-end.ensures c.is_ending.ensures c.if-not-is_ending.false)).1
+    (checked-value c.args.instance.now heading.depth heading.value c.in_ok-end.end c.args.bytes.now heading.trees.now
+    c.is_ending.result c.in_ok-heading.ensures.found c.in_ok-end.ensures c.is_ending.ensures
+    c.if-not-is_ending.false)).1
 
 pub returns-clause-sound : goal.returns-clause-sound
 returns-clause-sound c = certificate_is_sound c.args.instance.now c.args.bytes.now
@@ -71,5 +88,7 @@ pub returns-clause-lawful : goal.returns-clause-lawful
 returns-clause-lawful c value is =
     let heading = c.in_ok-heading.heading in
     lawful-value c.args.instance.now c.args.bytes.now heading.value value c.read_heading.ensures.limits
-    (checked-value c.args.instance.now heading.depth heading.value c.in_ok-end.end c.args.bytes.now heading.trees.now c.is_ending.result c.in_ok-heading.ensures.found c.in_ok-end.ensures c.is_ending.ensures c.if-not-is_ending.false)
+    (checked-value c.args.instance.now heading.depth heading.value c.in_ok-end.end c.args.bytes.now heading.trees.now
+    c.is_ending.result c.in_ok-heading.ensures.found c.in_ok-end.ensures c.is_ending.ensures
+    c.if-not-is_ending.false)
     is

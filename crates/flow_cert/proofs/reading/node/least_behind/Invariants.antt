@@ -6,13 +6,16 @@ use Rattle.flow_cert.proofs.reading.node.least_behind.Given as goal
 
 abbrev pub invariant-jobs : goal.invariant-jobs
 invariant-jobs l = record {
-  place : (list : List ℕ) → AreLinks l.claim.instance.now.jobs list l.links → IsPlace l.claim.instance.now.jobs list l.last;
+  place : (list : List ℕ) → AreLinks l.claim.instance.now.jobs list l.links →
+      IsPlace l.claim.instance.now.jobs list l.last;
   least : (list : List ℕ) → AreLinks l.claim.instance.now.jobs list l.links →
       least_below unknown (tails l.claim.instance.now l.machine (jobs_left l.claim.instance.now.jobs list))
-      ≡ least_below l.least (tails l.claim.instance.now l.machine (children l.claim.instance.now.jobs list (l.last + 1)));
+      ≡ least_below l.least (tails l.claim.instance.now l.machine (children l.claim.instance.now.jobs list (l.last
+      + 1)));
   second : (list : List ℕ) → AreLinks l.claim.instance.now.jobs list l.links →
       second_below unknown unknown (tails l.claim.instance.now l.machine (jobs_left l.claim.instance.now.jobs list))
-      ≡ second_below l.least l.second (tails l.claim.instance.now l.machine (children l.claim.instance.now.jobs list (l.last + 1)));
+      ≡ second_below l.least l.second (tails l.claim.instance.now l.machine (children l.claim.instance.now.jobs list
+      (l.last + 1)));
 }
 
 abbrev pub decreases-jobs : goal.decreases-jobs

@@ -7,6 +7,7 @@ use Rattle.flow_cert.proofs.reading.node.time_of_all.Given as goal
 
 abbrev pub invariant-loop-job : goal.invariant-loop-job
 invariant-loop-job l = record {
-  value : l.total ≡ sum_by (λ job. time l.instance job l.machine) (filter (λ job. not (has [] job)) (numbers 1 (l.job - 1)));
+  value : l.total ≡ sum_by (λ job. time l.instance job l.machine) (filter (λ job. not (has [] job)) (numbers 1
+      (l.job - 1)));
   small : l.total ≤ (l.job - 1) * greatest_time;
 }

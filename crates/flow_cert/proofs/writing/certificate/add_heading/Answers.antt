@@ -31,24 +31,30 @@ pub returns-in_err-add_sizes-clause-err : goal.returns-in_err-add_sizes-clause-e
 returns-in_err-add_sizes-clause-err g c =
     let plan : Planned = c.args.plan.now in
     on-err c.from_residual-in_err-add_sizes.result
-    (stops-early _ _ c.args.gathered.now (to_sizes plan) (behind_sizes c.args.verdict.now) (then-stops _ (size_line plan) c.in_ok-add.ensures.ok c.in_err-add_sizes.ensures.err))
+    (stops-early _ _ c.args.gathered.now (to_sizes plan) (behind_sizes c.args.verdict.now) (then-stops _
+    (size_line plan) c.in_ok-add.ensures.ok c.in_err-add_sizes.ensures.err))
 
 pub returns-in_err-add_value-clause-err : goal.returns-in_err-add_value-clause-err
 returns-in_err-add_value-clause-err g c =
     let verdict : Verdict = c.args.verdict.now in
     on-err c.from_residual-in_err-add_value.result
     (stops-early _ _ c.args.gathered.now (to_value c.args.plan.now verdict) (line (spaced verdict.sequence) ∷ [])
-    (then-stops _ (line (decimal verdict.value)) (then-hands c.in_ok-add.ensures.ok c.in_ok-add_sizes.ensures.ok) c.in_err-add_value.ensures.err))
+    (then-stops _ (line (decimal verdict.value))
+    (then-hands c.in_ok-add.ensures.ok c.in_ok-add_sizes.ensures.ok) c.in_err-add_value.ensures.err))
 
 -- the lines up to the value are handed on
-value : (g : _) (c : In_ok-add_value g) → HandsOn (g.S.Sink.taken c.args.out.now) (g.S.Sink.taken c.add_value.new.out) c.args.gathered.now (to_value c.args.plan.now c.args.verdict.now) c.add_value.new.gathered
+value : (g : _) (c : In_ok-add_value g) →
+    HandsOn (g.S.Sink.taken c.args.out.now) (g.S.Sink.taken c.add_value.new.out) c.args.gathered.now
+    (to_value c.args.plan.now c.args.verdict.now) c.add_value.new.gathered
 value g c = then-hands (then-hands c.in_ok-add.ensures.ok c.in_ok-add_sizes.ensures.ok) c.in_ok-add_value.ensures.ok
 
 pub returns-clause-ok : goal.returns-clause-ok
 returns-clause-ok g c =
-    on_ok_weaker c.add_numbers.result (then-hands (value g (goal.at.returns-clause-ok g c).In_ok-add_value)) (rw c.jobs.ensures.value at c.add_numbers.ensures.ok)
+    on_ok_weaker c.add_numbers.result (then-hands (value g (goal.at.returns-clause-ok g c).In_ok-add_value))
+    (rw c.jobs.ensures.value at c.add_numbers.ensures.ok)
 
 pub returns-clause-err : goal.returns-clause-err
 returns-clause-err g c =
-    on_err_weaker c.add_numbers.result (then-stops _ (line (spaced c.args.verdict.now.sequence)) (value g (goal.at.returns-clause-err g c).In_ok-add_value))
+    on_err_weaker c.add_numbers.result (then-stops _ (line (spaced c.args.verdict.now.sequence)) (value g
+    (goal.at.returns-clause-err g c).In_ok-add_value))
     (rw c.jobs.ensures.value at c.add_numbers.ensures.err)

@@ -8,5 +8,6 @@ use Rattle.flow_cert.proofs.writing.certificate.add_trees.Given as goal
 abbrev pub invariant-loop-tree : goal.invariant-loop-tree
 invariant-loop-tree g l = record {
   works : g.S.Sink.has_failed l.out ≡ false;
-  handed : HandsOn (g.S.Sink.taken l.initial.out) (g.S.Sink.taken l.out) l.initial.gathered (flat_map line (map (λ tree. tree.items) (take l.tree-index l.trees))) l.gathered;
+  handed : HandsOn (g.S.Sink.taken l.initial.out) (g.S.Sink.taken l.out) l.initial.gathered (flat_map line (map
+      (λ tree. tree.items) (take l.tree-index l.trees))) l.gathered;
 }

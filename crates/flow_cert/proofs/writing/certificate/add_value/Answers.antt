@@ -7,7 +7,8 @@ use Rattle.flow_cert.proofs.writing.certificate.add_value.Goals as goal
 pub returns-in_err-add_number-clause-err : goal.returns-in_err-add_number-clause-err
 returns-in_err-add_number-clause-err g c =
     on-err c.from_residual.result
-    (stops-within _ _ c.args.gathered.now (decimal c.args.value) (10 ∷ []) (line (decimal c.args.value)) refl c.in_err-add_number.ensures.err)
+    (stops-within _ _ c.args.gathered.now (decimal c.args.value) (10
+    ∷ []) (line (decimal c.args.value)) refl c.in_err-add_number.ensures.err)
 
 pub returns-clause-ok : goal.returns-clause-ok
 returns-clause-ok g c =

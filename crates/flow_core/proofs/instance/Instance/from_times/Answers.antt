@@ -13,7 +13,12 @@ back c =
 
 pub invariant_of-result : goal.invariant_of-result
 invariant_of-result c =
-    let P : List ℕ → Type 0 = λ times. IsWithinLimits (record { jobs = c.args.jobs; machines = c.args.machines; times = times }) in (
+    let P : List ℕ → Type 0 = λ times. IsWithinLimits (record {
+      jobs = c.args.jobs;
+      machines = c.args.machines;
+      times =
+          times;
+    }) in (
       subst P (sym (back c)) c.requires,
       ap length c.in_ok-by_columns.ensures ∙ turned-length c.args.machines c.args.jobs c.args.times.now
           ∙ mul_comm c.args.machines c.args.jobs,

@@ -13,7 +13,8 @@ is-time c =
     c.index.result.now ≡ time shop c.args.job c.args.machine in
     subst P c.self.view_is
     (λ to last.
-    let within = row-within inside.jobs inside.machines c.args.job c.args.machine c.requires.job_from to c.requires.machine_from last in
+    let within = row-within inside.jobs inside.machines c.args.job c.args.machine c.requires.job_from to
+    c.requires.machine_from last in
     c.index.ensures
     ∙ get_or_default_zero inside.rows.items place c.index.result.now (omega (arith, within, c.self.invariant.1))
     ∙ row-time _ inside.rows.items c.args.job c.args.machine refl c.requires.job_from to c.requires.machine_from last)

@@ -14,11 +14,14 @@ pub invariant_of-result : goal.invariant_of-result
 invariant_of-result c =
     let same : c.in_ok-from_slice-in-None.field-0.items ≡ c.args.jobs.now = c.in_ok-from_slice-in-None.ensures.items in
     let none = sym c.first_job_at_fault.ensures ∙ c.in-None.is in
-    let is : IsSequence c.jobs-n.result c.args.jobs.now = fault-none-is c.jobs-n.result c.args.jobs.now c.if-jobs-n.false none in
-    subst (λ xs. IsSequence (length xs) xs) (sym same) (subst (λ n. IsSequence n c.args.jobs.now) (sym c.if-jobs-n.false) is)
+    let is : IsSequence c.jobs-n.result c.args.jobs.now =
+    fault-none-is c.jobs-n.result c.args.jobs.now c.if-jobs-n.false none in
+    subst (λ xs. IsSequence (length xs) xs) (sym same) (subst (λ n. IsSequence n c.args.jobs.now)
+    (sym c.if-jobs-n.false) is)
 
 pub returns-in_ok-from_slice-in-None-clause-each : goal.returns-in_ok-from_slice-in-None-clause-each
 returns-in_ok-from_slice-in-None-clause-each c =
     let none = sym c.first_job_at_fault.ensures ∙ c.in-None.is in
-    let is : IsSequence c.jobs-n.result c.args.jobs.now = fault-none-is c.jobs-n.result c.args.jobs.now c.if-jobs-n.false none in
+    let is : IsSequence c.jobs-n.result c.args.jobs.now =
+    fault-none-is c.jobs-n.result c.args.jobs.now c.if-jobs-n.false none in
     subst (λ n. IsSequence n c.args.jobs.now) c.jobs-n.ensures.value is

@@ -5,7 +5,8 @@ use Rattle.flow_core.proofs.text.line.first_line.Goals as goal
 
 pub returns-then-byte-eq10-clause-lines : goal.returns-then-byte-eq10-clause-lines
 returns-then-byte-eq10-clause-lines c =
-    lines_of-split c.args.text.now _ _ c.loop-i.i c.loop-i-test.true c.if-byte-eq10.true c.loop-i.invariant c.split_at.ensures.front c.split_at.ensures.back
+    lines_of-split c.args.text.now _ _ c.loop-i.i c.loop-i-test.true c.if-byte-eq10.true c.loop-i.invariant
+    c.split_at.ensures.front c.split_at.ensures.back
 
 pub returns-clause-lines : goal.returns-clause-lines
 returns-clause-lines c =

@@ -15,6 +15,8 @@ invariant-loop-machine l = record {
   small : l.free ≤ greatest_completion + (l.machine - 1) * greatest_time;
   none : (node : List ℕ) (left : ℕ) → IsFrame l.setting.instance.now node (suc (suc left)) l.self →
       IsChild l.setting.instance.now.jobs node l.job →
-      find (λ machine. nat_le l.value (bound_at l.setting.instance.now (node ++ l.job ∷ []) machine)) (numbers l.machine l.setting.instance.now.machines)
-      ≡ find (λ machine. nat_le l.value (bound_at l.setting.instance.now (node ++ l.job ∷ []) machine)) (numbers 1 l.setting.instance.now.machines);
+      find (λ machine. nat_le l.value (bound_at l.setting.instance.now (node ++ l.job
+      ∷ []) machine)) (numbers l.machine l.setting.instance.now.machines)
+      ≡ find (λ machine. nat_le l.value (bound_at l.setting.instance.now (node ++ l.job
+      ∷ []) machine)) (numbers 1 l.setting.instance.now.machines);
 }

@@ -25,20 +25,26 @@ loop-place-preserved c =
             )
         | inr at ↦
             let e : k ≡ place = omega arith in
-            let least : c.min-in-loop-place.result ≡ min (slice_index c.args.self.now.least place) (slice_index c.args.row.now.tails place) =
+            let least : c.min-in-loop-place.result
+            ≡ min (slice_index c.args.self.now.least place) (slice_index c.args.row.now.tails place) =
             c.min-in-loop-place.ensures ∙ ap (λ n. min n (slice_index c.args.row.now.tails place)) here.0 in
-            let second : c.min.result ≡ min (slice_index c.args.self.now.second place) (max (slice_index c.args.self.now.least place) (slice_index c.args.row.now.tails place)) =
+            let second : c.min.result
+            ≡ min (slice_index c.args.self.now.second place) (max (slice_index c.args.self.now.least place)
+            (slice_index c.args.row.now.tails place)) =
             c.min.ensures
             ∙ ap (λ n. min n c.max.result) here.1
-            ∙ ap (min (slice_index c.args.self.now.second place)) (c.max.ensures ∙ ap (λ n. max n (slice_index c.args.row.now.tails place)) here.0) in (
+            ∙ ap (min (slice_index c.args.self.now.second place)) (c.max.ensures
+            ∙ ap (λ n. max n (slice_index c.args.row.now.tails place)) here.0) in (
               ap (slice_index (set c.loop-place.self.least place c.min-in-loop-place.result)) e
-                  ∙ get_or-set_same c.loop-place.self.least place c.min-in-loop-place.result 0 (omega (arith, i.least_size))
+                  ∙ get_or-set_same c.loop-place.self.least place c.min-in-loop-place.result 0 (omega
+                  (arith, i.least_size))
                   ∙ least
                   ∙ ap (λ n. min (slice_index c.args.self.now.least n) (slice_index c.args.row.now.tails n)) (sym e),
               ap (slice_index (set c.loop-place.self.second place c.min.result)) e
                   ∙ get_or-set_same c.loop-place.self.second place c.min.result 0 (omega (arith, i.second_size))
                   ∙ second
-                  ∙ ap (λ n. min (slice_index c.args.self.now.second n) (max (slice_index c.args.self.now.least n) (slice_index c.args.row.now.tails n))) (sym e),
+                  ∙ ap (λ n. min (slice_index c.args.self.now.second n) (max (slice_index c.args.self.now.least n)
+                  (slice_index c.args.row.now.tails n))) (sym e),
             )
       ];
       others = λ k above.
@@ -54,15 +60,21 @@ returns c shop jobs job limits row are machine from to =
     let k : ℕ = machine - 1 in
     let most : shop.machines ≤ most_machines = limits.machines in
     let was = are machine from to in
-    let tail : slice_index c.args.row.now.tails k ≡ time_between shop job (machine + 1) shop.machines = (row machine from to).1 in
+    let tail : slice_index c.args.row.now.tails k ≡ time_between shop job (machine + 1) shop.machines =
+    (row machine from to).1 in
     let done = c.loop-place.invariant.done k (omega (arith, c.loop-place-test.false)) in (
       done.0
           ∙ ap (λ n. min n (slice_index c.args.row.now.tails k)) was.0
           ∙ ap (min (least_below unknown (tails shop machine jobs))) tail
-          ∙ sym (ap (least_below unknown) (tails-push shop machine jobs job) ∙ least-push unknown (tails shop machine jobs) (time_between shop job (machine + 1) shop.machines)),
+          ∙ sym (ap (least_below unknown) (tails-push shop machine jobs job)
+          ∙ least-push unknown (tails shop machine jobs) (time_between shop job (machine + 1) shop.machines)),
       done.1
           ∙ ap (λ n. min n (max (slice_index c.args.self.now.least k) (slice_index c.args.row.now.tails k))) was.1
-          ∙ ap (λ n. min (second_below unknown unknown (tails shop machine jobs)) (max n (slice_index c.args.row.now.tails k))) was.0
-          ∙ ap (λ n. min (second_below unknown unknown (tails shop machine jobs)) (max (least_below unknown (tails shop machine jobs)) n)) tail
-          ∙ sym (ap (second_below unknown unknown) (tails-push shop machine jobs job) ∙ second-push unknown unknown (tails shop machine jobs) (time_between shop job (machine + 1) shop.machines)),
+          ∙ ap (λ n. min (second_below unknown unknown (tails shop machine jobs)) (max n
+          (slice_index c.args.row.now.tails k))) was.0
+          ∙ ap (λ n. min (second_below unknown unknown (tails shop machine jobs)) (max (least_below unknown
+          (tails shop machine jobs)) n)) tail
+          ∙ sym (ap (second_below unknown unknown) (tails-push shop machine jobs job)
+          ∙ second-push unknown unknown (tails shop machine jobs) (time_between shop job (machine
+          + 1) shop.machines)),
     )

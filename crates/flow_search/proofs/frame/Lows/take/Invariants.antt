@@ -9,7 +9,9 @@ invariant-loop-place l = record {
   second_size : length l.self.second ≡ most_machines;
   done : (k : ℕ) → k < l.place →
       (slice_index l.self.least k ≡ min (slice_index l.fn.self.least k) (slice_index l.row.tails k))
-      × (slice_index l.self.second k ≡ min (slice_index l.fn.self.second k) (max (slice_index l.fn.self.least k) (slice_index l.row.tails k)));
+      × (slice_index l.self.second k
+      ≡ min (slice_index l.fn.self.second k) (max (slice_index l.fn.self.least k) (slice_index l.row.tails k)));
   others : (k : ℕ) → l.place ≤ k →
-      (slice_index l.self.least k ≡ slice_index l.fn.self.least k) × (slice_index l.self.second k ≡ slice_index l.fn.self.second k);
+      (slice_index l.self.least k ≡ slice_index l.fn.self.least k)
+      × (slice_index l.self.second k ≡ slice_index l.fn.self.second k);
 }

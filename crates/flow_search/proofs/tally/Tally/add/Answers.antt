@@ -24,4 +24,5 @@ returns c plan number h is lawful =
       | then-undercuts w ↦ ap (λ s. s.trees.items) w.self-is
       | else-undercuts w ↦ ap (λ s. s.trees.items) w.self-is
     ] in
-    tally-more plan number c.args.self.now after next c.args.tree h is lawful best (c.in_ok-push.ensures.items ∙ ap (λ xs. xs ++ c.args.tree ∷ []) trees)
+    tally-more plan number c.args.self.now after next c.args.tree h is lawful best (c.in_ok-push.ensures.items
+    ∙ ap (λ xs. xs ++ c.args.tree ∷ []) trees)

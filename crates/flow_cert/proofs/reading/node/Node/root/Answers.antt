@@ -6,6 +6,17 @@ use Rattle.flow_cert.proofs.reading.node.Node.root.Goals as goal
 
 pub returns : goal.returns
 returns c =
-    root-node c.args.instance.now (record { front = c.empty-front.result; owed = c.loop-machine.owed; least = replicate most_machines unknown; second = replicate most_machines unknown }) c.machines-machines.ensures.limits (c.empty-front.ensures.front c.args.instance.now)
-    (λ machine from to. c.loop-machine.invariant.done machine from (omega (arith, to, c.loop-machine-test.false, c.machines-machines.ensures.value)))
+    root-node c.args.instance.now (record {
+      front =
+          c.empty-front.result;
+      owed =
+          c.loop-machine.owed;
+      least =
+          replicate most_machines unknown;
+      second =
+          replicate most_machines unknown;
+    }) c.machines-machines.ensures.limits
+    (c.empty-front.ensures.front c.args.instance.now)
+    (λ machine from to. c.loop-machine.invariant.done machine from (omega
+    (arith, to, c.loop-machine-test.false, c.machines-machines.ensures.value)))
     c.loop-machine.invariant.size refl refl

@@ -9,10 +9,14 @@ invariant-children l = record {
   within : l.at ≤ length l.claim.bytes.now;
   deep : l.self.below ≤ l.base;
   size : length l.self.frames.items ≡ length l.fn.self.frames.items;
-  others : (place : ℕ) → l.fn.self.below < place → frame_at l.self.frames.items place ≡ frame_at l.fn.self.frames.items place;
-  back : put_back l.self.links.items (above l.self.frames.items l.self.below (l.base - l.self.below)) ≡ l.fn.self.links.items;
+  others : (place : ℕ) → l.fn.self.below < place → frame_at l.self.frames.items place
+      ≡ frame_at l.fn.self.frames.items place;
+  back : put_back l.self.links.items (above l.self.frames.items l.self.below (l.base - l.self.below))
+      ≡ l.fn.self.links.items;
   reading : (root : List ℕ) → Stands l.claim.instance.now root l.fn.self →
-      Reads l.claim.instance.now l.claim.value l.line root (children_read l.claim.instance.now l.claim.value l.line l.fn.self.below root (drop l.fn.spot.at l.claim.bytes.now)) l.base l.self l.last l.at l.claim.bytes.now;
+      Reads l.claim.instance.now l.claim.value l.line root
+      (children_read l.claim.instance.now l.claim.value l.line l.fn.self.below root
+      (drop l.fn.spot.at l.claim.bytes.now)) l.base l.self l.last l.at l.claim.bytes.now;
 }
 
 abbrev pub decreases-children : goal.decreases-children

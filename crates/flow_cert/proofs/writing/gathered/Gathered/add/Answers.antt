@@ -9,8 +9,11 @@ returns-in_err-put-clause-err g c =
 
 pub returns-clause-ok : goal.returns-clause-ok
 returns-clause-ok g c =
-    on_ok_weaker c.put_all.result (puts-straight _ _ _ c.args.self.now c.args.bytes.now c.put.new.self c.in_ok-put.ensures.ok c.in_ok-put.ensures.none) c.put_all.ensures.ok
+    on_ok_weaker c.put_all.result
+    (puts-straight _ _ _ c.args.self.now c.args.bytes.now c.put.new.self c.in_ok-put.ensures.ok
+    c.in_ok-put.ensures.none) c.put_all.ensures.ok
 
 pub returns-clause-err : goal.returns-clause-err
 returns-clause-err g c =
-    on_err_weaker c.put_all.result (puts-then-stops _ _ _ c.args.self.now c.args.bytes.now c.in_ok-put.ensures.ok) c.put_all.ensures.err
+    on_err_weaker c.put_all.result
+    (puts-then-stops _ _ _ c.args.self.now c.args.bytes.now c.in_ok-put.ensures.ok) c.put_all.ensures.err

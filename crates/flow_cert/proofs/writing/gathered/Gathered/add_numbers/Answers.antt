@@ -33,8 +33,10 @@ returns-in_err-add_number-clause-err g c =
     let below : i < length ns = omega arith in
     let is : n ≡ get_or ns i 0 = c.from.ensures in
     on-err c.from_residual-in_err-add_number.result
-    (stops-within _ _ c.args.self.now (done ++ decimal n) rest (line (spaced ns)) (at-number ns i n gap below is c.loop-number.invariant.gap)
-    (then-stops _ (decimal n) (then-hands c.loop-number.invariant.handed c.in_ok-add.ensures.ok) c.in_err-add_number.ensures.err))
+    (stops-within _ _ c.args.self.now (done
+    ++ decimal n) rest (line (spaced ns)) (at-number ns i n gap below is c.loop-number.invariant.gap)
+    (then-stops _ (decimal n)
+    (then-hands c.loop-number.invariant.handed c.in_ok-add.ensures.ok) c.in_err-add_number.ensures.err))
 
 pub loop-number-preserved : goal.loop-number-preserved
 loop-number-preserved g c =
@@ -48,7 +50,8 @@ loop-number-preserved g c =
     record {
       works = c.in_ok-add_number.ensures.failed;
       gap = gap-more ns i below;
-      handed = subst (λ t. HandsOn (g.S.Sink.taken c.args.out.now) (g.S.Sink.taken c.add_number.new.out) c.args.self.now t c.add_number.new.self)
+      handed = subst (λ t. HandsOn (g.S.Sink.taken c.args.out.now)
+          (g.S.Sink.taken c.add_number.new.out) c.args.self.now t c.add_number.new.self)
           (sym (one-more-number ns i n gap below is c.loop-number.invariant.gap))
           (then-hands (then-hands c.loop-number.invariant.handed c.in_ok-add.ensures.ok) c.in_ok-add_number.ensures.ok);
     }

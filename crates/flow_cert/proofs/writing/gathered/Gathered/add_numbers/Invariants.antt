@@ -9,5 +9,6 @@ abbrev pub invariant-loop-number : goal.invariant-loop-number
 invariant-loop-number g l = record {
   works : g.S.Sink.has_failed l.out ≡ false;
   gap : l.gap ≡ gap_behind (take l.number-index l.numbers);
-  handed : HandsOn (g.S.Sink.taken l.initial.out) (g.S.Sink.taken l.out) l.initial.self (spaced (take l.number-index l.numbers)) l.self;
+  handed : HandsOn (g.S.Sink.taken l.initial.out) (g.S.Sink.taken l.out) l.initial.self (spaced
+      (take l.number-index l.numbers)) l.self;
 }
