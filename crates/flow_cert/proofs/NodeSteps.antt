@@ -38,19 +38,17 @@ none-has : (n : ℕ) → length (jobs_left n []) ≡ n
 none-has zero = refl
 none-has (suc n) = omega (arith, ap length (filter-more (λ job. true) n), length-append (filter (λ job. true) (numbers 1 n)) (suc n ∷ []), none-has n)
 
--- before any machine is asked for
-all-same : (n v i : ℕ) → i < n → slice_index (replicate n v) i ≡ v
+-- before any bound asks for a tail
+pub all-same : (n v i : ℕ) → i < n → slice_index (replicate n v) i ≡ v
 all-same zero v i h = absurd (omega (arith, h))
 all-same (suc n) v zero h = refl
 all-same (suc n) v (suc i) h = all-same n v i (omega (arith, h))
 
-none-known : (shop : Shop) (list least second : List ℕ) → IsWithinLimits shop → least ≡ replicate most_machines unknown → second ≡ replicate most_machines unknown → AreKnown shop list least second
-none-known shop list least second limits a b = record {
-  each = λ machine from to.
-      let most : shop.machines ≤ most_machines = limits.machines in
-      inl (ap (λ l. slice_index l (machine - 1)) a ∙ all-same most_machines unknown (machine - 1) (omega (arith, from, to, most)));
-  least_size = ap length a;
-  second_size = ap length b;
+none-known : (shop : Shop) (list least second : List ℕ) → ((machine : ℕ) → 1 ≤ machine → machine ≤ shop.machines → slice_index least (machine - 1) ≡ unknown) → length least ≡ most_machines → length second ≡ most_machines → AreKnown shop list least second
+none-known shop list least second none least_size second_size = record {
+  each = λ machine from to. inl (none machine from to);
+  least_size = least_size;
+  second_size = second_size;
 }
 
 -- once a machine is asked for
@@ -88,26 +86,28 @@ known-more shop list node left machine lows limits is from to low = record {
 pub root-node : (shop : Shop) (node : Node) → IsWithinLimits shop → IsFrontOf shop [] node.front →
     ((machine : ℕ) → 1 ≤ machine → machine ≤ shop.machines → slice_index node.owed (machine - 1) ≡ sum_by (λ job. time shop job machine) (jobs_left shop.jobs [])) →
     length node.owed ≡ most_machines → node.least ≡ replicate most_machines unknown → node.second ≡ replicate most_machines unknown → IsNode shop [] node shop.jobs
-root-node shop node limits times owed size least second = record {
-  times = times;
-  owed = owed;
-  size = size;
-  known = none-known shop [] node.least node.second limits least second;
-  count = omega arith;
-  some = none-has shop.jobs;
-}
+root-node shop node limits times owed size least second =
+    let most : shop.machines ≤ most_machines = limits.machines in
+    record {
+      times = times;
+      owed = owed;
+      size = size;
+      known = none-known shop [] node.least node.second (λ machine from to. ap (λ l. slice_index l (machine - 1)) least ∙ all-same most_machines unknown (machine - 1) (omega (arith, from, to, most))) (ap length least) (ap length second);
+      count = omega arith;
+      some = none-has shop.jobs;
+    }
 
 -- a list's child
 pub child-node : (shop : Shop) (list : List ℕ) (node child : Node) (left job : ℕ) → IsWithinLimits shop → IsNode shop list node (suc left) → 1 ≤ job → job ≤ shop.jobs → has list job ≡ false →
     IsFrontOf shop (list ++ job ∷ []) child.front → length child.owed ≡ most_machines →
     ((machine : ℕ) → 1 ≤ machine → machine ≤ shop.machines → slice_index child.owed (machine - 1) + time shop job machine ≡ slice_index node.owed (machine - 1)) →
-    child.least ≡ replicate most_machines unknown → child.second ≡ replicate most_machines unknown →
+    ((machine : ℕ) → 1 ≤ machine → machine ≤ shop.machines → slice_index child.least (machine - 1) ≡ unknown) → length child.least ≡ most_machines → length child.second ≡ most_machines →
     IsNode shop (list ++ job ∷ []) child left
-child-node shop list node child left job limits is low high fresh times size less least second = record {
+child-node shop list node child left job limits is low high fresh times size less least least_size second_size = record {
   times = times;
   owed = λ machine from to. omega (arith, less machine from to, is.owed machine from to, left-sum (λ j. time shop j machine) shop.jobs list job low high fresh);
   size = size;
-  known = none-known shop (list ++ job ∷ []) child.least child.second limits least second;
+  known = none-known shop (list ++ job ∷ []) child.least child.second least least_size second_size;
   count = omega (arith, is.count, length-append list (job ∷ []));
   some = omega (arith, is.some, left-count shop.jobs list job low high fresh);
 }

@@ -23,7 +23,7 @@ fits c =
 
 -- the bound of the list itself
 own : (c : After-from) (list : List ℕ) (left : ℕ) → IsAt c.args.claim.now.instance.now list c.args.node.now c.args.links.now (left_before c.args.child (suc left)) →
-    (c.at.result + slice_index c.lows_of-lows.new.node.owed (c.args.machine - 1) + c.from.result ≡ bound_at c.args.claim.now.instance.now (grown list c.args.child) c.args.machine) × (c.from.result ≤ most_machines * greatest_time)
+    (slice_index c.lows_of-lows.new.node.front (c.args.machine - 1) + slice_index c.lows_of-lows.new.node.owed (c.args.machine - 1) + c.from.result ≡ bound_at c.args.claim.now.instance.now (grown list c.args.child) c.args.machine) × (c.from.result ≤ most_machines * greatest_time)
 own c list left at =
     let was : IsAt c.args.claim.now.instance.now list c.args.node.now c.args.links.now (suc left) =
     subst (λ o. IsAt c.args.claim.now.instance.now list c.args.node.now c.args.links.now (left_before o (suc left))) c.in-None.is at in
@@ -31,7 +31,7 @@ own c list left at =
     (c.lows_of-lows.ensures.kept list (suc left) was).is_node c.requires.from c.requires.to (c.lows_of-lows.ensures.lows list (suc left) was) in
     let whole : bound_at c.args.claim.now.instance.now (grown list c.args.child) c.args.machine ≡ bound_at c.args.claim.now.instance.now list c.args.machine =
     ap (λ o. bound_at c.args.claim.now.instance.now (grown list o) c.args.machine) c.in-None.is in
-    (omega (arith, c.at.ensures, c.from.ensures, is.0, whole), omega (arith, c.from.ensures, is.1))
+    (omega (arith, c.from.ensures, is.0, whole), omega (arith, c.from.ensures, is.1))
 
 -- the child's job is left, and its time is taken
 taken : (c : After-from-in-Some) (list : List ℕ) → IsChild c.args.claim.now.instance.now.jobs list c.args.child →
@@ -61,12 +61,12 @@ child c list left at (kid, there) =
 pub overflow_add-result : goal.overflow_add-result
 overflow_add-result c =
     let small = fits (goal.at.overflow_add-result c).After-lows_of-lows in
-    omega (arith, small.0, small.1, c.at.ensures)
+    omega (arith, small.0, small.1)
 
 pub overflow_add-result-in-None : goal.overflow_add-result-in-None
 overflow_add-result-in-None c =
     let small = fits (goal.at.overflow_add-result-in-None c).After-lows_of-lows in
-    omega (arith, small.0, small.1, c.at.ensures, (own c c.requires.at.0 c.requires.at.1 c.requires.at.2).1)
+    omega (arith, small.0, small.1, (own c c.requires.at.0 c.requires.at.1 c.requires.at.2).1)
 
 pub overflow_sub-owed : goal.overflow_sub-owed
 overflow_sub-owed c =
