@@ -1,6 +1,6 @@
 -- How a reader goes to a child and back.
 use Rattle.std.proofs.Common.{◌≡◌, ◌≢◌, ℕ, zero, suc, ◌+◌, ◌-◌, ◌<◌, ◌≤◌, List, [], ◌∷◌, ◌++◌, length, slice_index, slice_set, set, get_or, Option, Some, None, false, refl, ap, sym, subst, ◌∙◌, arith}
-use Rattle.std.proofs.lemmas.List.{get_or_default, get_or-set_same, get_or-set_other, length-set}
+use Rattle.std.proofs.lemmas.List.{get_or_default, get_or-set_same, get_or-set_other, length-set, set-append_left, set-append_right}
 use Rattle.flow_core.specs.Shop.{Shop}
 use Rattle.flow_core.specs.Sequences.{has}
 use Rattle.flow_cert.specs.internal.Links.{AreLinks, IsPlace}
@@ -50,6 +50,15 @@ learnt shop old new f below links frames within kept = record {
         room = ap length frames ∙ length-set old.frames.items old.below f ∙ stands.room;
       };
 }
+
+-- frames that are written in two parts
+pub parts-set : (lower upper : List Frame) (below place : ℕ) (f kid : Frame) → length lower ≡ below → place < below → set lower place kid ++ set upper 0 f ≡ set (set (lower ++ upper) below f) place kid
+parts-set lower upper below place f kid parted under =
+    let none : below - below ≡ 0 = omega arith in
+    let room : place < length lower = omega (arith, parted, under) in
+    sym (ap (λ fs. set fs place kid) (set-append_right lower upper below below f parted (omega arith))
+    ∙ ap (λ i. set (lower ++ set upper i f) place kid) none
+    ∙ set-append_left lower (set upper 0 f) place kid room)
 
 -- a child is opened
 pub opened : (shop : Shop) (last job value : ℕ) (old new : TreeReader) (f kid : Frame) → suc new.below ≡ old.below →

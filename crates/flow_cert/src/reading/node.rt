@@ -12,7 +12,7 @@ ghost use Rattle.flow_cert.specs.internal.Links.{AreLinks};
 ghost use Rattle.flow_cert.specs.internal.Nodes.{IsNode, IsAt, AreLows, IsChild, grown, left_before};
 
 use crate::reading::claim::Claim;
-use flow_core::{Front, Instance, MAX_MACHINES, front_push};
+use flow_core::{Instance, MAX_MACHINES};
 
 /// What is kept of a list of jobs. The machine bounds of the list and of its children are computed from it. A job's
 /// tail behind a machine is its time on all later machines. The two least tails behind a machine are found when the
@@ -20,7 +20,7 @@ use flow_core::{Front, Instance, MAX_MACHINES, front_push};
 #[derive(Clone, Copy)]
 pub(crate) struct Node {
     /// The completion time of the list on each machine.
-    front: Front,
+    front: [u64; MAX_MACHINES],
     /// The time that each machine still owes the jobs left, in all.
     owed: [u64; MAX_MACHINES],
     /// The least tail of the jobs left behind each machine. The greatest number means that it is not found yet.
@@ -63,46 +63,42 @@ impl Node {
         for machine in 1..machines + 1 {
             owed[machine as usize - 1] = time_of_all(instance, machine);
         }
-        let front = Front::empty();
         Node {
-            front,
+            front: [0; MAX_MACHINES],
             owed,
             least: [u32::MAX; MAX_MACHINES],
             second: [u32::MAX; MAX_MACHINES],
         }
     }
 
-    /// The child of the list that has this job at its end.
-    pub(crate) fn child(&self, claim: &Claim, job: u16) -> Self
+    /// Becomes the node of the child that has this job at its end, where `list` is the node of the list. Only the
+    /// instance's machines are written.
+    pub(crate) fn become_child(&mut self, claim: &Claim, list: &Node, job: u16)
         requires rows { AreRows claim.now.instance.now claim.now.rows.now }
-        requires at { (list : List ℕ) × (left : ℕ) × IsNode claim.now.instance.now list self.now left
-            × (has list job ≡ false) }
+        requires at { (jobs : List ℕ) × (left : ℕ) × IsNode claim.now.instance.now jobs list.now left
+            × (has jobs job ≡ false) }
         requires from { 1 ≤ job }
         requires to { job ≤ claim.now.instance.now.jobs }
-        ensures { (list : List ℕ) (left : ℕ) → IsNode claim.now.instance.now list self.now (suc left) →
-            has list job ≡ false →
-            IsNode claim.now.instance.now (list ++ job ∷ []) result left }
+        ensures { (jobs : List ℕ) (left : ℕ) → IsNode claim.now.instance.now jobs list.now (suc left) →
+            has jobs job ≡ false →
+            IsNode claim.now.instance.now (jobs ++ job ∷ []) self.new left }
     {
-        let mut front = self.front;
-        front_push(claim.instance, &mut front, job);
-        let mut owed = self.owed;
         let row = &claim.rows[job as usize - 1];
         let machines = claim.instance.machines();
+        let mut free = 0;
         for machine in 1..machines + 1 {
             let place = machine as usize - 1;
-            owed[place] -= u64::from(row.times[place]);
-        }
-        Node {
-            front,
-            owed,
-            least: [u32::MAX; MAX_MACHINES],
-            second: [u32::MAX; MAX_MACHINES],
+            let time = u64::from(row.times[place]);
+            free = list.front[place].max(free) + time;
+            self.front[place] = free;
+            self.owed[place] = list.owed[place] - time;
+            self.least[place] = u32::MAX;
         }
     }
 }
 
 /// The completion time of a child on a machine, from the front of the list and the job at the child's end.
-fn completion_of(claim: &Claim, front: &Front, job: u16, machine: u16) -> u64
+fn completion_of(claim: &Claim, front: &[u64; MAX_MACHINES], job: u16, machine: u16) -> u64
     requires rows { AreRows claim.now.instance.now claim.now.rows.now }
     requires job_from { 1 ≤ job }
     requires job_to { job ≤ claim.now.instance.now.jobs }
@@ -115,8 +111,8 @@ fn completion_of(claim: &Claim, front: &Front, job: u16, machine: u16) -> u64
     let row = &claim.rows[job as usize - 1];
     let mut free = 0;
     for earlier in 1..machine + 1 {
-        let time = u64::from(row.times[earlier as usize - 1]);
-        free = front.at(earlier).max(free) + time;
+        let place = earlier as usize - 1;
+        free = front[place].max(free) + u64::from(row.times[place]);
     }
     free
 }
@@ -182,7 +178,7 @@ pub(crate) fn makespan_at(claim: &Claim, node: &Node, child: Option<u16>) -> u64
 {
     let machines = claim.instance.machines();
     match child {
-        None => node.front.at(machines),
+        None => node.front[machines as usize - 1],
         Some(job) => completion_of(claim, &node.front, job, machines),
     }
 }
@@ -211,7 +207,7 @@ pub(crate) fn bound(
     let lows = lows_of(claim, node, links, machine);
     let place = machine as usize - 1;
     match child {
-        None => node.front.at(machine) + node.owed[place] + u64::from(lows.least),
+        None => node.front[place] + node.owed[place] + u64::from(lows.least),
         Some(job) => {
             let row = &claim.rows[job as usize - 1];
             let alone = row.tails[place] == lows.least;

@@ -101,12 +101,13 @@ impl TreeReader {
         ensures { Opened claim.now.instance.now last job self.old self.new }
     {
         self.links[last as usize] = self.links[job as usize];
-        let child = self.frames[self.below].node.child(claim, job);
-        let frame = &mut self.frames[self.below];
+        let below = self.below;
+        let (lower, upper) = self.frames.as_mut_slice().split_at_mut(below);
+        let frame = &mut upper[0];
         frame.job = job;
         frame.last = last;
-        self.below -= 1;
-        self.frames[self.below].node = child;
+        lower[below - 1].node.become_child(claim, &frame.node, job);
+        self.below = below - 1;
     }
 
     /// Goes back to the list above, once the child is read. Returns the job that the child had at its end.

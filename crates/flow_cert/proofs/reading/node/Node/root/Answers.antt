@@ -1,22 +1,12 @@
 use Rattle.flow_core.specs.Limits.{most_machines}
 use Rattle.std.proofs.Common.{refl, replicate, arith}
 use Rattle.flow_cert.specs.internal.Nodes.{unknown}
+use Rattle.flow_core.proofs.Fronts.{front-empty}
 use Rattle.flow_cert.proofs.NodeSteps.{root-node}
 use Rattle.flow_cert.proofs.reading.node.Node.root.Goals as goal
 
 pub returns : goal.returns
 returns c =
-    root-node c.args.instance.now (record {
-      front =
-          c.empty-front.result;
-      owed =
-          c.loop-machine.owed;
-      least =
-          replicate most_machines unknown;
-      second =
-          replicate most_machines unknown;
-    }) c.machines-machines.ensures.limits
-    (c.empty-front.ensures.front c.args.instance.now)
-    (λ machine from to. c.loop-machine.invariant.done machine from (omega
-    (arith, to, c.loop-machine-test.false, c.machines-machines.ensures.value)))
+    root-node c.args.instance.now (record { front = replicate most_machines 0; owed = c.loop-machine.owed; least = replicate most_machines unknown; second = replicate most_machines unknown }) c.machines-machines.ensures.limits (λ machine from to. front-empty c.args.instance.now machine)
+    (λ machine from to. c.loop-machine.invariant.done machine from (omega (arith, to, c.loop-machine-test.false, c.machines-machines.ensures.value)))
     c.loop-machine.invariant.size refl refl
