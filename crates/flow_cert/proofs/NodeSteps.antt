@@ -24,19 +24,29 @@ use Rattle.flow_cert.proofs.RowSteps.{tail-small}
 
 kept-small : (f : ℕ → ℕ) (p : ℕ → Bool) (most n : ℕ) → ((k : ℕ) → f k ≤ most) → kept f p n ≤ n * most
 kept-small f p most zero small = omega arith
-kept-small f p most (suc n) small = omega (arith, kept-more f p n, kept-small f p most n small, one (p (suc n)) (f (suc n)), small (suc n))
+kept-small f p most (suc n) small =
+    omega (arith, kept-more f p n, kept-small f p most n small, one (p (suc n)) (f (suc n)), small (suc n))
   where
     one : (b : Bool) (v : ℕ) → cond b v 0 ≤ v
     one true v = omega arith
     one false v = omega arith
 
 -- the time owed to the jobs left fits
-pub owed-small : (shop : Shop) (list : List ℕ) (machine : ℕ) → IsWithinLimits shop → sum_by (λ job. time shop job machine) (jobs_left shop.jobs list) ≤ shop.jobs * greatest_time
-owed-small shop list machine limits = kept-small (λ job. time shop job machine) (λ job. not (has list job)) greatest_time shop.jobs (λ k. time-small shop k machine limits)
+pub owed-small : (shop : Shop) (list : List ℕ) (machine : ℕ) → IsWithinLimits shop →
+    sum_by (λ job. time shop job machine) (jobs_left shop.jobs list) ≤ shop.jobs * greatest_time
+owed-small shop list machine limits =
+    kept-small (λ job. time shop job machine) (λ job. not (has list job)) greatest_time shop.jobs
+    (λ k. time-small shop k machine limits)
 
 none-has : (n : ℕ) → length (jobs_left n []) ≡ n
 none-has zero = refl
-none-has (suc n) = omega (arith, ap length (filter-more (λ job. true) n), length-append (filter (λ job. true) (numbers 1 n)) (suc n ∷ []), none-has n)
+none-has (suc n) = omega (
+  arith,
+  ap length (filter-more (λ job. true) n),
+  length-append (filter (λ job. true)
+      (numbers 1 n)) (suc n ∷ []),
+  none-has n,
+)
 
 -- before any bound asks for a tail
 pub all-same : (n v i : ℕ) → i < n → slice_index (replicate n v) i ≡ v
@@ -44,7 +54,9 @@ all-same zero v i h = absurd (omega (arith, h))
 all-same (suc n) v zero h = refl
 all-same (suc n) v (suc i) h = all-same n v i (omega (arith, h))
 
-none-known : (shop : Shop) (list least second : List ℕ) → ((machine : ℕ) → 1 ≤ machine → machine ≤ shop.machines → slice_index least (machine - 1) ≡ unknown) → length least ≡ most_machines → length second ≡ most_machines → AreKnown shop list least second
+none-known : (shop : Shop) (list least second : List ℕ) →
+    ((machine : ℕ) → 1 ≤ machine → machine ≤ shop.machines → slice_index least (machine - 1) ≡ unknown) →
+    length least ≡ most_machines → length second ≡ most_machines → AreKnown shop list least second
 none-known shop list least second none least_size second_size = record {
   each = λ machine from to. inl (none machine from to);
   least_size = least_size;
@@ -52,8 +64,15 @@ none-known shop list least second none least_size second_size = record {
 }
 
 -- once a machine is asked for
-pub known-more : (shop : Shop) (list : List ℕ) (node : Node) (left machine : ℕ) (lows : Lows) → IsWithinLimits shop → IsNode shop list node left → 1 ≤ machine → machine ≤ shop.machines → AreLows shop list machine lows →
-    IsNode shop list (record { front = node.front; owed = node.owed; least = set node.least (machine - 1) lows.least; second = set node.second (machine - 1) lows.second }) left
+pub known-more : (shop : Shop) (list : List ℕ) (node : Node) (left machine : ℕ) (lows : Lows) → IsWithinLimits shop →
+    IsNode shop list node left → 1 ≤ machine → machine ≤ shop.machines → AreLows shop list machine lows →
+    IsNode shop list (record {
+      front = node.front;
+      owed = node.owed;
+      least =
+          set node.least (machine - 1) lows.least;
+      second = set node.second (machine - 1) lows.second;
+    }) left
 known-more shop list node left machine lows limits is from to low = record {
   times = is.times;
   owed = is.owed;
@@ -62,14 +81,22 @@ known-more shop list node left machine lows limits is from to low = record {
     each = λ k low_k high_k. elim (eqb_tells k machine) [
       | inl same ↦
           let most : shop.machines ≤ most_machines = limits.machines in
-          let a : lows.least ≡ slice_index (set node.least (machine - 1) lows.least) (k - 1) = sym (ap (λ i. slice_index (set node.least (machine - 1) lows.least) (i - 1)) same.1 ∙ get_or-set_same node.least (machine - 1) lows.least 0 (omega (arith, is.known.least_size, from, to, most))) in
-          let b : lows.second ≡ slice_index (set node.second (machine - 1) lows.second) (k - 1) = sym (ap (λ i. slice_index (set node.second (machine - 1) lows.second) (i - 1)) same.1 ∙ get_or-set_same node.second (machine - 1) lows.second 0 (omega (arith, is.known.second_size, from, to, most))) in
+          let a : lows.least ≡ slice_index (set node.least (machine - 1) lows.least) (k - 1) = sym (ap (λ i. slice_index
+          (set node.least (machine - 1) lows.least) (i - 1)) same.1
+          ∙ get_or-set_same node.least (machine - 1) lows.least 0 (omega
+          (arith, is.known.least_size, from, to, most))) in
+          let b : lows.second ≡ slice_index (set node.second (machine - 1) lows.second) (k - 1) = sym (ap
+          (λ i. slice_index (set node.second (machine - 1) lows.second) (i - 1)) same.1
+          ∙ get_or-set_same node.second (machine - 1) lows.second 0 (omega
+          (arith, is.known.second_size, from, to, most))) in
           let here : AreLows shop list k lows = subst (λ i. AreLows shop list i lows) (sym same.1) low in
           inr (sym a ∙ here.0, sym b ∙ here.1)
       | inr other ↦
           let apart : k - 1 ≢ machine - 1 = omega (arith, other.1, low_k, from) in
-          let a : slice_index (set node.least (machine - 1) lows.least) (k - 1) ≡ slice_index node.least (k - 1) = get_or-set_other node.least (machine - 1) (k - 1) lows.least 0 apart in
-          let b : slice_index (set node.second (machine - 1) lows.second) (k - 1) ≡ slice_index node.second (k - 1) = get_or-set_other node.second (machine - 1) (k - 1) lows.second 0 apart in
+          let a : slice_index (set node.least (machine - 1) lows.least) (k - 1) ≡ slice_index node.least (k - 1) =
+          get_or-set_other node.least (machine - 1) (k - 1) lows.least 0 apart in
+          let b : slice_index (set node.second (machine - 1) lows.second) (k - 1) ≡ slice_index node.second (k - 1) =
+          get_or-set_other node.second (machine - 1) (k - 1) lows.second 0 apart in
           elim (is.known.each k low_k high_k) [
             | inl none ↦ inl (a ∙ none)
             | inr was ↦ inr (a ∙ was.0, b ∙ was.1)
@@ -84,88 +111,130 @@ known-more shop list node left machine lows limits is from to low = record {
 
 -- the empty list
 pub root-node : (shop : Shop) (node : Node) → IsWithinLimits shop → IsFrontOf shop [] node.front →
-    ((machine : ℕ) → 1 ≤ machine → machine ≤ shop.machines → slice_index node.owed (machine - 1) ≡ sum_by (λ job. time shop job machine) (jobs_left shop.jobs [])) →
-    length node.owed ≡ most_machines → node.least ≡ replicate most_machines unknown → node.second ≡ replicate most_machines unknown → IsNode shop [] node shop.jobs
+    ((machine : ℕ) → 1 ≤ machine → machine ≤ shop.machines →
+    slice_index node.owed (machine - 1) ≡ sum_by (λ job. time shop job machine) (jobs_left shop.jobs [])) →
+    length node.owed ≡ most_machines → node.least ≡ replicate most_machines unknown →
+    node.second ≡ replicate most_machines unknown → IsNode shop [] node shop.jobs
 root-node shop node limits times owed size least second =
     let most : shop.machines ≤ most_machines = limits.machines in
     record {
       times = times;
       owed = owed;
       size = size;
-      known = none-known shop [] node.least node.second (λ machine from to. ap (λ l. slice_index l (machine - 1)) least ∙ all-same most_machines unknown (machine - 1) (omega (arith, from, to, most))) (ap length least) (ap length second);
+      known = none-known shop [] node.least node.second (λ machine from to. ap (λ l. slice_index l (machine - 1)) least
+          ∙ all-same most_machines unknown (machine - 1) (omega (arith, from, to, most))) (ap length least)
+          (ap length second);
       count = omega arith;
       some = none-has shop.jobs;
     }
 
 -- a list's child
-pub child-node : (shop : Shop) (list : List ℕ) (node child : Node) (left job : ℕ) → IsWithinLimits shop → IsNode shop list node (suc left) → 1 ≤ job → job ≤ shop.jobs → has list job ≡ false →
+pub child-node : (shop : Shop) (list : List ℕ) (node child : Node) (left job : ℕ) → IsWithinLimits shop →
+    IsNode shop list node (suc left) → 1 ≤ job → job ≤ shop.jobs → has list job ≡ false →
     IsFrontOf shop (list ++ job ∷ []) child.front → length child.owed ≡ most_machines →
-    ((machine : ℕ) → 1 ≤ machine → machine ≤ shop.machines → slice_index child.owed (machine - 1) + time shop job machine ≡ slice_index node.owed (machine - 1)) →
-    ((machine : ℕ) → 1 ≤ machine → machine ≤ shop.machines → slice_index child.least (machine - 1) ≡ unknown) → length child.least ≡ most_machines → length child.second ≡ most_machines →
+    ((machine : ℕ) → 1 ≤ machine → machine ≤ shop.machines →
+    slice_index child.owed (machine - 1) + time shop job machine ≡ slice_index node.owed (machine - 1)) →
+    ((machine : ℕ) → 1 ≤ machine → machine ≤ shop.machines → slice_index child.least (machine - 1) ≡ unknown) →
+    length child.least ≡ most_machines → length child.second ≡ most_machines →
     IsNode shop (list ++ job ∷ []) child left
-child-node shop list node child left job limits is low high fresh times size less least least_size second_size = record {
-  times = times;
-  owed = λ machine from to. omega (arith, less machine from to, is.owed machine from to, left-sum (λ j. time shop j machine) shop.jobs list job low high fresh);
-  size = size;
-  known = none-known shop (list ++ job ∷ []) child.least child.second least least_size second_size;
-  count = omega (arith, is.count, length-append list (job ∷ []));
-  some = omega (arith, is.some, left-count shop.jobs list job low high fresh);
-}
+child-node shop list node child left job limits is low high fresh times size less least least_size second_size =
+    record {
+      times = times;
+      owed = λ machine from to. omega (
+        arith,
+        less machine from to,
+        is.owed machine from to,
+        left-sum
+            (λ j. time shop j machine) shop.jobs list job low high fresh,
+      );
+      size = size;
+      known = none-known shop (list ++ job ∷ []) child.least child.second least least_size second_size;
+      count = omega (arith, is.count, length-append list (job ∷ []));
+      some = omega (arith, is.some, left-count shop.jobs list job low high fresh);
+    }
 
 -- what is owed to a job that is left is no more than what is owed to all
-pub owed-covers : (shop : Shop) (list : List ℕ) (node : Node) (left job machine : ℕ) → IsNode shop list node left → 1 ≤ job → job ≤ shop.jobs → has list job ≡ false → 1 ≤ machine → machine ≤ shop.machines →
+pub owed-covers : (shop : Shop) (list : List ℕ) (node : Node) (left job machine : ℕ) → IsNode shop list node left →
+    1 ≤ job → job ≤ shop.jobs → has list job ≡ false → 1 ≤ machine → machine ≤ shop.machines →
     time shop job machine ≤ slice_index node.owed (machine - 1)
 owed-covers shop list node left job machine is low high fresh from to =
     omega (arith, is.owed machine from to, left-sum (λ j. time shop j machine) shop.jobs list job low high fresh)
 
-pub node-within : (shop : Shop) (list : List ℕ) (node : Node) (left : ℕ) → IsWithinLimits shop → IsNode shop list node left → IsWithinFront shop node.front
+pub node-within : (shop : Shop) (list : List ℕ) (node : Node) (left : ℕ) → IsWithinLimits shop →
+    IsNode shop list node left → IsWithinFront shop node.front
 node-within shop list node left limits is = front-within shop list node.front limits (omega (arith, is.count)) is.times
 
 -- the completion time of a child
-pub child-completion : (shop : Shop) (list front : List ℕ) (job machine : ℕ) → machine ≤ shop.machines → IsFrontOf shop list front → after shop (free_at front) job machine ≡ completion shop (list ++ job ∷ []) machine
+pub child-completion : (shop : Shop) (list front : List ℕ) (job machine : ℕ) → machine ≤ shop.machines →
+    IsFrontOf shop list front → after shop (free_at front) job machine ≡ completion shop (list ++ job ∷ []) machine
 child-completion shop list front job machine to is =
-    after-same shop job (free_at front) (completed shop (λ _. 0) list) machine (λ k low high. is k low (omega (arith, high, to)) ∙ completion-is shop list k)
+    after-same shop job (free_at front) (completed shop (λ _. 0) list) machine (λ k low high. is k low (omega
+    (arith, high, to)) ∙ completion-is shop list k)
     ∙ sym (completion-after shop list job machine)
 
-tails-append : (shop : Shop) (machine : ℕ) (us vs : List ℕ) → tails shop machine (us ++ vs) ≡ tails shop machine us ++ tails shop machine vs
+tails-append : (shop : Shop) (machine : ℕ) (us vs : List ℕ) →
+    tails shop machine (us ++ vs) ≡ tails shop machine us ++ tails shop machine vs
 tails-append shop machine [] vs = refl
-tails-append shop machine (u ∷ us) vs = ap (λ xs. time_between shop u (machine + 1) shop.machines ∷ xs) (tails-append shop machine us vs)
+tails-append shop machine (u ∷ us) vs =
+    ap (λ xs. time_between shop u (machine + 1) shop.machines ∷ xs) (tails-append shop machine us vs)
 
 -- the bound of a list with jobs left
-pub own-bound : (shop : Shop) (list : List ℕ) (node : Node) (left machine : ℕ) (lows : Lows) → IsWithinLimits shop → IsNode shop list node (suc left) → 1 ≤ machine → machine ≤ shop.machines → AreLows shop list machine lows →
-    (slice_index node.front (machine - 1) + slice_index node.owed (machine - 1) + lows.least ≡ bound_at shop list machine) × (lows.least ≤ most_machines * greatest_time)
+pub own-bound : (shop : Shop) (list : List ℕ) (node : Node) (left machine : ℕ) (lows : Lows) → IsWithinLimits shop →
+    IsNode shop list node (suc left) → 1 ≤ machine → machine ≤ shop.machines → AreLows shop list machine lows →
+    (slice_index node.front (machine - 1) + slice_index node.owed (machine - 1) + lows.least
+    ≡ bound_at shop list machine) × (lows.least ≤ most_machines * greatest_time)
 own-bound shop list node left machine lows limits is from to low =
     let most : shop.machines ≤ most_machines = limits.machines in
-    let cap = least-below-cap unknown (most_machines * greatest_time) (λ job. time_between shop job (machine + 1) shop.machines) (jobs_left shop.jobs list) (omega (arith, is.some))
-    (λ job. omega (arith, tail-small shop job (shop.machines - machine) machine limits (omega (arith, to)), most)) (omega arith) in
-    let front : slice_index node.front (machine - 1) ≡ slice_index (front_of shop list) (machine - 1) = is.times machine from to ∙ sym (front_of-is shop list machine from to) in
+    let cap = least-below-cap unknown (most_machines * greatest_time) (λ job. time_between shop job (machine
+    + 1) shop.machines) (jobs_left shop.jobs list) (omega (arith, is.some))
+    (λ job. omega (arith, tail-small shop job (shop.machines - machine) machine limits (omega (arith, to)), most))
+    (omega arith) in
+    let front : slice_index node.front (machine - 1) ≡ slice_index (front_of shop list) (machine - 1) =
+    is.times machine from to ∙ sym (front_of-is shop list machine from to) in
     (omega (arith, front, is.owed machine from to, low.0, cap.0), omega (arith, low.0, cap.0, cap.1))
 
 -- the bound of a child with jobs left
-pub child-bound : (shop : Shop) (list : List ℕ) (node : Node) (left job machine free t tail behind : ℕ) (lows : Lows) → IsWithinLimits shop → IsNode shop list node (suc (suc left)) → 1 ≤ machine → machine ≤ shop.machines →
+pub child-bound : (shop : Shop) (list : List ℕ) (node : Node) (left job machine free t tail behind : ℕ) (lows : Lows) →
+    IsWithinLimits shop → IsNode shop list node (suc (suc left)) → 1 ≤ machine → machine ≤ shop.machines →
     1 ≤ job → job ≤ shop.jobs → has list job ≡ false → AreLows shop list machine lows →
-    free ≡ completion shop (list ++ job ∷ []) machine → t ≡ time shop job machine → tail ≡ time_between shop job (machine + 1) shop.machines → Without tail lows.least lows.second behind →
-    (free + (slice_index node.owed (machine - 1) - t) + behind ≡ bound_at shop (list ++ job ∷ []) machine) × (behind ≤ most_machines * greatest_time)
-child-bound shop list node left job machine free t tail behind lows limits is from to low high fresh are is_free is_t is_tail picked =
+    free ≡ completion shop (list ++ job ∷ []) machine → t ≡ time shop job machine →
+    tail ≡ time_between shop job (machine + 1) shop.machines → Without tail lows.least lows.second behind →
+    (free + (slice_index node.owed (machine - 1) - t) + behind ≡ bound_at shop (list ++ job ∷ []) machine)
+    × (behind ≤ most_machines * greatest_time)
+child-bound shop list node left job machine free t tail behind lows limits is from to low high fresh are is_free is_t
+    is_tail picked =
     let most : shop.machines ≤ most_machines = limits.machines in
     let f : ℕ → ℕ = λ j. time_between shop j (machine + 1) shop.machines in
     let us : List ℕ = left_under list job in
     let vs : List ℕ = children shop.jobs list (job + 1) in
     let whole : tails shop machine (jobs_left shop.jobs list) ≡ tails shop machine us ++ f job ∷ tails shop machine vs =
     ap (tails shop machine) (left-split shop.jobs list job low high fresh) ∙ tails-append shop machine us (job ∷ vs) in
-    let rest : tails shop machine (jobs_left shop.jobs (list ++ job ∷ [])) ≡ tails shop machine us ++ tails shop machine vs =
+    let rest : tails shop machine (jobs_left shop.jobs (list ++ job ∷ [])) ≡ tails shop machine us
+    ++ tails shop machine vs =
     ap (tails shop machine) (left-without shop.jobs list job low high) ∙ tails-append shop machine us vs in
-    let one : Without (f job) (least_below unknown (tails shop machine us ++ f job ∷ tails shop machine vs)) (second_below unknown unknown (tails shop machine us ++ f job ∷ tails shop machine vs)) (least_below unknown (tails shop machine us ++ tails shop machine vs)) =
+    let one : Without (f job) (least_below unknown (tails shop machine us ++ f job
+    ∷ tails shop machine vs)) (second_below unknown unknown (tails shop machine us ++ f job
+    ∷ tails shop machine vs)) (least_below unknown (tails shop machine us ++ tails shop machine vs)) =
     without-one (f job) unknown unknown (tails shop machine us) (tails shop machine vs) (omega arith) in
-    let least_is : lows.least ≡ least_below unknown (tails shop machine us ++ f job ∷ tails shop machine vs) = are.0 ∙ ap (least_below unknown) whole in
-    let second_is : lows.second ≡ second_below unknown unknown (tails shop machine us ++ f job ∷ tails shop machine vs) = are.1 ∙ ap (second_below unknown unknown) whole in
-    let rest_is : least_below unknown (tails shop machine (jobs_left shop.jobs (list ++ job ∷ []))) ≡ least_below unknown (tails shop machine us ++ tails shop machine vs) = ap (least_below unknown) rest in
+    let least_is : lows.least ≡ least_below unknown (tails shop machine us ++ f job ∷ tails shop machine vs) = are.0
+    ∙ ap (least_below unknown) whole in
+    let second_is : lows.second
+    ≡ second_below unknown unknown (tails shop machine us ++ f job ∷ tails shop machine vs) = are.1
+    ∙ ap (second_below unknown unknown) whole in
+    let rest_is : least_below unknown (tails shop machine (jobs_left shop.jobs (list ++ job ∷ [])))
+    ≡ least_below unknown (tails shop machine us ++ tails shop machine vs) = ap (least_below unknown) rest in
     let behind_is : behind ≡ least_below unknown (tails shop machine (jobs_left shop.jobs (list ++ job ∷ []))) =
-    same-without tail (f job) lows.least (least_below unknown (tails shop machine us ++ f job ∷ tails shop machine vs)) lows.second (second_below unknown unknown (tails shop machine us ++ f job ∷ tails shop machine vs)) behind (least_below unknown (tails shop machine us ++ tails shop machine vs)) is_tail least_is second_is picked one ∙ sym rest_is in
+    same-without tail (f job) lows.least (least_below unknown (tails shop machine us ++ f job
+    ∷ tails shop machine vs)) lows.second (second_below unknown unknown (tails shop machine us ++ f job
+    ∷ tails shop machine vs)) behind (least_below unknown (tails shop machine us
+    ++ tails shop machine vs)) is_tail least_is second_is picked one ∙ sym rest_is in
     let count = left-count shop.jobs list job low high fresh in
-    let cap = least-below-cap unknown (most_machines * greatest_time) f (jobs_left shop.jobs (list ++ job ∷ [])) (omega (arith, is.some, count))
-    (λ j. omega (arith, tail-small shop j (shop.machines - machine) machine limits (omega (arith, to)), most)) (omega arith) in
-    let front : free ≡ slice_index (front_of shop (list ++ job ∷ [])) (machine - 1) = is_free ∙ sym (front_of-is shop (list ++ job ∷ []) machine from to) in
+    let cap = least-below-cap unknown (most_machines * greatest_time) f (jobs_left shop.jobs (list ++ job
+    ∷ [])) (omega (arith, is.some, count))
+    (λ j. omega (arith, tail-small shop j (shop.machines - machine) machine limits (omega (arith, to)), most))
+    (omega arith) in
+    let front : free ≡ slice_index (front_of shop (list ++ job ∷ [])) (machine - 1) = is_free
+    ∙ sym (front_of-is shop (list ++ job ∷ []) machine from to) in
     let sum = left-sum (λ j. time shop j machine) shop.jobs list job low high fresh in
     (omega (arith, front, is.owed machine from to, sum, is_t, behind_is, cap.0), omega (arith, behind_is, cap.0, cap.1))
   where
@@ -176,7 +245,8 @@ child-bound shop list node left job machine free t tail behind lows limits is fr
     ]
 
 -- one more machine of a row
-pub filled-more : (P : ℕ → ℕ → Type 0) (xs : List ℕ) (machine v : ℕ) → 1 ≤ machine → machine - 1 < length xs → P machine v → ((k : ℕ) → 1 ≤ k → k < machine → P k (slice_index xs (k - 1))) →
+pub filled-more : (P : ℕ → ℕ → Type 0) (xs : List ℕ) (machine v : ℕ) → 1 ≤ machine → machine - 1 < length xs →
+    P machine v → ((k : ℕ) → 1 ≤ k → k < machine → P k (slice_index xs (k - 1))) →
     (k : ℕ) → 1 ≤ k → k < machine + 1 → P k (slice_index (set xs (machine - 1) v) (k - 1))
 filled-more P xs machine v from within here done k low high = elim (cases_lt k machine) [
   | inl earlier ↦
@@ -184,10 +254,13 @@ filled-more P xs machine v from within here done k low high = elim (cases_lt k m
       subst (P k) (sym (get_or-set_other xs (machine - 1) (k - 1) v 0 other)) (done k low earlier)
   | inr last ↦
       let e : machine ≡ k = omega (arith, last, high) in
-      subst (λ i. P i (slice_index (set xs (machine - 1) v) (i - 1))) e (subst (P machine) (sym (get_or-set_same xs (machine - 1) v 0 within)) here)
+      subst (λ i. P i (slice_index (set xs (machine - 1) v) (i - 1))) e (subst (P machine) (sym (get_or-set_same xs
+      (machine - 1) v 0 within)) here)
 ]
 
-pub owed-fits : (shop : Shop) (list : List ℕ) (node : Node) (left machine : ℕ) → IsWithinLimits shop → IsNode shop list node left → 1 ≤ machine → machine ≤ shop.machines → slice_index node.owed (machine - 1) ≤ most_jobs * greatest_time
+pub owed-fits : (shop : Shop) (list : List ℕ) (node : Node) (left machine : ℕ) → IsWithinLimits shop →
+    IsNode shop list node left → 1 ≤ machine → machine ≤ shop.machines →
+    slice_index node.owed (machine - 1) ≤ most_jobs * greatest_time
 owed-fits shop list node left machine limits is from to =
     let most : shop.jobs ≤ most_jobs = limits.jobs in
     omega (arith, is.owed machine from to, owed-small shop list machine limits, most)

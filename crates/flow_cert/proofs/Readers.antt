@@ -52,7 +52,8 @@ learnt shop old new f below links frames within kept = record {
 }
 
 -- frames that are written in two parts
-pub parts-set : (lower upper : List Frame) (below place : ℕ) (f kid : Frame) → length lower ≡ below → place < below → set lower place kid ++ set upper 0 f ≡ set (set (lower ++ upper) below f) place kid
+pub parts-set : (lower upper : List Frame) (below place : ℕ) (f kid : Frame) → length lower ≡ below → place < below →
+    set lower place kid ++ set upper 0 f ≡ set (set (lower ++ upper) below f) place kid
 parts-set lower upper below place f kid parted under =
     let none : below - below ≡ 0 = omega arith in
     let room : place < length lower = omega (arith, parted, under) in

@@ -135,7 +135,8 @@ pub reading-leaf : {shop : Shop} {value place : ℕ} {root : List ℕ} {whole : 
 reading-leaf {shop} {value} {place} {root} {whole} {node} {links} {below} {last} {at} {bytes} {frames} i some good =
     record {
       here = i.here;
-      behind = next-place shop.jobs (path root frames) last (slice_index links last) (i.here.are_links.each last i.behind);
+      behind = next-place shop.jobs (path root frames) last (slice_index links last)
+          (i.here.are_links.each last i.behind);
       stack = i.stack;
       answer =
           child-read (drop at bytes) i some refl

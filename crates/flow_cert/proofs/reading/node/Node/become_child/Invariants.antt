@@ -14,7 +14,10 @@ invariant-loop-machine l = record {
   second_size : length l.self.second ≡ most_machines;
   free : l.free ≡ after l.claim.instance.now (free_at l.list.front) l.job (l.machine - 1);
   small : l.free ≤ greatest_completion + (l.machine - 1) * greatest_time;
-  front : (machine : ℕ) → 1 ≤ machine → machine < l.machine → slice_index l.self.front (machine - 1) ≡ after l.claim.instance.now (free_at l.list.front) l.job machine;
-  owed : (machine : ℕ) → 1 ≤ machine → machine < l.machine → slice_index l.self.owed (machine - 1) + time l.claim.instance.now l.job machine ≡ slice_index l.list.owed (machine - 1);
+  front : (machine : ℕ) → 1 ≤ machine → machine < l.machine →
+      slice_index l.self.front (machine - 1) ≡ after l.claim.instance.now (free_at l.list.front) l.job machine;
+  owed : (machine : ℕ) → 1 ≤ machine → machine < l.machine →
+      slice_index l.self.owed (machine - 1) + time l.claim.instance.now l.job machine
+      ≡ slice_index l.list.owed (machine - 1);
   least : (machine : ℕ) → 1 ≤ machine → machine < l.machine → slice_index l.self.least (machine - 1) ≡ unknown;
 }

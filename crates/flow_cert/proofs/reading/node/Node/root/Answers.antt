@@ -7,6 +7,17 @@ use Rattle.flow_cert.proofs.reading.node.Node.root.Goals as goal
 
 pub returns : goal.returns
 returns c =
-    root-node c.args.instance.now (record { front = replicate most_machines 0; owed = c.loop-machine.owed; least = replicate most_machines unknown; second = replicate most_machines unknown }) c.machines-machines.ensures.limits (λ machine from to. front-empty c.args.instance.now machine)
-    (λ machine from to. c.loop-machine.invariant.done machine from (omega (arith, to, c.loop-machine-test.false, c.machines-machines.ensures.value)))
+    root-node c.args.instance.now (record {
+      front =
+          replicate most_machines 0;
+      owed =
+          c.loop-machine.owed;
+      least =
+          replicate most_machines unknown;
+      second =
+          replicate most_machines unknown;
+    }) c.machines-machines.ensures.limits
+    (λ machine from to. front-empty c.args.instance.now machine)
+    (λ machine from to. c.loop-machine.invariant.done machine from (omega
+    (arith, to, c.loop-machine-test.false, c.machines-machines.ensures.value)))
     c.loop-machine.invariant.size refl refl
