@@ -108,14 +108,15 @@ fn bounds_of_two_machines_are_the_worked_ones(rt: HostRuntime) -> Result<(), Fai
 /// For each machine, a rest's sum and least tail, and its bound behind a front.
 fn sums_tails_and_bounds(
     alloc: Global,
+    instance: &Instance,
     rest: &Rest,
     front: &Front,
 ) -> Result<Vec<(u32, u32, u64)>, AllocError>
-    requires machines { rest.now.machines ≡ 3 }
-    requires within { (place : ℕ) → place < 3 → slice_index front.now place ≤ greatest_completion }
+    requires machines { rest.now.machines ≡ instance.now.machines }
+    requires within { IsWithinFront instance.now front.now }
 {
     let mut found = Vec::new(alloc);
-    for machine in 1..4 {
+    for machine in 1..instance.machines() + 1 {
         found.push((
             rest.sum(machine),
             rest.tail(machine),
@@ -125,22 +126,37 @@ fn sums_tails_and_bounds(
     Ok(found)
 }
 
+/// The rest of a set with one job more, and the rest of the set by a step from it.
+fn rests(instance: &Instance, after: &JobSet, job: u16) -> Result<(Rest, Rest), Fail>
+    requires some { 0 < length (members after.now) }
+    requires left { (job : ℕ) → instance.now.jobs < job → contains after.now job ≡ false }
+    ensures before { IfOk result (λ rests. rests.0.machines ≡ instance.now.machines) }
+    ensures after { IfOk result (λ rests. rests.1.machines ≡ instance.now.machines) }
+{
+    if job < 1 || job > instance.jobs() || after.contains(job) {
+        return Err(Fail::from("no other job of the instance"));
+    }
+    let mut before = *after;
+    before.insert(job);
+    if before.count() == 0 {
+        return Err(Fail::from("no job is left"));
+    }
+    let rest = Rest::of(instance, &before);
+    Ok((rest, rest.step(instance, after, job)))
+}
+
 #[test]
 fn rests_of_three_machines_are_the_worked_ones(rt: HostRuntime) -> Result<(), Fail> {
     let alloc = rt.alloc();
     let instance = three_machines(alloc)?;
-    let mut left = JobSet::all(&instance);
-    let mut front = Front::empty();
-    let all = Rest::of(&instance, &left);
-    let row = sums_tails_and_bounds(alloc, &all, &front)?;
+    let (front, left) = node(&instance, &[3])?;
+    let (all, rest) = rests(&instance, &left, 3)?;
+    let row = sums_tails_and_bounds(alloc, &instance, &all, &Front::empty())?;
     assert_eq!(rt;
         row.as_slice(),
         [(4, 3, 7), (10, 0, 10), (5, 0, 5)].as_slice()
     );
-    left.remove(3);
-    front_push(&instance, &mut front, 3);
-    let rest = all.step(&instance, &left, 3);
-    let row = sums_tails_and_bounds(alloc, &rest, &front)?;
+    let row = sums_tails_and_bounds(alloc, &instance, &rest, &front)?;
     assert_eq!(rt;
         row.as_slice(),
         [(4, 4, 8), (8, 0, 10), (4, 0, 7)].as_slice()
