@@ -149,9 +149,10 @@ fn rests(instance: &Instance, after: &JobSet, job: u16) -> Result<(Rest, Rest), 
 fn rests_of_three_machines_are_the_worked_ones(rt: HostRuntime) -> Result<(), Fail> {
     let alloc = rt.alloc();
     let instance = three_machines(alloc)?;
+    let (empty, _left) = node(&instance, &[])?;
     let (front, left) = node(&instance, &[3])?;
     let (all, rest) = rests(&instance, &left, 3)?;
-    let row = sums_tails_and_bounds(alloc, &instance, &all, &Front::empty())?;
+    let row = sums_tails_and_bounds(alloc, &instance, &all, &empty)?;
     assert_eq!(rt;
         row.as_slice(),
         [(4, 3, 7), (10, 0, 10), (5, 0, 5)].as_slice()
