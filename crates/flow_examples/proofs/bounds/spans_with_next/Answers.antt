@@ -42,6 +42,7 @@ insertion_spans-requires-clause-jobs c =
 
 pub insertion_spans-requires-clause-other : goal.insertion_spans-requires-clause-other
 insertion_spans-requires-clause-other c =
-    let whole = sequence-is c.args.instance.now.jobs c.jobs-jobs.result.now c.args.sequence.now c.jobs-jobs.ensures.value
+    let whole = sequence-is c.args.instance.now.jobs c.jobs-jobs.result.now c.args.sequence.now
+    c.jobs-jobs.ensures.value
     c.jobs-jobs.ensures.each (c.if-jobs.false ∙ c.jobs.ensures.value) in
     before-lacks c.jobs-jobs.result.now c.args.count whole.each.distinct c.if-count-jobs.false
