@@ -12,9 +12,9 @@ use std::io::{self, Read, Write};
 use std::process::ExitCode;
 use std::thread;
 
-const MAX_JOBS: usize = 500;
-const MAX_MACHINES: usize = 20;
-const MAX_TIME: u64 = 99_999;
+const MAX_JOBS: usize = 800;
+const MAX_MACHINES: usize = 26;
+const MAX_TIME: u64 = 999_999;
 const MAX_DEPTH: usize = 3;
 const MAX_WORKERS: usize = 64;
 const MAX_PREFIXES: usize = 100_000;

@@ -3,15 +3,15 @@ use Rattle.std.specs.Prelude.{ℕ}
 
 -- the most jobs of an instance
 abbrev pub most_jobs : ℕ
-most_jobs = 500
+most_jobs = 800
 
 -- the most machines of an instance
 abbrev pub most_machines : ℕ
-most_machines = 20
+most_machines = 26
 
 -- the greatest time of a job on a machine
 abbrev pub greatest_time : ℕ
-greatest_time = 99999
+greatest_time = 999999
 
 -- the greatest time of a front to which a job is added, so that no sum can overflow; no list of distinct jobs of an
 -- instance reaches it

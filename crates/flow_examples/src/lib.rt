@@ -8,6 +8,8 @@ mod bytes;
 #[cfg(test)]
 mod certificates;
 #[cfg(test)]
+mod greatest;
+#[cfg(test)]
 mod instances;
 #[cfg(test)]
 mod search;

@@ -35,15 +35,17 @@ fn lenient_text_is_read(rt: HostRuntime) -> Result<(), Fail> {
 
 #[test]
 fn first_fault_of_a_text_is_named(rt: HostRuntime) -> Result<(), Fail> {
-    let rows: [(&[u8], TextFault); 11] = [
+    let rows: [(&[u8], TextFault); 13] = [
         (b"", TextFault::NoBlock),
         (b"3 2 0 0 0\n", TextFault::Label(1)),
         (b"a\n3 2 7 9 9 9\n", TextFault::Head(2)),
         (b"a\n3 2 7 9 9\n9\n", TextFault::Label(3)),
         (b"a\n3 x 7\n", TextFault::Byte(2)),
         (b"a\n4294967296\n", TextFault::Number(2)),
-        (b"a\n501 1 1 1 1\n", TextFault::Limits(2)),
-        (b"a\n1 1 1 1 1\nb\n100000\n", TextFault::Limits(4)),
+        (b"a\n501 1 1 1 1\n", TextFault::Label(3)),
+        (b"a\n801 1 1 1 1\n", TextFault::Limits(2)),
+        (b"a\n1 27 1 1 1\n", TextFault::Limits(2)),
+        (b"a\n1 1 1 1 1\nb\n1000000\n", TextFault::Limits(4)),
         (b"a\n1 1 1 1 1\nb\n5 6\n", TextFault::Times(4)),
         (b"a\n1 1 1 1 1\nb\n5\nc\n", TextFault::Head(6)),
         (
@@ -66,6 +68,8 @@ fn wild_numbers_are_named(rt: HostRuntime) -> Result<(), Fail> {
     }
     assert_eq!(rt; fault_of(alloc, great.as_slice())?, TextFault::Number(2));
     assert_eq!(rt; fault_of(alloc, b"a\n4294967296 x\n")?, TextFault::Byte(2));
+    let large_time = only_block(alloc, b"a\n1 1 1 1 1\nb\n100000\n")?;
+    assert_eq!(rt; large_time.instance.time(1, 1), 100_000);
     let limits = b"a\n4294967295 4294967295 1 1 1\n";
     assert_eq!(rt; fault_of(alloc, limits)?, TextFault::Limits(2));
     let block = only_block(alloc, b"a\n1 1 4294967295 4294967295 4294967295\nb\n5\n")?;

@@ -11,10 +11,10 @@ use std::test::Fail;
 fn instance_names_first_fault(rt: HostRuntime) -> Result<(), Fail> {
     let alloc = rt.alloc();
     let rows: [(u32, u32, &[u32], InstanceFault); 4] = [
-        (501, 1, &[], InstanceFault::Jobs),
-        (1, 21, &[], InstanceFault::Machines),
+        (801, 1, &[], InstanceFault::Jobs),
+        (1, 27, &[], InstanceFault::Machines),
         (2, 1, &[7], InstanceFault::Count),
-        (1, 2, &[0, 100_000], InstanceFault::Time(2)),
+        (1, 2, &[0, 1_000_000], InstanceFault::Time(2)),
     ];
     for (jobs, machines, times, fault) in rows {
         match Instance::new(alloc, jobs, machines, times) {
@@ -22,10 +22,10 @@ fn instance_names_first_fault(rt: HostRuntime) -> Result<(), Fail> {
             Err(found) => assert_eq!(rt; found, fault),
         }
     }
-    let instance = Instance::new(alloc, 1, 1, &[99_999])?;
+    let instance = Instance::new(alloc, 1, 1, &[999_999])?;
     let sequence = Sequence::new(alloc, &instance, &[1])?;
     assert_eq!(rt; sequence.jobs().len(), instance.jobs() as usize);
-    assert_eq!(rt; makespan(&instance, &sequence), 99_999);
+    assert_eq!(rt; makespan(&instance, &sequence), 999_999);
     Ok(())
 }
 
@@ -122,9 +122,9 @@ fn job_set_is_a_set(rt: HostRuntime) -> Result<(), Fail> {
     assert_eq!(rt; set.count(), 2);
     let mut other = JobSet::none();
     assert_eq!(rt; other.count(), 0);
-    other.insert(500);
+    other.insert(800);
     assert_eq!(rt;
-        (other.contains(500), other.contains(499), other.count()),
+        (other.contains(800), other.contains(799), other.count()),
         (true, false, 1)
     );
     Ok(())

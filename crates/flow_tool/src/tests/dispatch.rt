@@ -201,7 +201,7 @@ fn check_takes_each_file_by_its_name(rt: HostRuntime) -> Result<(), Fail> {
         ("check text_broken 1 of_three", b"", "failed read Device"),
         ("check text_three 1 broken", b"", "failed read Device"),
         ("span missing 1 1", b"", "failed open"),
-        ("gen 501 1 1", b"", "refused instance Jobs"),
+        ("gen 801 1 1", b"", "refused instance Jobs"),
         ("sort text_three", b"", "refused command line"),
     ];
     for (line, bytes, refusal) in rows {
