@@ -16,7 +16,7 @@ use Rattle.flow_core.proofs.Fronts.{free_at, completion-small}
 use Rattle.flow_bound.specs.Insertion.{tail, SpanIsOfHeadsAndTails}
 use Rattle.flow_bound.specs.internal.Rows.{AreTails}
 use Rattle.flow_bound.proofs.Loads.{completed-grows}
-use Rattle.flow_bound.proofs.Running.{zeros}
+use Rattle.flow_core.proofs.Fronts.{zeros}
 
 -- no path is heavier than the tail
 weight-le-tail : (shop : Shop) (jobs machines : List ℕ) (machine : ℕ) → length machines ≡ length jobs →

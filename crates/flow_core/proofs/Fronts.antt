@@ -3,7 +3,7 @@ use Rattle.std.proofs.Common.{◌≡◌, ℕ, zero, suc, ◌+◌, ◌-◌, ◌*�
 use Rattle.std.proofs.Common.{inl, inr, ◌≢◌, set}
 use Rattle.std.proofs.lemmas.Bool.{cases_lt}
 use Rattle.std.proofs.lemmas.List.{get_or_past, get_or-set_other, get_or-set_same}
-use Rattle.flow_core.specs.Limits.{most_jobs, most_machines, greatest_time}
+use Rattle.flow_core.specs.Limits.{most_jobs, most_machines, greatest_time, greatest_completion}
 use Rattle.flow_core.specs.Shop.{Shop, time, IsWithinLimits}
 use Rattle.flow_core.specs.Paths.{completion}
 use Rattle.flow_core.specs.Front.{IsFrontOf, IsWithinFront}
@@ -13,10 +13,13 @@ use Rattle.flow_core.proofs.Recurrence.{after, completed, completion-is, complet
 abbrev pub free_at : List ℕ → ℕ → ℕ
 free_at front machine = slice_index front (machine - 1)
 
-zeros : (n i : ℕ) → slice_index (replicate n 0) i ≡ 0
+pub zeros : (n i : ℕ) → slice_index (replicate n 0) i ≡ 0
 zeros zero i = refl
 zeros (suc n) zero = refl
 zeros (suc n) (suc i) = zeros n i
+
+pub zeros-small : (n i : ℕ) → slice_index (replicate n 0) i ≤ greatest_completion
+zeros-small n i = omega (arith, zeros n i)
 
 pub front-empty : (shop : Shop) (machine : ℕ) → slice_index (replicate most_machines 0) (machine - 1)
     ≡ completion shop [] machine

@@ -1,13 +1,17 @@
 use Rattle.std.proofs.Common.{ℕ, ◌+◌, ◌<◌, List, [], ◌∷◌, ◌++◌, drop, take, length, length-drop, length-set, length-take, slice_index_or, arith, sym, subst}
 use Rattle.std.specs.List.{insert}
 use Rattle.std.proofs.lemmas.List.{take_more}
+use Rattle.flow_core.specs.Limits.{most_machines}
 use Rattle.flow_core.specs.Shop.{Shop}
 use Rattle.flow_core.specs.Paths.{span}
 use Rattle.flow_core.specs.Front.{IsFrontOf}
-use Rattle.flow_core.proofs.Fronts.{front-empty, front-within}
+use Rattle.flow_core.proofs.Fronts.{front-empty, front-within, zeros-small}
 use Rattle.flow_bound.proofs.Filled.{number-written}
 use Rattle.flow_bound.proofs.HeadsAndTails.{tails-within}
 use Rattle.flow_bound.proofs.start.insertion.fill_spans.Goals as goal
+
+pub span_between-requires-clause-heads : goal.span_between-requires-clause-heads
+span_between-requires-clause-heads c place low = zeros-small most_machines place
 
 pub span_between-requires-clause-tails : goal.span_between-requires-clause-tails
 span_between-requires-clause-tails c =
