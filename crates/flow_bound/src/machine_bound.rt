@@ -7,8 +7,8 @@ ghost use Rattle.flow_core.specs.JobSet.{contains, members};
 ghost use Rattle.flow_core.specs.Sequences.{jobs_left, IsSequence, Extends};
 ghost use Rattle.flow_core.specs.Bound.{machine_bound};
 
-use crate::sums::sum_times;
-use flow_core::{Front, Instance, JobSet, MAX_JOBS};
+use crate::rest::{least_above, sum_of};
+use flow_core::{Front, Instance, JobSet};
 
 /// The machine bound: when a machine is free, its time for the jobs of a set, and the least time that one of them needs
 /// behind it. Where the front is that of a list, and the set has the jobs that the list leaves, no
@@ -24,17 +24,8 @@ pub fn bound(instance: &Instance, front: &Front, unscheduled: &JobSet, machine: 
         members unscheduled.now ≡ jobs_left instance.now.jobs scheduled → IsSequence instance.now.jobs sequence →
         Extends sequence scheduled → result ≤ span instance.now sequence }
 {
-    let end = instance.jobs() + 1;
-    let mut tails = [0; MAX_JOBS];
-    sum_times(instance, &mut tails, machine + 1);
-    let mut owed: u32 = 0;
-    let mut least_tail = u32::MAX;
-    for job in 1..end {
-        let time = instance.time(job, machine);
-        if unscheduled.contains(job) {
-            owed += time;
-            least_tail = least_tail.min(tails[job as usize - 1]);
-        }
-    }
-    front.at(machine) + u64::from(owed) + u64::from(least_tail)
+    prove!(machine <= instance.machines());
+    let sum = sum_of(instance, unscheduled, machine);
+    let least_tail = least_above(instance, unscheduled, machine, 0);
+    front.at(machine) + u64::from(sum) + u64::from(least_tail)
 }

@@ -42,7 +42,7 @@ impl Model for Rest {
 }
 
 /// The time of all jobs of a set on a machine.
-fn sum_of(instance: &Instance, set: &JobSet, machine: u16) -> u32
+pub(crate) fn sum_of(instance: &Instance, set: &JobSet, machine: u16) -> u32
     requires from { 1 ≤ machine }
     requires to { machine ≤ instance.now.machines }
     requires jobs { (job : ℕ) → instance.now.jobs < job → contains set.now job ≡ false }
@@ -89,7 +89,7 @@ fn tail_of(instance: &Instance, job: u16, machine: u16) -> u32
 }
 
 /// The least tail of a set of jobs behind a machine, where none is below `floor`.
-fn least_above(instance: &Instance, set: &JobSet, machine: u16, floor: u32) -> u32
+pub(crate) fn least_above(instance: &Instance, set: &JobSet, machine: u16, floor: u32) -> u32
     requires to { machine ≤ instance.now.machines }
     requires some { 0 < length (members set.now) }
     requires jobs { (job : ℕ) → instance.now.jobs < job → contains set.now job ≡ false }
