@@ -1,4 +1,4 @@
-use Rattle.std.proofs.Common.{◌≡◌, ℕ, ◌+◌, ◌-◌, ◌*◌, ◌≤◌, min, true, false, ap, sym, ◌∙◌, arith}
+use Rattle.std.proofs.Common.{◌≡◌, ℕ, ◌+◌, ◌-◌, ◌*◌, min, true, false, ap, sym, ◌∙◌, arith}
 use Rattle.flow_core.specs.Limits.{most_machines, greatest_time}
 use Rattle.flow_core.specs.Shop.{time_between}
 use Rattle.flow_core.specs.JobSet.{contains}

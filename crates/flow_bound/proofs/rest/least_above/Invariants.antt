@@ -1,4 +1,4 @@
-use Rattle.std.proofs.Common.{◌≡◌, ◌+◌, ◌-◌, ◌≤◌}
+use Rattle.std.proofs.Common.{◌≡◌, ◌+◌, ◌-◌}
 use Rattle.flow_core.specs.Shop.{time_between}
 use Rattle.flow_core.specs.JobSet.{contains}
 use Rattle.flow_bound.proofs.Rests.{least_kept}

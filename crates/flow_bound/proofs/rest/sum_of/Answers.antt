@@ -1,5 +1,4 @@
-use Rattle.std.proofs.Common.{◌≡◌, ℕ, ◌+◌, ◌-◌, ◌≤◌, true, false, sym, ◌∙◌, arith}
-use Rattle.flow_core.specs.Limits.{most_jobs}
+use Rattle.std.proofs.Common.{◌≡◌, ℕ, true, false, sym, ◌∙◌, arith}
 use Rattle.flow_core.specs.Shop.{time}
 use Rattle.flow_core.specs.JobSet.{contains}
 use Rattle.flow_bound.proofs.Rests.{sum-take, sum-skip, sum-whole}

@@ -1,5 +1,4 @@
-use Rattle.std.proofs.Common.{◌≡◌, ℕ, ◌+◌, ◌-◌, ◌≤◌, List, slice_index, refl, ap, sym, arith}
-use Rattle.flow_core.specs.Shop.{Shop}
+use Rattle.std.proofs.Common.{◌≡◌, ◌+◌, ◌-◌, ◌≤◌, slice_index, refl, ap, arith}
 use Rattle.flow_core.specs.Sequences.{jobs_left}
 use Rattle.flow_bound.proofs.Steps.{admissible-members}
 use Rattle.flow_bound.proofs.rest.Rest.bound.Goals as goal

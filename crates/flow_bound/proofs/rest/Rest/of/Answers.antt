@@ -1,8 +1,8 @@
-use Rattle.std.proofs.Common.{◌≡◌, ℕ, ◌+◌, ◌-◌, ◌<◌, ◌≤◌, length, slice_index, refl, sym, ◌∙◌, arith}
+use Rattle.std.proofs.Common.{◌+◌, ◌-◌, slice_index, refl, sym, ◌∙◌, arith}
 use Rattle.std.specs.List.{sum_by}
 use Rattle.std.proofs.lemmas.Grind.{common_steps}
-use Rattle.flow_core.specs.Limits.{most_jobs, most_machines}
-use Rattle.flow_core.specs.Shop.{time, time_between}
+use Rattle.flow_core.specs.Limits.{most_jobs}
+use Rattle.flow_core.specs.Shop.{time}
 use Rattle.flow_core.specs.JobSet.{members}
 use Rattle.flow_core.proofs.Recurrence.{time_between-none}
 use Rattle.flow_bound.specs.Rest.{least_tail}

@@ -1,11 +1,10 @@
-use Rattle.std.proofs.Common.{◌≡◌, ◌≢◌, ℕ, ◌+◌, ◌-◌, ◌*◌, ◌<◌, ◌≤◌, min, true, List, length, slice_index, slice_set, map, refl, ap, sym, ◌∙◌, arith}
+use Rattle.std.proofs.Common.{◌≡◌, ◌≢◌, ◌+◌, ◌-◌, ◌*◌, ◌<◌, ◌≤◌, min, length, slice_index, ap, sym, ◌∙◌, arith}
 use Rattle.std.specs.List.{sum_by}
 use Rattle.std.proofs.lemmas.Bool.{false≢true}
 use Rattle.std.proofs.lemmas.Grind.{common_steps}
 use Rattle.flow_core.specs.Limits.{most_jobs, most_machines, greatest_time}
-use Rattle.flow_core.specs.Shop.{Shop, time, time_between}
-use Rattle.flow_core.specs.Least.{least}
-use Rattle.flow_core.specs.JobSet.{contains, members}
+use Rattle.flow_core.specs.Shop.{time, time_between}
+use Rattle.flow_core.specs.JobSet.{members}
 use Rattle.flow_core.proofs.Recurrence.{time_between-none}
 use Rattle.flow_bound.specs.Rest.{least_tail}
 use Rattle.flow_bound.proofs.Running.{tail-small}
