@@ -1,20 +1,18 @@
 -- The makespan of a list with a job between two others is that of its heads and tails, and tails go by a recurrence.
 use Rattle.std.proofs.Common.{◌≡◌, ℕ, zero, suc, ◌+◌, ◌-◌, ◌<◌, ◌≤◌, max, List, [], ◌∷◌, ◌++◌, length, drop, map, slice_index, replicate, refl, ap, sym, ◌∙◌, inl, inr, arith}
-use Rattle.std.specs.List.{range_with_len, sum_by}
 use Rattle.std.proofs.lemmas.Bool.{cases_lt}
 use Rattle.std.proofs.lemmas.List.{length-replicate, drop_all}
-use Rattle.std.proofs.lemmas.List.Sums.{sum_by-cons}
 use Rattle.flow_core.specs.Limits.{most_jobs, most_machines}
 use Rattle.flow_core.specs.Shop.{Shop, numbers, time, time_between, IsWithinLimits}
 use Rattle.flow_core.specs.Least.{greatest}
 use Rattle.flow_core.specs.Paths.{IsPath, weight, completion, span}
 use Rattle.flow_core.specs.Front.{IsFrontOf, IsWithinFront}
 use Rattle.flow_core.proofs.Extremes.{range-le-greatest, greatest-range-le}
-use Rattle.flow_core.proofs.Recurrence.{after, completed, completion-is, completion-after, after-same, time_between-none, weight-le-completed, completed-attained, path-up, path-le-greatest, greatest-path-le}
+use Rattle.flow_core.proofs.Recurrence.{after, completed, completion-is, completion-after, after-same, time_between-none, time_between-first, weight-le-completed, completed-attained, path-up, path-le-greatest, greatest-path-le}
 use Rattle.flow_core.proofs.Admissible.{completed-append, after-later}
 use Rattle.flow_core.proofs.Fronts.{free_at, completion-small}
 use Rattle.flow_bound.specs.Insertion.{tail, SpanIsOfHeadsAndTails}
-use Rattle.flow_bound.specs.internal.Rows.{AreTails}
+use Rattle.flow_bound.specs.internal.Tails.{AreTails}
 use Rattle.flow_bound.proofs.Loads.{completed-grows}
 use Rattle.flow_core.proofs.Fronts.{zeros}
 
@@ -107,16 +105,6 @@ tail-past shop job jobs = let none = tail-le shop (job ∷ jobs) (shop.machines 
         IsPath (shop.machines + 1) machines shop.machines → weight shop (job ∷ jobs) (shop.machines + 1) machines ≤ 0
     no_path [] e path = absurd (omega arith)
     no_path (b ∷ bs) e path = absurd (omega (arith, path.0, path-up bs b shop.machines path.1))
-
--- the time on the first of several machines
-time_between-first : (shop : Shop) (job a b : ℕ) → a ≤ b → time_between shop job a b ≡ time shop job a
-    + time_between shop job (a + 1) b
-time_between-first shop job a b h =
-    let some : b + 1 - a ≡ suc (b - a) = omega arith in
-    let rest : b - a ≡ b + 1 - (a + 1) = omega arith in
-    ap (λ n. sum_by (time shop job) (range_with_len a n)) some
-    ∙ sum_by-cons (time shop job) a (range_with_len (a + 1) (b - a))
-    ∙ ap (λ n. time shop job a + sum_by (time shop job) (range_with_len (a + 1) n)) rest
 
 -- a path that stays on a machine
 stays : (n machine : ℕ) → IsPath machine (replicate n machine) machine

@@ -1,14 +1,14 @@
 -- The sum of the times and the least tail over a set of jobs, and over the same set with one job more.
 use Rattle.std.proofs.Common.{◌≡◌, ◌≢◌, ℕ, zero, suc, ◌+◌, ◌-◌, ◌<◌, ◌≤◌, min, Bool, true, false, cond, ◌||◌, nat_eq, List, length, map, set, slice_index, slice_set, ap, sym, ◌∙◌, inl, inr, arith}
-use Rattle.std.specs.List.{filter, range_with_len, sum_by}
+use Rattle.std.specs.List.{filter, sum_by}
 use Rattle.std.proofs.lemmas.Bool.{cases_lt, eq-eqb}
 use Rattle.std.proofs.lemmas.Bool.Decides.{eqb_tells}
 use Rattle.std.proofs.lemmas.List.{get_or-set_other, get_or-set_same}
-use Rattle.std.proofs.lemmas.List.Sums.{sum_by-cons}
 use Rattle.flow_core.specs.Shop.{Shop, numbers, time, time_between}
 use Rattle.flow_core.specs.Least.{least}
 use Rattle.flow_core.specs.JobSet.{contains, members}
 use Rattle.flow_core.specs.Sequences.{has}
+use Rattle.flow_core.proofs.Recurrence.{time_between-first}
 use Rattle.flow_core.proofs.JobsLeft.{kept, kept-step, kept-more, filter-same, has-filter, least-le, sum_by-ones}
 use Rattle.flow_core.proofs.JobSetLemmas.{members-is}
 use Rattle.flow_bound.proofs.Steps.{capped, capped-step}
@@ -229,16 +229,6 @@ written f xs k value last from within is done j low high =
           ap (λ n. slice_index (set xs (k - 1) value) (n - 1)) e ∙ get_or-set_same xs (k - 1) value 0 within ∙ is
           ∙ ap f (sym e)
     ]
-
--- the times from a machine on, and that on it
-pub time_between-first : (shop : Shop) (job a b : ℕ) → a ≤ b →
-    time_between shop job a b ≡ time shop job a + time_between shop job (a + 1) b
-time_between-first shop job a b h =
-    let n : b + 1 - a ≡ suc (b - a) = omega arith in
-    let m : b - a ≡ b + 1 - (a + 1) = omega arith in
-    ap (λ k. sum_by (time shop job) (range_with_len a k)) n
-    ∙ sum_by-cons (time shop job) a (range_with_len (a + 1) (b - a))
-    ∙ ap (λ k. time shop job a + sum_by (time shop job) (range_with_len (a + 1) k)) m
 
 -- the tail before a machine, from that behind it
 pub tail-before : (shop : Shop) (job k tail value m : ℕ) → 1 ≤ k → k ≤ m → tail ≡ time_between shop job (k + 1) m →

@@ -1,2 +1,2 @@
 pub mod Times
-pub mod Rows
+pub mod Tails

@@ -3,4 +3,3 @@
 pub(crate) mod insertion;
 pub(crate) mod neh;
 mod order;
-mod rows;

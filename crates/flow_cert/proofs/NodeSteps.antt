@@ -14,13 +14,14 @@ use Rattle.flow_core.proofs.Fronts.{free_at, front-within, time-small}
 use Rattle.flow_core.proofs.Admissible.{front_of-is}
 use Rattle.flow_core.proofs.JobsLeft.{kept, kept-more, filter-more}
 use Rattle.std.proofs.lemmas.Bool.Decides.{eqb_tells}
-use Rattle.flow_cert.specs.internal.Nodes.{IsNode, AreKnown, AreLows, tails, least_below, second_below, unknown}
+use Rattle.flow_core.specs.internal.TwoLeast.{tails, least_below, second_below}
+use Rattle.flow_cert.specs.internal.Nodes.{IsNode, AreKnown, AreLows, unknown}
 use Rattle.flow_cert.specs.internal.Links.{children}
 use Rattle.flow_cert.specs.declared.reading.node.Node.{Node}
 use Rattle.flow_cert.specs.declared.reading.node.Lows.{Lows}
-use Rattle.flow_cert.proofs.Links.{left-sum, left-count, left-split, left-without, left_under}
-use Rattle.flow_cert.proofs.LeastSteps.{Without, without-one, least-below-cap}
-use Rattle.flow_cert.proofs.RowSteps.{tail-small}
+use Rattle.flow_core.proofs.Taken.{left-sum, left-count, left-split, left-without, left_under}
+use Rattle.flow_core.proofs.TwoLeast.{Without, without-one, least-below-cap}
+use Rattle.flow_core.proofs.Fronts.{tail-small}
 
 kept-small : (f : ℕ → ℕ) (p : ℕ → Bool) (most n : ℕ) → ((k : ℕ) → f k ≤ most) → kept f p n ≤ n * most
 kept-small f p most zero small = omega arith

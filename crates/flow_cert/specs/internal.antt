@@ -1,5 +1,4 @@
 pub mod Heading
-pub mod Rows
 pub mod Trees
 pub mod Links
 pub mod Nodes

@@ -8,6 +8,5 @@ mod lines;
 mod node;
 mod number;
 mod reader;
-mod rows;
 mod tree;
 mod trees;

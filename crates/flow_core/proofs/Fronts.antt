@@ -4,10 +4,10 @@ use Rattle.std.proofs.Common.{inl, inr, ◌≢◌, set}
 use Rattle.std.proofs.lemmas.Bool.{cases_lt}
 use Rattle.std.proofs.lemmas.List.{get_or_past, get_or-set_other, get_or-set_same}
 use Rattle.flow_core.specs.Limits.{most_jobs, most_machines, greatest_time, greatest_completion}
-use Rattle.flow_core.specs.Shop.{Shop, time, IsWithinLimits}
+use Rattle.flow_core.specs.Shop.{Shop, time, time_between, IsWithinLimits}
 use Rattle.flow_core.specs.Paths.{completion}
 use Rattle.flow_core.specs.Front.{IsFrontOf, IsWithinFront}
-use Rattle.flow_core.proofs.Recurrence.{after, completed, completion-is, completion-after, after-same}
+use Rattle.flow_core.proofs.Recurrence.{after, completed, completion-is, completion-after, after-same, time_between-none, time_between-first}
 
 -- what a front says of a machine
 abbrev pub free_at : List ℕ → ℕ → ℕ
@@ -44,6 +44,17 @@ time-small shop job machine limits =
       | inl within ↦ limits.times place 0 within
       | inr past ↦ let none : slice_index shop.times place ≡ 0 = get_or_past shop.times place 0 past in omega arith
     ]
+
+-- the tail of a job behind a machine fits
+pub tail-small : (shop : Shop) (job d machine : ℕ) → IsWithinLimits shop → shop.machines ≡ machine + d →
+    time_between shop job (machine + 1) shop.machines ≤ d * greatest_time
+tail-small shop job zero machine limits e =
+    omega (arith, time_between-none shop job (machine + 1) shop.machines (omega (arith, e)))
+tail-small shop job (suc d) machine limits e =
+    let first = time_between-first shop job (machine + 1) shop.machines (omega (arith, e)) in
+    let here = time-small shop job (machine + 1) limits in
+    let rest = tail-small shop job d (machine + 1) limits (omega (arith, e)) in
+    omega (arith, first, here, rest)
 
 after-small : (shop : Shop) (free : ℕ → ℕ) (job n k : ℕ) → IsWithinLimits shop →
     ((i : ℕ) → free i ≤ (n + i) * greatest_time) → after shop free job k ≤ (n + 1 + k) * greatest_time

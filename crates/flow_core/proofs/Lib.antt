@@ -16,3 +16,6 @@ pub mod TextFaultLemmas
 pub mod TextAnswers
 pub mod TextWritten
 pub mod Turns
+pub mod Taken
+pub mod TwoLeast
+pub mod RowSteps

@@ -5,6 +5,7 @@ pub mod Paths
 pub mod Sequences
 pub mod Bound
 pub mod Front
+pub mod Rows
 pub mod JobSet
 pub mod Refusals
 pub mod InstanceFaults

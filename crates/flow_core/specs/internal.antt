@@ -2,3 +2,4 @@ pub mod TextWalk
 pub mod Codes
 pub mod Turned
 pub mod Same
+pub mod TwoLeast

@@ -9,6 +9,7 @@ mod instance;
 mod job_set;
 mod laws;
 mod limits;
+mod row;
 mod sequence;
 mod text;
 
@@ -25,5 +26,6 @@ pub use laws::{
     least_makespan_is_one, limits_are_those_stated, sequences_have_no_fault, texts_have_no_fault,
 };
 pub use limits::{MAX_DEPTH, MAX_JOBS, MAX_MACHINES, MAX_NUMBER, MAX_TIME};
+pub use row::{Row, rows};
 pub use sequence::{Sequence, SequenceFault};
 pub use text::{Block, TextFault, block_text, read_blocks};

@@ -13,12 +13,13 @@ use Rattle.flow_core.proofs.Recurrence.{after, completed, completion-is, complet
 use Rattle.flow_core.proofs.Fronts.{free_at, front-within}
 use Rattle.flow_core.proofs.JobsLeft.{filter-more}
 use Rattle.flow_core.proofs.Admissible.{front_of-is}
-use Rattle.flow_search.specs.internal.Lows.{tails, least_below, second_below, unknown}
+use Rattle.flow_core.specs.internal.TwoLeast.{tails, least_below, second_below}
+use Rattle.flow_search.specs.internal.Lows.{unknown}
 use Rattle.flow_search.specs.internal.Frames.{IsFrame, IsChild, left_from}
 use Rattle.flow_search.specs.declared.frame.Frame.{Frame}
-use Rattle.flow_search.proofs.Taken.{left-sum, left-count, left-split, left-without, left_under}
-use Rattle.flow_search.proofs.TwoLeast.{Without, without-one, least-below-cap}
-use Rattle.flow_search.proofs.RowSteps.{tail-small}
+use Rattle.flow_core.proofs.Taken.{left-sum, left-count, left-split, left-without, left_under}
+use Rattle.flow_core.proofs.TwoLeast.{Without, without-one, least-below-cap}
+use Rattle.flow_core.proofs.Fronts.{tail-small}
 
 pub frame-within : (shop : Shop) (node : List ℕ) (left : ℕ) (frame : Frame) → IsWithinLimits shop →
     IsFrame shop node left frame →

@@ -22,7 +22,7 @@ use Rattle.flow_search.specs.declared.frame.Frame.{Frame}
 use Rattle.flow_search.specs.declared.subtree.Search.{Search}
 use Rattle.flow_search.proofs.Walk.{Incumbent, answer_of}
 use Rattle.flow_search.proofs.Nodes.{at-child, find-is, size-set, members-are, left-count, put-back}
-use Rattle.flow_search.proofs.Taken.{has-other}
+use Rattle.flow_core.proofs.Taken.{has-other}
 
 pub reverse-push : {A : Type 0} (xs new : List A) (x : A) → new ≡ xs ++ x ∷ [] → reverse new ≡ x ∷ reverse xs
 reverse-push xs new x e = ap reverse e ∙ reverse-append xs (x ∷ [])

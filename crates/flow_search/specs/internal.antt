@@ -2,6 +2,5 @@ pub mod Nodes
 pub mod Tally
 pub mod Stored
 pub mod Lanes
-pub mod Rows
 pub mod Lows
 pub mod Frames

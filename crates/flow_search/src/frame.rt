@@ -4,13 +4,12 @@ ghost use Rattle.std.specs.Prelude.{◌≡◌, ℕ, suc, ◌-◌, ◌<◌, ◌�
 ghost use Rattle.flow_core.specs.Shop.{Shop, IsWithinLimits, numbers};
 ghost use Rattle.flow_core.specs.JobSet.{contains, members};
 ghost use Rattle.flow_core.specs.Bound.{bound_at};
-ghost use Rattle.flow_search.specs.internal.Rows.{AreRows, IsRow};
+ghost use Rattle.flow_core.specs.Rows.{AreRows, IsRow};
 ghost use Rattle.flow_search.specs.internal.Lows.{AreLows, second_tail};
 ghost use Rattle.flow_search.specs.internal.Frames.{IsFrame, IsChild};
 
-use crate::rows::Row;
 use flow_bound::Rest;
-use flow_core::{Front, Instance, JobSet, MAX_MACHINES};
+use flow_core::{Front, Instance, JobSet, MAX_MACHINES, Row};
 
 /// What stays the same while a tree is walked.
 #[derive(Drop)]

@@ -10,9 +10,8 @@ ghost use Rattle.flow_search.specs.Outcomes.{IsLawful, found_of};
 use crate::eight::LaneFrame;
 use crate::frame::Setting;
 use crate::plan::Plan;
-use crate::rows::rows;
 use crate::subtree::{Search, Stop, explore};
-use flow_core::{Front, Instance, Sequence, front_push};
+use flow_core::{Front, Instance, Sequence, front_push, rows};
 use std::alloc::{AllocError, Global};
 
 /// The best sequence that extends a prefix. Its makespan is below that of the start.

@@ -9,7 +9,7 @@ ghost use Rattle.flow_core.specs.JobSet.{contains};
 ghost use Rattle.flow_core.specs.Bound.{machine_bound, bound_at};
 ghost use Rattle.flow_bound.specs.Rest.{IsRestOf};
 ghost use Rattle.flow_search.specs.Walk.{walk};
-ghost use Rattle.flow_search.specs.internal.Rows.{AreRows};
+ghost use Rattle.flow_core.specs.Rows.{AreRows};
 ghost use Rattle.flow_search.specs.internal.Frames.{IsFrame, Opens};
 ghost use Rattle.flow_search.specs.internal.Nodes.{IsAt, IsFresh, Wrote, Saw, Entered, Left, incumbent_of};
 ghost use Rattle.flow_search.specs.internal.Nodes.{Gave, Walked, walked, children_walked};

@@ -6,14 +6,17 @@ ghost use Rattle.flow_core.specs.Shop.{IsWithinLimits};
 ghost use Rattle.flow_core.specs.Paths.{span};
 ghost use Rattle.flow_core.specs.Front.{IsFrontOf, IsWithinFront};
 ghost use Rattle.flow_core.specs.Sequences.{has, AreJobs};
-ghost use Rattle.flow_bound.specs.internal.Rows.{AreRows, AreTails};
+ghost use Rattle.flow_core.specs.Rows.{AreRows};
+ghost use Rattle.flow_bound.specs.internal.Tails.{AreTails};
 
-use crate::start::rows::{Row, all_rows};
-use flow_core::{Instance, MAX_MACHINES};
+use flow_core::{Instance, MAX_MACHINES, Row, rows};
 use std::alloc::{AllocError, Global};
 
+/// A time for each machine, that of machine 1 first.
+pub(crate) type Times = [u32; MAX_MACHINES];
+
 /// Turns the heads of a list, its completion times, into those of the list with one more job at its end.
-fn push_heads(instance: &Instance, rows: &[Row], heads: &mut Row, job: u16)
+fn push_heads(instance: &Instance, rows: &[Row], heads: &mut Times, job: u16)
     requires rows { AreRows instance.now rows.now }
     requires job_from { 1 ≤ job }
     requires job_to { job ≤ instance.now.jobs }
@@ -21,7 +24,7 @@ fn push_heads(instance: &Instance, rows: &[Row], heads: &mut Row, job: u16)
     ensures { (jobs : List ℕ) → IsFrontOf instance.now jobs heads.old →
         IsFrontOf instance.now (jobs ++ job ∷ []) heads.new }
 {
-    let times = &rows[job as usize - 1];
+    let times = &rows[job as usize - 1].times;
     let mut free = 0;
     for machine in 1..instance.machines() + 1 {
         let place = machine as usize - 1;
@@ -31,14 +34,14 @@ fn push_heads(instance: &Instance, rows: &[Row], heads: &mut Row, job: u16)
 }
 
 /// Turns the tails of a list into those of the list with one more job before it.
-fn push_tails(instance: &Instance, rows: &[Row], tails: &mut Row, job: u16)
+fn push_tails(instance: &Instance, rows: &[Row], tails: &mut Times, job: u16)
     requires rows { AreRows instance.now rows.now }
     requires job_from { 1 ≤ job }
     requires job_to { job ≤ instance.now.jobs }
     requires within { IsWithinFront instance.now tails.old }
     ensures { (jobs : List ℕ) → AreTails instance.now jobs tails.old → AreTails instance.now (job ∷ jobs) tails.new }
 {
-    let times = &rows[job as usize - 1];
+    let times = &rows[job as usize - 1].times;
     let mut behind = 0;
     for place in (0..instance.machines() as usize).rev() {
         behind = tails[place].max(behind) + times[place];
@@ -47,7 +50,7 @@ fn push_tails(instance: &Instance, rows: &[Row], tails: &mut Row, job: u16)
 }
 
 /// The makespan with a job between two lists, from the heads of the first and the tails of the second.
-fn span_between(instance: &Instance, rows: &[Row], heads: &Row, job: u16, tails: &Row) -> u64
+fn span_between(instance: &Instance, rows: &[Row], heads: &Times, job: u16, tails: &Times) -> u64
     requires rows { AreRows instance.now rows.now }
     requires job_from { 1 ≤ job }
     requires job_to { job ≤ instance.now.jobs }
@@ -56,7 +59,7 @@ fn span_between(instance: &Instance, rows: &[Row], heads: &Row, job: u16, tails:
     ensures { (front back : List ℕ) → IsFrontOf instance.now front heads.now → AreTails instance.now back tails.now →
         result ≡ span instance.now (front ++ job ∷ back) }
 {
-    let times = &rows[job as usize - 1];
+    let times = &rows[job as usize - 1].times;
     let mut head: u32 = 0;
     let mut most: u32 = 0;
     for machine in 1..instance.machines() + 1 {
@@ -68,7 +71,7 @@ fn span_between(instance: &Instance, rows: &[Row], heads: &Row, job: u16, tails:
 }
 
 /// Writes the tails of the jobs behind each place of a partial sequence.
-fn fill_tails(instance: &Instance, rows: &[Row], partial: &[u16], tails: &mut [Row])
+fn fill_tails(instance: &Instance, rows: &[Row], partial: &[u16], tails: &mut [Times])
     requires rows { AreRows instance.now rows.now }
     requires short { length partial.now < instance.now.jobs }
     requires jobs { All (λ job. (1 ≤ job) × (job ≤ instance.now.jobs)) partial.now }
@@ -90,7 +93,7 @@ pub(crate) fn fill_spans(
     rows: &[Row],
     partial: &[u16],
     job: u16,
-    tails: &mut [Row],
+    tails: &mut [Times],
     spans: &mut [u64],
 )
     requires rows { AreRows instance.now rows.now }
@@ -128,7 +131,7 @@ pub fn insertion_spans(
         slice_index spans.items place ≡ span instance.now (insert partial.now place job)) }
 {
     let places = partial.len() + 1;
-    let rows = all_rows(alloc, instance)?;
+    let rows = rows(alloc, instance)?;
     let mut tails = vec![in alloc; [0; MAX_MACHINES]; places]?;
     let mut spans = vec![in alloc; 0; places]?;
     fill_spans(

@@ -3,13 +3,12 @@
 ghost use Rattle.std.specs.Prelude.{◌≡◌, ℕ, ◌<◌, ◌≤◌, length, insert, slice_index, All, IfOk};
 ghost use Rattle.flow_core.specs.Paths.{span};
 ghost use Rattle.flow_core.specs.Sequences.{IsSequence};
+ghost use Rattle.flow_core.specs.Rows.{AreRows};
 ghost use Rattle.flow_bound.specs.Neh.{IsNeh, inserted};
-ghost use Rattle.flow_bound.specs.internal.Rows.{AreRows};
 
-use crate::start::insertion::fill_spans;
+use crate::start::insertion::{Times, fill_spans};
 use crate::start::order::by_total;
-use crate::start::rows::{Row, all_rows};
-use flow_core::{Instance, MAX_MACHINES, Sequence};
+use flow_core::{Instance, MAX_MACHINES, Row, Sequence, rows};
 use std::alloc::{AllocError, Global};
 
 /// A place in a list, counted from 0, and the makespan with a job put in there.
@@ -42,7 +41,7 @@ fn best_place(
     rows: &[Row],
     jobs: &[u16],
     job: u16,
-    tails: &mut [Row],
+    tails: &mut [Times],
     spans: &mut [u64],
 ) -> Place
     requires rows { AreRows instance.now rows.now }
@@ -71,7 +70,7 @@ pub fn neh(alloc: Global, instance: &Instance) -> Result<(Sequence, u64), AllocE
     ensures each { IfOk result (λ start. IsSequence instance.now.jobs start.0) }
 {
     let order = by_total(alloc, instance)?;
-    let rows = all_rows(alloc, instance)?;
+    let rows = rows(alloc, instance)?;
     let mut tails = vec![in alloc; [0; MAX_MACHINES]; order.len() + 1]?;
     let mut spans = vec![in alloc; 0; order.len() + 1]?;
     let mut jobs = Vec::with_capacity(alloc, order.len())?;

@@ -1,9 +1,10 @@
 -- What is kept of a list of jobs at which trees are read.
-use Rattle.std.specs.Prelude.{ℕ, suc, ◌≡◌, ◌+◌, ◌-◌, ◌≤◌, ◌⊎◌, false, List, [], ◌∷◌, ◌++◌, length, map, min, max, sum_by, slice_index, Option, Some, None}
+use Rattle.std.specs.Prelude.{ℕ, suc, ◌≡◌, ◌+◌, ◌-◌, ◌≤◌, ◌⊎◌, false, List, [], ◌∷◌, ◌++◌, length, sum_by, slice_index, Option, Some, None}
 use Rattle.flow_core.specs.Limits.{most_machines}
-use Rattle.flow_core.specs.Shop.{Shop, time, time_between}
+use Rattle.flow_core.specs.Shop.{Shop, time}
 use Rattle.flow_core.specs.Front.{IsFrontOf}
 use Rattle.flow_core.specs.Sequences.{has, jobs_left}
+use Rattle.flow_core.specs.internal.TwoLeast.{tails, least_below, second_below}
 use Rattle.flow_cert.specs.internal.Links.{AreLinks}
 use Rattle.flow_cert.specs.declared.reading.node.Node.{Node}
 use Rattle.flow_cert.specs.declared.reading.node.Lows.{Lows}
@@ -11,20 +12,6 @@ use Rattle.flow_cert.specs.declared.reading.node.Lows.{Lows}
 -- what stands for a least that is not known, or of no numbers: the greatest number of 32 bits
 abbrev pub unknown : ℕ
 unknown = 4294967295
-
--- the least of some numbers and of one more
-abbrev pub least_below : ℕ → List ℕ → ℕ
-least_below a [] = a
-least_below a (x ∷ xs) = least_below (min a x) xs
-
--- the second least of some numbers and of two more, the lesser one first
-abbrev pub second_below : ℕ → ℕ → List ℕ → ℕ
-second_below a b [] = b
-second_below a b (x ∷ xs) = second_below (min a x) (min b (max a x)) xs
-
--- the tails of some jobs behind a machine
-abbrev pub tails : Shop → ℕ → List ℕ → List ℕ
-tails shop machine jobs = map (λ job. time_between shop job (machine + 1) shop.machines) jobs
 
 -- the two least tails of the jobs left behind a machine
 abbrev pub AreLows : Shop → List ℕ → ℕ → Lows → Type 0

@@ -2,7 +2,7 @@
 
 ghost use Rattle.std.specs.Prelude.{◌≡◌, ◌≢◌, ℕ, suc, ◌+◌, ◌-◌, ◌≤◌, List, [], ◌∷◌, ◌++◌, length, slice_index, IfOk};
 ghost use Rattle.flow_core.specs.Sequences.{extensions};
-ghost use Rattle.flow_cert.specs.internal.Rows.{AreRows};
+ghost use Rattle.flow_core.specs.Rows.{AreRows};
 ghost use Rattle.flow_cert.specs.internal.Links.{IsPlace};
 ghost use Rattle.flow_cert.specs.internal.Reader.{Stands, IsBack, LinesGive, LineEnds};
 

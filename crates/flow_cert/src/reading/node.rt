@@ -7,7 +7,7 @@ ghost use Rattle.flow_core.specs.Paths.{completion};
 ghost use Rattle.flow_core.specs.Front.{IsFrontOf, IsWithinFront};
 ghost use Rattle.flow_core.specs.Sequences.{has, jobs_left};
 ghost use Rattle.flow_core.specs.Bound.{bound_at};
-ghost use Rattle.flow_cert.specs.internal.Rows.{AreRows};
+ghost use Rattle.flow_core.specs.Rows.{AreRows};
 ghost use Rattle.flow_cert.specs.internal.Links.{AreLinks};
 ghost use Rattle.flow_cert.specs.internal.Nodes.{IsNode, IsAt, AreLows, IsChild, grown, left_before};
 

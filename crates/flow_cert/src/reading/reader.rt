@@ -1,7 +1,7 @@
 //! The reader of the trees: how it goes from a list of jobs to a child, and back.
 
 ghost use Rattle.std.specs.Prelude.{◌≡◌, ◌≢◌, ℕ, suc, ◌<◌, ◌≤◌, List, [], length, slice_index, IfOk};
-ghost use Rattle.flow_cert.specs.internal.Rows.{AreRows};
+ghost use Rattle.flow_core.specs.Rows.{AreRows};
 ghost use Rattle.flow_cert.specs.internal.Links.{AreLinks, IsPlace};
 ghost use Rattle.flow_cert.specs.internal.Reader.{Stands, Opened, Closed, frame_at};
 ghost use Rattle.flow_core.specs.Limits.{most_jobs};

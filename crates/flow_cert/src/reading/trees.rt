@@ -7,8 +7,7 @@ use crate::fault::CheckFault;
 use crate::reading::claim::Claim;
 use crate::reading::heading::Heading;
 use crate::reading::reader::{Spot, TreeReader};
-use crate::reading::rows::rows;
-use flow_core::Instance;
+use flow_core::{Instance, rows};
 use std::alloc::Global;
 
 /// The line of the first tree, counted from 1.

@@ -1,5 +1,5 @@
 use Rattle.std.proofs.Common.{ℕ, ◌≤◌, [], drop, length, slice_index_or}
-use Rattle.flow_bound.specs.internal.Rows.{AreTails}
+use Rattle.flow_bound.specs.internal.Tails.{AreTails}
 use Rattle.flow_bound.proofs.start.insertion.fill_tails.Given as goal
 
 -- the places so far, from the last one on, have their tails

@@ -6,7 +6,7 @@ use Rattle.flow_core.specs.Limits.{most_machines, greatest_completion}
 use Rattle.flow_core.specs.Shop.{time}
 use Rattle.flow_core.proofs.Fronts.{time-small}
 use Rattle.flow_bound.specs.Insertion.{tail}
-use Rattle.flow_bound.specs.internal.Rows.{AreTails}
+use Rattle.flow_bound.specs.internal.Tails.{AreTails}
 use Rattle.flow_bound.proofs.HeadsAndTails.{tail-past, tail-step}
 use Rattle.flow_bound.proofs.start.insertion.push_tails.Goals as goal
 
@@ -25,8 +25,10 @@ pub overflow_add-behind : goal.overflow_add-behind
 overflow_add-behind c =
     let place = c.loop-place.place in
     let before = c.loop-place.invariant in
-    let there = c.requires.rows.each c.args.job c.requires.job_from c.requires.job_to place
-    (omega arith) before.within in
+    let there = (c.requires.rows.each c.args.job (record {
+      times = [];
+      tails = [];
+    }) c.requires.job_from c.requires.job_to place (omega arith) before.within).0 in
     let old_small : slice_index c.args.tails.now (place - 1) ≤ greatest_completion =
     c.requires.within (place - 1) (omega (arith, before.within)) in
     let machines : c.args.instance.now.machines ≤ most_machines = c.machines-place.ensures.limits.machines in
@@ -47,9 +49,12 @@ loop-place-preserved c =
     let shop = c.args.instance.now in
     let place = c.loop-place.place in
     let before = c.loop-place.invariant in
-    let from_time : ℕ = slice_index_or (slice_index_or c.args.rows.now (c.args.job - 1) []) (place - 1) 0 in
+    let from_time : ℕ = slice_index (slice_index_or c.args.rows.now (c.args.job - 1) (record {
+      times = [];
+      tails = [];
+    })).times (place - 1) in
     let there : from_time ≡ time shop c.args.job place =
-    c.requires.rows.each c.args.job c.requires.job_from c.requires.job_to place (omega arith) before.within in
+    (c.requires.rows.each c.args.job _ c.requires.job_from c.requires.job_to place (omega arith) before.within).0 in
     let old_small : slice_index c.args.tails.now (place - 1) ≤ greatest_completion =
     c.requires.within (place - 1) (omega (arith, before.within)) in
     let value : (jobs : List ℕ) → AreTails shop jobs c.args.tails.now →

@@ -14,9 +14,12 @@ loop-machine-preserved c =
     let heads = c.args.heads.now in
     let tails = c.args.tails.now in
     let machine = c.loop-machine.machine in
-    let from_time : ℕ = slice_index_or (slice_index_or c.args.rows.now (c.args.job - 1) []) (machine - 1) 0 in
+    let from_time : ℕ = slice_index (slice_index_or c.args.rows.now (c.args.job - 1) (record {
+      times = [];
+      tails = [];
+    })).times (machine - 1) in
     let there : from_time ≡ time shop c.args.job machine =
-    c.requires.rows.each c.args.job c.requires.job_from c.requires.job_to machine (omega arith) (omega arith) in
+    (c.requires.rows.each c.args.job _ c.requires.job_from c.requires.job_to machine (omega arith) (omega arith)).0 in
     let before = c.loop-machine.invariant in
     let head : c.max.result + from_time ≡ after shop (free_at heads) c.args.job machine =
     after-step shop heads heads c.args.job machine c.loop-machine.head from_time (c.max.result + from_time)

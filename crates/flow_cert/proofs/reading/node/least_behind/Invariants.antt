@@ -1,6 +1,7 @@
 use Rattle.std.proofs.Common.{◌≡◌, ℕ, ◌+◌, ◌-◌, List}
 use Rattle.flow_core.specs.Sequences.{jobs_left}
-use Rattle.flow_cert.specs.internal.Nodes.{tails, unknown, least_below, second_below}
+use Rattle.flow_core.specs.internal.TwoLeast.{tails, least_below, second_below}
+use Rattle.flow_cert.specs.internal.Nodes.{unknown}
 use Rattle.flow_cert.specs.internal.Links.{AreLinks, IsPlace, children}
 use Rattle.flow_cert.proofs.reading.node.least_behind.Given as goal
 

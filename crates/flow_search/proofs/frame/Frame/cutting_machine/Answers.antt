@@ -8,7 +8,7 @@ use Rattle.flow_core.proofs.Fronts.{free_at, after-step, time-small}
 use Rattle.flow_search.specs.internal.Frames.{IsFrame, IsChild}
 use Rattle.flow_search.proofs.Children.{child-completion, child-bound, frame-within}
 use Rattle.flow_search.proofs.Nodes.{find-here, find-skip, find-past}
-use Rattle.flow_search.proofs.TwoLeast.{Without}
+use Rattle.flow_core.proofs.TwoLeast.{Without}
 use Rattle.flow_search.proofs.frame.Frame.cutting_machine.Goals as goal
 use Rattle.flow_search.proofs.frame.Frame.cutting_machine.Goals.{After-from, After-from-in-loop-machine, then-row-place, else-row-place}
 

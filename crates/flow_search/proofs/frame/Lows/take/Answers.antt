@@ -3,8 +3,9 @@ use Rattle.std.proofs.lemmas.Bool.{cases_lt}
 use Rattle.std.proofs.lemmas.List.{get_or-set_same, get_or-set_other, length-set}
 use Rattle.flow_core.specs.Limits.{most_machines}
 use Rattle.flow_core.specs.Shop.{time_between}
-use Rattle.flow_search.specs.internal.Lows.{tails, least_below, second_below, unknown}
-use Rattle.flow_search.proofs.TwoLeast.{least-push, second-push, tails-push}
+use Rattle.flow_core.specs.internal.TwoLeast.{tails, least_below, second_below}
+use Rattle.flow_search.specs.internal.Lows.{unknown}
+use Rattle.flow_core.proofs.TwoLeast.{least-push, second-push, tails-push}
 use Rattle.flow_search.proofs.frame.Lows.take.Goals as goal
 
 pub loop-place-preserved : goal.loop-place-preserved

@@ -1,21 +1,22 @@
-//! The times of an instance, a row for each job.
+//! The times and tails of the jobs, a row for each.
 
 ghost use Rattle.std.specs.Prelude.{◌≤◌, IfOk};
-ghost use Rattle.flow_cert.specs.internal.Rows.{IsRow, AreRows};
+ghost use Rattle.flow_core.specs.Rows.{IsRow, AreRows};
 
-use flow_core::{Instance, MAX_MACHINES};
+use crate::instance::Instance;
+use crate::limits::MAX_MACHINES;
 use std::alloc::{AllocError, Global};
 
-/// The times of one job, with machine 1 first.
+/// The times and tails of one job, with machine 1 first.
 #[derive(Drop)]
-pub(crate) struct Row {
+pub struct Row {
     /// Its time on each machine.
-    pub(crate) times: [u32; MAX_MACHINES],
+    pub times: [u32; MAX_MACHINES],
     /// Its tail behind each machine: its time on all later machines.
-    pub(crate) tails: [u32; MAX_MACHINES],
+    pub tails: [u32; MAX_MACHINES],
 }
 
-/// Makes the row of a job.
+/// The row of a job.
 fn row_of(instance: &Instance, job: u16) -> Row
     requires from { 1 ≤ job }
     requires to { job ≤ instance.now.jobs }
@@ -36,8 +37,8 @@ fn row_of(instance: &Instance, job: u16) -> Row
     Row { times, tails }
 }
 
-/// The rows of all jobs.
-pub(crate) fn rows(alloc: Global, instance: &Instance) -> Result<Vec<Row>, AllocError>
+/// The rows of all jobs, that of job 1 first.
+pub fn rows(alloc: Global, instance: &Instance) -> Result<Vec<Row>, AllocError>
     ensures { IfOk result (λ rows. AreRows instance.now rows.items) }
 {
     let jobs = instance.jobs();

@@ -2,8 +2,10 @@ use Rattle.std.proofs.Common.{◌≡◌, ℕ, ◌+◌, ◌-◌, ◌<◌, ◌≤�
 use Rattle.std.proofs.lemmas.List.{length-set}
 use Rattle.flow_core.specs.Limits.{most_machines}
 use Rattle.flow_core.specs.Shop.{time_between}
-use Rattle.flow_cert.proofs.RowSteps.{time_between-first, tail-small, made-more}
-use Rattle.flow_cert.proofs.reading.rows.row_of.Goals as goal
+use Rattle.flow_core.proofs.Recurrence.{time_between-first}
+use Rattle.flow_core.proofs.Fronts.{tail-small}
+use Rattle.flow_core.proofs.RowSteps.{made-more}
+use Rattle.flow_core.proofs.row.row_of.Goals as goal
 
 pub overflow_add-behind : goal.overflow_add-behind
 overflow_add-behind c =

@@ -7,7 +7,6 @@ use Rattle.std.proofs.lemmas.List.Sums.{sum_by-append, sum_by-cons}
 use Rattle.std.proofs.lemmas.Bool.{eq-eqb, ne_eqb}
 use Rattle.flow_core.specs.Shop.{numbers}
 use Rattle.flow_core.specs.Sequences.{has, jobs_left}
-use Rattle.flow_search.specs.internal.Frames.{left_from}
 
 -- whether a longer list has a job
 
@@ -37,7 +36,7 @@ has-more list job k h = has-push list job k ∙ ap (λ b. b || nat_eq k job) h
 
 -- jobs of a range
 
-range-split : (a c d : ℕ) → range_with_len a (c + d) ≡ range_with_len a c ++ range_with_len (a + c) d
+pub range-split : (a c d : ℕ) → range_with_len a (c + d) ≡ range_with_len a c ++ range_with_len (a + c) d
 range-split a zero d = ap (λ n. range_with_len n (0 + d)) (omega arith) ∙ ap (range_with_len (a + 0)) (omega arith)
 range-split a (suc c) d =
     let n : suc c + d ≡ suc (c + d) = omega arith in
@@ -45,7 +44,7 @@ range-split a (suc c) d =
     ap (range_with_len a) n ∙ ap (λ xs. a ∷ xs) (range-split (a + 1) c d)
     ∙ ap (λ k. a ∷ range_with_len (a + 1) c ++ range_with_len k d) m
 
-range-same : (p q : ℕ → Bool) (a len : ℕ) → ((k : ℕ) → a ≤ k → k < a + len → p k ≡ q k) →
+pub range-same : (p q : ℕ → Bool) (a len : ℕ) → ((k : ℕ) → a ≤ k → k < a + len → p k ≡ q k) →
     filter p (range_with_len a len) ≡ filter q (range_with_len a len)
 range-same p q a zero h = refl
 range-same p q a (suc len) h =
@@ -55,7 +54,7 @@ range-same p q a (suc len) h =
     + 1) len (λ k low high. h k (omega arith) (omega (arith, high))))
 
 -- the numbers before one, it, and those behind it
-numbers-split : (n job : ℕ) → 1 ≤ job → job ≤ n → numbers 1 n ≡ numbers 1 (job - 1) ++ job ∷ numbers (job + 1) n
+pub numbers-split : (n job : ℕ) → 1 ≤ job → job ≤ n → numbers 1 n ≡ numbers 1 (job - 1) ++ job ∷ numbers (job + 1) n
 numbers-split n job low high =
     let len : n + 1 - 1 ≡ (job - 1 + 1 - 1) + suc (n - job) = omega arith in
     let from : 1 + (job - 1 + 1 - 1) ≡ job = omega arith in
@@ -65,8 +64,13 @@ numbers-split n job low high =
     ∙ ap (λ k. numbers 1 (job - 1) ++ range_with_len k (suc (n - job))) from
     ∙ ap (λ k. numbers 1 (job - 1) ++ job ∷ range_with_len (job + 1) k) rest
 
+-- the jobs that a list leaves below one of them
 abbrev pub left_under : List ℕ → ℕ → List ℕ
 left_under list job = filter (λ k. not (has list k)) (numbers 1 (job - 1))
+
+-- and those from one on
+abbrev pub left_from : ℕ → List ℕ → ℕ → List ℕ
+left_from n list job = filter (λ k. not (has list k)) (numbers job n)
 
 -- the jobs left, parted at one of them
 pub left-split : (n : ℕ) (list : List ℕ) (job : ℕ) → 1 ≤ job → job ≤ n → has list job ≡ false →

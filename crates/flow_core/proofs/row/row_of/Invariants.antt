@@ -1,8 +1,8 @@
 use Rattle.std.proofs.Common.{◌≡◌, ◌≤◌, ◌+◌, length}
 use Rattle.flow_core.specs.Limits.{most_machines}
 use Rattle.flow_core.specs.Shop.{time_between}
-use Rattle.flow_cert.proofs.RowSteps.{Made}
-use Rattle.flow_cert.proofs.reading.rows.row_of.Given as goal
+use Rattle.flow_core.proofs.RowSteps.{Made}
+use Rattle.flow_core.proofs.row.row_of.Given as goal
 
 abbrev pub invariant-loop-machine : goal.invariant-loop-machine
 invariant-loop-machine l = record {

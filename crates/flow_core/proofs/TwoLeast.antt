@@ -1,8 +1,9 @@
 -- The two least of some numbers.
-use Rattle.std.proofs.Common.{◌≡◌, ◌≢◌, ℕ, ◌<◌, ◌≤◌, min, max, List, [], ◌∷◌, ◌++◌, length, map, refl, inl, inr, arith}
+use Rattle.std.proofs.Common.{◌≡◌, ◌≢◌, ℕ, ◌+◌, ◌<◌, ◌≤◌, min, max, List, [], ◌∷◌, ◌++◌, length, map, refl, ap, inl, inr, arith}
 use Rattle.std.proofs.lemmas.Bool.Decides.{eqb_tells}
+use Rattle.flow_core.specs.Shop.{Shop, time_between}
 use Rattle.flow_core.specs.Least.{least}
-use Rattle.flow_cert.specs.internal.Nodes.{least_below, second_below}
+use Rattle.flow_core.specs.internal.TwoLeast.{least_below, second_below, tails}
 
 -- a number is the least without one of them, y: the second least where y is the least, else the least
 abbrev pub Without : ℕ → ℕ → ℕ → ℕ → Type 0
@@ -52,3 +53,21 @@ least-below-cap c m f [] some small fits = absurd (omega (arith, some))
 least-below-cap c m f (job ∷ jobs) some small fits =
     let first = least-le-first (f job) (map f jobs) in
     (omega (arith, least-below-is c (f job) (map f jobs), first, small job, fits), omega (arith, first, small job))
+
+-- the two least of some numbers and of one more behind them
+pub least-push : (a : ℕ) (xs : List ℕ) (x : ℕ) → least_below a (xs ++ x ∷ []) ≡ min (least_below a xs) x
+least-push a [] x = refl
+least-push a (y ∷ ys) x = least-push (min a y) ys x
+
+pub second-push : (a b : ℕ) (xs : List ℕ) (x : ℕ) →
+    second_below a b (xs ++ x ∷ []) ≡ min (second_below a b xs) (max (least_below a xs) x)
+second-push a b [] x = refl
+second-push a b (y ∷ ys) x = second-push (min a y) (min b (max a y)) ys x
+
+-- the tails of some jobs and of one more
+pub tails-push : (shop : Shop) (machine : ℕ) (jobs : List ℕ) (job : ℕ) →
+    tails shop machine (jobs ++ job ∷ []) ≡ tails shop machine jobs ++ time_between shop job (machine + 1) shop.machines
+    ∷ []
+tails-push shop machine [] job = refl
+tails-push shop machine (j ∷ js) job =
+    ap (λ xs. time_between shop j (machine + 1) shop.machines ∷ xs) (tails-push shop machine js job)

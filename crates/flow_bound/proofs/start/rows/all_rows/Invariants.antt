@@ -1,9 +1,0 @@
-use Rattle.std.proofs.Common.{◌≡◌, ℕ, ◌+◌, ◌-◌, ◌<◌, ◌≤◌, [], slice_index_or, vec_len}
-use Rattle.flow_bound.specs.internal.Rows.{IsRow}
-use Rattle.flow_bound.proofs.start.rows.all_rows.Given as goal
-
-abbrev pub invariant-loop-job : goal.invariant-loop-job
-invariant-loop-job l = record {
-  count : vec_len l.rows + 1 ≡ l.job;
-  each : (job : ℕ) → 1 ≤ job → job < l.job → IsRow l.instance job (slice_index_or l.rows.items (job - 1) []);
-}
