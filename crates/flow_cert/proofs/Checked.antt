@@ -6,7 +6,7 @@ use Rattle.flow_core.specs.Shop.{Shop, IsWithinLimits}
 use Rattle.flow_core.specs.Sequences.{IsLeastMakespan}
 use Rattle.flow_cert.specs.Certificate.{IsCertificate, line, ending}
 use Rattle.flow_cert.specs.Check.{IsFirstFault, IsOfNoValue}
-use Rattle.flow_cert.specs.Faults.{certificate_value, cut_value, end_value}
+use Rattle.flow_cert.specs.CertificateFaults.{certificate_value, cut_value, end_value}
 use Rattle.flow_cert.specs.internal.Trees.{TreesGive}
 use Rattle.flow_cert.specs.declared.fault.CheckFault.TheVariants.{Memory, Header, Size, Value, Sequence, NotAttained, Tree, Weak, Low, End}
 use Rattle.flow_cert.specs.declared.fault.CheckFault.{CheckFault}

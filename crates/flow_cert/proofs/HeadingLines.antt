@@ -13,12 +13,12 @@ use Rattle.flow_core.specs.SequenceFaults.{sequence_fault}
 use Rattle.flow_core.specs.declared.sequence.SequenceFault.{SequenceFault}
 use Rattle.flow_core.proofs.SequenceLemmas.{sequence-fault-none-is, is-fault-none}
 use Rattle.flow_cert.specs.Certificate.{line, spaced, title}
-use Rattle.flow_cert.specs.Faults.{header_value, size_value, value_value, sequence_value, cut_value, next_line, on_line, numbers_in}
+use Rattle.flow_cert.specs.CertificateFaults.{header_value, size_value, value_value, sequence_value, cut_value, first_line, on_line, numbers_in}
 use Rattle.flow_cert.specs.internal.Heading.{BeginsWithNumber, BeginsWithSize, BeginsWithSequence}
 use Rattle.flow_cert.specs.declared.fault.CheckFault.{CheckFault}
 use Rattle.flow_cert.specs.declared.fault.CheckFault.TheVariants.{Header, Size, Value, Sequence, NotAttained}
 use Rattle.flow_cert.proofs.Numbers.{Fit, numbers-sound, numbers-complete, spaced-plain}
-use Rattle.flow_cert.proofs.Exact.{LineOf, next-line-is, on-line-complete, plain-test, numbers-whole, size-true, size-fit, sequence-fit, four, after_header, after_size, after_value}
+use Rattle.flow_cert.proofs.Exact.{LineOf, first-line-is, on-line-complete, plain-test, numbers-whole, size-true, size-fit, sequence-fit, four, after_header, after_size, after_value}
 
 -- a line that is at fault whatever stands in it
 refused-of : (fault : CheckFault) (next : List ℕ → List ℕ →
@@ -31,7 +31,7 @@ refused-of fault next bytes (Some r) is bad = bad r.0 r.1 is
 line-refused : (fault : CheckFault) (next : List ℕ → List ℕ → Result ℕ CheckFault) (bytes : List ℕ) →
     ((text rest : List ℕ) → bytes ≡ text ++ 10 ∷ rest → next text rest ≡ Err fault) →
     on_line fault next bytes ≡ Err fault
-line-refused fault next bytes bad = refused-of fault next bytes (next_line bytes) (next-line-is bytes) bad
+line-refused fault next bytes bad = refused-of fault next bytes (first_line bytes) (first-line-is bytes) bad
 
 -- a line's text and its end, where the line stands before the rest
 as-line : (bytes text line_text rest : List ℕ) → bytes ≡ text ++ 10 ∷ rest → text ≡ line_text →

@@ -20,7 +20,7 @@ use Rattle.flow_search.proofs.Lists.{all-weaken, find-some}
 use Rattle.flow_search.proofs.Walk.{Fresh, IsLeft, fresh-push, jobs_left-are, extensions-are, range-all}
 use Rattle.flow_search.proofs.LeastVerdict.{cut-fresh, verdict_is_least}
 use Rattle.flow_cert.specs.Certificate.{Covers, certificate_text, IsCertificate}
-use Rattle.flow_cert.specs.Written.{certificate_of, text_with, PlanIsCertified, VerdictIsCertified}
+use Rattle.flow_cert.specs.PlanCertificates.{certificate_of, text_with, PlanIsCertified, VerdictIsCertified}
 
 concat-map : (f : ℕ → List ℕ) (xs : List ℕ) → flat_map f xs ≡ concat (map f xs)
 concat-map f [] = refl
@@ -128,7 +128,8 @@ plan_is_certified plan is =
     let value = (verdict_of plan).value in
     let short : depth ≤ shop.jobs = is.deep in
     let v = verdict_is_least shop start depth short (is.is_sequence, sym is.is_span) in
-    let low : value ≤ start.value = subst (λ n. value ≤ n) (sym is.is_span) (v.1.least start.sequence is.is_sequence) in (
+    let low : value ≤ start.value =
+    subst (λ n. value ≤ n) (sym is.is_span) (v.1.least start.sequence is.is_sequence) in (
       depth,
       (verdict_of plan).sequence,
       trees_of plan,

@@ -4,7 +4,7 @@ use Rattle.std.specs.List.{flat_map}
 use Rattle.flow_core.specs.Shop.{Shop}
 use Rattle.flow_core.specs.Bound.{bound_at}
 use Rattle.flow_core.specs.Sequences.{extensions}
-use Rattle.flow_cert.specs.Faults.{read_tree, after_tree, trees_value}
+use Rattle.flow_cert.specs.CertificateFaults.{read_tree, after_tree, trees_value}
 use Rattle.flow_cert.specs.internal.Links.{children, IsNext}
 use Rattle.flow_cert.specs.internal.Reader.{awaited, TreeGives, LineEnds, LinesGive}
 use Rattle.flow_cert.specs.declared.fault.CheckFault.{CheckFault}
@@ -111,15 +111,6 @@ line-fails shop value left list line from bytes (Low p) h =
     λ rest. ap (after_tree line (trees_value shop bound_at value left rest (line + 1))) h
 line-fails shop value left list line from bytes End h =
     λ rest. ap (after_tree line (trees_value shop bound_at value left rest (line + 1))) h
-
--- the fault of its tree
-pub line-err : (shop : Shop) (value left : ℕ) (list : List ℕ) (line from : ℕ) (bytes : List ℕ)
-    (answer : Result Spot CheckFault) (fault : CheckFault) → answer ≡ Err fault →
-    TreeGives from bytes (Err fault) (read_tree shop bound_at value line left list (drop from bytes)) →
-    LinesGive shop value left (list ∷ []) line from bytes answer
-line-err shop value left list line from bytes answer fault is h =
-    subst (LinesGive shop value left (list
-    ∷ []) line from bytes) (sym is) (line-fails shop value left list line from bytes fault h)
 
 -- a whole tree, and its end
 pub line-gives : (shop : Shop) (value left : ℕ) (list : List ℕ) (line from end : ℕ) (bytes : List ℕ)

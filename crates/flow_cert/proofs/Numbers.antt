@@ -9,7 +9,8 @@ use Rattle.std.proofs.lemmas.Fmt.{decimal_is_IsNumeral, decimal_digit, decimal-d
 use Rattle.std.proofs.lemmas.Str.Parse.{IsNumeralModel, IsDigitsTest, numerals_by_value}
 use Rattle.std.proofs.lemmas.Bool.{leb-true, le-leb, eq-eqb, false≢true, ne_eqb}
 use Rattle.flow_cert.specs.Certificate.{spaced}
-use Rattle.flow_cert.specs.Faults.{is_digit, is_numeral, numbers_in}
+use Rattle.flow_core.specs.Lines.{is_digit}
+use Rattle.flow_cert.specs.CertificateFaults.{is_numeral, numbers_in}
 
 pub both : (a b : Bool) → (a && b) ≡ true → (a ≡ true) × (b ≡ true)
 both true b e = (refl, e)

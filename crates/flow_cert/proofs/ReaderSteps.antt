@@ -32,13 +32,6 @@ reads-start shop value line root r at bytes stands =
     (here r) r.links.items r.below 0 at bytes) (sym (none-above r.frames.items r.below (r.below - r.below) none))
     (reading-start shop value line root (here r) r.links.items r.below at bytes stands.at)
 
--- the list is reached
-pub reads-stands : (shop : Shop) (value line : ℕ) (root : List ℕ) (whole : Result (List ℕ) CheckFault) (base : ℕ)
-    (r : TreeReader) (last at : ℕ) (bytes : List ℕ) → Reads shop value line root whole base r last at bytes →
-    length r.frames.items ≡ shop.jobs →
-    Stands shop (reached root base r) r
-reads-stands shop value line root whole base r last at bytes i room = record { at = i.here; room = room }
-
 -- the list's node knows more
 pub reads-back : (shop : Shop) (value line : ℕ) (root : List ℕ) (whole : Result (List ℕ) CheckFault) (base : ℕ)
     (r s : TreeReader) (last at : ℕ) (bytes : List ℕ) → Reads shop value line root whole base r last at bytes →

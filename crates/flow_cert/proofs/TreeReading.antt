@@ -5,7 +5,7 @@ use Rattle.std.proofs.Math.Seq.{drop-cons}
 use Rattle.flow_core.specs.Shop.{Shop}
 use Rattle.flow_core.specs.Bound.{bound_at}
 use Rattle.flow_core.specs.Sequences.{has, jobs_left}
-use Rattle.flow_cert.specs.Faults.{read_tree, each_tree, then_read}
+use Rattle.flow_cert.specs.CertificateFaults.{read_tree, each_tree, then_read}
 use Rattle.flow_cert.specs.internal.Links.{children, AreLinks}
 use Rattle.flow_cert.specs.internal.Nodes.{IsNode, IsAt}
 use Rattle.flow_cert.specs.internal.Reader.{LetterGives, TreeGives, children_read, path, resume, IsStack, IsReading}
@@ -73,15 +73,6 @@ plus-gives shop value place root left below from bytes byte r e plus step h =
     gives-before from bytes r (children_read shop value place below root (drop (from
     + 1) bytes)) (read_tree shop bound_at value place left root (drop from bytes))
     (plus-read shop value place root left below from bytes byte e plus step) h
-
--- what a list knows of its jobs left may grow
-pub reading-kept : {shop : Shop} {value place : ℕ} {root : List ℕ} {whole : Result
-    (List ℕ) CheckFault} {node more : Node} {links : List ℕ} {below last at : ℕ} {bytes : List ℕ} {frames :
-    List Frame} →
-    IsReading shop value place root whole node links below last at bytes frames →
-    IsAt shop (path root frames) more links (suc below) →
-    IsReading shop value place root whole more links below last at bytes frames
-reading-kept i here = record { here = here; behind = i.behind; stack = i.stack; answer = i.answer }
 
 -- the next child, where there is one
 pub reading-child : {shop : Shop} {value place : ℕ} {root : List ℕ} {whole : Result

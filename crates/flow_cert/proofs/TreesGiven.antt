@@ -4,7 +4,7 @@ use Rattle.std.proofs.lemmas.List.{append-nil}
 use Rattle.flow_core.specs.Shop.{Shop}
 use Rattle.flow_core.specs.Bound.{bound_at}
 use Rattle.flow_core.specs.Sequences.{cut}
-use Rattle.flow_cert.specs.Faults.{trees_value, cut_value}
+use Rattle.flow_cert.specs.CertificateFaults.{trees_value, cut_value}
 use Rattle.flow_cert.specs.internal.Trees.{TreesGive}
 use Rattle.flow_cert.specs.internal.Reader.{LinesGive}
 use Rattle.flow_cert.specs.declared.fault.CheckFault.{CheckFault}

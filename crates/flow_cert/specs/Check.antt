@@ -2,7 +2,7 @@
 use Rattle.std.specs.Prelude.{ℕ, ◌≡◌, List, Err}
 use Rattle.flow_core.specs.Shop.{Shop}
 use Rattle.flow_cert.specs.Certificate.{IsCertificate}
-use Rattle.flow_cert.specs.Faults.{certificate_value}
+use Rattle.flow_cert.specs.CertificateFaults.{certificate_value}
 use Rattle.flow_cert.specs.declared.fault.CheckFault.{CheckFault}
 use Rattle.flow_cert.specs.declared.fault.CheckFault.TheVariants.{Memory}
 

@@ -4,4 +4,4 @@ pub mod Links
 pub mod Nodes
 pub mod Reader
 pub mod Gathered
-pub mod Lines
+pub mod HeadingText

@@ -5,7 +5,7 @@ use Rattle.flow_core.specs.Shop.{Shop}
 use Rattle.flow_search.specs.Plans.{Planned, IsPlan}
 use Rattle.flow_search.specs.Verdicts.{IsVerdict}
 use Rattle.flow_search.specs.declared.verdict.Verdict.{Verdict}
-use Rattle.flow_cert.specs.Written.{certificate_of, text_with}
+use Rattle.flow_cert.specs.PlanCertificates.{certificate_of, text_with}
 use Rattle.flow_cert.proofs.Lawful.{verdict_is_certified}
 use Rattle.flow_tool.specs.Runs.{WroteCertificate}
 

@@ -20,8 +20,8 @@ use Rattle.flow_search.specs.declared.options.OptionFault.{OptionFault}
 use Rattle.flow_search.specs.declared.plan.PlanFault.{PlanFault}
 use Rattle.flow_pool.specs.declared.whole_run.SolveFault.TheVariants.{Threads, OverBudget}
 use Rattle.flow_cert.specs.Certificate.{IsCertificate}
-use Rattle.flow_cert.specs.Written.{certificate_of}
-use Rattle.flow_cert.specs.Faults.{certificate_value}
+use Rattle.flow_cert.specs.PlanCertificates.{certificate_of}
+use Rattle.flow_cert.specs.CertificateFaults.{certificate_value}
 use Rattle.flow_cert.specs.declared.fault.CheckFault.{CheckFault}
 use Rattle.flow_tool.specs.declared.fault.ToolFault.{ToolFault}
 use Rattle.flow_tool.specs.declared.fault.ToolFault.TheVariants as tool

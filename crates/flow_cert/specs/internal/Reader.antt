@@ -4,7 +4,7 @@ use Rattle.std.specs.List.{flat_map}
 use Rattle.flow_core.specs.Shop.{Shop}
 use Rattle.flow_core.specs.Bound.{bound_at}
 use Rattle.flow_core.specs.Sequences.{has, jobs_left, extensions}
-use Rattle.flow_cert.specs.Faults.{read_tree, each_tree, then_read, after_tree, trees_value}
+use Rattle.flow_cert.specs.CertificateFaults.{read_tree, each_tree, then_read, after_tree, trees_value}
 use Rattle.flow_cert.specs.internal.Links.{children, IsPlace}
 use Rattle.flow_cert.specs.internal.Nodes.{IsNode, IsAt}
 use Rattle.flow_cert.specs.declared.fault.CheckFault.{CheckFault}

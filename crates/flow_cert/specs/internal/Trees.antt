@@ -1,7 +1,7 @@
 -- What the reading of a certificate's trees gives.
 use Rattle.std.specs.Prelude.{ℕ, ◌≡◌, ◌≤◌, List, length, drop, Result, Ok, Err}
 use Rattle.flow_core.specs.Shop.{Shop}
-use Rattle.flow_cert.specs.Faults.{cut_value, end_value}
+use Rattle.flow_cert.specs.CertificateFaults.{cut_value, end_value}
 use Rattle.flow_cert.specs.declared.fault.CheckFault.{CheckFault}
 use Rattle.flow_cert.specs.declared.fault.CheckFault.TheVariants.{Memory}
 

@@ -5,7 +5,7 @@ ghost use Rattle.std.specs.Option.{IsSomeAnd};
 ghost use Rattle.flow_core.specs.Shop.{IsWithinLimits};
 ghost use Rattle.flow_core.specs.Paths.{span};
 ghost use Rattle.flow_cert.specs.Certificate.{line, title};
-ghost use Rattle.flow_cert.specs.Faults.{certificate_value, cut_value};
+ghost use Rattle.flow_cert.specs.CertificateFaults.{certificate_value, cut_value};
 ghost use Rattle.flow_cert.specs.internal.Heading.{BeginsWithJob, BeginsWithSize, BeginsWithSequence, end_of};
 
 use crate::fault::CheckFault;
@@ -35,7 +35,8 @@ fn read_title(text: &[u8]) -> Option<&[u8]>
     text.strip_prefix(TITLE)
 }
 
-/// The depth in the line of so many jobs and machines with which a text begins, and the text after that line.
+/// Reads the line of the sizes, with which a text begins. Returns the depth in it, and the text after it. `None` where it
+/// is not the line of so many jobs and machines and a depth that they allow.
 fn read_size(jobs: u16, machines: u16, text: &[u8]) -> Option<(u16, &[u8])>
     ensures found { IfSome result (λ r. BeginsWithSize jobs machines text.now r.0 r.1.now) }
     ensures only { (depth : ℕ) (rest : List ℕ) → BeginsWithSize jobs machines text.now depth rest →

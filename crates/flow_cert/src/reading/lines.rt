@@ -100,14 +100,12 @@ impl TreeReader {
                 return Ok(place);
             }
             if more == 1 {
-                let next = self.read_line(claim, place, last)?;
-                place = next;
+                place = self.read_line(claim, place, last)?;
                 last = job;
                 continue 'children;
             }
             self.open(claim, last, job);
-            let next = self.read_lines(claim, more - 1, place)?;
-            place = next;
+            place = self.read_lines(claim, more - 1, place)?;
             last = self.close();
         }
     }

@@ -139,7 +139,6 @@ fn least_behind(claim: &Claim, links: &[u16], machine: u16) -> Lows
         second = second.min(least.max(tail));
         least = least.min(tail);
         last = job;
-        continue 'jobs;
     }
 }
 

@@ -2,8 +2,8 @@
 
 ghost use Rattle.std.specs.Prelude.{◌≡◌, ◌≢◌, ℕ, suc, ◌+◌, ◌≤◌, List, [], ◌∷◌, ◌++◌, length, slice_index, drop, IfOk};
 ghost use Rattle.flow_core.specs.Bound.{bound_at};
-ghost use Rattle.flow_cert.specs.Faults.{read_tree};
 ghost use Rattle.flow_core.specs.Rows.{AreRows};
+ghost use Rattle.flow_cert.specs.CertificateFaults.{read_tree};
 ghost use Rattle.flow_cert.specs.internal.Links.{IsPlace};
 ghost use Rattle.flow_cert.specs.internal.Reader.{Stands, IsBack, TreeGives, children_read};
 

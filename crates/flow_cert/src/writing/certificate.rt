@@ -8,8 +8,8 @@ ghost use Rattle.flow_search.specs.Plans.{prefixes_of};
 ghost use Rattle.flow_search.specs.Verdicts.{IsVerdict};
 ghost use Rattle.flow_cert.specs.Certificate.{line};
 ghost use Rattle.flow_cert.specs.internal.Gathered.{HandsOn};
-ghost use Rattle.flow_cert.specs.Written.{certificate_of, text_with};
-ghost use Rattle.flow_cert.specs.internal.Lines.{size_line, heading_with};
+ghost use Rattle.flow_cert.specs.PlanCertificates.{certificate_of, text_with};
+ghost use Rattle.flow_cert.specs.internal.HeadingText.{size_line, heading_with};
 
 use crate::writing::gathered::Gathered;
 use flow_core::{Sink, WriteFault};

@@ -1,7 +1,7 @@
 use Rattle.std.proofs.Common.{◌≡◌, ◌≢◌, Bool, true, false, nat_eq, ap, cond, sym, ◌∙◌, Err}
 use Rattle.std.proofs.lemmas.Bool.{eq-eqb, ne_eqb}
 use Rattle.flow_core.specs.Paths.{span}
-use Rattle.flow_cert.specs.Faults.{certificate_value, header_value, cut_value, on_line}
+use Rattle.flow_cert.specs.CertificateFaults.{certificate_value, header_value, cut_value, on_line}
 use Rattle.flow_cert.specs.declared.fault.CheckFault.TheVariants.{Header, Value, Sequence, NotAttained}
 use Rattle.flow_cert.proofs.Exact.{after_size, after_value}
 use Rattle.flow_cert.proofs.HeadingLines.{title-read, title-refused, size-is, is-size, size-read, size-refused, value-read, value-refused, sequence-read, sequence-refused}

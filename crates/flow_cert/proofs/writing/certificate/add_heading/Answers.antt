@@ -4,7 +4,7 @@ use Rattle.flow_search.specs.Plans.{Planned}
 use Rattle.flow_search.specs.declared.verdict.Verdict.{Verdict}
 use Rattle.flow_cert.specs.Certificate.{line, spaced, title}
 use Rattle.flow_cert.specs.internal.Gathered.{HandsOn}
-use Rattle.flow_cert.specs.internal.Lines.{size_line}
+use Rattle.flow_cert.specs.internal.HeadingText.{size_line}
 use Rattle.flow_cert.proofs.HandedOn.{on-err, then-hands, then-stops, stops-early}
 use Rattle.flow_cert.proofs.writing.certificate.add_heading.Goals as goal
 use Rattle.flow_cert.proofs.writing.certificate.add_heading.Goals.{In_ok-add_value}

@@ -5,7 +5,7 @@ use Rattle.flow_search.specs.Plans.{Planned}
 use Rattle.flow_search.specs.declared.verdict.Verdict.{Verdict}
 use Rattle.flow_cert.specs.Certificate.{line, ending}
 use Rattle.flow_cert.specs.internal.Gathered.{HandsOn}
-use Rattle.flow_cert.specs.internal.Lines.{heading_with}
+use Rattle.flow_cert.specs.internal.HeadingText.{heading_with}
 use Rattle.flow_cert.proofs.HandedOn.{on-err, then-hands, then-stops, then-puts, then-stops_putting, stops-early}
 use Rattle.flow_cert.proofs.writing.certificate.write_certificate.Goals as goal
 use Rattle.flow_cert.proofs.writing.certificate.write_certificate.Goals.{In_ok-add_trees}

@@ -1,6 +1,6 @@
 use Rattle.std.proofs.Common.{inl, refl}
 use Rattle.std.proofs.lemmas.Result.{err_from_is_err_and}
-use Rattle.flow_cert.specs.Written.{certificate_of}
+use Rattle.flow_cert.specs.PlanCertificates.{certificate_of}
 use Rattle.flow_cert.proofs.Lawful.{text-of-plan}
 use Rattle.flow_tool.specs.Answers.{AnswersPlan}
 use Rattle.flow_tool.proofs.Certified.{wrote-certificate}

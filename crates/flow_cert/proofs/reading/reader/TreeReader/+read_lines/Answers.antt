@@ -2,7 +2,7 @@ use Rattle.std.proofs.Common.{◌≡◌, ◌≢◌, ℕ, suc, ◌+◌, ◌-◌, 
 use Rattle.std.proofs.lemmas.Grind.{get_or_default_zero}
 use Rattle.flow_core.specs.Bound.{bound_at}
 use Rattle.flow_core.specs.Sequences.{extensions}
-use Rattle.flow_cert.specs.Faults.{trees_value}
+use Rattle.flow_cert.specs.CertificateFaults.{trees_value}
 use Rattle.flow_cert.specs.internal.Links.{IsNext, IsPlace}
 use Rattle.flow_cert.specs.internal.Reader.{Stands, IsBack, Opened, awaited}
 use Rattle.flow_cert.proofs.Exits.{exit}
@@ -54,9 +54,9 @@ returns-then-job-eq0-clause-lines t c list stands rest =
     (slice_index c.children.self.links.items c.children.last) (next t at list stands) (sym (leads t at)
     ∙ c.if-job-eq0.true))
 
-pub returns-in_err-next-clause-lines : goal.returns-in_err-next-clause-lines
-returns-in_err-next-clause-lines t c list stands =
-    let at = (goal.at.returns-in_err-next-clause-lines t c).After-index-job in
+pub returns-in_err-place-clause-lines : goal.returns-in_err-place-clause-lines
+returns-in_err-place-clause-lines t c list stands =
+    let at = (goal.at.returns-in_err-place-clause-lines t c).After-index-job in
     let job : ℕ = slice_index c.children.self.links.items c.children.last in
     let back = c.children.invariant.back in
     let place = c.children.invariant.behind list stands in
@@ -65,8 +65,8 @@ returns-in_err-next-clause-lines t c list stands =
     (suc c.args.self.now.below - c.args.more) c.children.self.below
     (extensions c.args.claim.now.instance.now.jobs c.args.more list) ((list ++ job ∷ [])
     ∷ []) c.args.spot.line c.children.place.line c.args.spot.at c.children.place.at c.args.claim.now.bytes.now
-    c.from_residual.result c.in_err-next.field-0.0
-    (exit c.from_residual.result c.in_err-next.field-0.0 c.from_residual.ensures.1)
+    c.from_residual.result c.in_err-place.field-0.0
+    (exit c.from_residual.result c.in_err-place.field-0.0 c.from_residual.ensures.1)
     (λ bad rest.
     c.children.invariant.fault list stands rest
     ∙ awaited-line c.args.claim.now.instance.now c.args.claim.now.value
@@ -74,7 +74,7 @@ returns-in_err-next-clause-lines t c list stands =
     (drop c.children.place.at c.args.claim.now.bytes.now) rest (next t at list stands) some c.if-more-eq1.true
     (ap suc (sym back.below))
     ∙ bad (awaited c.args.claim.now.instance.now.jobs c.args.more list (job + 1) ++ rest))
-    (c.in_err-next.ensures.lines list (back.kept list stands) place)
+    (c.in_err-place.ensures.lines list (back.kept list stands) place)
 
 pub children-smaller-then-more-eq1 : goal.children-smaller-then-more-eq1
 children-smaller-then-more-eq1 t c =
@@ -92,10 +92,10 @@ children-preserved-then-more-eq1 t c =
     let back = c.children.invariant.back in
     let some : job ≢ 0 = λ e. c.if-job-eq0.false (leads t at ∙ e) in
     record {
-      within = c.in_ok-next.ensures.within.0;
-      line = c.in_ok-next.ensures.within.1;
+      within = c.in_ok-place.ensures.within.0;
+      line = c.in_ok-place.ensures.within.1;
       back = back-twice c.args.claim.now.instance.now c.args.self.now c.children.self c.read_line.new.self back
-          c.in_ok-next.ensures.back;
+          c.in_ok-place.ensures.back;
       behind = λ list stands. subst (IsPlace c.args.claim.now.instance.now.jobs list) (sym (leads t at))
           (next-place c.args.claim.now.instance.now.jobs list c.children.last job (next t at list stands));
       fault = λ list stands rest.
@@ -106,14 +106,14 @@ children-preserved-then-more-eq1 t c =
           (suc c.args.self.now.below) c.children.self.below c.args.more list c.children.last job
           c.children.place.line (drop c.children.place.at c.args.claim.now.bytes.now) rest
           (next t at list stands) some c.if-more-eq1.true (ap suc (sym back.below))
-          ∙ c.in_ok-next.ensures.lines list (back.kept list stands) (c.children.invariant.behind list stands)
+          ∙ c.in_ok-place.ensures.lines list (back.kept list stands) (c.children.invariant.behind list stands)
           (awaited c.args.claim.now.instance.now.jobs c.args.more list (job + 1) ++ rest)
           ∙ ap (λ l. trees_value c.args.claim.now.instance.now bound_at c.args.claim.now.value l
           (awaited c.args.claim.now.instance.now.jobs c.args.more list (job + 1)
-          ++ rest) c.in_ok-next.next.line (drop c.in_ok-next.next.at c.args.claim.now.bytes.now)) left
+          ++ rest) c.in_ok-place.place.line (drop c.in_ok-place.place.at c.args.claim.now.bytes.now)) left
           ∙ ap (λ j. trees_value c.args.claim.now.instance.now bound_at c.args.claim.now.value
           (suc c.args.self.now.below - c.args.more) (awaited c.args.claim.now.instance.now.jobs c.args.more list (j
-          + 1) ++ rest) c.in_ok-next.next.line (drop c.in_ok-next.next.at c.args.claim.now.bytes.now)) (sym
+          + 1) ++ rest) c.in_ok-place.place.line (drop c.in_ok-place.place.at c.args.claim.now.bytes.now)) (sym
           (leads t at));
     }
 
@@ -160,9 +160,9 @@ read_lines-requires t c =
       ),
     )
 
-pub returns-in_err-next-2-clause-lines : goal.returns-in_err-next-2-clause-lines
-returns-in_err-next-2-clause-lines t c list stands =
-    let at = goal.at.returns-in_err-next-2-clause-lines t c in
+pub returns-in_err-place-2-clause-lines : goal.returns-in_err-place-2-clause-lines
+returns-in_err-place-2-clause-lines t c list stands =
+    let at = goal.at.returns-in_err-place-2-clause-lines t c in
     let job : ℕ = slice_index c.children.self.links.items c.children.last in
     let back = c.children.invariant.back in
     let some : job ≢ 0 = λ e. c.if-job-eq0.false (leads t at.After-index-job ∙ e) in
@@ -172,8 +172,8 @@ returns-in_err-next-2-clause-lines t c list stands =
     (suc c.open.new.self.below - (c.args.more - 1)) (extensions c.args.claim.now.instance.now.jobs c.args.more list)
     (extensions c.args.claim.now.instance.now.jobs (c.args.more - 1) (list ++ job
     ∷ [])) c.args.spot.line c.children.place.line c.args.spot.at c.children.place.at c.args.claim.now.bytes.now
-    c.from_residual-in_err-next-2.result c.in_err-next-2.field-0.0
-    (exit c.from_residual-in_err-next-2.result c.in_err-next-2.field-0.0 c.from_residual-in_err-next-2.ensures.1)
+    c.from_residual-in_err-place-2.result c.in_err-place-2.field-0.0
+    (exit c.from_residual-in_err-place-2.result c.in_err-place-2.field-0.0 c.from_residual-in_err-place-2.ensures.1)
     (λ bad rest.
     c.children.invariant.fault list stands rest
     ∙ awaited-lines c.args.claim.now.instance.now c.args.claim.now.value
@@ -185,7 +185,7 @@ returns-in_err-next-2-clause-lines t c list stands =
     ++ (awaited c.args.claim.now.instance.now.jobs c.args.more list (job + 1)
     ++ rest)) c.children.place.line (drop c.children.place.at c.args.claim.now.bytes.now)) left
     ∙ bad (awaited c.args.claim.now.instance.now.jobs c.args.more list (job + 1) ++ rest))
-    (c.in_err-next-2.ensures.lines (list ++ job
+    (c.in_err-place-2.ensures.lines (list ++ job
     ∷ []) (there t at.After-open (leads t at.After-index-job) c.if-job-eq0.false list stands))
 
 -- the job of the child that was closed
@@ -205,7 +205,7 @@ children-smaller t c =
     let some : job ≢ 0 = λ e. c.if-job-eq0.false (leads t at.After-index-job ∙ e) in
     let is = next-some c.args.claim.now.instance.now.jobs c.requires.at.0 c.children.last job
     (next t at.After-index-job c.requires.at.0 c.requires.at.1) some in
-    omega (arith, is.0, is.2, shut t at.After-close-last (leads t at.After-index-job) c.in_ok-next-2.ensures.back)
+    omega (arith, is.0, is.2, shut t at.After-close-last (leads t at.After-index-job) c.in_ok-place-2.ensures.back)
 
 pub children-preserved : goal.children-preserved
 children-preserved t c =
@@ -213,14 +213,14 @@ children-preserved t c =
     let job : ℕ = slice_index c.children.self.links.items c.children.last in
     let back = c.children.invariant.back in
     let some : job ≢ 0 = λ e. c.if-job-eq0.false (leads t at.After-index-job ∙ e) in
-    let last = shut t at.After-close-last (leads t at.After-index-job) c.in_ok-next-2.ensures.back in
+    let last = shut t at.After-close-last (leads t at.After-index-job) c.in_ok-place-2.ensures.back in
     record {
-      within = c.in_ok-next-2.ensures.within.0;
-      line = c.in_ok-next-2.ensures.within.1;
+      within = c.in_ok-place-2.ensures.within.0;
+      line = c.in_ok-place-2.ensures.within.1;
       back = back-twice c.args.claim.now.instance.now c.args.self.now c.children.self c.close-last.new.self back
           (closed-back c.args.claim.now.instance.now c.children.last c.children.self c.open.new.self
           c.read_lines.new.self c.close-last.new.self (out t at.After-open
-          (leads t at.After-index-job)) c.in_ok-next-2.ensures.back c.close-last.ensures.closed);
+          (leads t at.After-index-job)) c.in_ok-place-2.ensures.back c.close-last.ensures.closed);
       behind = λ list stands. subst (IsPlace c.args.claim.now.instance.now.jobs list) (sym last)
           (next-place c.args.claim.now.instance.now.jobs list c.children.last job
           (next t at.After-index-job list stands));
@@ -238,12 +238,12 @@ children-preserved t c =
           ∙ ap (λ l. trees_value c.args.claim.now.instance.now bound_at c.args.claim.now.value l
           (extensions c.args.claim.now.instance.now.jobs (c.args.more - 1) (list ++ job ∷ [])
           ++ after) c.children.place.line (drop c.children.place.at c.args.claim.now.bytes.now)) left
-          ∙ c.in_ok-next-2.ensures.lines (list ++ job
+          ∙ c.in_ok-place-2.ensures.lines (list ++ job
           ∷ []) (there t at.After-open (leads t at.After-index-job) c.if-job-eq0.false list stands) after
           ∙ ap (λ l. trees_value c.args.claim.now.instance.now bound_at c.args.claim.now.value l after
-          c.in_ok-next-2.next.line (drop c.in_ok-next-2.next.at c.args.claim.now.bytes.now)) same
+          c.in_ok-place-2.place.line (drop c.in_ok-place-2.place.at c.args.claim.now.bytes.now)) same
           ∙ ap (λ j. trees_value c.args.claim.now.instance.now bound_at c.args.claim.now.value
           (suc c.args.self.now.below - c.args.more) (awaited c.args.claim.now.instance.now.jobs c.args.more list (j
-          + 1) ++ rest) c.in_ok-next-2.next.line (drop c.in_ok-next-2.next.at c.args.claim.now.bytes.now))
+          + 1) ++ rest) c.in_ok-place-2.place.line (drop c.in_ok-place-2.place.at c.args.claim.now.bytes.now))
           (sym last);
     }

@@ -1,7 +1,7 @@
 use Rattle.std.proofs.Common.{◌≡◌, ℕ, suc, ◌≤◌, ◌+◌, ◌-◌, ◌++◌, length, drop, List}
 use Rattle.flow_core.specs.Bound.{bound_at}
 use Rattle.flow_core.specs.Sequences.{extensions}
-use Rattle.flow_cert.specs.Faults.{trees_value}
+use Rattle.flow_cert.specs.CertificateFaults.{trees_value}
 use Rattle.flow_cert.specs.internal.Links.{IsPlace}
 use Rattle.flow_cert.specs.internal.Reader.{Stands, IsBack, awaited}
 use Rattle.flow_cert.proofs.reading.reader.TreeReader.+read_lines.Given as goal

@@ -1,7 +1,7 @@
 use Rattle.std.proofs.Common.{◌≡◌, ◌≢◌, ℕ, ◌+◌, ◌<◌, Bool, List, [], ◌∷◌, ◌++◌, length, drop, slice_index, Some, Result, Ok, Err, true, refl, sym, ap, subst, ◌∙◌, arith}
 use Rattle.std.proofs.lemmas.Grind.{get_or_default_zero}
 use Rattle.flow_core.specs.Bound.{bound_at}
-use Rattle.flow_cert.specs.Faults.{read_tree}
+use Rattle.flow_cert.specs.CertificateFaults.{read_tree}
 use Rattle.flow_cert.specs.internal.Links.{IsPlace}
 use Rattle.flow_cert.specs.internal.Nodes.{IsChild}
 use Rattle.flow_cert.specs.internal.Reader.{Stands, Opened, LetterGives, TreeGives}

@@ -3,7 +3,7 @@ use Rattle.std.proofs.lemmas.Grind.{get_or_default_zero}
 use Rattle.flow_cert.specs.internal.Nodes.{IsAt, IsChild}
 use Rattle.flow_cert.specs.internal.Reader.{children_read, put_back, path, frame_at, here, Stands, IsStack, Opened, LetterGives}
 use Rattle.flow_core.specs.Bound.{bound_at}
-use Rattle.flow_cert.specs.Faults.{read_tree}
+use Rattle.flow_cert.specs.CertificateFaults.{read_tree}
 use Rattle.flow_cert.proofs.Readers.{above-more}
 use Rattle.flow_cert.proofs.Exits.{exit}
 use Rattle.flow_cert.proofs.ReaderSteps.{Reads, reached, none-above, reads-start, reads-back, reads-open, reads-close, back-open, back-close, back-same}

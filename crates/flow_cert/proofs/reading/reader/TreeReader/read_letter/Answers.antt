@@ -1,6 +1,6 @@
 use Rattle.std.proofs.Common.{◌≡◌, ◌≢◌, ℕ, suc, ◌+◌, ◌-◌, ◌<◌, ◌≤◌, List, ◌∷◌, length, drop, get_or, Result, refl, ap, sym, ◌∙◌, arith}
 use Rattle.flow_core.specs.Bound.{bound_at}
-use Rattle.flow_cert.specs.Faults.{read_tree}
+use Rattle.flow_cert.specs.CertificateFaults.{read_tree}
 use Rattle.flow_cert.specs.internal.Nodes.{IsAt, IsChild, grown, left_before, left_here}
 use Rattle.flow_cert.specs.internal.Reader.{here, Stands}
 use Rattle.flow_cert.specs.declared.fault.CheckFault.{CheckFault}

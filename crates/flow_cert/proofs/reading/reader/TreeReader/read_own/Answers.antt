@@ -1,7 +1,7 @@
 use Rattle.std.proofs.Common.{suc, ◌+◌, drop, refl, subst, arith}
 use Rattle.flow_cert.specs.internal.Reader.{TreeGives, children_read}
 use Rattle.flow_core.specs.Bound.{bound_at}
-use Rattle.flow_cert.specs.Faults.{read_tree}
+use Rattle.flow_cert.specs.CertificateFaults.{read_tree}
 use Rattle.flow_cert.proofs.Exits.{exit}
 use Rattle.flow_cert.proofs.TreeReading.{letter-open, letter-whole, plus-gives, tree-fails}
 use Rattle.flow_cert.proofs.reading.reader.TreeReader.read_own.Goals as goal

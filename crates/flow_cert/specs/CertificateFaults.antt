@@ -5,6 +5,7 @@ use Rattle.std.specs.List.{list_all, slice_split}
 use Rattle.std.specs.Str.{bytes_eq}
 use Rattle.std.specs.Str.Parse.{digits_value}
 use Rattle.flow_core.specs.Limits.{greatest_depth}
+use Rattle.flow_core.specs.Lines.{is_digit}
 use Rattle.flow_core.specs.Shop.{Shop, IsWithinLimits}
 use Rattle.flow_core.specs.Paths.{span}
 use Rattle.flow_core.specs.Sequences.{jobs_left, cut}
@@ -15,18 +16,14 @@ use Rattle.flow_cert.specs.declared.fault.CheckFault.{CheckFault}
 use Rattle.flow_cert.specs.declared.fault.CheckFault.TheVariants.{Header, Size, Value, Sequence, NotAttained, Tree, Weak, Low, End}
 
 -- the first line, without its end, and the text behind it
-abbrev pub next_line : List ℕ → Option (List ℕ × List ℕ)
-next_line [] = None
-next_line (byte ∷ bytes) =
-    cond (nat_eq byte 10) (Some ([], bytes)) (option_map (λ r. (byte ∷ r.0, r.1)) (next_line bytes))
+abbrev pub first_line : List ℕ → Option (List ℕ × List ℕ)
+first_line [] = None
+first_line (byte ∷ bytes) =
+    cond (nat_eq byte 10) (Some ([], bytes)) (option_map (λ r. (byte ∷ r.0, r.1)) (first_line bytes))
 
 -- what the first line and the text behind it give; a fault where no line ends
 abbrev pub on_line : CheckFault → (List ℕ → List ℕ → Result ℕ CheckFault) → List ℕ → Result ℕ CheckFault
-on_line fault next bytes = option_map_or (λ r. next r.0 r.1) (next_line bytes) (Err fault)
-
--- whether a byte is a digit
-abbrev pub is_digit : ℕ → Bool
-is_digit byte = nat_le 48 byte && nat_le byte 57
+on_line fault next bytes = option_map_or (λ r. next r.0 r.1) (first_line bytes) (Err fault)
 
 -- whether a text is a number in decimal, without leading zeros
 abbrev pub is_numeral : List ℕ → Bool
