@@ -27,14 +27,13 @@ pub fn bound(instance: &Instance, front: &Front, unscheduled: &JobSet, machine: 
     let end = instance.jobs() + 1;
     let mut tails = [0; MAX_JOBS];
     sum_times(instance, &mut tails, machine + 1);
-    let mut owed: u32 = 0;
+    let mut work: u32 = 0;
     let mut least_tail = u32::MAX;
     for job in 1..end {
-        let time = instance.time(job, machine);
         if unscheduled.contains(job) {
-            owed += time;
+            work += instance.time(job, machine);
             least_tail = least_tail.min(tails[job as usize - 1]);
         }
     }
-    front.at(machine) + u64::from(owed) + u64::from(least_tail)
+    front.at(machine) + u64::from(work) + u64::from(least_tail)
 }

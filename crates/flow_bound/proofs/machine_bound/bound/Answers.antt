@@ -26,7 +26,7 @@ loop-job-preserved c =
     let least_to : ℕ → ℕ = λ last. capped 4294967295 (map tail (filter (contains set) (numbers 1 last))) in
     let sum = kept-step f (contains set) job c.loop-job.auto.job in
     let least = capped-step 4294967295 tail (contains set) job c.loop-job.auto.job in
-    let owed : c.loop-job.owed ≡ kept f (contains set) (job - 1) = c.loop-job.invariant.owed in
+    let work : c.loop-job.work ≡ kept f (contains set) (job - 1) = c.loop-job.invariant.work in
     let least_tail : c.loop-job.least_tail ≡ least_to (job - 1) = c.loop-job.invariant.tail in
     elim c.if-contains.branch [
       | then-contains w ↦
@@ -37,16 +37,16 @@ loop-job-preserved c =
           ap (λ b. cond b (min (least_to (job - 1)) (tail job)) (least_to (job - 1))) there in
           let value : slice_index_or c.sum_times.new.sums (job - 1) 0 ≡ tail job =
           c.sum_times.ensures job (omega arith) (omega arith) in
-          let new_owed : c.if-contains.owed ≡ kept f (contains set) (job + 1 - 1) =
-          omega (arith, sum, owed, more, w.owed-is, c.time-time.ensures.value) in
+          let new_work : c.if-contains.work ≡ kept f (contains set) (job + 1 - 1) =
+          omega (arith, sum, work, more, w.work-is, w.time-work.ensures.value) in
           let new_tail : c.if-contains.least_tail ≡ least_to (job + 1 - 1) =
           w.least_tail-is ∙ w.min-least_tail.ensures
           ∙ ap (λ n. min n (slice_index_or c.sum_times.new.sums (job - 1) 0)) least_tail
           ∙ ap (λ n. min (least_to (job - 1)) n) value ∙ sym lower ∙ sym least in
           record {
             end = c.loop-job.invariant.end;
-            owed = new_owed;
-            small = omega (arith, c.loop-job.invariant.small, c.time-time.ensures.limit, w.owed-is);
+            work = new_work;
+            small = omega (arith, c.loop-job.invariant.small, w.time-work.ensures.limit, w.work-is);
             tail = new_tail;
             tail_fits = omega (arith, c.loop-job.invariant.tail_fits, w.least_tail-is, w.min-least_tail.ensures);
           }
@@ -56,14 +56,14 @@ loop-job-preserved c =
           let kept_tail : cond {A = ℕ} (contains set job) (min (least_to (job - 1)) (tail job)) (least_to (job - 1))
           ≡ least_to (job - 1) =
           ap (λ b. cond b (min (least_to (job - 1)) (tail job)) (least_to (job - 1))) there in
-          let new_owed : c.if-contains.owed ≡ kept f (contains set) (job + 1 - 1) =
-          omega (arith, sum, owed, same, w.owed-is) in
+          let new_work : c.if-contains.work ≡ kept f (contains set) (job + 1 - 1) =
+          omega (arith, sum, work, same, w.work-is) in
           let new_tail : c.if-contains.least_tail ≡ least_to (job + 1 - 1) = w.least_tail-is ∙ least_tail
           ∙ sym kept_tail ∙ sym least in
           record {
             end = c.loop-job.invariant.end;
-            owed = new_owed;
-            small = omega (arith, c.loop-job.invariant.small, w.owed-is);
+            work = new_work;
+            small = omega (arith, c.loop-job.invariant.small, w.work-is);
             tail = new_tail;
             tail_fits = omega (arith, c.loop-job.invariant.tail_fits, w.least_tail-is);
           }
@@ -71,7 +71,7 @@ loop-job-preserved c =
 
 -- the sum and the least tail of the whole set
 whole : (c : After-from-2) →
-    (c.loop-job.owed ≡ sum_by (λ job. time c.args.instance.now job c.args.machine) (members c.args.unscheduled.now))
+    (c.loop-job.work ≡ sum_by (λ job. time c.args.instance.now job c.args.machine) (members c.args.unscheduled.now))
     × (c.loop-job.least_tail ≡ least (map (λ job. time_between c.args.instance.now job (c.args.machine
     + 1) c.args.instance.now.machines) (members c.args.unscheduled.now)))
 whole c =
@@ -84,7 +84,7 @@ whole c =
     ap (λ n. filter (contains set) (numbers 1 n)) last ∙ sym (members-is set shop.jobs c.requires.jobs) in
     let capped_is = capped-least-all 4294967295 (most_machines * greatest_time) tail (members set)
     (λ job. tail-small shop job c.args.machine c.jobs-end.ensures.limits) (omega arith) c.requires.some in (
-      c.loop-job.invariant.owed ∙ ap (sum_by f) same,
+      c.loop-job.invariant.work ∙ ap (sum_by f) same,
       c.loop-job.invariant.tail
           ∙ ap (λ xs. capped 4294967295 (map tail xs)) same ∙ capped_is.0,
     )

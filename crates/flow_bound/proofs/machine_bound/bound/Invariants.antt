@@ -10,9 +10,9 @@ use Rattle.flow_bound.proofs.machine_bound.bound.Given as goal
 abbrev pub invariant-loop-job : goal.invariant-loop-job
 invariant-loop-job l = record {
   end : l.end ≡ l.instance.jobs + 1;
-  owed : l.owed ≡ sum_by (λ job. time l.instance job l.machine) (filter (contains l.unscheduled) (numbers 1
+  work : l.work ≡ sum_by (λ job. time l.instance job l.machine) (filter (contains l.unscheduled) (numbers 1
       (l.job - 1)));
-  small : l.owed ≤ (l.job - 1) * greatest_time;
+  small : l.work ≤ (l.job - 1) * greatest_time;
   tail : l.least_tail ≡ capped 4294967295 (map (λ job. time_between l.instance job (l.machine
       + 1) l.instance.machines) (filter (contains l.unscheduled) (numbers 1 (l.job - 1))));
   tail_fits : l.least_tail ≤ 4294967295;
