@@ -8,8 +8,8 @@ use Rattle.flow_core.specs.Paths.{weight, paths, completion, span}
 unfoldable pub tail : Shop → List ℕ → ℕ → ℕ
 tail shop jobs machine = greatest (map (weight shop jobs machine) (paths (length jobs) machine shop.machines))
 
--- the makespan of a list is the greatest, over the machines, of a job's completion time plus the tail from there of the
--- jobs behind it
+-- for each job of a list: the makespan of the list is the greatest sum, over the machines, of the job's completion time
+-- and the tail, from that machine, of the jobs behind it
 abbrev pub SpanIsOfHeadsAndTails : Type 0
 SpanIsOfHeadsAndTails =
     (shop : Shop) (front back : List ℕ) (job : ℕ) →

@@ -4,7 +4,7 @@ use Rattle.flow_core.specs.Shop.{Shop, time, time_between}
 use Rattle.flow_core.specs.Least.{least}
 
 -- the remaining work: how many machines there are, and for each the time of the jobs left and their least tail
-pub record Owed : Type 0 where
+pub record Remaining : Type 0 where
   pub machines : ℕ
   pub sums : List ℕ
   pub tails : List ℕ
@@ -14,7 +14,7 @@ abbrev pub least_tail : Shop → List ℕ → ℕ → ℕ
 least_tail shop jobs machine = least (map (λ job. time_between shop job (machine + 1) shop.machines) jobs)
 
 -- a rest has, for each machine, the time of the jobs on it, and their least tail
-pub record IsRestOf (shop : Shop) (jobs : List ℕ) (rest : Owed) : Type 0 where
+pub record IsRestOf (shop : Shop) (jobs : List ℕ) (rest : Remaining) : Type 0 where
   pub machines_are : rest.machines ≡ shop.machines
   pub sums_are : (machine : ℕ) → 1 ≤ machine → machine ≤ shop.machines →
       slice_index rest.sums (machine - 1) ≡ sum_by (λ job. time shop job machine) jobs

@@ -30,9 +30,9 @@ pub struct Rest {
 impl Model for Rest {
     ghost use Rattle.std.specs.Prelude.{◌≤◌};
     ghost use Rattle.flow_core.specs.Limits.{most_machines};
-    ghost use Rattle.flow_bound.specs.Rest.{Owed};
+    ghost use Rattle.flow_bound.specs.Rest.{Remaining};
 
-    ghost Value = { Owed };
+    ghost Value = { Remaining };
 
     ghost view = { λ r. record { machines = r.machines; sums = r.sums; tails = r.tails } };
 
@@ -204,7 +204,7 @@ impl Rest {
             result ≤ span shop sequence }
     {
         let place = machine as usize - 1;
-        let owed = u64::from(self.sums[place]) + u64::from(self.tails[place]);
-        front.at(machine) + owed
+        let work = u64::from(self.sums[place]) + u64::from(self.tails[place]);
+        front.at(machine) + work
     }
 }

@@ -21,7 +21,7 @@ pub(crate) fn add_times(instance: &Instance, sums: &mut [u32; MAX_JOBS], machine
     }
 }
 
-/// Sums each job's time on the machines from `first` to the last machine, that of job 1 first, in an array of zeros.
+/// Adds to an array of zeros each job's time on the machines from `first` to the last, that of job 1 first.
 pub(crate) fn sum_times(instance: &Instance, sums: &mut [u32; MAX_JOBS], first: u16)
     requires from { 1 ≤ first }
     requires to { first ≤ instance.now.machines + 1 }

@@ -24,7 +24,8 @@ fn greatest_total(instance: &Instance, totals: &[u32; MAX_JOBS]) -> u32
     most
 }
 
-/// The least head, a machine's time for all jobs, and the least tail. The heads become those of the next machine.
+/// The load of a machine: the least head, its time for all jobs, and the least tail, in one sum. The heads become those
+/// of the next machine.
 fn load_of(
     instance: &Instance,
     heads: &mut [u32; MAX_JOBS],
@@ -39,17 +40,17 @@ fn load_of(
     ensures heads { AreTimes instance.now heads.new 1 machine }
 {
     let mut least_head = u32::MAX;
-    let mut owed = 0;
+    let mut work = 0;
     let mut least_tail = u32::MAX;
     for job in 1..instance.jobs() + 1 {
         let place = job as usize - 1;
         let time = instance.time(job, machine);
         least_head = least_head.min(heads[place]);
-        owed += time;
+        work += time;
         heads[place] += time;
         least_tail = least_tail.min(totals[place] - heads[place]);
     }
-    u64::from(least_head) + u64::from(owed) + u64::from(least_tail)
+    u64::from(least_head) + u64::from(work) + u64::from(least_tail)
 }
 
 /// Taillard's lower bound: no sequence has a smaller makespan.

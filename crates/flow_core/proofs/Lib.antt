@@ -19,3 +19,6 @@ pub mod Turns
 pub mod Taken
 pub mod TwoLeast
 pub mod RowSteps
+pub mod Mirrors
+pub mod ReversedSequence
+pub mod MirrorLemmas

@@ -14,7 +14,7 @@ use Rattle.flow_core.specs.Lines.{lines_of, after_blanks, is_digit, is_blank, nu
 use Rattle.std.specs.List.{onto_first}
 use Rattle.std.specs.Char.{digit_value}
 use Rattle.flow_core.proofs.NumberLemmas.{numbers_after, numbers_of-after}
-use Rattle.flow_core.specs.Shop.{Shop, IsWithinLimits, numbers, time}
+use Rattle.flow_core.specs.Shop.{Shop, IsWithinLimits, numbers, time, times_on}
 use Rattle.flow_core.specs.Limits.{greatest_time}
 use Rattle.flow_core.proofs.JobsLeft.{numbers-more}
 use Rattle.std.proofs.lemmas.List.{get_or-take, get_or-drop}
@@ -23,7 +23,7 @@ use Rattle.std.proofs.lemmas.List.FromFn.{get_or-map-range_with_len, length-map-
 use Rattle.std.proofs.lemmas.Grind.{same_number_lists, flat_map-append}
 use Rattle.std.specs.List.{range_with_len}
 use Rattle.flow_core.specs.declared.text.block.Block.{Block}
-use Rattle.flow_core.specs.Written.{row_text, row, rows_text, head_label, times_label, written}
+use Rattle.flow_core.specs.Written.{row_text, rows_text, head_label, times_label, written}
 use Rattle.flow_core.specs.Text.{head_of, IsNumbers, IsBlock, Reads}
 use Rattle.flow_core.proofs.TextGrammar.{and_true, solid, solid-more}
 
@@ -287,11 +287,11 @@ head-small block w = (
 
 -- a row is a piece of the times
 pub row-piece : (shop : Shop) (k : ℕ) → k * shop.jobs + shop.jobs ≤ length shop.times →
-    row shop (suc k) ≡ take shop.jobs (drop (k * shop.jobs) shop.times)
+    times_on shop (suc k) ≡ take shop.jobs (drop (k * shop.jobs) shop.times)
 row-piece shop k fits =
     let f : ℕ → ℕ = λ job. time shop job (suc k) in
     let count : shop.jobs + 1 - 1 ≡ shop.jobs = omega arith in
-    let here : row shop (suc k) ≡ map f (range_with_len 1 shop.jobs) = ap (λ n. map f (range_with_len 1 n)) count in
+    let here : times_on shop (suc k) ≡ map f (range_with_len 1 shop.jobs) = ap (λ n. map f (range_with_len 1 n)) count in
     let long : length (map f (range_with_len 1 shop.jobs)) ≡ shop.jobs = length-map-range_with_len f 1 shop.jobs in
     let there : length (take shop.jobs (drop (k * shop.jobs) shop.times))
     ≡ shop.jobs = length-take-le shop.jobs (drop (k * shop.jobs) shop.times) (omega (
@@ -314,11 +314,11 @@ row-piece shop k fits =
         ∙ sym (get_or-take shop.jobs (drop (k * shop.jobs) shop.times) i 0 below
         ∙ get_or-drop (k * shop.jobs) shop.times i 0)
 
-pub rows_text-more : (shop : Shop) (k : ℕ) → rows_text shop (suc k) ≡ rows_text shop k ++ row_text (row shop (suc k))
+pub rows_text-more : (shop : Shop) (k : ℕ) → rows_text shop (suc k) ≡ rows_text shop k ++ row_text (times_on shop (suc k))
 rows_text-more shop k =
-    let f : ℕ → List ℕ = λ j. row_text (row shop j) in
+    let f : ℕ → List ℕ = λ j. row_text (times_on shop j) in
     ap (flat_map f) (numbers-more k) ∙ flat_map-append f (numbers 1 k) (suc k ∷ [])
-    ∙ ap (λ z. flat_map f (numbers 1 k) ++ z) (append-nil (row_text (row shop (suc k))))
+    ∙ ap (λ z. flat_map f (numbers 1 k) ++ z) (append-nil (row_text (times_on shop (suc k))))
 
 rows-pieces : (shop : Shop) (k : ℕ) → k * shop.jobs ≤ length shop.times →
     rows_text shop k ≡ piece_rows shop.jobs k shop.times
@@ -326,7 +326,7 @@ unfolding piece_rows
 rows-pieces shop zero fits = refl
 rows-pieces shop (suc k) fits =
     rows_text-more shop k
-    ∙ ap (λ z. z ++ row_text (row shop (suc k))) (rows-pieces shop k (omega arith))
+    ∙ ap (λ z. z ++ row_text (times_on shop (suc k))) (rows-pieces shop k (omega arith))
     ∙ ap (λ z. piece_rows shop.jobs k shop.times ++ row_text z) (row-piece shop k (omega arith))
 
 lines_of-written : (block : Block) → IsBlock block → lines_of (written block) ≡ first_label ∷ row_line (head_of block)
@@ -404,7 +404,7 @@ rows-push shop k jobs before old new times w below same all e f =
     mul-le-mul_right shop.jobs (let h : k + 1 ≤ shop.machines = omega arith in h) in
     let fits : k * shop.jobs + shop.jobs ≤ length shop.times = omega (arith, inside, w.count) in
     let count : k * jobs + jobs - k * jobs ≡ shop.jobs = omega (arith, same) in
-    let piece : take (k * jobs + jobs - k * jobs) (drop (k * jobs) times) ≡ row shop (suc k) =
+    let piece : take (k * jobs + jobs - k * jobs) (drop (k * jobs) times) ≡ times_on shop (suc k) =
     ap (λ n. take n (drop (k * jobs) times)) count
     ∙ ap (λ n. take shop.jobs (drop (k * n) times)) same
     ∙ ap (λ ts. take shop.jobs (drop (k * shop.jobs) ts)) all
@@ -413,6 +413,6 @@ rows-push shop k jobs before old new times w below same all e f =
     f
     ∙ ap (λ o. o ++ row_text (take (k * jobs + jobs - k * jobs) (drop (k * jobs) times))) e
     ∙ ap (λ p. (before ++ rows_text shop k) ++ row_text p) piece
-    ∙ append_assoc before (rows_text shop k) (row_text (row shop (suc k)))
+    ∙ append_assoc before (rows_text shop k) (row_text (times_on shop (suc k)))
     ∙ ap (λ z. before ++ z) (sym (rows_text-more shop k))
     ∙ ap (λ n. before ++ rows_text shop n) next

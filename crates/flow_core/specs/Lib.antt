@@ -6,6 +6,7 @@ pub mod Sequences
 pub mod Bound
 pub mod Front
 pub mod Rows
+pub mod Mirror
 pub mod JobSet
 pub mod Refusals
 pub mod InstanceFaults

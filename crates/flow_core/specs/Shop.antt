@@ -1,5 +1,5 @@
 -- Instances of the permutation flow shop, and their times.
-use Rattle.std.specs.Prelude.{ℕ, ◌≡◌, ◌+◌, ◌-◌, ◌*◌, ◌≤◌, Bool, ◌&&◌, nat_eq, List, length, slice_index, sum_by, All}
+use Rattle.std.specs.Prelude.{ℕ, ◌≡◌, ◌+◌, ◌-◌, ◌*◌, ◌≤◌, Bool, ◌&&◌, nat_eq, List, length, map, slice_index, sum_by, All}
 use Rattle.std.specs.Cmp.Lexicographic.{pointwise}
 use Rattle.std.specs.List.{range_with_len}
 use Rattle.flow_core.specs.Limits.{most_jobs, most_machines, greatest_time}
@@ -22,6 +22,10 @@ numbers first last = range_with_len first (last + 1 - first)
 -- the time of a job on a machine, both counted from 1
 abbrev pub time : Shop → ℕ → ℕ → ℕ
 time shop job machine = slice_index shop.times ((machine - 1) * shop.jobs + (job - 1))
+
+-- the times of the jobs on a machine, that of job 1 first
+abbrev pub times_on : Shop → ℕ → List ℕ
+times_on shop machine = map (λ job. time shop job machine) (numbers 1 shop.jobs)
 
 -- the time of a job on the machines from first to last
 abbrev pub time_between : Shop → ℕ → ℕ → ℕ → ℕ

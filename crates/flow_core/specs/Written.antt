@@ -1,6 +1,6 @@
 -- The one text that is written for a block.
-use Rattle.std.specs.Prelude.{ℕ, List, [], ◌∷◌, ◌++◌, map, flat_map, decimal, codes}
-use Rattle.flow_core.specs.Shop.{Shop, numbers, time}
+use Rattle.std.specs.Prelude.{ℕ, List, [], ◌∷◌, ◌++◌, flat_map, decimal, codes}
+use Rattle.flow_core.specs.Shop.{Shop, numbers, times_on}
 use Rattle.flow_core.specs.Text.{head_of}
 use Rattle.flow_core.specs.declared.text.block.Block.{Block}
 
@@ -17,13 +17,9 @@ head_label = codes "number of jobs, number of machines, initial seed, upper boun
 unfoldable pub times_label : List ℕ
 times_label = codes "processing times :\n"
 
--- the times of the jobs on a machine
-abbrev pub row : Shop → ℕ → List ℕ
-row shop machine = map (λ job. time shop job machine) (numbers 1 shop.jobs)
-
 -- the lines of times of the machines from 1 to this one
 abbrev pub rows_text : Shop → ℕ → List ℕ
-rows_text shop machine = flat_map (λ k. row_text (row shop k)) (numbers 1 machine)
+rows_text shop machine = flat_map (λ k. row_text (times_on shop k)) (numbers 1 machine)
 
 -- the text of a block: a label, the head, a label, and a line of times for each machine
 abbrev pub written : Block → List ℕ

@@ -1,14 +1,15 @@
 //! An instance: the times of jobs on machines.
 
-ghost use Rattle.std.specs.Prelude.{◌≡◌, ℕ, ◌*◌, ◌<◌, ◌≤◌, nat_lt, length, position, All, None, IfSome, IfNone, IfOk};
-ghost use Rattle.std.specs.Prelude.{OnOk, IfErr};
+ghost use Rattle.std.specs.Prelude.{◌≡◌, ℕ, ◌*◌, ◌%◌, ◌<◌, ◌≤◌, nat_lt, length, position, All, None};
+ghost use Rattle.std.specs.Prelude.{IfSome, IfNone, IfOk, OnOk, IfErr};
 ghost use Rattle.std.specs.Cmp.{partial_equiv_from_equiv};
 ghost use Rattle.flow_core.specs.Shop.{IsWithinLimits, time, is_same_shop};
 ghost use Rattle.flow_core.specs.internal.Same.{is_same_shop-equiv};
 ghost use Rattle.flow_core.specs.InstanceFaults.{instance_fault, but_memory};
 ghost use Rattle.flow_core.specs.declared.instance.InstanceFault.TheVariants.{Memory};
 ghost use Rattle.flow_core.specs.Limits.{greatest_time};
-ghost use Rattle.flow_core.specs.internal.Turned.{turned};
+ghost use Rattle.flow_core.specs.internal.Turned.{turned, reversed};
+ghost use Rattle.flow_core.specs.Mirror.{mirrored};
 
 use crate::limits::{MAX_JOBS, MAX_MACHINES, MAX_TIME};
 use std::alloc::{AllocError, Global};
@@ -70,7 +71,7 @@ impl Model for Instance {
         × (length i.rows.items ≡ i.jobs * i.machines) };
 }
 
-/// The numbers of a table that is given row by row, `lists` rows of `each` numbers, column by column.
+/// The numbers of a table, column by column. The table is given row by row: `lists` rows of `each` numbers.
 fn by_columns(
     alloc: Global,
     lists: usize,
@@ -85,6 +86,21 @@ fn by_columns(
     let mut taken = Vec::with_capacity(alloc, count)?;
     for place in 0..count {
         taken.push_reserved(numbers[place % lists * each + place / lists]);
+    }
+    Ok(taken)
+}
+
+/// The numbers of a table, row by row, each row in reverse order. The rows have `each` numbers.
+fn rows_reversed(alloc: Global, each: usize, numbers: &[u32]) -> Result<Vec<u32>, AllocError>
+    requires some { 0 < each }
+    requires whole { length numbers.now % each ≡ 0 }
+    ensures { IfOk result (λ taken. taken.items ≡ reversed each numbers.now) }
+{
+    let count = numbers.len();
+    let mut taken = Vec::with_capacity(alloc, count)?;
+    for place in 0..count {
+        let row = place / each * each;
+        taken.push_reserved(numbers[row + (each - 1 - place % each)]);
     }
     Ok(taken)
 }
@@ -156,6 +172,17 @@ impl Instance {
             jobs,
             machines,
             rows: by_columns(alloc, machines as usize, jobs as usize, times)?,
+        })
+    }
+
+    /// The instance with its machines in reverse order: machine `k` has the times of machine `m + 1 - k`.
+    pub fn mirrored(&self, alloc: Global) -> Result<Instance, AllocError>
+        ensures { IfOk result (λ instance. instance ≡ mirrored self.now) }
+    {
+        Ok(Instance {
+            jobs: self.jobs,
+            machines: self.machines,
+            rows: rows_reversed(alloc, self.machines as usize, self.rows.as_slice())?,
         })
     }
 

@@ -23,7 +23,8 @@ pub use instance::{Instance, InstanceFault};
 pub use job_set::JobSet;
 pub use laws::{
     bound_is_admissible, completion_by_recurrence, completion_is_greatest, instances_have_no_fault,
-    least_makespan_is_one, limits_are_those_stated, sequences_have_no_fault, texts_have_no_fault,
+    least_makespan_is_one, limits_are_those_stated, mirror_keeps_makespans, mirror_turns_back,
+    sequences_have_no_fault, texts_have_no_fault,
 };
 pub use limits::{MAX_DEPTH, MAX_JOBS, MAX_MACHINES, MAX_NUMBER, MAX_TIME};
 pub use row::{Row, rows};

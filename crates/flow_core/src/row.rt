@@ -8,7 +8,7 @@ use crate::limits::MAX_MACHINES;
 use std::alloc::{AllocError, Global};
 
 /// The times and tails of one job, with machine 1 first.
-#[derive(Drop)]
+#[derive(Debug, PartialEq, Eq, Drop)]
 pub struct Row {
     /// Its time on each machine.
     pub times: [u32; MAX_MACHINES],

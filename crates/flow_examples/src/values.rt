@@ -3,7 +3,7 @@
 use crate::instances::{three_machines, two_machines};
 use flow_core::{
     Front, Instance, InstanceFault, JobSet, Sequence, SequenceFault, Taillard, front_push,
-    generate, makespan,
+    generate, makespan, rows,
 };
 use std::test::Fail;
 
@@ -36,6 +36,38 @@ fn instance_gives_its_parts(rt: HostRuntime) -> Result<(), Fail> {
     assert_eq!(rt; instance.machines(), 2);
     assert_eq!(rt; instance.time(3, 1), 2);
     assert_eq!(rt; instance.time(2, 2), 4);
+    Ok(())
+}
+
+#[test]
+fn rows_have_times_and_tails(rt: HostRuntime) -> Result<(), Fail> {
+    let alloc = rt.alloc();
+    let two = two_machines(alloc)?;
+    let rows = rows(alloc, &two)?;
+    assert_eq!(rt; rows.len(), 3);
+    let expected: [([u32; 2], [u32; 2]); 3] = [([3, 2], [2, 0]), ([1, 4], [4, 0]), ([2, 2], [2, 0])];
+    for (row, (times, tails)) in rows.iter().zip(expected) {
+        assert_eq!(rt; (row.times[0], row.times[1]), (times[0], times[1]));
+        assert_eq!(rt; (row.tails[0], row.tails[1]), (tails[0], tails[1]));
+    }
+    Ok(())
+}
+
+#[test]
+fn mirrored_instance_takes_as_long_the_other_way_round(rt: HostRuntime) -> Result<(), Fail> {
+    let alloc = rt.alloc();
+    let mirrored = two_machines(alloc)?.mirrored(alloc)?;
+    assert_eq!(rt; mirrored.jobs(), 3);
+    assert_eq!(rt; mirrored.machines(), 2);
+    assert_eq!(rt; mirrored.time(2, 1), 4);
+    assert_eq!(rt; mirrored.time(1, 2), 3);
+    // The makespans of the reversed sequences on the instance itself.
+    let rows: [(&[u16], u64); 3] = [(&[1, 2, 3], 10), (&[1, 3, 2], 9), (&[3, 1, 2], 9)];
+    for (jobs, value) in rows {
+        let sequence = Sequence::new(alloc, &mirrored, jobs)?;
+        assert!(rt; sequence.jobs().len() == mirrored.jobs() as usize);
+        assert_eq!(rt; makespan(&mirrored, &sequence), value, "at {jobs:?}");
+    }
     Ok(())
 }
 

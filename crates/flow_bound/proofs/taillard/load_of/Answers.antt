@@ -48,7 +48,7 @@ loop-job-preserved c =
     let split = time_between-split shop job machine shop.machines c.requires.to in
     let least_head : c.loop-job.least_head
     ≡ capped 4294967295 (map (λ job. time_between shop job 1 (machine - 1)) (numbers 1 (job - 1))) = before.head in
-    let owed : c.loop-job.owed ≡ sum_by (λ job. time shop job machine) (numbers 1 (job - 1)) = before.owed in
+    let work : c.loop-job.work ≡ sum_by (λ job. time shop job machine) (numbers 1 (job - 1)) = before.work in
     let least_tail : c.loop-job.least_tail
     ≡ capped 4294967295 (map (λ job. time_between shop job (machine + 1) shop.machines) (numbers 1 (job - 1))) =
     before.tail in
@@ -67,7 +67,7 @@ loop-job-preserved c =
         c.min-least_head.ensures,
       );
       head_fits = omega (arith, before.head_fits, c.min-least_head.ensures);
-      owed = omega (arith, sum-step (λ job. time shop job machine) job (omega arith), owed, c.time-time.ensures.value);
+      work = omega (arith, sum-step (λ job. time shop job machine) job (omega arith), work, c.time-time.ensures.value);
       small = omega (arith, before.small, c.time-time.ensures.limit);
       tail = omega (
         arith,
@@ -111,6 +111,6 @@ returns-clause-value c =
     ≡ least (map (λ job. time_between shop job (machine + 1) shop.machines) (numbers 1 shop.jobs)) =
     c.loop-job.invariant.tail ∙ tail.0 in
     let e : c.loop-job.job - 1 ≡ shop.jobs = omega arith in
-    let owed : c.loop-job.owed ≡ sum_by (λ job. time shop job machine) (numbers 1 shop.jobs) = c.loop-job.invariant.owed
+    let work : c.loop-job.work ≡ sum_by (λ job. time shop job machine) (numbers 1 shop.jobs) = c.loop-job.invariant.work
     ∙ ap (λ n. sum_by (λ job. time shop job machine) (numbers 1 n)) e in
-    omega (arith, c.from.ensures, c.from-2.ensures, c.from-3.ensures, least_head, owed, least_tail)
+    omega (arith, c.from.ensures, c.from-2.ensures, c.from-3.ensures, least_head, work, least_tail)

@@ -16,8 +16,8 @@ invariant-loop-job l = record {
   head : l.least_head ≡ capped 4294967295 (map (λ job. time_between l.instance job 1 (l.machine - 1)) (numbers 1
       (l.job - 1)));
   head_fits : l.least_head ≤ 4294967295;
-  owed : l.owed ≡ sum_by (λ job. time l.instance job l.machine) (numbers 1 (l.job - 1));
-  small : l.owed ≤ (l.job - 1) * greatest_time;
+  work : l.work ≡ sum_by (λ job. time l.instance job l.machine) (numbers 1 (l.job - 1));
+  small : l.work ≤ (l.job - 1) * greatest_time;
   tail : l.least_tail ≡ capped 4294967295 (map (λ job. time_between l.instance job (l.machine
       + 1) l.instance.machines) (numbers 1 (l.job - 1)));
   tail_fits : l.least_tail ≤ 4294967295;
