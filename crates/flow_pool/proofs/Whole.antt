@@ -22,7 +22,7 @@ use Rattle.flow_pool.specs.Deal.{dealt, by_lane}
 use Rattle.flow_pool.specs.Work.{share, asking, tasks_of, prefix_count, answered, IsLawfulAnswer}
 use Rattle.flow_pool.specs.internal.Start.{IsServed}
 use Rattle.flow_pool.specs.Hub.{HasCollected, hub_lanes, sent_lists, received_lists}
-use Rattle.flow_pool.specs.internal.Hub.{hub_slots}
+use Rattle.flow_pool.specs.internal.HubSteps.{hub_slots}
 use Rattle.flow_pool.specs.internal.Settling.{IsCollected, ends_once, worker_tasks, worker_answers, pair_lanes, pair_tasks, pair_answers}
 use Rattle.flow_pool.specs.Report.{IsDoneAnswer, AreWholeWork}
 use Rattle.flow_pool.proofs.Undeal.{same_from_dealt, All-from_dealt, length-dealt_from, All-dealt_from, dealt_from-range}

@@ -1,3 +1,3 @@
-pub mod Hub
+pub mod HubSteps
 pub mod Start
 pub mod Settling

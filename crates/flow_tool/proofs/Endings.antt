@@ -6,7 +6,7 @@ use Rattle.flow_core.specs.declared.bytes.fault.WriteFault.{WriteFault}
 use Rattle.flow_core.specs.declared.bytes.fault.WriteFault.TheVariants as write
 use Rattle.flow_core.specs.declared.text.block.Block.{Block}
 use Rattle.flow_tool.specs.declared.fault.ToolFault.TheVariants as tool
-use Rattle.flow_tool.specs.Answers.{Answer, AnswersFor, Picks}
+use Rattle.flow_tool.specs.Commands.{Answer, AnswersFor, Picks}
 use Rattle.flow_tool.specs.Runs.{Came, Ends, EndsAlone}
 
 write-is : (fault : WriteFault) → tool.Write fault ≡ tool.Write write.Device

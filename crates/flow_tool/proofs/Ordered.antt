@@ -2,7 +2,7 @@
 use Rattle.std.proofs.Common.{◌≤◌, inl, ℕ, Bool, List, length, Option, Ok}
 use Rattle.flow_core.specs.declared.text.block.Block.{Block}
 use Rattle.flow_tool.specs.declared.command_line.Order.{Order}
-use Rattle.flow_tool.specs.Answers.{AnswersCheck, AnswersFor, Picks}
+use Rattle.flow_tool.specs.Commands.{AnswersCheck, AnswersFor, Picks}
 use Rattle.flow_tool.specs.internal.Asked.{AnswersOrder, WroteOrdered}
 use Rattle.flow_tool.specs.Limits.{most_certificate, most_text}
 use Rattle.flow_tool.specs.Runs.{Came, Wrote}

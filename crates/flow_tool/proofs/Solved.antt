@@ -4,7 +4,7 @@ use Rattle.flow_core.specs.Shop.{Shop}
 use Rattle.flow_core.specs.declared.text.block.Block.{Block}
 use Rattle.flow_search.specs.Choices.{Choices, options_or_fault}
 use Rattle.flow_search.specs.declared.options.OptionFault.{OptionFault}
-use Rattle.flow_tool.specs.Answers.{Answer, AnswersOptions, AnswersPlan, AnswersSolve, Picks}
+use Rattle.flow_tool.specs.Commands.{Answer, AnswersOptions, AnswersPlan, AnswersSolve, Picks}
 use Rattle.flow_tool.specs.Runs.{Came, Ends, EndsAlone, Wrote}
 use Rattle.flow_tool.specs.declared.fault.ToolFault.{ToolFault}
 use Rattle.flow_tool.specs.Limits.{most_text}

@@ -1,4 +1,5 @@
 pub mod Limits
-pub mod Answers
+pub mod Commands
 pub mod Runs
+pub mod Status
 pub mod internal

@@ -9,7 +9,7 @@ use Rattle.flow_core.specs.declared.bytes.fault.WriteFault.TheVariants as write
 use Rattle.flow_cert.specs.Certificate.{IsCertificate}
 use Rattle.flow_tool.specs.declared.fault.ToolFault.{ToolFault}
 use Rattle.flow_tool.specs.declared.fault.ToolFault.TheVariants as tool
-use Rattle.flow_tool.specs.Answers.{Answer, optimal_line}
+use Rattle.flow_tool.specs.Commands.{Answer, optimal_line}
 
 -- a source gave at most so many bytes and then its end, and this holds of the bytes
 abbrev pub Came : ℕ → (List ℕ → Type 0) → Option (List ℕ) → Option (List ℕ) → Bool → Type 0

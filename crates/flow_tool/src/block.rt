@@ -3,18 +3,16 @@
 ghost use Rattle.std.specs.Prelude.{◌≡◌, ◌↔◌, false, true, IfOk, OnOk, IfErr, IsErrOf, Ok, Err};
 ghost use Rattle.flow_core.specs.Bytes.{Grows};
 ghost use Rattle.flow_core.specs.declared.bytes.fault.ReadFault.TheVariants.{Device};
-ghost use Rattle.flow_tool.specs.Answers.{Picks};
+ghost use Rattle.flow_tool.specs.Commands.{Picks};
 ghost use Rattle.flow_tool.specs.Runs.{Came, StopsAt};
 ghost use Rattle.flow_tool.specs.Limits.{most_text};
 
 use crate::fault::ToolFault;
+use crate::limits::MAX_TEXT;
 use flow_core::{Block, Source, read_all, read_blocks};
 use std::alloc::Global;
 
-/// The most bytes of a benchmark text.
-pub(crate) const MAX_TEXT: usize = 16_777_216;
-
-/// Reads a whole text, and returns the block that the index names, from 1.
+/// Reads a whole text, and returns the block that the index names. Blocks are counted from 1.
 pub(crate) fn read_block<S: Source>(
     alloc: Global,
     file: &mut S,

@@ -1,6 +1,7 @@
 //! The commands, a file each, named for its word. (`gen` is a word of the language, so its file is `generate`.)
 //! A new command needs its words in `command_line`, a file here, and in `dispatch` the line that runs it.
-//! What it writes is said in `specs/Answers.antt`; a fault of a new kind needs a line in `fault` and one in `status`.
+//! What it writes is said in `specs/Commands.antt`. A fault of a new kind stands in `fault`, and in `status` where the
+//! program does not end with 1.
 
 pub(crate) mod check;
 pub(crate) mod generate;

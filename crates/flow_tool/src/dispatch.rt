@@ -2,7 +2,7 @@
 
 ghost use Rattle.std.specs.Prelude.{◌≡◌, ◌≤◌, List, ℕ, length, false, Ok, OnOk, IfErr};
 ghost use Rattle.flow_core.specs.declared.text.block.Block.{Block};
-ghost use Rattle.flow_tool.specs.Answers.{AnswersCheck, AnswersFor, Picks};
+ghost use Rattle.flow_tool.specs.Commands.{AnswersCheck, AnswersFor, Picks};
 ghost use Rattle.flow_tool.specs.internal.Asked.{AnswersAsked, WroteOrdered};
 ghost use Rattle.flow_tool.specs.Limits.{most_certificate, most_text};
 ghost use Rattle.flow_tool.specs.Runs.{Came, Ends, Wrote, WroteLeast};
@@ -60,8 +60,8 @@ fn write_help<K: Sink>(alloc: Global, help: &Error, out: &mut K) -> Result<(), T
     Ok(())
 }
 
-/// Runs the command that was asked for. The text's file is opened before a byte is read, and the certificate's
-/// file after it.
+/// Runs the command that was asked for. All files are opened before a byte is read: first that of the text, then that
+/// of the certificate.
 fn obey<R: Threads + Wait + Sync, I: Inputs, K: Sink>(
     rt: &R,
     alloc: Global,

@@ -1,9 +1,14 @@
 //! Why a command refused.
 
 ghost use Rattle.std.specs.Prelude.{◌≡◌};
-ghost use Rattle.flow_tool.specs.declared.fault.ToolFault.TheVariants.{Choice, Memory, Write};
-ghost use Rattle.flow_tool.specs.internal.Faults.{of_read, of_text, of_sequence, of_instance};
-ghost use Rattle.flow_tool.specs.internal.Faults.{of_plan, of_solve, of_check};
+ghost use Rattle.flow_core.specs.declared.bytes.fault.ReadFault.TheVariants as read;
+ghost use Rattle.flow_core.specs.declared.text.fault.TextFault.TheVariants as text;
+ghost use Rattle.flow_core.specs.declared.sequence.SequenceFault.TheVariants as sequence;
+ghost use Rattle.flow_core.specs.declared.instance.InstanceFault.TheVariants as instance;
+ghost use Rattle.flow_search.specs.declared.plan.PlanFault.TheVariants as plan;
+ghost use Rattle.flow_pool.specs.declared.whole_run.SolveFault.TheVariants as solve;
+ghost use Rattle.flow_cert.specs.declared.fault.CheckFault.TheVariants as check;
+ghost use Rattle.flow_tool.specs.declared.fault.ToolFault.TheVariants as tool;
 
 use flow_cert::CheckFault;
 use flow_core::{InstanceFault, ReadFault, SequenceFault, TextFault, WriteFault};
@@ -51,7 +56,7 @@ pub(crate) enum ToolFault {
 }
 
 impl From<AllocError> for ToolFault {
-    ghost from_gives = { λ _ given. given ≡ Memory };
+    ghost from_gives = { λ _ given. given ≡ tool.Memory };
 
     fn from(_error: AllocError) -> ToolFault {
         ToolFault::Memory
@@ -59,7 +64,7 @@ impl From<AllocError> for ToolFault {
 }
 
 impl From<ReadFault> for ToolFault {
-    ghost from_gives = { λ fault given. given ≡ of_read fault };
+    ghost from_gives = { λ fault given. given ≡ (elim fault [ read.Memory ↦ tool.Memory | other ↦ tool.Read other ]) };
 
     fn from(fault: ReadFault) -> ToolFault {
         match fault {
@@ -70,7 +75,7 @@ impl From<ReadFault> for ToolFault {
 }
 
 impl From<TextFault> for ToolFault {
-    ghost from_gives = { λ fault given. given ≡ of_text fault };
+    ghost from_gives = { λ fault given. given ≡ (elim fault [ text.Memory ↦ tool.Memory | other ↦ tool.Text other ]) };
 
     fn from(fault: TextFault) -> ToolFault {
         match fault {
@@ -81,7 +86,7 @@ impl From<TextFault> for ToolFault {
 }
 
 impl From<SequenceFault> for ToolFault {
-    ghost from_gives = { λ fault given. given ≡ of_sequence fault };
+    ghost from_gives = { λ fault given. given ≡ (elim fault [ sequence.Memory ↦ tool.Memory | other ↦ tool.Sequence other ]) };
 
     fn from(fault: SequenceFault) -> ToolFault {
         match fault {
@@ -92,7 +97,7 @@ impl From<SequenceFault> for ToolFault {
 }
 
 impl From<InstanceFault> for ToolFault {
-    ghost from_gives = { λ fault given. given ≡ of_instance fault };
+    ghost from_gives = { λ fault given. given ≡ (elim fault [ instance.Memory ↦ tool.Memory | other ↦ tool.Instance other ]) };
 
     fn from(fault: InstanceFault) -> ToolFault {
         match fault {
@@ -103,7 +108,7 @@ impl From<InstanceFault> for ToolFault {
 }
 
 impl From<OptionFault> for ToolFault {
-    ghost from_gives = { λ fault given. given ≡ Choice fault };
+    ghost from_gives = { λ fault given. given ≡ tool.Choice fault };
 
     fn from(fault: OptionFault) -> ToolFault {
         ToolFault::Choice(fault)
@@ -111,7 +116,7 @@ impl From<OptionFault> for ToolFault {
 }
 
 impl From<PlanFault> for ToolFault {
-    ghost from_gives = { λ fault given. given ≡ of_plan fault };
+    ghost from_gives = { λ fault given. given ≡ (elim fault [ plan.Memory ↦ tool.Memory | other ↦ tool.Plan other ]) };
 
     fn from(fault: PlanFault) -> ToolFault {
         match fault {
@@ -122,7 +127,7 @@ impl From<PlanFault> for ToolFault {
 }
 
 impl From<SolveFault> for ToolFault {
-    ghost from_gives = { λ fault given. given ≡ of_solve fault };
+    ghost from_gives = { λ fault given. given ≡ (elim fault [ solve.Memory ↦ tool.Memory | other ↦ tool.Run other ]) };
 
     fn from(fault: SolveFault) -> ToolFault {
         match fault {
@@ -133,7 +138,7 @@ impl From<SolveFault> for ToolFault {
 }
 
 impl From<CheckFault> for ToolFault {
-    ghost from_gives = { λ fault given. given ≡ of_check fault };
+    ghost from_gives = { λ fault given. given ≡ (elim fault [ check.Memory ↦ tool.Memory | other ↦ tool.Certificate other ]) };
 
     fn from(fault: CheckFault) -> ToolFault {
         match fault {
@@ -144,7 +149,7 @@ impl From<CheckFault> for ToolFault {
 }
 
 impl From<WriteFault> for ToolFault {
-    ghost from_gives = { λ fault given. given ≡ Write fault };
+    ghost from_gives = { λ fault given. given ≡ tool.Write fault };
 
     fn from(fault: WriteFault) -> ToolFault {
         ToolFault::Write(fault)

@@ -7,7 +7,8 @@ mod commands;
 mod dispatch;
 mod fault;
 mod inputs;
-mod lines;
+mod limits;
+mod printed;
 mod status;
 mod stop;
 #[cfg(test)]

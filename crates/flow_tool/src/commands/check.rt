@@ -7,20 +7,18 @@ ghost use Rattle.flow_core.specs.Bytes.{Grows};
 ghost use Rattle.flow_core.specs.declared.bytes.fault.ReadFault.TheVariants as read;
 ghost use Rattle.flow_core.specs.declared.bytes.fault.WriteFault.TheVariants as write;
 ghost use Rattle.flow_core.specs.declared.text.block.Block.{Block};
-ghost use Rattle.flow_tool.specs.Answers.{AnswersCheck, Picks, optimal_line};
+ghost use Rattle.flow_tool.specs.Commands.{AnswersCheck, Picks, optimal_line};
 ghost use Rattle.flow_tool.specs.Runs.{Came, Ends, StopsAt, Wrote, WroteLeast};
 ghost use Rattle.flow_tool.specs.Limits.{most_text, most_certificate};
 ghost use Rattle.flow_cert.specs.Check.{IsFirstFault};
 
 use crate::block::read_block;
 use crate::fault::ToolFault;
-use crate::lines::optimal_line;
+use crate::limits::MAX_CERTIFICATE;
+use crate::printed::optimal_line;
 use flow_cert::{CheckFault, check};
 use flow_core::{Instance, Sink, Source, put_all, read_all};
 use std::alloc::Global;
-
-/// The most bytes of a certificate.
-pub(crate) const MAX_CERTIFICATE: usize = 1_000_000_000;
 
 /// The line of the value that a certificate proves least.
 fn checked_line(alloc: Global, instance: &Instance, bytes: &[u8]) -> Result<Vec<u8>, CheckFault>

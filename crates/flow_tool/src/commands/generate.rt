@@ -5,7 +5,7 @@ ghost use Rattle.std.specs.Prelude.{IfOk, OnOk, IfErr, IsErrOf};
 ghost use Rattle.flow_core.specs.declared.bytes.fault.WriteFault.TheVariants as write;
 ghost use Rattle.flow_core.specs.Generator.{generated, generator_fault};
 ghost use Rattle.flow_core.specs.InstanceFaults.{but_memory};
-ghost use Rattle.flow_tool.specs.Answers.{AnswersGen, IsGeneratedText};
+ghost use Rattle.flow_tool.specs.Commands.{AnswersGen, IsGeneratedText};
 ghost use Rattle.flow_tool.specs.Runs.{EndsAlone, Wrote};
 
 use crate::fault::ToolFault;

@@ -4,13 +4,13 @@ ghost use Rattle.std.specs.Prelude.{◌≡◌, ◌↔◌, false, true, IfOk, OnO
 ghost use Rattle.flow_core.specs.Bytes.{Grows};
 ghost use Rattle.flow_core.specs.declared.bytes.fault.ReadFault.TheVariants as read;
 ghost use Rattle.flow_core.specs.declared.bytes.fault.WriteFault.TheVariants as write;
-ghost use Rattle.flow_tool.specs.Answers.{AnswersNeh, AnswersStart};
+ghost use Rattle.flow_tool.specs.Commands.{AnswersNeh, AnswersStart};
 ghost use Rattle.flow_tool.specs.Runs.{Came, Ends, Wrote};
 ghost use Rattle.flow_tool.specs.Limits.{most_text};
 
 use crate::block::read_block;
 use crate::fault::ToolFault;
-use crate::lines::{makespan_line, sequence_line};
+use crate::printed::{makespan_line, sequence_line};
 use flow_bound::neh;
 use flow_core::{Instance, Sink, Source, put_all};
 use std::alloc::{AllocError, Global};

@@ -5,7 +5,7 @@ ghost use Rattle.flow_core.specs.Bytes.{Grows};
 ghost use Rattle.flow_core.specs.declared.bytes.fault.ReadFault.TheVariants as read;
 ghost use Rattle.flow_core.specs.declared.bytes.fault.WriteFault.TheVariants as write;
 ghost use Rattle.flow_core.specs.declared.text.block.Block.{Block};
-ghost use Rattle.flow_tool.specs.Answers.{AnswersPlan, AnswersSolve, Picks};
+ghost use Rattle.flow_tool.specs.Commands.{AnswersPlan, AnswersSolve, Picks};
 ghost use Rattle.flow_tool.specs.Runs.{Came, Ends, EndsAlone, Wrote, WroteCertificate};
 ghost use Rattle.flow_tool.specs.Limits.{most_text};
 

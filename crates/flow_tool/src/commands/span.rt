@@ -5,13 +5,13 @@ ghost use Rattle.flow_core.specs.Bytes.{Grows};
 ghost use Rattle.flow_core.specs.SequenceFaults.{sequence_fault, but_memory};
 ghost use Rattle.flow_core.specs.declared.bytes.fault.ReadFault.TheVariants as read;
 ghost use Rattle.flow_core.specs.declared.bytes.fault.WriteFault.TheVariants as write;
-ghost use Rattle.flow_tool.specs.Answers.{AnswersSpan, span_answer};
+ghost use Rattle.flow_tool.specs.Commands.{AnswersSpan, span_answer};
 ghost use Rattle.flow_tool.specs.Runs.{Came, Ends, Wrote};
 ghost use Rattle.flow_tool.specs.Limits.{most_text};
 
 use crate::block::read_block;
 use crate::fault::ToolFault;
-use crate::lines::makespan_line;
+use crate::printed::makespan_line;
 use flow_core::{Instance, Sequence, SequenceFault, Sink, Source, makespan, put_all};
 use std::alloc::Global;
 

@@ -1,7 +1,7 @@
 use Rattle.std.proofs.Common.{◌≡◌, length, map}
 use Rattle.flow_pool.specs.Deal.{by_lane}
 use Rattle.flow_pool.specs.Hub.{hub_lanes, sent_lists}
-use Rattle.flow_pool.specs.internal.Hub.{HasTaken}
+use Rattle.flow_pool.specs.internal.HubSteps.{HasTaken}
 use Rattle.flow_pool.proofs.Asked.{ended}
 use Rattle.flow_pool.proofs.hub.send_ends.Given as goal
 

@@ -1,7 +1,7 @@
 use Rattle.std.proofs.Common.{[], length, refl, rules}
 use Rattle.flow_pool.specs.declared.ends.HubEnds.{HubEnds}
 use Rattle.flow_pool.specs.Deal.{dealt}
-use Rattle.flow_pool.specs.internal.Hub.{asked}
+use Rattle.flow_pool.specs.internal.HubSteps.{asked}
 use Rattle.flow_pool.proofs.Asked.{map-by_lane, dealt-nil, asked-none, pushed_at-asked}
 use Rattle.flow_pool.proofs.hub.send_prefixes.Goals as goal
 

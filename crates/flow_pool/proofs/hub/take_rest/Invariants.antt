@@ -1,6 +1,6 @@
 use Rattle.std.proofs.Common.{◌≡◌, map}
 use Rattle.flow_pool.specs.Hub.{hub_lanes, sent_lists}
-use Rattle.flow_pool.specs.internal.Hub.{HasTaken}
+use Rattle.flow_pool.specs.internal.HubSteps.{HasTaken}
 use Rattle.flow_pool.proofs.hub.take_rest.Given as goal
 
 abbrev pub invariant-draining : goal.invariant-draining

@@ -1,6 +1,6 @@
 use Rattle.std.proofs.Common.{arith, ◌≤◌, length}
 use Rattle.std.proofs.lemmas.Result.{err_from_is_err_and}
-use Rattle.flow_tool.specs.Answers.{AnswersCheck}
+use Rattle.flow_tool.specs.Commands.{AnswersCheck}
 use Rattle.flow_tool.specs.Limits.{most_certificate}
 use Rattle.flow_tool.proofs.Endings.{ends-in-writing-for}
 use Rattle.flow_tool.proofs.commands.check.check_certificate.Goals as goal

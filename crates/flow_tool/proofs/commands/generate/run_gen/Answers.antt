@@ -1,7 +1,7 @@
 use Rattle.std.proofs.Common.{subst}
 use Rattle.std.proofs.lemmas.Result.{err_from_is_err_and}
 use Rattle.flow_core.specs.Generator.{generated}
-use Rattle.flow_tool.specs.Answers.{AnswersGen, IsGeneratedText}
+use Rattle.flow_tool.specs.Commands.{AnswersGen, IsGeneratedText}
 use Rattle.flow_tool.proofs.Endings.{ends-alone-in-writing}
 use Rattle.flow_tool.proofs.commands.generate.run_gen.Goals as goal
 

@@ -1,5 +1,5 @@
 use Rattle.std.proofs.lemmas.Result.{err_from_is_err_and}
-use Rattle.flow_tool.specs.Answers.{AnswersStart}
+use Rattle.flow_tool.specs.Commands.{AnswersStart}
 use Rattle.flow_tool.proofs.Endings.{ends-in-writing}
 use Rattle.flow_tool.proofs.commands.neh.run_neh.Goals as goal
 

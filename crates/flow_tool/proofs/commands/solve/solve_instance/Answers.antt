@@ -2,7 +2,7 @@ use Rattle.std.proofs.Common.{inl, refl}
 use Rattle.std.proofs.lemmas.Result.{err_from_is_err_and}
 use Rattle.flow_cert.specs.PlanCertificates.{certificate_of}
 use Rattle.flow_cert.proofs.Lawful.{text-of-plan}
-use Rattle.flow_tool.specs.Answers.{AnswersPlan}
+use Rattle.flow_tool.specs.Commands.{AnswersPlan}
 use Rattle.flow_tool.proofs.Certified.{wrote-certificate}
 use Rattle.flow_tool.proofs.Endings.{ends-alone-in-writing}
 use Rattle.flow_tool.proofs.commands.solve.solve_instance.Goals as goal

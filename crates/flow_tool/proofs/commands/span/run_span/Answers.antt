@@ -1,6 +1,6 @@
 use Rattle.std.proofs.Common.{◌≡◌, sym}
 use Rattle.std.proofs.lemmas.Result.{err_from_is_err_and}
-use Rattle.flow_tool.specs.Answers.{span_answer}
+use Rattle.flow_tool.specs.Commands.{span_answer}
 use Rattle.flow_tool.proofs.Endings.{ends-in-writing}
 use Rattle.flow_tool.proofs.commands.span.run_span.Goals as goal
 
