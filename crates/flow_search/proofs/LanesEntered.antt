@@ -86,7 +86,7 @@ pub record AreDone (shop : Shop) (front jobs : List ℕ) (rows : List LaneRow) (
   pub small : (row : LaneRow) (k lane : ℕ) → machine < k → k ≤ shop.machines → lane < 8 →
       IsSmallRow (slice_index_or rows (k - 1) row) lane
   pub begins : (k : ℕ) → machine < k → k ≤ shop.machines → slice_index times (k - 1) ≡ slice_index front (k - 1)
-  pub owes : (k : ℕ) → machine < k → k ≤ shop.machines → slice_index sums (k - 1) ≡ sum_by (λ job. time shop job k) jobs
+  pub loads : (k : ℕ) → machine < k → k ≤ shop.machines → slice_index sums (k - 1) ≡ sum_by (λ job. time shop job k) jobs
 
 -- one more place of a list, from the back
 more : {A : Type 0} (P : ℕ → A → Type 0) (xs : List A) (other value : A) (machine most : ℕ) → 1 ≤ machine →
@@ -121,8 +121,8 @@ done-next shop front jobs rows times sums machine value free sum is low in_rows 
           (λ i a b. is.small other i lane a b within) k above to;
       begins = more (λ i v. v
           ≡ slice_index front (i - 1)) times 0 free machine shop.machines low in_times free_is is.begins;
-      owes = more (λ i v. v
-          ≡ sum_by (λ job. time shop job i) jobs) sums 0 sum machine shop.machines low in_sums sum_is is.owes;
+      loads = more (λ i v. v
+          ≡ sum_by (λ job. time shop job i) jobs) sums 0 sum machine shop.machines low in_sums sum_is is.loads;
     }
 
 -- the first machine apart
@@ -154,7 +154,7 @@ entered shop list front jobs group frame machine is e done lanes left gone =
     record {
       count = omega (arith, is.count, ap length is.left);
       times = λ k from to. done.begins k (omega (arith, e, from)) to ∙ is.times k from to;
-      owed = λ k from to. done.owes k (omega (arith, e, from)) to ∙ ap (sum_by (λ j. time shop j k)) is.left;
+      sums = λ k from to. done.loads k (omega (arith, e, from)) to ∙ ap (sum_by (λ j. time shop j k)) is.left;
       gone = λ lane within. elim (cases_lt lane (length jobs)) [
         | inl there ↦ inl
             (left lane within there)

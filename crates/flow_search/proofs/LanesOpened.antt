@@ -1,5 +1,5 @@
 -- The nodes of children.
-use Rattle.std.proofs.Common.{◌≡◌, ◌≢◌, ℕ, ◌+◌, ◌-◌, ◌<◌, ◌≤◌, false, List, [], ◌∷◌, ◌++◌, length, slice_index, slice_index_or, set, ap, sym, ◌∙◌, inl, inr, arith, length-append}
+use Rattle.std.proofs.Common.{◌≡◌, ◌≢◌, ℕ, ◌+◌, ◌-◌, ◌<◌, ◌≤◌, false, List, [], ◌∷◌, ◌++◌, length, slice_index, slice_index_or, set, refl, ap, sym, ◌∙◌, inl, inr, arith, length-append}
 use Rattle.std.specs.List.{sum_by}
 use Rattle.std.proofs.lemmas.Bool.{cases_eq, cases_order, false≢true}
 use Rattle.std.proofs.lemmas.List.{get_or-set_other, get_or-set_same}
@@ -11,7 +11,7 @@ use Rattle.flow_search.specs.declared.eight.group.TheConstants.{GONE}
 use Rattle.flow_search.specs.declared.eight.group.LaneRow.{LaneRow}
 use Rattle.flow_search.specs.declared.eight.group.Group.{Group}
 use Rattle.flow_search.specs.declared.eight.group.LaneFrame.{LaneFrame}
-use Rattle.flow_search.specs.internal.Lanes.{IsLaneLeft, IsFrameOf, IsOpened, job_of, child}
+use Rattle.flow_search.specs.internal.Lanes.{IsLaneLeft, IsFrameOf, IsOpened, IsTested, job_of, child}
 use Rattle.flow_search.proofs.JobsTaken.{left-sum, left-count, has-other, has-more, has-same}
 
 -- a node that differs in the answers only
@@ -23,7 +23,7 @@ at-same shop list group a b front sum gone at =
     record {
       count = at.count;
       times = λ machine from to. ap (λ f. slice_index f (machine - 1)) front ∙ at.times machine from to;
-      owed = λ machine from to. ap (λ f. slice_index f (machine - 1)) sum ∙ at.owed machine from to;
+      sums = λ machine from to. ap (λ f. slice_index f (machine - 1)) sum ∙ at.sums machine from to;
       gone = λ lane low. elim (at.gone lane low) [
         | inl none ↦ inl (ap (λ g. slice_index g lane) gone ∙ none)
         | inr whole ↦ inr (ap (λ g. slice_index g lane) gone ∙ whole)
@@ -60,23 +60,23 @@ opened-same shop list group a b front sum gone at free = record {
   });
 }
 
--- a job that is left fits into what is owed
-pub time-owed : (shop : Shop) (list : List ℕ) (group : Group) (frame : LaneFrame) (row : LaneRow) (lane place : ℕ) →
+-- a job that is left fits into what is load
+pub time-within : (shop : Shop) (list : List ℕ) (group : Group) (frame : LaneFrame) (row : LaneRow) (lane place : ℕ) →
     IsFrameOf shop list group frame → IsLaneLeft frame lane → place < shop.machines →
     slice_index frame.sum place ≡ slice_index (slice_index_or group.rows place row).time lane
     + sum_by (λ job. time shop job (place + 1)) (jobs_left shop.jobs (child list group lane))
-time-owed shop list group frame row lane place at here to =
+time-within shop list group frame row lane place at here to =
     let e : place + 1 - 1 ≡ place = omega arith in
     let low : 1 ≤ place + 1 = omega arith in
     let high : place + 1 ≤ shop.machines = omega (arith, to) in
-    let owed = sym (ap (slice_index frame.sum) e) ∙ at.owed (place + 1) low high in
+    let load = sym (ap (slice_index frame.sum) e) ∙ at.sums (place + 1) low high in
     let row_is : slice_index (slice_index_or group.rows place row).time lane
     ≡ time shop (job_of group lane) (place + 1) =
     sym (ap (λ k. slice_index (slice_index_or group.rows k row).time lane) e)
     ∙ (at.rows row lane (place + 1) here low high).time in
     let sum = left-sum (λ job. time shop job (place
     + 1)) shop.jobs list (job_of group lane) (at.from lane here) (at.to lane here) (at.fresh lane here) in
-    omega (arith, owed, row_is, sum)
+    omega (arith, load, row_is, sum)
 
 pub child-at : (shop : Shop) (list : List ℕ) (group : Group) (parent made : LaneFrame) (row : LaneRow) (lane : ℕ) →
     IsOpened shop list group parent → IsLaneLeft parent lane →
@@ -117,10 +117,10 @@ child-at shop list group parent made row lane is here front sum gone size =
           let low : machine - 1 < shop.machines = omega (arith, from, to) in
           front (machine - 1) low ∙ is.free (machine - 1) lane here low
           ∙ ap (completion shop (child list group lane)) e;
-      owed = λ machine from to.
+      sums = λ machine from to.
           let e : machine - 1 + 1 ≡ machine = omega (arith, from) in
           let low : machine - 1 < shop.machines = omega (arith, from, to) in
-          let whole = time-owed shop list group parent row lane (machine - 1) at here low in
+          let whole = time-within shop list group parent row lane (machine - 1) at here low in
           let same : sum_by (λ j. time shop j (machine - 1 + 1)) (jobs_left shop.jobs (child list group lane))
           ≡ sum_by (λ j. time shop j machine) (jobs_left shop.jobs (child list group lane)) =
           ap (λ m. sum_by (λ j. time shop j m) (jobs_left shop.jobs (child list group lane))) e in
@@ -152,3 +152,24 @@ child-at shop list group parent made row lane is here front sum gone size =
           (stands.0, record { within = stands.1.within; left = elsewhere stands.0 other ∙ stands.1.left }, stands.2);
       order = λ k other a b. at.order k other (back k a) (back other b);
     }
+
+-- a node whose next lane is another
+abbrev pub moved-lane : LaneFrame → ℕ → LaneFrame
+moved-lane frame next = record {
+  free = frame.free;
+  front = frame.front;
+  sum = frame.sum;
+  gone = frame.gone;
+  uncut = frame.uncut;
+  value = frame.value;
+  next = next;
+}
+
+pub tested-moved : (shop : Shop) (list : List ℕ) (group : Group) (frame : LaneFrame) (next : ℕ) →
+    IsTested shop list group frame → IsTested shop list group (moved-lane frame next)
+tested-moved shop list group frame next is = record {
+  opened = opened-same shop list group frame (moved-lane frame next) refl refl refl is.opened.at is.opened.free;
+  uncut = λ lane other here there.
+      is.uncut lane other (record { within = here.within; left = here.left })
+      (record { within = there.within; left = there.left });
+}

@@ -18,7 +18,7 @@ use Rattle.flow_search.specs.declared.eight.group.LaneRow.{LaneRow}
 use Rattle.flow_search.specs.declared.eight.group.Group.{Group}
 use Rattle.flow_search.specs.declared.eight.group.LaneFrame.{LaneFrame}
 use Rattle.flow_search.specs.internal.Lanes.{IsLeastOfOthers}
-use Rattle.flow_search.specs.internal.Lanes.{IsLaneLeft, IsFrameOf, IsLetter, IsSmallRow, job_of, child}
+use Rattle.flow_search.specs.internal.Lanes.{IsLaneLeft, IsFrameOf, IsUncutCount, IsSmallRow, job_of, child}
 use Rattle.flow_search.proofs.JobsTaken.{left-here, left-child, least-is, left-sum, has-other}
 
 -- the jobs of two lanes that are left differ
@@ -114,20 +114,20 @@ bound-is shop list group frame row lane other place free start behind tails at h
     sym (ap (λ k. slice_index (slice_index_or group.rows k row).time lane) e)
     ∙ (at.rows row lane (place + 1) here low high).time in
     let front = front_of-is shop (child list group lane) (place + 1) low high in
-    let owed : slice_index frame.sum place ≡ sum_by (λ job. time shop job (place + 1)) (jobs_left shop.jobs list) =
-    sym (ap (slice_index frame.sum) e) ∙ at.owed (place + 1) low high in
+    let load : slice_index frame.sum place ≡ sum_by (λ job. time shop job (place + 1)) (jobs_left shop.jobs list) =
+    sym (ap (slice_index frame.sum) e) ∙ at.sums (place + 1) low high in
     let sum = left-sum (λ job. time shop job (place
     + 1)) shop.jobs list (job_of group lane) (at.from lane here) (at.to lane here) (at.fresh lane here) in
     let tail = behind-is shop list group frame row lane other (place + 1) behind tails at here there differ low high
     (λ k within. made k within
     ∙ ap (λ i. max (slice_index (slice_index_or group.rows i row).tail k) (slice_index frame.gone k))
     (sym e)) is_least in
-    omega (arith, leaves, row_is, front, owed, sum, tail)
+    omega (arith, leaves, row_is, front, load, sum, tail)
 
--- the state of a child's letter after some machines: still open, or cut before
-pub record IsPassed (shop : Shop) (list : List ℕ) (limit machines letter flag : ℕ) : Type 0 where
-  pub is : IsLetter shop list limit machines letter
-  pub state : ((flag ≡ 1) × (letter ≡ machines)) ⊎ ((flag ≡ 0) × (letter < machines))
+-- the state of a child's uncut after some machines: still open, or cut before
+pub record IsPassed (shop : Shop) (list : List ℕ) (limit machines uncut flag : ℕ) : Type 0 where
+  pub is : IsUncutCount shop list limit machines uncut
+  pub state : ((flag ≡ 1) × (uncut ≡ machines)) ⊎ ((flag ≡ 0) × (uncut < machines))
 
 passed-none : (shop : Shop) (list : List ℕ) (limit : ℕ) → IsPassed shop list limit 0 0 1
 passed-none shop list limit = record {
@@ -140,12 +140,12 @@ passed-none shop list limit = record {
   state = inl (refl, refl);
 }
 
-pub passed-more : (shop : Shop) (list : List ℕ) (limit place letter flag next more : ℕ) →
-    IsPassed shop list limit place letter flag →
+pub passed-more : (shop : Shop) (list : List ℕ) (limit place uncut flag next more : ℕ) →
+    IsPassed shop list limit place uncut flag →
     (bound_at shop list (place + 1) < limit → next ≡ flag) → (limit ≤ bound_at shop list (place + 1) → next ≡ 0) →
-    more ≡ letter + next →
+    more ≡ uncut + next →
     IsPassed shop list limit (place + 1) more next
-passed-more shop list limit place letter flag next more was kept cut is = elim was.state [
+passed-more shop list limit place uncut flag next more was kept cut is = elim was.state [
   | inl still ↦ elim (cases_lt (bound_at shop list (place + 1)) limit) [
     | inl under ↦
         let one : next ≡ 1 = kept under ∙ still.0 in
@@ -180,7 +180,7 @@ passed-more shop list limit place letter flag next more was kept cut is = elim w
             ∙ closed.0
         | inr over ↦ cut over
       ] in
-      let same : more ≡ letter = omega (arith, is, none) in
+      let same : more ≡ uncut = omega (arith, is, none) in
       record {
         is = record {
           within = omega (arith, same, closed.1);
@@ -207,10 +207,10 @@ pub sum-small : (shop : Shop) (list : List ℕ) (group : Group) (frame : LaneFra
     IsFrameOf shop list group frame → place < shop.machines → slice_index frame.sum place ≤ most_jobs * greatest_time
 sum-small shop list group frame place limits at to =
     let e : place + 1 - 1 ≡ place = omega arith in
-    let owed = sym (ap (slice_index frame.sum) e) ∙ at.owed (place + 1) (omega arith) (omega (arith, to)) in
+    let load = sym (ap (slice_index frame.sum) e) ∙ at.sums (place + 1) (omega arith) (omega (arith, to)) in
     let small = kept-small (λ job. time shop job (place
     + 1)) (λ job. not (has list job)) greatest_time shop.jobs (λ job. time-small shop job (place + 1) limits) in
-    omega (arith, owed, small, limits.jobs)
+    omega (arith, load, small, limits.jobs)
 
 -- a machine's time fits
 front-small : (shop : Shop) (list : List ℕ) (group : Group) (frame : LaneFrame) (place : ℕ) → IsWithinLimits shop →
@@ -227,9 +227,9 @@ all-same zero v lane h = absurd (omega (arith, h))
 all-same (suc n) v zero h = refl
 all-same (suc n) v (suc lane) h = all-same n v lane (omega (arith, h))
 
-pub passed-start : (shop : Shop) (list : List ℕ) (limit letter flag : ℕ) → letter ≡ 0 → flag ≡ 1 →
-    IsPassed shop list limit 0 letter flag
-passed-start shop list limit letter flag none whole =
+pub passed-start : (shop : Shop) (list : List ℕ) (limit uncut flag : ℕ) → uncut ≡ 0 → flag ≡ 1 →
+    IsPassed shop list limit 0 uncut flag
+passed-start shop list limit uncut flag none whole =
     subst (λ a. IsPassed shop list limit 0 a flag) (sym none) (subst (λ b. IsPassed shop list limit 0 0 b) (sym whole)
     (passed-none shop list limit))
 

@@ -16,8 +16,8 @@ use Rattle.flow_core.proofs.Admissible.{front_of-is}
 use Rattle.flow_bound.specs.Rest.{IsRestOf}
 use Rattle.flow_search.specs.Walk.{walk, walk_each, better}
 use Rattle.flow_search.specs.internal.Lows.{second_tail}
-use Rattle.flow_search.specs.internal.Nodes.{IsAt, Wrote, Entered, Left, Gave, Walked, walked, children_walked, incumbent_of}
-use Rattle.flow_search.specs.internal.Frames.{IsFrame, IsChild, IsStack, Opens, IsWalking, path, left_from, then_walk, walk_from, resume}
+use Rattle.flow_search.specs.internal.Nodes.{IsAt, Wrote, Entered, Left, Gave, Walked, Opens, walked, children_walked, incumbent_of, then_walk}
+use Rattle.flow_search.specs.internal.Frames.{IsFrame, IsChild, IsStack, IsWalking, path, left_from, walk_from, resume}
 use Rattle.flow_search.specs.declared.frame.Frame.{Frame}
 use Rattle.flow_search.specs.declared.subtree.Search.{Search}
 use Rattle.flow_search.proofs.Walk.{Incumbent, answer_of}
@@ -28,7 +28,7 @@ pub reverse-push : {A : Type 0} (xs new : List A) (x : A) → new ≡ xs ++ x �
 reverse-push xs new x e = ap reverse e ∙ reverse-append xs (x ∷ [])
 
 -- the first of some numbers that pass a test, which agrees with another test on them
-next-in : (p q : ℕ → Bool) (a len j : ℕ) → ((k : ℕ) → a ≤ k → k < a + len → p k ≡ q k) →
+pub next-in : (p q : ℕ → Bool) (a len j : ℕ) → ((k : ℕ) → a ≤ k → k < a + len → p k ≡ q k) →
     Some j ≡ find p (range_with_len a len) →
     (filter q (range_with_len a len) ≡ j ∷ filter q (range_with_len (j + 1) (a + len - (j + 1)))) × (a ≤ j)
     × (j < a + len) × (p j ≡ true)
@@ -64,7 +64,7 @@ next-in p q a (suc len) j same e =
           )
     ]
 
-none-in : (p q : ℕ → Bool) (a len : ℕ) → ((k : ℕ) → a ≤ k → k < a + len → p k ≡ q k) →
+pub none-in : (p q : ℕ → Bool) (a len : ℕ) → ((k : ℕ) → a ≤ k → k < a + len → p k ≡ q k) →
     None ≡ find p (range_with_len a len) →
     filter q (range_with_len a len) ≡ []
 none-in p q a zero same e = refl
@@ -115,7 +115,7 @@ left-none shop node front set count from at low high e =
 abbrev Walk : Type 0
 Walk = List ℕ × Incumbent
 
-then-assoc : (a : Walk) (f g : Incumbent → Walk) → then_walk (then_walk a f) g ≡ then_walk a (λ st. then_walk (f st) g)
+pub then-assoc : (a : Walk) (f g : Incumbent → Walk) → then_walk (then_walk a f) g ≡ then_walk a (λ st. then_walk (f st) g)
 then-assoc a f g = ap (λ t. (t, (g (f a.1).1).1)) (append_assoc a.0 (f a.1).0 (g (f a.1).1).0)
 
 resume-next : (shop : Shop) (root : List ℕ) (left job : ℕ) (here later : Frame) (fs : List Frame) (st : Incumbent) →
@@ -388,18 +388,18 @@ module _ {shop : Shop} {budget : ℕ} {root : List ℕ} {whole : List ℕ
 
   -- the plus of a child is written, and its node entered
   pub walking-down : (job : ℕ) (mid new : Search) (child : Frame) →
-      Some job ≡ find (contains now.unscheduled) (numbers here.next shop.jobs) →
-      Opens shop budget below job now mid → Entered job mid new →
+      Some job ≡ find (contains now.unscheduled) (numbers here.next shop.jobs) → 9 ≤ below →
+      Opens shop budget job now mid → Entered job mid new →
       IsFrontOf shop (now.node.items ++ job ∷ []) child.front →
       IsRestOf shop (members new.unscheduled) child.rest →
       ((machine : ℕ) → 1 ≤ machine → machine ≤ shop.machines →
       slice_index_or child.second (machine - 1) 0 ≡ second_tail shop (members new.unscheduled) machine) →
       child.next ≡ 1 →
       IsWalking shop budget root whole old child (below - 1) (moved here (job + 1) ∷ fs) new
-  walking-down job mid new child found opens entered front rest_given second next =
+  walking-down job mid new child found deep opens entered front rest_given second next =
       let kid = walking-child job found in
       let st : Incumbent = incumbent_of now in
-      let more : below ≡ suc (below - 1) = omega (arith, opens.more) in
+      let more : below ≡ suc (below - 1) = omega (arith, deep) in
       let left : ℕ = below - 1 in
       let later : Frame = moved here (job + 1) in
       let back : job + 1 - 1 ≡ job = omega arith in
@@ -470,14 +470,14 @@ module _ {shop : Shop} {budget : ℕ} {root : List ℕ} {whole : List ℕ
             ∙ ap (λ w. now.tree.items ++ w.0) (sym whole_is)
             ∙ i.text;
         state = ap (λ s. (child_rest s).1) st_is ∙ ap (λ w. w.1) (sym whole_is) ∙ i.state;
-        many = omega (arith, opens.more);
+        many = omega (arith, deep);
         within = subst (λ t. length t ≤ budget) (sym entered.tree) opens.wrote.within;
       }
 
   -- the node of a child whose plus is written
   pub walking-entered : (job : ℕ) (mid new : Search) → Some job
       ≡ find (contains now.unscheduled) (numbers here.next shop.jobs) →
-      Opens shop budget below job now mid → Entered job mid new →
+      Opens shop budget job now mid → Entered job mid new →
       IsAt shop new.node.items (front_of shop (now.node.items ++ job ∷ [])) new.unscheduled below
       × IsRestOf shop (members (slice_set new.unscheduled (job - 1) true)) here.rest
   walking-entered job mid new found opens entered =

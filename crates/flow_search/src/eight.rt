@@ -1,10 +1,10 @@
 //! A node with at most eight jobs left: its children side by side, one in each lane.
 
+mod children;
 mod entry;
 mod group;
-mod letters;
 mod numbers;
 
+pub(crate) use children::{open_child, retest_children, test_children};
 pub(crate) use entry::enter_few;
-pub(crate) use group::{Group, LaneFrame, LaneRow};
-pub(crate) use letters::{letters_of_eight, open_child, renew_letters};
+pub(crate) use group::{Group, LaneFrame, LaneRow, Lanes};

@@ -1,13 +1,14 @@
 //! The walk of a subtree with at most eight jobs left.
 
-ghost use Rattle.std.specs.Prelude.{◌≡◌, ℕ, ◌+◌, ◌-◌, ◌<◌, ◌≤◌, suc, length, filter, slice_index, take, OnOk};
+ghost use Rattle.std.specs.Prelude.{◌≡◌, ◌+◌, ◌-◌, ◌<◌, ◌≤◌, suc, true, false, length, filter, find, take, OnOk};
+ghost use Rattle.std.specs.List.{range_with_len};
 ghost use Rattle.flow_core.specs.Shop.{numbers};
 ghost use Rattle.flow_core.specs.JobSet.{contains};
-ghost use Rattle.flow_search.specs.internal.Nodes.{IsAt, Gave, children_walked};
-ghost use Rattle.flow_search.specs.internal.Lanes.{IsFrameOf, IsOpened, IsLaneLeft, IsLetter};
-ghost use Rattle.flow_search.specs.internal.Lanes.{child, lane_walked};
+ghost use Rattle.flow_search.specs.internal.Nodes.{IsAt, Gave, Opens, children_walked};
+ghost use Rattle.flow_search.specs.internal.Lanes.{IsFrameOf, IsTested, IsLaneLeft, is_left, job_of};
+ghost use Rattle.flow_search.specs.internal.Lanes.{lane_walked, frame_at};
 
-use crate::eight::{Group, LaneFrame, enter_few, letters_of_eight, open_child, renew_letters};
+use crate::eight::{Group, LaneFrame, Lanes, enter_few, open_child, retest_children, test_children};
 use crate::subtree::{Search, Stop};
 use flow_core::{Front, Instance, JobSet};
 
@@ -28,87 +29,110 @@ fn jobs_of(instance: &Instance, set: &JobSet) -> [u16; 8]
     made
 }
 
-/// Walks the subtrees of a node's children, in increasing order of their jobs, with a frame for each job left but one.
-#[cycle(few)]
+/// The first lane from a frame's next on whose job is left.
+fn next_lane(frame: &LaneFrame) -> Option<usize>
+    ensures { result ≡ find (is_left frame.now) (range_with_len frame.now.next (8 - frame.now.next)) }
+{
+    for lane in frame.next..8 {
+        if frame.gone[lane] == 0 {
+            return Some(lane);
+        }
+    }
+    None
+}
+
+/// Begins the walk of a lane's child, with so many jobs left below it: true for a plus, where its children follow, and
+/// false where its subtree is walked.
+fn visit_lane(
+    instance: &Instance,
+    budget: usize,
+    group: &Group,
+    frame: &LaneFrame,
+    lane: usize,
+    below: usize,
+    search: &mut Search,
+) -> Result<bool, Stop>
+    requires tested { IsTested instance.now search.old.node.items group.now frame.now }
+    requires value { frame.now.value ≡ search.old.value }
+    requires left { IsLaneLeft frame.now lane }
+    requires count { length search.old.node.items + suc below ≡ instance.now.jobs }
+    ensures whole { result ≡ Ok false → Gave budget
+        (lane_walked instance.now below group.now lane search.old) search.old search.new }
+    ensures opens { result ≡ Ok true →
+        Opens instance.now budget (job_of group.now lane) search.old search.new }
+    ensures more { result ≡ Ok true → 1 ≤ below }
+    ensures over { result ≡ Err Stop.OverBudget →
+        budget < length search.old.tree.items + length (lane_walked instance.now below group.now lane search.old).0 }
+{
+    let machines = instance.machines() as usize;
+    if below == 0 {
+        search.write(budget, b'.')?;
+        search.node.push(group.jobs[lane])?;
+        search.see(u64::from(frame.free[machines - 1][lane]))?;
+        search.node.pop();
+        return Ok(false);
+    }
+    let uncut = frame.uncut[lane];
+    if uncut < machines as u32 {
+        search.write(budget, b'A' + uncut as u8)?;
+        return Ok(false);
+    }
+    search.write(budget, b'+')?;
+    Ok(true)
+}
+
+/// Walks the subtrees of the children of the first frame's node, in increasing order of their jobs, with a frame for each
+/// job left.
 fn walk_lanes(
     instance: &Instance,
     budget: usize,
     group: &Group,
-    frame: &mut LaneFrame,
-    below: &mut [LaneFrame],
+    frames: &mut [LaneFrame],
     search: &mut Search,
 ) -> Result<(), Stop>
-    requires at { IsFrameOf instance.now search.old.node.items group.now frame.old }
-    requires count { length search.old.node.items + suc (length below.old) ≡ instance.now.jobs }
+    requires tested { IsTested instance.now search.old.node.items group.now (frame_at frames.old 0) }
+    requires next { (frame_at frames.old 0).next ≡ 0 }
+    requires some { 1 ≤ length frames.old }
+    requires count { length search.old.node.items + length frames.old ≡ instance.now.jobs }
     requires within { length search.old.tree.items ≤ budget }
     ensures done { OnOk result
-        (Gave budget (children_walked instance.now (length below.old) search.old) search.old search.new) }
-    ensures over { result ≡ Err Stop.OverBudget →
-        budget < length search.old.tree.items + length (children_walked instance.now (length below.old) search.old).0 }
+        (Gave budget (children_walked instance.now (length frames.old - 1) search.old) search.old search.new) }
+    ensures over { result ≡ Err Stop.OverBudget → budget
+        < length search.old.tree.items + length (children_walked instance.now (length frames.old - 1) search.old).0 }
 {
-    let mut value = search.value;
-    letters_of_eight(instance, group, frame, value);
-    for lane in 0..8usize {
-        if frame.gone[lane] == 0 {
-            renew_letters(instance, group, frame, value, search.value);
-            value = search.value;
-            walk_lane(instance, budget, group, frame, below, lane, search)?;
+    let last = frames.len() - 1;
+    let mut depth = 0;
+    'walk: loop {
+        let Some(lane) = next_lane(&frames[depth]) else {
+            if depth == 0 {
+                return Ok(());
+            }
+            search.node.pop();
+            depth -= 1;
+            continue 'walk;
+        };
+        let frame = &mut frames[depth];
+        retest_children(instance, group, frame, search.value);
+        frame.next = lane + 1;
+        if visit_lane(instance, budget, group, frame, lane, last - depth, search)? {
+            let (above, below) = frames.split_at_mut(depth + 1);
+            let made = &mut below[0];
+            open_child(instance, group, &above[depth], made, lane);
+            test_children(instance, group, made, search.value);
+            search.node.push(group.jobs[lane])?;
+            depth += 1;
         }
     }
-    Ok(())
 }
 
-/// Walks the subtree of a node's child, with a frame for each job that the child leaves.
-#[cycle(few)]
-fn walk_lane(
-    instance: &Instance,
-    budget: usize,
-    group: &Group,
-    parent: &LaneFrame,
-    below: &mut [LaneFrame],
-    lane: usize,
-    search: &mut Search,
-) -> Result<(), Stop>
-    requires at { IsOpened instance.now search.old.node.items group.now parent.now }
-    requires left { IsLaneLeft parent.now lane }
-    requires count { length search.old.node.items + suc (length below.old) ≡ instance.now.jobs }
-    requires letter { 0 < length below.old →
-        IsLetter instance.now (child search.old.node.items group.now lane) search.old.value instance.now.machines
-        (slice_index parent.now.letters lane) }
-    ensures done { OnOk result
-        (Gave budget (lane_walked instance.now (length below.old) group.now lane search.old) search.old search.new) }
-    ensures over { result ≡ Err Stop.OverBudget → budget < length search.old.tree.items
-        + length (lane_walked instance.now (length below.old) group.now lane search.old).0 }
-{
-    let machines = instance.machines() as usize;
-    let Some((frame, rest)) = below.split_first_mut() else {
-        search.write(budget, b'.')?;
-        search.node.push(group.jobs[lane])?;
-        search.see(u64::from(parent.free[machines - 1][lane]))?;
-        search.node.pop();
-        return Ok(());
-    };
-    let letter = parent.letters[lane];
-    if letter < machines as u32 {
-        search.write(budget, b'A' + letter as u8)?;
-        return Ok(());
-    }
-    search.write(budget, b'+')?;
-    open_child(instance, group, parent, frame, lane);
-    search.node.push(group.jobs[lane])?;
-    walk_lanes(instance, budget, group, frame, rest, search)?;
-    search.node.pop();
-    Ok(())
-}
-
-/// Walks the subtrees of the children of the node where the search stands, with one to eight jobs left. What the frames
-/// hold before does not matter.
+/// Walks the subtrees of the children of the node where the search stands, with one to eight jobs left. What the memory
+/// for lanes holds before does not matter.
 pub fn walk_few(
     instance: &Instance,
     budget: usize,
     front: &Front,
     count: u16,
-    frames: &mut [LaneFrame; 8],
+    lanes: &mut Lanes,
     search: &mut Search,
 ) -> Result<(), Stop>
     requires at { IsAt instance.now search.old.node.items front.now search.old.unscheduled count }
@@ -122,10 +146,10 @@ pub fn walk_few(
 {
     let jobs = jobs_of(instance, &search.unscheduled);
     let left = count as usize;
-    let mut group = Group::new();
-    let Some((frame, below)) = frames[..left].split_first_mut() else {
-        return Ok(());
-    };
-    enter_few(instance, front, &jobs[..left], &mut group, frame);
-    walk_lanes(instance, budget, &group, frame, below, search)
+    let group = &mut lanes.group;
+    let frames = &mut lanes.frames[..];
+    let first = &mut frames[0];
+    enter_few(instance, front, &jobs[..left], group, first);
+    test_children(instance, group, first, search.value);
+    walk_lanes(instance, budget, group, &mut frames[..left], search)
 }

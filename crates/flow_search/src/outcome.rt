@@ -7,7 +7,7 @@ ghost use Rattle.flow_search.specs.Plans.{prefixes_of, tree_of, best_of};
 ghost use Rattle.flow_search.specs.internal.Nodes.{found_if};
 ghost use Rattle.flow_search.specs.Outcomes.{IsLawful, found_of};
 
-use crate::eight::LaneFrame;
+use crate::eight::Lanes;
 use crate::frame::Setting;
 use crate::plan::Plan;
 use crate::subtree::{Search, Stop, explore};
@@ -69,8 +69,8 @@ fn search_below(alloc: Global, plan: &Plan, number: u32) -> Result<Search, Stop>
         rows: &rows,
         budget,
     };
-    let mut frames = [LaneFrame::new(); 8];
-    explore(&setting, &front, count, &mut frames, &mut search, stack)?;
+    let mut lanes = Lanes::new();
+    explore(&setting, &front, count, &mut lanes, &mut search, stack)?;
     Ok(search)
 }
 

@@ -10,12 +10,12 @@ ghost use Rattle.flow_core.specs.Bound.{machine_bound, bound_at};
 ghost use Rattle.flow_bound.specs.Rest.{IsRestOf};
 ghost use Rattle.flow_search.specs.Walk.{walk};
 ghost use Rattle.flow_core.specs.Rows.{AreRows};
-ghost use Rattle.flow_search.specs.internal.Frames.{IsFrame, Opens};
+ghost use Rattle.flow_search.specs.internal.Frames.{IsFrame};
 ghost use Rattle.flow_search.specs.internal.Nodes.{IsAt, IsFresh, Wrote, Saw, Entered, Left, incumbent_of};
-ghost use Rattle.flow_search.specs.internal.Nodes.{Gave, Walked, walked, children_walked};
+ghost use Rattle.flow_search.specs.internal.Nodes.{Gave, Opens, Walked, walked, children_walked};
 ghost use Rattle.flow_search.specs.declared.subtree.Stop.TheVariants.{Memory};
 
-use crate::eight::LaneFrame;
+use crate::eight::Lanes;
 use crate::few::walk_few;
 use crate::frame::{Frame, Setting};
 use flow_bound::Rest;
@@ -163,7 +163,7 @@ fn walk_small(
     mut front: Front,
     job: u16,
     below: u16,
-    frames: &mut [LaneFrame; 8],
+    lanes: &mut Lanes,
     search: &mut Search,
 ) -> Result<(), Stop>
     requires at { IsAt setting.now.instance.now search.old.node.items front search.old.unscheduled (suc below) }
@@ -189,7 +189,7 @@ fn walk_small(
         setting.budget,
         &front,
         below,
-        frames,
+        lanes,
         search,
     )?;
     search.leave(job);
@@ -203,7 +203,7 @@ fn visit(
     here: &Frame,
     job: u16,
     below: u16,
-    frames: &mut [LaneFrame; 8],
+    lanes: &mut Lanes,
     search: &mut Search,
 ) -> Result<bool, Stop>
     requires rows { AreRows setting.now.instance.now setting.now.rows.now }
@@ -218,7 +218,8 @@ fn visit(
         (walk setting.now.instance.now bound_at below (search.old.node.items ++ job ∷ []) (incumbent_of search.old))
         search.old search.new }
     ensures opens { result ≡ Ok true →
-        Opens setting.now.instance.now setting.now.budget below job search.old search.new }
+        Opens setting.now.instance.now setting.now.budget job search.old search.new }
+    ensures more { result ≡ Ok true → 9 ≤ below }
     ensures over { result ≡ Err Stop.OverBudget → setting.now.budget < length search.old.tree.items + length
         (walk setting.now.instance.now bound_at below (search.old.node.items ++ job ∷ []) (incumbent_of search.old)).0 }
 {
@@ -227,7 +228,7 @@ fn visit(
         return Ok(false);
     }
     if below == 8 {
-        walk_small(setting, here.front, job, below, frames, search)?;
+        walk_small(setting, here.front, job, below, lanes, search)?;
         return Ok(false);
     }
     search.write(setting.budget, b'+')?;
@@ -239,7 +240,7 @@ fn walk_children(
     setting: &Setting,
     mut here: Frame,
     mut below: u16,
-    frames: &mut [LaneFrame; 8],
+    lanes: &mut Lanes,
     search: &mut Search,
     mut stack: Vec<Frame>,
 ) -> Result<(), Stop>
@@ -268,7 +269,7 @@ fn walk_children(
             continue 'walk;
         };
         here.next = job + 1;
-        if visit(setting, &here, job, below, frames, search)? {
+        if visit(setting, &here, job, below, lanes, search)? {
             search.enter(job)?;
             let rest = here.rest.step(instance, &search.unscheduled, job);
             let mut front = here.front;
@@ -280,13 +281,13 @@ fn walk_children(
     }
 }
 
-/// Walks the subtree of the node where the search stands, with so many jobs left. What the frames of lanes hold before
-/// does not matter.
+/// Walks the subtree of the node where the search stands, with so many jobs left. What the memory for lanes
+/// holds before does not matter.
 pub fn explore(
     setting: &Setting,
     front: &Front,
     count: u16,
-    frames: &mut [LaneFrame; 8],
+    lanes: &mut Lanes,
     search: &mut Search,
     stack: Vec<Frame>,
 ) -> Result<(), Stop>
@@ -310,8 +311,8 @@ pub fn explore(
     }
     search.write(setting.budget, b'+')?;
     if count <= 8 {
-        return walk_few(instance, setting.budget, front, count, frames, search);
+        return walk_few(instance, setting.budget, front, count, lanes, search);
     }
     let here = Frame::new(setting, *front, rest, &search.unscheduled);
-    walk_children(setting, here, count - 1, frames, search, stack)
+    walk_children(setting, here, count - 1, lanes, search, stack)
 }

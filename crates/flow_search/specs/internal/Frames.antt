@@ -8,7 +8,7 @@ use Rattle.flow_bound.specs.Rest.{IsRestOf}
 use Rattle.flow_search.specs.Search.{Found}
 use Rattle.flow_search.specs.Walk.{walk, walk_each}
 use Rattle.flow_search.specs.internal.Lows.{second_tail}
-use Rattle.flow_search.specs.internal.Nodes.{IsAt, Wrote, incumbent_of}
+use Rattle.flow_search.specs.internal.Nodes.{IsAt, incumbent_of, then_walk}
 use Rattle.flow_search.specs.declared.frame.Frame.{Frame}
 use Rattle.flow_search.specs.declared.subtree.Search.{Search}
 
@@ -43,11 +43,6 @@ IsStack shop root left (f ∷ fs) =
 abbrev pub left_from : ℕ → List ℕ → ℕ → List ℕ
 left_from n node from = filter (λ job. not (has node job)) (numbers from n)
 
--- what one walk writes and then another, which begins with the incumbent after it
-abbrev pub then_walk : List ℕ × (ℕ × Option Found) → (ℕ × Option Found → List ℕ × (ℕ × Option Found)) →
-    List ℕ × (ℕ × Option Found)
-then_walk first more = (first.0 ++ (more first.1).0, (more first.1).1)
-
 -- the walk of a node's children from a job on, each with so many jobs left
 abbrev pub walk_from : Shop → ℕ → List ℕ → ℕ → ℕ × Option Found → List ℕ × (ℕ × Option Found)
 walk_from shop left node from incumbent =
@@ -58,14 +53,6 @@ abbrev pub resume : Shop → List ℕ → ℕ → List Frame → ℕ × Option F
 resume shop root left [] incumbent = ([], incumbent)
 resume shop root left (f ∷ fs) incumbent =
     then_walk (walk_from shop left (path root fs) f.next incumbent) (resume shop root (suc left) fs)
-
--- the plus of a child with more than eight jobs left, which no bound cuts, is written
-pub record Opens (shop : Shop) (budget below job : ℕ) (old new : Search) : Type 0 where
-  pub wrote : Wrote budget 43 old new
-  pub more : 9 ≤ below
-  pub uncut :
-      find (λ machine. nat_le old.value (bound_at shop (old.node.items ++ job ∷ []) machine)) (numbers 1 shop.machines)
-      ≡ None
 
 -- the walk of a root's children stands at a node below it, whose frame is `here`: what was written, with what is still
 -- to be walked, is the whole

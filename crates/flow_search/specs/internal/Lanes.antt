@@ -1,5 +1,5 @@
 -- The jobs of a node with at most eight jobs left, side by side in eight lanes.
-use Rattle.std.specs.Prelude.{ℕ, ◌≡◌, ◌≢◌, ◌⊎◌, ◌+◌, ◌-◌, ◌<◌, ◌≤◌, false, List, [], ◌∷◌, ◌++◌, slice_index, slice_index_or, sum_by, length, filter, nat_eq, Option}
+use Rattle.std.specs.Prelude.{ℕ, suc, ◌≡◌, ◌≢◌, ◌⊎◌, ◌+◌, ◌-◌, ◌<◌, ◌≤◌, false, List, [], ◌∷◌, ◌++◌, slice_index, slice_index_or, sum_by, length, filter, nat_eq, Bool, Option}
 use Rattle.std.specs.List.{range_with_len}
 use Rattle.flow_core.specs.Limits.{greatest_time}
 use Rattle.flow_core.specs.Shop.{Shop, time, time_between}
@@ -8,8 +8,8 @@ use Rattle.flow_core.specs.Front.{IsFrontOf}
 use Rattle.flow_core.specs.Sequences.{has, jobs_left}
 use Rattle.flow_core.specs.Bound.{bound_at}
 use Rattle.flow_search.specs.Search.{Found}
-use Rattle.flow_search.specs.Walk.{walk}
-use Rattle.flow_search.specs.internal.Nodes.{incumbent_of}
+use Rattle.flow_search.specs.Walk.{walk, walk_each}
+use Rattle.flow_search.specs.internal.Nodes.{incumbent_of, then_walk}
 use Rattle.flow_search.specs.declared.subtree.Search.{Search}
 use Rattle.flow_search.specs.declared.eight.group.TheConstants.{GONE}
 use Rattle.flow_search.specs.declared.eight.group.LaneRow.{LaneRow}
@@ -42,6 +42,10 @@ pub record IsLaneLeft (frame : LaneFrame) (lane : ℕ) : Type 0 where
 abbrev pub job_of : Group → ℕ → ℕ
 job_of group lane = slice_index group.jobs lane
 
+-- the list with the job of a lane at its end
+abbrev pub child : List ℕ → Group → ℕ → List ℕ
+child list group lane = list ++ job_of group lane ∷ []
+
 -- no time is above the limit, nor is a time behind a machine as great as what stands for a job that is gone
 pub record IsSmallRow (row : LaneRow) (lane : ℕ) : Type 0 where
   pub time : slice_index row.time lane ≤ greatest_time
@@ -53,11 +57,11 @@ pub record IsRowOf (shop : Shop) (row : LaneRow) (lane job machine : ℕ) : Type
   pub tail : slice_index row.tail lane ≡ time_between shop job (machine + 1) shop.machines
 
 -- the jobs that a list leaves stand in the lanes that are left, in increasing order, with their times; the list's front
--- and the times owed are known
+-- is known, and for each machine the sum of their times
 pub record IsFrameOf (shop : Shop) (list : List ℕ) (group : Group) (frame : LaneFrame) : Type 0 where
   pub count : length list + length (jobs_left shop.jobs list) ≡ shop.jobs
   pub times : IsFrontOf shop list frame.front
-  pub owed : (machine : ℕ) → 1 ≤ machine → machine ≤ shop.machines →
+  pub sums : (machine : ℕ) → 1 ≤ machine → machine ≤ shop.machines →
       slice_index frame.sum (machine - 1) ≡ sum_by (λ job. time shop job machine) (jobs_left shop.jobs list)
   pub gone : (lane : ℕ) → lane < 8 → (slice_index frame.gone lane ≡ 0) ⊎ (slice_index frame.gone lane ≡ GONE)
   pub small : (row : LaneRow) (machine lane : ℕ) → 1 ≤ machine → machine ≤ shop.machines → lane < 8 →
@@ -72,10 +76,6 @@ pub record IsFrameOf (shop : Shop) (list : List ℕ) (group : Group) (frame : La
   pub order : (lane other : ℕ) → IsLaneLeft frame lane → IsLaneLeft frame other → lane < other →
       job_of group lane < job_of group other
 
--- the list with the job of a lane at its end
-abbrev pub child : List ℕ → Group → ℕ → List ℕ
-child list group lane = list ++ job_of group lane ∷ []
-
 -- and each child's front is known too
 pub record IsOpened (shop : Shop) (list : List ℕ) (group : Group) (frame : LaneFrame) : Type 0 where
   pub at : IsFrameOf shop list group frame
@@ -83,22 +83,68 @@ pub record IsOpened (shop : Shop) (list : List ℕ) (group : Group) (frame : Lan
       slice_index (slice_index_or frame.free place []) lane ≡ completion shop (child list group lane) (place + 1)
 
 -- so many machines, of the first ones, stand before the first whose bound reaches a limit; all of them where none does
-pub record IsLetter (shop : Shop) (list : List ℕ) (limit machines letter : ℕ) : Type 0 where
-  pub within : letter ≤ machines
-  pub above : (machine : ℕ) → 1 ≤ machine → machine ≤ letter → bound_at shop list machine < limit
-  pub cut : letter < machines → limit ≤ bound_at shop list (letter + 1)
+pub record IsUncutCount (shop : Shop) (list : List ℕ) (limit machines uncut : ℕ) : Type 0 where
+  pub within : uncut ≤ machines
+  pub above : (machine : ℕ) → 1 ≤ machine → machine ≤ uncut → bound_at shop list machine < limit
+  pub cut : uncut < machines → limit ≤ bound_at shop list (uncut + 1)
 
--- each child that leaves a job has its letter for a limit
-abbrev pub AreLetters : Shop → List ℕ → Group → ℕ → LaneFrame → Type 0
-AreLetters shop list group limit frame =
-    (lane other : ℕ) → IsLaneLeft frame lane → IsLaneLeft frame other → other ≢ lane →
-    IsLetter shop (child list group lane) limit shop.machines (slice_index frame.letters lane)
+-- the children are opened, and each that leaves a job was tested against the frame's value
+pub record IsTested (shop : Shop) (list : List ℕ) (group : Group) (frame : LaneFrame) : Type 0 where
+  pub opened : IsOpened shop list group frame
+  pub uncut : (lane other : ℕ) → IsLaneLeft frame lane → IsLaneLeft frame other → other ≢ lane →
+      IsUncutCount shop (child list group lane) frame.value shop.machines (slice_index frame.uncut lane)
+
+-- whether the job of a lane is left
+abbrev pub is_left : LaneFrame → ℕ → Bool
+is_left frame lane = nat_eq (slice_index frame.gone lane) 0
 
 -- the lanes whose jobs are left, in increasing order, from a lane on
 abbrev pub lanes_from : LaneFrame → ℕ → List ℕ
-lanes_from frame lane = filter (λ lane. nat_eq (slice_index frame.gone lane) 0) (range_with_len lane (8 - lane))
+lanes_from frame lane = filter (is_left frame) (range_with_len lane (8 - lane))
 
--- what the walk of a lane's child gives, with so many jobs left there
+-- the walk of a lane's child, with so many jobs left there
 abbrev pub lane_walked : Shop → ℕ → Group → ℕ → Search → List ℕ × (ℕ × Option Found)
 lane_walked shop left group lane search =
     walk shop bound_at left (child search.node.items group lane) (incumbent_of search)
+
+-- the walks of the children in the lanes from one on, one after another, each with so many jobs left
+abbrev pub lanes_walked : Shop → ℕ → List ℕ → Group → LaneFrame → ℕ → ℕ × Option Found → List ℕ × (ℕ × Option Found)
+lanes_walked shop left list group frame lane incumbent =
+    walk_each (λ lane. walk shop bound_at left (child list group lane)) (lanes_from frame lane) incumbent
+
+-- the node that a stack of frames, the deepest first, leads to: each frame's child just walked is in the lane before its
+-- next
+abbrev pub lane_path : List ℕ → Group → List LaneFrame → List ℕ
+lane_path root group [] = root
+lane_path root group (f ∷ fs) = child (lane_path root group fs) group (f.next - 1)
+
+-- each frame is that of its node, with the children tested
+abbrev pub AreTested : Shop → List ℕ → Group → List LaneFrame → Type 0
+AreTested shop root group [] = Unit {0}
+AreTested shop root group (f ∷ fs) = IsTested shop (lane_path root group fs) group f × AreTested shop root group fs
+
+-- what is still to be walked of the nodes of a stack, with so many jobs left below the children of the deepest one
+abbrev pub lanes_left : Shop → List ℕ → Group → ℕ → List LaneFrame → ℕ × Option Found → List ℕ × (ℕ × Option Found)
+lanes_left shop root group left [] incumbent = ([], incumbent)
+lanes_left shop root group left (f ∷ fs) incumbent =
+    then_walk (lanes_walked shop left (lane_path root group fs) group f f.next incumbent)
+    (lanes_left shop root group (suc left) fs)
+
+-- the walk of a root's children stands at a node below it, whose frame is `here`: what was written, with what is still
+-- to be walked, is the whole
+pub record IsInLanes (shop : Shop) (budget : ℕ) (group : Group) (root : List ℕ) (whole : List ℕ × (ℕ × Option Found))
+    (old : Search) (here : LaneFrame) (below : ℕ) (frames : List LaneFrame) (now : Search) : Type 0 where
+  pub node : now.node.items ≡ lane_path root group frames
+  pub count : length (lane_path root group frames) + suc below ≡ shop.jobs
+  pub tested : AreTested shop root group (here ∷ frames)
+  pub text : now.tree.items ++ (lanes_left shop root group below (here ∷ frames) (incumbent_of now)).0
+      ≡ old.tree.items ++ whole.0
+  pub state : (lanes_left shop root group below (here ∷ frames) (incumbent_of now)).1 ≡ whole.1
+  pub unscheduled : now.unscheduled ≡ old.unscheduled
+  pub within : length now.tree.items ≤ budget
+
+-- the frame of a depth; an empty one where there is none
+abbrev pub frame_at : List LaneFrame → ℕ → LaneFrame
+frame_at frames depth =
+    slice_index_or frames depth
+    (record { free = []; front = []; sum = []; gone = []; uncut = []; value = 0; next = 0 })

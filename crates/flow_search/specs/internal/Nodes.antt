@@ -1,7 +1,7 @@
 -- The state of a search at a node, and how the steps of the code change it.
-use Rattle.std.specs.Prelude.{ℕ, ◌≡◌, ◌+◌, ◌-◌, ◌<◌, ◌≤◌, Bool, true, false, not, cond, nat_lt, List, [], ◌∷◌, ◌++◌, length, slice_set, Option, Some, None}
+use Rattle.std.specs.Prelude.{ℕ, ◌≡◌, ◌+◌, ◌-◌, ◌<◌, ◌≤◌, Bool, true, false, not, cond, nat_lt, nat_le, List, [], ◌∷◌, ◌++◌, length, find, slice_set, Option, Some, None}
 use Rattle.flow_core.specs.Limits.{most_jobs}
-use Rattle.flow_core.specs.Shop.{Shop, IsWithinLimits}
+use Rattle.flow_core.specs.Shop.{Shop, IsWithinLimits, numbers}
 use Rattle.flow_core.specs.Front.{IsFrontOf}
 use Rattle.flow_core.specs.JobSet.{contains}
 use Rattle.flow_core.specs.Sequences.{has, jobs_left, AreJobs}
@@ -89,3 +89,15 @@ pub record Gave (budget : ℕ) (walked : List ℕ × (ℕ × Option Found)) (old
 -- the subtree of the search's node was walked
 abbrev pub Walked : Shop → ℕ → ℕ → Search → Search → Type 0
 Walked shop budget left old new = Gave budget (walked shop left old) old new
+
+-- what one walk writes and then another, which begins with the incumbent after it
+abbrev pub then_walk : List ℕ × (ℕ × Option Found) → (ℕ × Option Found → List ℕ × (ℕ × Option Found)) →
+    List ℕ × (ℕ × Option Found)
+then_walk first more = (first.0 ++ (more first.1).0, (more first.1).1)
+
+-- the plus of a job's child, which no bound cuts, is written
+pub record Opens (shop : Shop) (budget job : ℕ) (old new : Search) : Type 0 where
+  pub wrote : Wrote budget 43 old new
+  pub uncut :
+      find (λ machine. nat_le old.value (bound_at shop (old.node.items ++ job ∷ []) machine)) (numbers 1 shop.machines)
+      ≡ None

@@ -3,7 +3,7 @@
 ghost use Rattle.std.specs.Prelude.{◌≡◌, ℕ, ◌<◌, ◌≤◌, List, length, slice_index, sum_by};
 ghost use Rattle.flow_core.specs.Limits.{greatest_time};
 ghost use Rattle.flow_core.specs.Shop.{time};
-ghost use Rattle.flow_search.specs.internal.Lanes.{AreJobsOf, IsFew, IsLaneLeft, IsFrameOf, job_of};
+ghost use Rattle.flow_search.specs.internal.Lanes.{AreJobsOf, IsFew, IsFrameOf};
 ghost use Rattle.flow_search.specs.declared.eight.group.TheConstants.{GONE};
 
 use crate::eight::group::{GONE, Group, LaneFrame, LaneRow};
@@ -28,8 +28,8 @@ fn times_of(instance: &Instance, jobs: &[u16], machine: u16) -> [u32; 8]
     made
 }
 
-/// The time that a machine owes some jobs.
-fn owed(instance: &Instance, jobs: &[u16], machine: u16) -> u32
+/// The sum of the times of some jobs on a machine.
+fn load(instance: &Instance, jobs: &[u16], machine: u16) -> u32
     requires few { length jobs.now ≤ 8 }
     requires jobs { AreJobsOf instance.now jobs.now }
     requires from { 1 ≤ machine }
@@ -78,8 +78,7 @@ pub fn enter_few(
     requires { (list : List ℕ) × IsFew instance.now list front.now jobs.now }
     ensures at { (list : List ℕ) → IsFew instance.now list front.now jobs.now →
         IsFrameOf instance.now list group.new frame.new }
-    ensures left { (lane : ℕ) → lane < length jobs.now → IsLaneLeft frame.new lane }
-    ensures jobs { (lane : ℕ) → lane < length jobs.now → job_of group.new lane ≡ slice_index jobs.now lane }
+    ensures next { frame.new.next ≡ 0 }
 {
     let mut machine = instance.machines();
     let mut behind = [0u32; 8];
@@ -88,10 +87,11 @@ pub fn enter_few(
         let time = times_of(instance, jobs, machine);
         group.rows[place] = LaneRow { time, tail: behind };
         frame.front[place] = front.at(machine) as u32;
-        frame.sum[place] = owed(instance, jobs, machine);
+        frame.sum[place] = load(instance, jobs, machine);
         behind = sums(&behind, &time);
         machine -= 1;
     }
     group.jobs = lanes_of(jobs);
     frame.gone = gone_from(jobs.len());
+    frame.next = 0;
 }

@@ -25,7 +25,7 @@ pub struct Group {
 
 impl Group {
     /// A group before its jobs are known.
-    pub fn new() -> Self {
+    fn new() -> Self {
         Group {
             rows: [LaneRow {
                 time: [0; 8],
@@ -43,23 +43,48 @@ pub struct LaneFrame {
     pub free: [[u32; 8]; MAX_MACHINES],
     /// When each machine is free.
     pub front: [u32; MAX_MACHINES],
-    /// The time that each machine owes the jobs left.
+    /// For each machine the sum of the times of the jobs left.
     pub sum: [u32; MAX_MACHINES],
     /// For each lane 0 where its job is left, else `GONE`.
     pub gone: [u32; 8],
     /// For each child, how many machines there are before the first that cuts it.
-    pub letters: [u32; 8],
+    pub uncut: [u32; 8],
+    /// The makespan against which the children were tested.
+    pub value: u64,
+    /// No lane below this one has a child that is still to be walked.
+    pub next: usize,
 }
 
 impl LaneFrame {
     /// A frame before its node is known.
-    pub fn new() -> Self {
+    fn new() -> Self {
         LaneFrame {
             free: [[0; 8]; MAX_MACHINES],
             front: [0; MAX_MACHINES],
             sum: [0; MAX_MACHINES],
             gone: [0; 8],
-            letters: [0; 8],
+            uncut: [0; 8],
+            value: 0,
+            next: 0,
+        }
+    }
+}
+
+/// The memory of a walk of a subtree with at most eight jobs. What it holds before the walk does not matter.
+#[derive(Drop)]
+pub struct Lanes {
+    /// The jobs of the subtree.
+    pub group: Group,
+    /// The nodes from the root of the subtree to that where the walk stands.
+    pub frames: [LaneFrame; 8],
+}
+
+impl Lanes {
+    /// The memory before the first walk.
+    pub fn new() -> Self {
+        Lanes {
+            group: Group::new(),
+            frames: [LaneFrame::new(); 8],
         }
     }
 }

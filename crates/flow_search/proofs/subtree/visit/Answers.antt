@@ -69,10 +69,12 @@ returns-in-Some-clause-whole c e =
 pub returns-clause-opens : goal.returns-clause-opens
 returns-clause-opens c e = record {
   wrote = c.in_ok-write-2.ensures.done;
-  more = omega (arith, c.requires.many, c.if-below-eq8.false);
   uncut = sym (found (goal.at.returns-clause-opens c).After-cutting_machine) ∙ c.in_default.is;
 }
 
 pub walk_small-requires-clause-uncut : goal.walk_small-requires-clause-uncut
 walk_small-requires-clause-uncut c = sym (found (goal.at.walk_small-requires-clause-uncut c).After-cutting_machine)
     ∙ c.in_default.is
+
+pub returns-clause-more : goal.returns-clause-more
+returns-clause-more c e = omega (arith, c.requires.many, c.if-below-eq8.false)

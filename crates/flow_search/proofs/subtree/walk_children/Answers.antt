@@ -8,8 +8,8 @@ use Rattle.flow_core.specs.JobSet.{contains, members}
 use Rattle.flow_core.specs.Bound.{bound_at, front_of}
 use Rattle.flow_search.specs.Walk.{walk}
 use Rattle.flow_bound.specs.Rest.{IsRestOf}
-use Rattle.flow_search.specs.internal.Nodes.{IsAt, Entered, Left, Gave, children_walked, incumbent_of}
-use Rattle.flow_search.specs.internal.Frames.{IsWalking, IsChild, Opens, path}
+use Rattle.flow_search.specs.internal.Nodes.{IsAt, Entered, Left, Gave, Opens, children_walked, incumbent_of}
+use Rattle.flow_search.specs.internal.Frames.{IsWalking, IsChild, path}
 use Rattle.flow_search.specs.declared.frame.Frame.{Frame}
 use Rattle.flow_search.specs.declared.subtree.Stop.{Stop}
 use Rattle.flow_search.specs.declared.subtree.Stop.TheVariants.{OverBudget}
@@ -112,9 +112,12 @@ enter-requires-clause-to c = let k = kid (goal.at.enter-requires-clause-to c).In
 
 -- the plus that was written
 opens : (c : Then-branch) →
-    Opens c.args.setting.now.instance.now c.args.setting.now.budget c.walk.below c.in-Some.job c.walk.search
-    c.visit.new.search
-opens c = let put : Bool → Result Bool Stop = λ b. Ok b in c.in_ok-visit.ensures.opens (ap put c.if-branch.true)
+    Opens c.args.setting.now.instance.now c.args.setting.now.budget c.in-Some.job c.walk.search c.visit.new.search
+    × (9 ≤ c.walk.below)
+opens c =
+    let put : Bool → Result Bool Stop = λ b. Ok b in
+    let true_is = ap put c.if-branch.true in
+    (c.in_ok-visit.ensures.opens true_is, c.in_ok-visit.ensures.more true_is)
 
 -- the child's node
 entered : (c : In_ok-enter) →
@@ -132,7 +135,7 @@ entered c =
     ∙ ap (λ n. find (contains c.walk.search.unscheduled) (numbers c.walk.here.next n)) c.jobs-jobs.ensures.value in
     let is = walking-entered c.walk.invariant c.in-Some.job c.visit.new.search c.enter.new.self found o
     c.in_ok-enter.ensures in
-    (is.0, is.1, omega (arith, o.more))
+    (is.0, is.1, omega (arith, c.in_ok-visit.ensures.more (ap put c.if-branch.true)))
 
 pub step-rest-requires-clause-job_from : goal.step-rest-requires-clause-job_from
 step-rest-requires-clause-job_from c = (kid (goal.at.step-rest-requires-clause-job_from c).In-Some).0.from
@@ -171,7 +174,7 @@ walk-smaller-then-branch c =
     let tree : length c.enter.new.self.tree.items ≡ length c.visit.new.search.tree.items =
     ap length c.in_ok-enter.ensures.tree in
     let wrote : length c.visit.new.search.tree.items ≡ length (c.walk.search.tree.items ++ 43 ∷ []) =
-    ap length o.wrote.tree in
+    ap length o.0.wrote.tree in
     let stack : length c.push.new.self.items
     ≡ length (c.walk.stack.items ++ moved c.walk.here (c.in-Some.job + 1) ∷ []) =
     ap length c.in_ok-push.ensures.items in
@@ -180,7 +183,7 @@ walk-smaller-then-branch c =
       tree,
       wrote,
       stack,
-      o.wrote.within,
+      o.0.wrote.within,
       length-append c.walk.search.tree.items (43 ∷ []),
       length-append c.walk.stack.items (moved c.walk.here (c.in-Some.job + 1) ∷ []),
     )
@@ -189,6 +192,7 @@ pub walk-preserved-then-branch : goal.walk-preserved-then-branch
 walk-preserved-then-branch c =
     let shop = c.args.setting.now.instance.now in
     let old = c.args.search.now in
+    let opened = opens (goal.at.walk-preserved-then-branch c).Then-branch in
     let pushed : reverse c.push.new.self.items ≡ moved c.walk.here (c.in-Some.job + 1) ∷ reverse c.walk.stack.items =
     reverse-push c.walk.stack.items c.push.new.self.items (moved c.walk.here (c.in-Some.job
     + 1)) c.in_ok-push.ensures.items in
@@ -196,8 +200,7 @@ walk-preserved-then-branch c =
     (children_walked shop c.args.below old) old c.new-here.result (c.walk.below - 1) xs c.enter.new.self)
     (sym pushed)
     (walking-down c.walk.invariant c.in-Some.job c.visit.new.search c.enter.new.self c.new-here.result
-    (found-job (goal.at.walk-preserved-then-branch c).In-Some) (opens
-    (goal.at.walk-preserved-then-branch c).Then-branch) c.in_ok-enter.ensures
+    (found-job (goal.at.walk-preserved-then-branch c).In-Some) opened.1 opened.0 c.in_ok-enter.ensures
     (subst (IsFrontOf shop (c.walk.search.node.items ++ c.in-Some.job
     ∷ [])) (sym c.new-here.ensures.front)
     (c.front_push.ensures.front c.walk.search.node.items c.walk.invariant.at.is_front))

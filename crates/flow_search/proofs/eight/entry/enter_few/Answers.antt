@@ -11,8 +11,8 @@ pub times_of-time-requires-clause-jobs : goal.times_of-time-requires-clause-jobs
 times_of-time-requires-clause-jobs c =
     jobs-of c.args.instance.now c.requires.0 c.args.front.now c.args.jobs.now c.requires.1
 
-pub owed-requires-clause-jobs : goal.owed-requires-clause-jobs
-owed-requires-clause-jobs c = jobs-of c.args.instance.now c.requires.0 c.args.front.now c.args.jobs.now c.requires.1
+pub load-requires-clause-jobs : goal.load-requires-clause-jobs
+load-requires-clause-jobs c = jobs-of c.args.instance.now c.requires.0 c.args.front.now c.args.jobs.now c.requires.1
 
 pub overflow_cast-frame : goal.overflow_cast-frame
 overflow_cast-frame c =
@@ -35,7 +35,7 @@ loop-machine-preserved c =
       rows_size = length-set c.loop-machine.group.rows (machine - 1) row ∙ c.loop-machine.invariant.rows_size;
       front_size = length-set c.loop-machine.frame.front (machine - 1) c.at.result
           ∙ c.loop-machine.invariant.front_size;
-      sum_size = length-set c.loop-machine.frame.sum (machine - 1) c.owed.result ∙ c.loop-machine.invariant.sum_size;
+      sum_size = length-set c.loop-machine.frame.sum (machine - 1) c.load.result ∙ c.loop-machine.invariant.sum_size;
       behind = λ lane within.
           let few : lane < 8 = omega (arith, within, c.requires.1.few) in
           let job : ℕ = slice_index c.args.jobs.now lane in
@@ -59,7 +59,7 @@ loop-machine-preserved c =
         high,
       );
       done = done-next shop c.args.front.now c.args.jobs.now c.loop-machine.group.rows c.loop-machine.frame.front
-          c.loop-machine.frame.sum machine row c.at.result c.owed.result c.loop-machine.invariant.done low
+          c.loop-machine.frame.sum machine row c.at.result c.load.result c.loop-machine.invariant.done low
           (omega (arith, c.loop-machine.invariant.rows_size, low, high, most))
           (omega (arith, c.loop-machine.invariant.front_size, low, high, most))
           (omega (arith, c.loop-machine.invariant.sum_size, low, high, most))
@@ -73,7 +73,7 @@ loop-machine-preserved c =
             tail = omega
                 (arith, c.loop-machine.invariant.small lane few, low, high, most);
           })
-          c.at.ensures c.owed.ensures.value;
+          c.at.ensures c.load.ensures.value;
     }
 
 pub returns-clause-at : goal.returns-clause-at
@@ -81,8 +81,3 @@ returns-clause-at c list is =
     entered c.args.instance.now list c.args.front.now c.args.jobs.now _ _ c.loop-machine.machine is
     (omega (arith, c.loop-machine-test.false))
     c.loop-machine.invariant.done c.lanes_of-group.ensures c.gone_from-frame.ensures.left c.gone_from-frame.ensures.gone
-
-pub returns-clause-left : goal.returns-clause-left
-returns-clause-left c lane low =
-    let few : lane < 8 = omega (arith, low, c.requires.1.few) in
-    record { within = few; left = c.gone_from-frame.ensures.left lane few low }

@@ -1,6 +1,6 @@
 use Rattle.std.proofs.Common.{rules, ◌≡◌, ◌<◌, [], length, refl, arith}
-use Rattle.flow_search.proofs.LanesOpened.{time-owed, child-at}
-use Rattle.flow_search.proofs.eight.letters.open_child.Goals as goal
+use Rattle.flow_search.proofs.LanesOpened.{time-within, child-at}
+use Rattle.flow_search.proofs.eight.children.open_child.Goals as goal
 
 pub overflow_sub-made : goal.overflow_sub-made
 overflow_sub-made c =
@@ -8,7 +8,7 @@ overflow_sub-made c =
     (arith, c.loop-place-test.true, c.machines-machines.ensures.value) in
     omega (
       arith,
-      time-owed c.args.instance.now c.requires.at.0 c.args.group.now c.args.parent.now
+      time-within c.args.instance.now c.requires.at.0 c.args.group.now c.args.parent.now
           (record { time = []; tail = [] }) c.args.lane c.loop-place.place c.requires.at.1.at c.requires.left to,
     )
 

@@ -1,10 +1,10 @@
--- A letter is what a search for the first machine that cuts finds.
+-- A uncut is what a search for the first machine that cuts finds.
 use Rattle.std.proofs.Common.{◌≡◌, ℕ, zero, suc, ◌+◌, ◌-◌, ◌<◌, ◌≤◌, Bool, true, false, cond, nat_le, nat_lt, List, Some, None, find, refl, ap, sym, ◌∙◌, inl, inr, arith}
 use Rattle.std.specs.List.{range_with_len}
 use Rattle.std.proofs.lemmas.Bool.{cases_lt, le-leb, lt-leb, lt-ltb, le-ltb}
 use Rattle.flow_core.specs.Shop.{Shop, numbers}
 use Rattle.flow_core.specs.Bound.{bound_at}
-use Rattle.flow_search.specs.internal.Lanes.{IsLetter}
+use Rattle.flow_search.specs.internal.Lanes.{IsUncutCount}
 
 -- the first number of a range that passes
 found-at : (p : ℕ → Bool) (from n k : ℕ) → k < n → ((i : ℕ) → from ≤ i → i < from + k → p i ≡ false) →
@@ -27,19 +27,19 @@ found-none p from (suc n) none =
     ap (λ b. cond b (Some from) (find p (range_with_len (from + 1) n))) (none from (omega arith) (omega arith))
     ∙ found-none p (from + 1) n (λ i a b. none i (omega (arith, a)) (omega (arith, b)))
 
-pub letter-found : (shop : Shop) (list : List ℕ) (limit letter : ℕ) → IsLetter shop list limit shop.machines letter →
+pub count-found : (shop : Shop) (list : List ℕ) (limit uncut : ℕ) → IsUncutCount shop list limit shop.machines uncut →
     find (λ machine. nat_le limit (bound_at shop list machine)) (numbers 1 shop.machines) ≡ cond
-    (nat_lt letter shop.machines) (Some (letter + 1)) None
-letter-found shop list limit letter is = elim (cases_lt letter shop.machines) [
+    (nat_lt uncut shop.machines) (Some (uncut + 1)) None
+count-found shop list limit uncut is = elim (cases_lt uncut shop.machines) [
   | inl cut ↦
-      let e : 1 + letter ≡ letter + 1 = omega arith in
-      found-at (λ machine. nat_le limit (bound_at shop list machine)) 1 (shop.machines + 1 - 1) letter
+      let e : 1 + uncut ≡ uncut + 1 = omega arith in
+      found-at (λ machine. nat_le limit (bound_at shop list machine)) 1 (shop.machines + 1 - 1) uncut
       (omega (arith, cut))
       (λ i a b. lt-leb limit (bound_at shop list i) (is.above i a (omega (arith, b))))
-      (ap (λ m. nat_le limit (bound_at shop list m)) e ∙ le-leb limit (bound_at shop list (letter + 1)) (is.cut cut))
-      ∙ ap Some e ∙ sym (ap (λ b. cond b (Some (letter + 1)) None) (lt-ltb letter shop.machines cut))
+      (ap (λ m. nat_le limit (bound_at shop list m)) e ∙ le-leb limit (bound_at shop list (uncut + 1)) (is.cut cut))
+      ∙ ap Some e ∙ sym (ap (λ b. cond b (Some (uncut + 1)) None) (lt-ltb uncut shop.machines cut))
   | inr whole ↦
       found-none (λ machine. nat_le limit (bound_at shop list machine)) 1 (shop.machines + 1 - 1)
       (λ i a b. lt-leb limit (bound_at shop list i) (is.above i a (omega (arith, b, whole))))
-      ∙ sym (ap (λ b. cond b (Some (letter + 1)) None) (le-ltb letter shop.machines whole))
+      ∙ sym (ap (λ b. cond b (Some (uncut + 1)) None) (le-ltb uncut shop.machines whole))
 ]

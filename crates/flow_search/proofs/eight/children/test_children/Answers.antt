@@ -4,20 +4,21 @@ use Rattle.std.proofs.lemmas.List.{length-set}
 use Rattle.flow_core.specs.Limits.{most_machines}
 use Rattle.flow_core.specs.Shop.{Shop}
 use Rattle.flow_core.specs.Paths.{completion}
-use Rattle.flow_search.specs.internal.Lanes.{IsLaneLeft, IsFrameOf, IsLetter, child, job_of}
+use Rattle.flow_search.specs.internal.Lanes.{IsLaneLeft, IsFrameOf, IsUncutCount, child, job_of}
 use Rattle.flow_search.proofs.LanesPassed.{all-same, passed-start, passed-more, free-none, free-is, bound-is, start-small, behind-small, sum-small, row-small, done-more}
 use Rattle.flow_search.proofs.LanesOpened.{opened-same}
-use Rattle.flow_search.proofs.eight.letters.letters_of_eight.Goals as goal
+use Rattle.flow_search.proofs.eight.children.test_children.Goals as goal
 
 pub loop-place-init : goal.loop-place-init
 loop-place-init c = record {
   front = refl;
   sum = refl;
   gone = refl;
+  next = refl;
   size = search rules;
   free_small = λ lane low. omega (arith, all-same 8 0 lane low);
-  letters_small = λ lane low. omega (arith, all-same 8 0 lane low);
-  uncut_small = λ lane low. omega (arith, all-same 8 1 lane low);
+  uncut_small = λ lane low. omega (arith, all-same 8 0 lane low);
+  flags_small = λ lane low. omega (arith, all-same 8 1 lane low);
   free = λ list lane at here. all-same 8 0 lane here.within ∙ free-none c.args.instance.now list (job_of
       c.args.group.now lane);
   passed = λ list lane other at here there differ.
@@ -94,6 +95,7 @@ loop-place-preserved c =
       front = c.loop-place.invariant.front;
       sum = c.loop-place.invariant.sum;
       gone = c.loop-place.invariant.gone;
+      next = c.loop-place.invariant.next;
       size = length-set c.loop-place.frame.free place c.sums-free.result ∙ c.loop-place.invariant.size;
       free_small = λ lane low.
           let begins = start-small shop c.requires.0 c.args.group.now c.args.frame.now place
@@ -103,26 +105,26 @@ loop-place-preserved c =
           let small = (row-small shop c.requires.0 c.args.group.now c.args.frame.now (record { time = []; tail = [] })
           place lane c.requires.1 to low).time in
           omega (arith, c.sums-free.ensures.each lane low, begins, small);
-      letters_small = λ lane low.
-          let flag : slice_index c.below-uncut.result lane ≤ 1 = elim
+      uncut_small = λ lane low.
+          let flag : slice_index c.below-flags.result lane ≤ 1 = elim
           (cases_lt (slice_index c.sums.result lane) c.saturating_sub-room.result) [
             | inl under ↦ omega (
               arith,
-              c.below-uncut.ensures.kept lane low under,
-              c.loop-place.invariant.uncut_small
+              c.below-flags.ensures.kept lane low under,
+              c.loop-place.invariant.flags_small
                   lane low,
             )
-            | inr over ↦ omega (arith, c.below-uncut.ensures.cut lane low over)
+            | inr over ↦ omega (arith, c.below-flags.ensures.cut lane low over)
           ] in
-          omega (arith, c.sums-letters.ensures.each lane low, flag, c.loop-place.invariant.letters_small lane low);
-      uncut_small = λ lane low. elim (cases_lt (slice_index c.sums.result lane) c.saturating_sub-room.result) [
+          omega (arith, c.sums-uncut.ensures.each lane low, flag, c.loop-place.invariant.uncut_small lane low);
+      flags_small = λ lane low. elim (cases_lt (slice_index c.sums.result lane) c.saturating_sub-room.result) [
         | inl under ↦ omega (
           arith,
-          c.below-uncut.ensures.kept lane low under,
-          c.loop-place.invariant.uncut_small lane
+          c.below-flags.ensures.kept lane low under,
+          c.loop-place.invariant.flags_small lane
               low,
         )
-        | inr over ↦ omega (arith, c.below-uncut.ensures.cut lane low over)
+        | inr over ↦ omega (arith, c.below-flags.ensures.cut lane low over)
       ];
       free = leaves;
       passed = λ list lane other at here there differ.
@@ -139,13 +141,13 @@ loop-place-preserved c =
           let after = behind-small shop c.requires.0 c.args.group.now c.args.frame.now
           (record { time = []; tail = [] }) place lane (slice_index c.others-behind.result lane) c.greater.result
           c.requires.1 to c.greater.ensures.each (c.others-behind.ensures.each lane here.within) in
-          let owed = sum-small shop c.requires.0 c.args.group.now c.args.frame.now place
+          let load = sum-small shop c.requires.0 c.args.group.now c.args.frame.now place
           c.machines-machines.ensures.limits c.requires.1 to in
           passed-more shop (child list c.args.group.now lane) c.args.value place
-          (slice_index c.loop-place.letters lane) (slice_index c.loop-place.uncut lane)
-          (slice_index c.below-uncut.result lane) (slice_index c.sums-letters.result lane)
+          (slice_index c.loop-place.uncut lane) (slice_index c.loop-place.flags lane)
+          (slice_index c.below-flags.result lane) (slice_index c.sums-uncut.result lane)
           (c.loop-place.invariant.passed list lane other at here there differ)
-          (λ under. c.below-uncut.ensures.kept lane here.within
+          (λ under. c.below-flags.ensures.kept lane here.within
           (omega (
             arith,
             under,
@@ -154,15 +156,15 @@ loop-place-preserved c =
             sum,
             begins,
             after,
-            owed,
+            load,
             to,
             most,
             c.saturating_sub-room.ensures,
             c.min-limit.ensures,
           )))
-          (λ over. c.below-uncut.ensures.cut lane here.within
+          (λ over. c.below-flags.ensures.cut lane here.within
           (omega (arith, over, bound, whole, sum, c.saturating_sub-room.ensures, c.min-limit.ensures)))
-          (c.sums-letters.ensures.each lane here.within);
+          (c.sums-uncut.ensures.each lane here.within);
       done = λ list there lane at here low.
           done-more (λ k times. slice_index times lane ≡ completion shop (child list c.args.group.now lane) (k + 1))
           c.loop-place.frame.free place c.sums-free.result
@@ -170,21 +172,20 @@ loop-place-preserved c =
           (λ k earlier. c.loop-place.invariant.done list k lane at here earlier) there low;
     }
 
-pub returns-clause-letters : goal.returns-clause-letters
-returns-clause-letters c list at lane other here there differ =
+pub returns-clause-tested : goal.returns-clause-tested
+returns-clause-tested c list at =
     let e : c.loop-place.place ≡ c.args.instance.now.machines = omega
     (arith, c.loop-place-test.false, c.loop-place.auto.place-end, c.machines-machines.ensures.value) in
     let back : (k : ℕ) → slice_index c.loop-place.frame.gone k ≡ 0 → slice_index c.args.frame.now.gone k ≡ 0 =
     λ k left. sym (ap (λ g. slice_index g k) c.loop-place.invariant.gone) ∙ left in
-    subst (λ m. IsLetter c.args.instance.now (child list c.args.group.now lane) c.args.value m
-    (slice_index c.loop-place.letters lane)) e
-    (c.loop-place.invariant.passed list lane other at
-    (record { within = here.within; left = back lane here.left })
-    (record { within = there.within; left = back other there.left }) differ).is
-
-pub returns-clause-opened : goal.returns-clause-opened
-returns-clause-opened c list at =
-    opened-same c.args.instance.now list c.args.group.now c.args.frame.now _ c.loop-place.invariant.front
-    c.loop-place.invariant.sum c.loop-place.invariant.gone at
-    (λ place lane left low. c.loop-place.invariant.done list place lane at left
-    (omega (arith, low, c.loop-place-test.false, c.loop-place.auto.place-end, c.machines-machines.ensures.value)))
+    record {
+      opened = opened-same c.args.instance.now list c.args.group.now c.args.frame.now _ c.loop-place.invariant.front
+          c.loop-place.invariant.sum c.loop-place.invariant.gone at
+          (λ place lane left low. c.loop-place.invariant.done list place lane at left (omega (arith, low, e)));
+      uncut = λ lane other here there differ.
+          subst (λ m. IsUncutCount c.args.instance.now (child list c.args.group.now lane) c.args.value m
+          (slice_index c.loop-place.uncut lane)) e
+          (c.loop-place.invariant.passed list lane other at
+          (record { within = here.within; left = back lane here.left })
+          (record { within = there.within; left = back other there.left }) differ).is;
+    }

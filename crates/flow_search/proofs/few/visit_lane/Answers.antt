@@ -1,0 +1,73 @@
+use Rattle.std.proofs.Common.{◌≡◌, ℕ, suc, ◌+◌, ◌<◌, ◌≤◌, ◌∷◌, ◌++◌, [], Bool, Err, None, Some, Result, cond, nat_lt, length, slice_index, subst, ap, sym, ◌∙◌, arith}
+use Rattle.std.proofs.lemmas.Bool.{le-ltb}
+use Rattle.std.proofs.lemmas.Result.{err_from_is_err_and}
+use Rattle.flow_core.specs.Shop.{Shop}
+use Rattle.flow_search.specs.internal.Nodes.{incumbent_of}
+use Rattle.flow_search.specs.internal.Lanes.{IsUncutCount, child}
+use Rattle.flow_search.specs.declared.subtree.Stop.{Stop}
+use Rattle.flow_search.specs.declared.subtree.Stop.TheVariants.{OverBudget}
+use Rattle.flow_search.proofs.Resume.{walk-some}
+use Rattle.flow_search.proofs.UncutFound.{count-found}
+use Rattle.flow_search.proofs.LanesWalked.{uncut-here, lane-cut}
+use Rattle.flow_search.proofs.few.visit_lane.Goals as goal
+use Rattle.flow_search.proofs.few.visit_lane.Goals.{After-machines-machines}
+
+-- the test of the child, where it leaves a job
+tested : (c : After-machines-machines) → 1 ≤ c.args.below →
+    IsUncutCount c.args.instance.now (child c.args.search.now.node.items c.args.group.now c.args.lane)
+    c.args.search.now.value c.args.instance.now.machines (slice_index c.args.frame.now.uncut c.args.lane)
+tested c some =
+    subst (λ value. IsUncutCount c.args.instance.now (child c.args.search.now.node.items c.args.group.now c.args.lane)
+    value c.args.instance.now.machines (slice_index c.args.frame.now.uncut c.args.lane)) c.requires.value
+    (uncut-here c.args.instance.now c.args.search.now.node.items c.args.group.now c.args.frame.now c.args.lane
+    c.requires.tested c.requires.left (omega (arith, some, c.requires.count)))
+
+pub returns-in_err-write-2-clause-over : goal.returns-in_err-write-2-clause-over
+returns-in_err-write-2-clause-over c e =
+    let p = err_from_is_err_and c.from_residual-in_err-write-2.result c.from_residual-in_err-write-2.ensures.1 in
+    let put : Stop → Result (Unit {0}) Stop = λ stop. Err stop in
+    let put_bool : Stop → Result Bool Stop = λ stop. Err stop in
+    let was : p.0 ≡ OverBudget = let r : put_bool p.0 ≡ put_bool OverBudget = sym p.1 ∙ e in cc in
+    let same : put c.in_err-write-2.field-0.0 ≡ put OverBudget = ap put (sym p.2 ∙ was) in
+    omega (
+      arith,
+      c.in_err-write-2.ensures.over same,
+      walk-some c.args.instance.now c.args.below (child c.args.search.now.node.items c.args.group.now c.args.lane)
+          (incumbent_of c.args.search.now),
+    )
+
+pub returns-in_err-write-3-clause-over : goal.returns-in_err-write-3-clause-over
+returns-in_err-write-3-clause-over c e =
+    let p = err_from_is_err_and c.from_residual-in_err-write-3.result c.from_residual-in_err-write-3.ensures.1 in
+    let put : Stop → Result (Unit {0}) Stop = λ stop. Err stop in
+    let put_bool : Stop → Result Bool Stop = λ stop. Err stop in
+    let was : p.0 ≡ OverBudget = let r : put_bool p.0 ≡ put_bool OverBudget = sym p.1 ∙ e in cc in
+    let same : put c.in_err-write-3.field-0.0 ≡ put OverBudget = ap put (sym p.2 ∙ was) in
+    omega (
+      arith,
+      c.in_err-write-3.ensures.over same,
+      walk-some c.args.instance.now c.args.below (child c.args.search.now.node.items c.args.group.now c.args.lane)
+          (incumbent_of c.args.search.now),
+    )
+
+pub returns-then-uncut-machines-clause-whole : goal.returns-then-uncut-machines-clause-whole
+returns-then-uncut-machines-clause-whole c e =
+    let some : 1 ≤ c.args.below = omega (arith, c.if-below-eq0.false) in
+    lane-cut c.args.instance.now c.args.budget c.args.below (slice_index c.args.frame.now.uncut c.args.lane)
+    c.args.group.now c.args.lane c.args.search.now c.write-then-uncut-machines.new.self some
+    (tested (goal.at.returns-then-uncut-machines-clause-whole c).After-machines-machines some)
+    (omega (arith, c.if-uncut-machines.true, c.machines-machines.ensures.value)) c.in_ok-write-2.ensures.done
+
+pub returns-clause-opens : goal.returns-clause-opens
+returns-clause-opens c e =
+    let some : 1 ≤ c.args.below = omega (arith, c.if-below-eq0.false) in
+    let uncut : ℕ = slice_index c.args.frame.now.uncut c.args.lane in
+    let high : c.args.instance.now.machines ≤ uncut =
+    omega (arith, c.if-uncut-machines.false, c.machines-machines.ensures.value) in
+    record {
+      wrote = c.in_ok-write-3.ensures.done;
+      uncut =
+          count-found c.args.instance.now (child c.args.search.now.node.items c.args.group.now c.args.lane)
+          c.args.search.now.value uncut (tested (goal.at.returns-clause-opens c).After-machines-machines some)
+          ∙ ap (λ b. cond b (Some (uncut + 1)) None) (le-ltb uncut c.args.instance.now.machines high);
+    }

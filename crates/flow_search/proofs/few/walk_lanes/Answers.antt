@@ -1,0 +1,287 @@
+use Rattle.std.proofs.Common.{◌≡◌, ℕ, suc, ◌+◌, ◌-◌, ◌*◌, ◌<◌, ◌≤◌, Bool, true, false, Some, None, Ok, Err, Result, List, [], ◌∷◌, ◌++◌, length, reverse, take, slice_index, slice_index_or, set, vec_len, refl, sym, subst, ◌∙◌, ap, arith, length-append}
+use Rattle.std.specs.List.{find, range_with_len}
+use Rattle.std.proofs.lemmas.List.{length-set, get_or-set_same}
+use Rattle.std.proofs.lemmas.Result.{err_from_is_err_and}
+use Rattle.flow_core.specs.Shop.{Shop}
+use Rattle.flow_search.specs.internal.Nodes.{Gave, Opens, children_walked, incumbent_of}
+use Rattle.flow_search.specs.internal.Lanes.{IsLaneLeft, IsFrameOf, IsOpened, IsTested, IsInLanes, job_of, child, lane_walked, lanes_from, lane_path, frame_at}
+use Rattle.flow_search.specs.declared.subtree.Search.{Search}
+use Rattle.flow_search.specs.declared.eight.group.LaneFrame.{LaneFrame}
+use Rattle.flow_search.specs.declared.subtree.Stop.{Stop}
+use Rattle.flow_search.specs.declared.subtree.Stop.TheVariants.{OverBudget}
+use Rattle.flow_search.proofs.Nodes.{take-last}
+use Rattle.flow_search.proofs.Resume.{walk-some}
+use Rattle.flow_search.proofs.LanesOpened.{moved-lane, tested-moved}
+use Rattle.flow_search.proofs.LanesLeft.{IsPast, IsMoved, lane-next, lane-none, lanes-start, lanes-walked, lanes-over, lanes-down, lanes-up, lanes-done, stack-top, stack-same, stack-split, stack-down}
+use Rattle.flow_search.proofs.few.walk_lanes.Goals as goal
+use Rattle.flow_search.proofs.few.walk_lanes.Goals.{In-Some, After-retest_children, Then-branch, After-split_at_mut-above, After-open_child, Else-branch}
+
+pub walk-init : goal.walk-init
+walk-init c =
+    let below : length c.args.frames.now - 1 ≡ length c.args.frames.now - 1 - 0 = omega arith in
+    record {
+      deep = c.requires.some;
+      size = refl;
+      at = subst (λ n. IsInLanes c.args.instance.now c.args.budget c.args.group.now c.args.search.now.node.items
+          (children_walked c.args.instance.now (length c.args.frames.now - 1) c.args.search.now) c.args.search.now
+          (frame_at c.args.frames.now 0) n [] c.args.search.now) below
+          (lanes-start c.args.instance.now c.args.budget c.args.group.now c.args.search.now
+          (frame_at c.args.frames.now 0) (length c.args.frames.now - 1) c.requires.tested c.requires.next
+          (omega (arith, c.requires.some, c.requires.count)) c.requires.within);
+    }
+
+pub returns-then-depth-eq0-clause-done : goal.returns-then-depth-eq0-clause-done
+returns-then-depth-eq0-clause-done c =
+    lanes-done c.walk.invariant.at
+    (lane-none (frame_at c.walk.frames c.walk.depth) (sym c.in_default.is ∙ c.next_lane.ensures))
+    (ap (λ n. reverse (take n c.walk.frames)) c.if-depth-eq0.true) refl
+
+pub walk-preserved-in_default : goal.walk-preserved-in_default
+walk-preserved-in_default c =
+    let shop : Shop = c.args.instance.now in
+    let root : List ℕ = c.args.search.now.node.items in
+    let depth : ℕ = c.walk.depth in
+    let f : LaneFrame = frame_at c.walk.frames (depth - 1) in
+    let gs : List LaneFrame = reverse (take (depth - 1) c.walk.frames) in
+    let some : 1 ≤ depth = omega (arith, c.if-depth-eq0.false) in
+    let top : reverse (take depth c.walk.frames) ≡ f ∷ gs =
+    stack-top c.walk.frames depth some (omega (arith, c.walk.invariant.deep)) in
+    let node : c.walk.search.node.items ≡ lane_path root c.args.group.now gs ++ job_of c.args.group.now (f.next - 1)
+    ∷ [] = c.walk.invariant.at.node ∙ ap (lane_path root c.args.group.now) top in
+    let new : Search = record {
+      node = c.pop.new.self;
+      unscheduled = c.walk.search.unscheduled;
+      value = c.walk.search.value;
+      improved = c.walk.search.improved;
+      best = c.walk.search.best;
+      tree = c.walk.search.tree;
+    } in
+    let moved : IsMoved (lane_path root c.args.group.now gs) c.walk.search new = record {
+      node = c.pop.ensures.rest ∙ take-last (vec_len c.walk.search.node) c.walk.search.node.items
+          (lane_path root c.args.group.now gs) (job_of c.args.group.now (f.next - 1)) node c.walk.search.node.ok.0;
+      incumbent = refl;
+      tree = refl;
+      unscheduled = refl;
+    } in
+    let below : suc (length c.args.frames.now - 1 - depth) ≡ length c.args.frames.now - 1 - (depth - 1) =
+    omega (arith, some, c.walk.invariant.deep, c.walk.invariant.size) in
+    record {
+      deep = omega (arith, c.walk.invariant.deep);
+      size = c.walk.invariant.size;
+      at = subst (λ n. IsInLanes shop c.args.budget c.args.group.now root
+          (children_walked shop (length c.args.frames.now - 1) c.args.search.now) c.args.search.now f n gs new) below
+          (lanes-up c.walk.invariant.at f gs new
+          (lane-none (frame_at c.walk.frames depth) (sym c.in_default.is ∙ c.next_lane.ensures)) top moved);
+    }
+
+-- the lane that was found
+found : (c : In-Some) →
+    (lanes_from (frame_at c.walk.frames c.walk.depth) (frame_at c.walk.frames c.walk.depth).next
+    ≡ c.in-Some.lane ∷ lanes_from (frame_at c.walk.frames c.walk.depth) (c.in-Some.lane + 1))
+    × IsLaneLeft (frame_at c.walk.frames c.walk.depth) c.in-Some.lane
+found c = lane-next (frame_at c.walk.frames c.walk.depth) c.in-Some.lane (sym c.in-Some.is ∙ c.next_lane.ensures)
+
+pub overflow_add-frame : goal.overflow_add-frame
+overflow_add-frame c = let is = found (goal.at.overflow_add-frame c).In-Some in omega (arith, is.1.within)
+
+pub bounds-group-lane : goal.bounds-group-lane
+bounds-group-lane c = let is = found (goal.at.bounds-group-lane c).In-Some in omega (arith, is.1.within)
+
+pub offset_bounds-group-lane : goal.offset_bounds-group-lane
+offset_bounds-group-lane c = let is = found (goal.at.offset_bounds-group-lane c).In-Some in omega (arith, is.1.within)
+
+-- the frame after the child in the lane
+abbrev later : After-retest_children → LaneFrame
+later c = moved-lane c.retest_children.new.frame (c.in-Some.lane + 1)
+
+-- its node
+abbrev node_of : After-retest_children → List ℕ
+node_of c = lane_path c.args.search.now.node.items c.args.group.now (reverse (take c.walk.depth c.walk.frames))
+
+-- what is known of it
+record IsLater (c : After-retest_children) : Type 0 where
+  pub past : IsPast (frame_at c.walk.frames c.walk.depth) (later c) c.in-Some.lane
+  pub tested : IsTested c.args.instance.now (node_of c) c.args.group.now (later c)
+  pub left : IsLaneLeft (later c) c.in-Some.lane
+
+is-later : (c : After-retest_children) → IsLater c
+is-later c =
+    let found = lane-next (frame_at c.walk.frames c.walk.depth) c.in-Some.lane
+    (sym c.in-Some.is ∙ c.next_lane.ensures) in
+    record {
+      past = record { is = found.0; gone = c.retest_children.ensures.gone; next = refl };
+      tested = tested-moved c.args.instance.now (node_of c) c.args.group.now c.retest_children.new.frame
+          (c.in-Some.lane + 1) (c.retest_children.ensures.tested (node_of c) c.walk.invariant.at.tested.0);
+      left = record {
+        within = found.1.within;
+        left = ap (λ gone. slice_index gone c.in-Some.lane) c.retest_children.ensures.gone ∙ found.1.left;
+      };
+    }
+
+pub visit_lane-requires-clause-tested : goal.visit_lane-requires-clause-tested
+visit_lane-requires-clause-tested c =
+    let at = (goal.at.visit_lane-requires-clause-tested c).After-retest_children in
+    subst (λ list. IsTested c.args.instance.now list c.args.group.now (later at)) (sym c.walk.invariant.at.node)
+    (is-later at).tested
+
+pub visit_lane-requires-clause-left : goal.visit_lane-requires-clause-left
+visit_lane-requires-clause-left c =
+    (is-later (goal.at.visit_lane-requires-clause-left c).After-retest_children).left
+
+pub returns-in_err-visit_lane-clause-over : goal.returns-in_err-visit_lane-clause-over
+returns-in_err-visit_lane-clause-over c e =
+    let at = (goal.at.returns-in_err-visit_lane-clause-over c).After-retest_children in
+    let p = err_from_is_err_and c.from_residual.result c.from_residual.ensures.1 in
+    let put : Stop → Result (Unit {0}) Stop = λ stop. Err stop in
+    let put_bool : Stop → Result Bool Stop = λ stop. Err stop in
+    let was : p.0 ≡ OverBudget = let r : put p.0 ≡ put OverBudget = sym p.1 ∙ e in cc in
+    let same : put_bool c.in_err-visit_lane.field-0.0 ≡ put_bool OverBudget = ap put_bool (sym p.2 ∙ was) in
+    lanes-over c.walk.invariant.at c.in-Some.lane (later at) (is-later at).past (c.in_err-visit_lane.ensures.over same)
+
+-- the frame of the node, once the frames are split below it
+parent : (c : After-split_at_mut-above) →
+    frame_at c.split_at_mut-above.result.0.now c.walk.depth
+    ≡ moved-lane c.retest_children.new.frame (c.in-Some.lane + 1)
+parent c =
+    stack-split c.walk.frames c.split_at_mut-above.result.0.now c.walk.depth
+    (moved-lane c.retest_children.new.frame (c.in-Some.lane + 1)) c.walk.invariant.deep
+    c.split_at_mut-above.ensures.front
+
+pub open_child-requires-clause-at : goal.open_child-requires-clause-at
+open_child-requires-clause-at c =
+    let at = (goal.at.open_child-requires-clause-at c).After-retest_children in (
+      node_of at,
+      subst (IsOpened c.args.instance.now (node_of at) c.args.group.now)
+          (sym (parent (goal.at.open_child-requires-clause-at c).After-split_at_mut-above)) (is-later at).tested.opened,
+    )
+
+pub open_child-requires-clause-left : goal.open_child-requires-clause-left
+open_child-requires-clause-left c =
+    subst (λ frame. IsLaneLeft frame c.in-Some.lane)
+    (sym (parent (goal.at.open_child-requires-clause-left c).After-split_at_mut-above))
+    (is-later (goal.at.open_child-requires-clause-left c).After-retest_children).left
+
+-- the node of the child
+child-at : (c : After-open_child) (list : List ℕ) →
+    IsTested c.args.instance.now list c.args.group.now (moved-lane c.retest_children.new.frame (c.in-Some.lane + 1)) →
+    IsFrameOf c.args.instance.now (child list c.args.group.now c.in-Some.lane) c.args.group.now c.open_child.new.made
+child-at c list tested =
+    let parent = stack-split c.walk.frames c.split_at_mut-above.result.0.now c.walk.depth
+    (moved-lane c.retest_children.new.frame (c.in-Some.lane + 1)) c.walk.invariant.deep
+    c.split_at_mut-above.ensures.front in
+    c.open_child.ensures.at list (subst (IsOpened c.args.instance.now list c.args.group.now) (sym parent) tested.opened)
+
+pub test_children-requires : goal.test_children-requires
+test_children-requires c =
+    let at = (goal.at.test_children-requires c).After-retest_children in (
+      child (node_of at) c.args.group.now c.in-Some.lane,
+      child-at (goal.at.test_children-requires c).After-open_child (node_of at) (is-later at).tested,
+    )
+
+-- the plus that was written
+opens : (c : Then-branch) →
+    Opens c.args.instance.now c.args.budget (job_of c.args.group.now c.in-Some.lane) c.walk.search
+    c.visit_lane.new.search × (1 ≤ length c.args.frames.now - 1 - c.walk.depth)
+opens c =
+    let put : Bool → Result Bool Stop = λ b. Ok b in
+    let true_is = ap put c.if-branch.true in
+    (c.in_ok-visit_lane.ensures.opens true_is, c.in_ok-visit_lane.ensures.more true_is)
+
+pub walk-smaller-then-branch : goal.walk-smaller-then-branch
+walk-smaller-then-branch c =
+    let wrote = (opens (goal.at.walk-smaller-then-branch c).Then-branch).0.wrote in
+    omega (arith, ap length wrote.tree, wrote.within, length-append c.walk.search.tree.items (43 ∷ []))
+
+pub walk-preserved-then-branch : goal.walk-preserved-then-branch
+walk-preserved-then-branch c =
+    let shop : Shop = c.args.instance.now in
+    let root : List ℕ = c.args.search.now.node.items in
+    let depth : ℕ = c.walk.depth in
+    let at = (goal.at.walk-preserved-then-branch c).After-retest_children in
+    let is = is-later at in
+    let plus = opens (goal.at.walk-preserved-then-branch c).Then-branch in
+    let above : List LaneFrame = c.split_at_mut-above.result.0.now in
+    let below : List LaneFrame = c.split_at_mut-above.result.1.now in
+    let made : LaneFrame = c.test_children.new.frame in
+    let size = length-set c.walk.frames depth (later at) in
+    let some : 1 ≤ length below =
+    omega (arith, plus.1, c.split_at_mut-above.ensures.back_len, size, c.walk.invariant.size) in
+    let down = stack-down c.walk.frames above below depth (later at) made c.walk.invariant.deep
+    c.split_at_mut-above.ensures.front c.split_at_mut-above.ensures.front_len some in
+    let sizes : length (above ++ set below 0 made) ≡ length c.args.frames.now =
+    omega (
+      arith,
+      length-append above (set below 0 made),
+      length-set below 0 made,
+      c.split_at_mut-above.ensures.front_len,
+      c.split_at_mut-above.ensures.back_len,
+      size,
+      c.walk.invariant.size,
+    ) in
+    let new : Search = record {
+      node = c.push.new.self;
+      unscheduled = c.visit_lane.new.search.unscheduled;
+      value = c.visit_lane.new.search.value;
+      improved = c.visit_lane.new.search.improved;
+      best = c.visit_lane.new.search.best;
+      tree = c.visit_lane.new.search.tree;
+    } in
+    let moved : IsMoved (c.visit_lane.new.search.node.items ++ job_of c.args.group.now c.in-Some.lane ∷ [])
+    c.visit_lane.new.search new =
+    record { node = c.in_ok-push.ensures.items; incumbent = refl; tree = refl; unscheduled = refl } in
+    let tested = c.test_children.ensures.tested (child (node_of at) c.args.group.now c.in-Some.lane)
+    (child-at (goal.at.walk-preserved-then-branch c).After-open_child (node_of at) is.tested) in
+    let less : length c.args.frames.now - 1 - depth - 1 ≡ length c.args.frames.now - 1 - (depth + 1) = omega arith in
+    let walking : LaneFrame → ℕ → List LaneFrame → Type 0 =
+    λ frame n frames. IsInLanes shop c.args.budget c.args.group.now root
+    (children_walked shop (length c.args.frames.now - 1) c.args.search.now) c.args.search.now frame n frames new in
+    record {
+      deep = omega (arith, sizes, plus.1);
+      size = sizes;
+      at = subst (λ frame. walking frame (length c.args.frames.now - 1 - (depth + 1))
+          (reverse (take (depth + 1) (above ++ set below 0 made)))) (sym down.0)
+          (subst (λ frames. walking made (length c.args.frames.now - 1 - (depth + 1)) frames) (sym down.1)
+          (subst (λ n. walking made n (later at ∷ reverse (take depth c.walk.frames))) less
+          (lanes-down c.walk.invariant.at c.in-Some.lane (later at) made c.visit_lane.new.search new is.past is.tested
+          plus.1 plus.0 moved tested (c.test_children.ensures.next ∙ c.open_child.ensures.next))));
+    }
+
+-- the child's subtree that was walked
+whole : (c : Else-branch) →
+    Gave c.args.budget (lane_walked c.args.instance.now (length c.args.frames.now - 1 - c.walk.depth) c.args.group.now
+    c.in-Some.lane c.walk.search) c.walk.search c.visit_lane.new.search
+whole c = let put : Bool → Result Bool Stop = λ b. Ok b in c.in_ok-visit_lane.ensures.whole (ap put c.if-branch.false)
+
+pub walk-smaller : goal.walk-smaller
+walk-smaller c =
+    let g = whole c in
+    let text : List ℕ = (lane_walked c.args.instance.now (length c.args.frames.now - 1 - c.walk.depth)
+    c.args.group.now c.in-Some.lane c.walk.search).0 in
+    let some : 1 ≤ length text =
+    walk-some c.args.instance.now (length c.args.frames.now - 1 - c.walk.depth)
+    (child c.walk.search.node.items c.args.group.now c.in-Some.lane) (incumbent_of c.walk.search) in
+    let tree : length c.visit_lane.new.search.tree.items ≡ length (c.walk.search.tree.items ++ text) =
+    ap length g.tree in
+    omega (arith, some, tree, g.within, length-append c.walk.search.tree.items text)
+
+pub walk-preserved : goal.walk-preserved
+walk-preserved c =
+    let at = (goal.at.walk-preserved c).After-retest_children in
+    let is = is-later at in
+    let same = stack-same c.walk.frames c.walk.depth (later at) c.walk.invariant.deep in
+    let size = length-set c.walk.frames c.walk.depth (later at) in
+    record {
+      deep = omega (arith, size, c.walk.invariant.deep);
+      size = size ∙ c.walk.invariant.size;
+      at = subst (λ frame. IsInLanes c.args.instance.now c.args.budget c.args.group.now c.args.search.now.node.items
+          (children_walked c.args.instance.now (length c.args.frames.now - 1) c.args.search.now) c.args.search.now
+          frame (length c.args.frames.now - 1 - c.walk.depth)
+          (reverse (take c.walk.depth (set c.walk.frames c.walk.depth (later at)))) c.visit_lane.new.search)
+          (sym same.0)
+          (subst (λ frames. IsInLanes c.args.instance.now c.args.budget c.args.group.now
+          c.args.search.now.node.items
+          (children_walked c.args.instance.now (length c.args.frames.now - 1) c.args.search.now) c.args.search.now
+          (later at) (length c.args.frames.now - 1 - c.walk.depth) frames c.visit_lane.new.search) (sym same.1)
+          (lanes-walked c.walk.invariant.at c.in-Some.lane (later at) c.visit_lane.new.search is.past is.tested
+          (whole c)));
+    }

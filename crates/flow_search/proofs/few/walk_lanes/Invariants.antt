@@ -1,0 +1,16 @@
+use Rattle.std.proofs.Common.{◌≡◌, ◌+◌, ◌-◌, ◌*◌, ◌<◌, length, reverse, take}
+use Rattle.flow_search.specs.internal.Nodes.{children_walked}
+use Rattle.flow_search.specs.internal.Lanes.{IsInLanes, frame_at}
+use Rattle.flow_search.proofs.few.walk_lanes.Given as goal
+
+abbrev pub invariant-walk : goal.invariant-walk
+invariant-walk l = record {
+  deep : l.depth < length l.frames;
+  size : length l.frames ≡ length l.fn.frames;
+  at : IsInLanes l.instance l.budget l.group l.fn.search.node.items
+      (children_walked l.instance (length l.fn.frames - 1) l.fn.search) l.fn.search (frame_at l.frames l.depth)
+      (length l.fn.frames - 1 - l.depth) (reverse (take l.depth l.frames)) l.search;
+}
+
+abbrev pub decreases-walk : goal.decreases-walk
+decreases-walk l = 2 * (l.budget - length l.search.tree.items) + l.depth
