@@ -1,5 +1,5 @@
 -- Running sums of times, and the least, the greatest and the sum over the first numbers.
-use Rattle.std.proofs.Common.{◌≡◌, ◌≢◌, ℕ, zero, suc, ◌+◌, ◌-◌, ◌*◌, ◌<◌, ◌≤◌, min, max, List, [], ◌∷◌, ◌++◌, length, length-append, map, slice_index, set, replicate, refl, ap, sym, ◌∙◌, inl, inr, arith}
+use Rattle.std.proofs.Common.{◌≡◌, ◌≢◌, ℕ, zero, suc, ◌+◌, ◌-◌, ◌*◌, ◌<◌, ◌≤◌, min, max, List, [], ◌∷◌, ◌++◌, length, length-append, map, slice_index, set, replicate, ap, sym, ◌∙◌, inl, inr, arith}
 use Rattle.std.specs.List.{sum_by}
 use Rattle.std.proofs.lemmas.Bool.{cases_lt}
 use Rattle.std.proofs.lemmas.List.{get_or-set_other, get_or-set_same}
@@ -10,7 +10,9 @@ use Rattle.flow_core.specs.Least.{least, greatest}
 use Rattle.flow_core.proofs.Extremes.{greatest-append, map-map-append}
 use Rattle.flow_core.proofs.JobsLeft.{numbers-more}
 use Rattle.flow_core.proofs.Recurrence.{time_between-more, time_between-none}
-use Rattle.flow_bound.proofs.Steps.{capped, capped-push, capped-is, least-le-first, time_between-small}
+use Rattle.flow_core.proofs.Fronts.{zeros}
+use Rattle.flow_core.proofs.TwoLeast.{least-le-first}
+use Rattle.flow_bound.proofs.Steps.{capped, capped-push, capped-is, time_between-small}
 
 -- a value that is written for one more number
 pub done-more : (f : ℕ → ℕ) (xs : List ℕ) (k value : ℕ) → 1 ≤ k → k - 1 < length xs → value ≡ f k →
@@ -119,11 +121,6 @@ pub tail-small : (shop : Shop) (job machine : ℕ) → IsWithinLimits shop →
 tail-small shop job machine limits =
     let most : shop.machines ≤ most_machines = limits.machines in
     omega (arith, time_between-small shop job (machine + 1) shop.machines (omega arith) limits, most)
-
-pub zeros : (n i : ℕ) → slice_index (replicate n 0) i ≡ 0
-zeros zero i = refl
-zeros (suc n) zero = refl
-zeros (suc n) (suc i) = zeros n i
 
 -- before the first machine
 pub times-none : (shop : Shop) (n job first : ℕ) → 1 ≤ first →

@@ -13,7 +13,7 @@ use Rattle.flow_core.proofs.Recurrence.{after, completed, completion-is, complet
 abbrev pub free_at : List ℕ → ℕ → ℕ
 free_at front machine = slice_index front (machine - 1)
 
-zeros : (n i : ℕ) → slice_index (replicate n 0) i ≡ 0
+pub zeros : (n i : ℕ) → slice_index (replicate n 0) i ≡ 0
 zeros zero i = refl
 zeros (suc n) zero = refl
 zeros (suc n) (suc i) = zeros n i

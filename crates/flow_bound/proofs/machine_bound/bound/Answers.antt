@@ -8,7 +8,8 @@ use Rattle.flow_core.specs.JobSet.{contains, members}
 use Rattle.flow_core.proofs.JobsLeft.{kept, kept-step}
 use Rattle.flow_core.proofs.JobSetLemmas.{members-is}
 use Rattle.flow_bound.proofs.Steps.{capped, capped-step, admissible-members}
-use Rattle.flow_bound.proofs.Running.{zeros, capped-least-all, tail-small}
+use Rattle.flow_core.proofs.Fronts.{zeros}
+use Rattle.flow_bound.proofs.Running.{capped-least-all, tail-small}
 use Rattle.flow_bound.proofs.machine_bound.bound.Goals as goal
 use Rattle.flow_bound.proofs.machine_bound.bound.Goals.{After-from-2, then-contains, else-contains}
 

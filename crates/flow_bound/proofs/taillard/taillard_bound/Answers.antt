@@ -4,7 +4,8 @@ use Rattle.flow_core.specs.Shop.{numbers, time_between}
 use Rattle.flow_core.specs.Least.{greatest}
 use Rattle.flow_bound.specs.Totals.{total}
 use Rattle.flow_bound.specs.Taillard.{machine_load, taillard_bound}
-use Rattle.flow_bound.proofs.Running.{zeros, times-none, greatest-step}
+use Rattle.flow_core.proofs.Fronts.{zeros}
+use Rattle.flow_bound.proofs.Running.{times-none, greatest-step}
 use Rattle.flow_bound.proofs.Loads.{taillard-below}
 use Rattle.flow_bound.proofs.taillard.taillard_bound.Goals as goal
 

@@ -6,7 +6,8 @@ use Rattle.flow_core.specs.Shop.{time}
 use Rattle.flow_core.specs.JobSet.{members}
 use Rattle.flow_core.proofs.Recurrence.{time_between-none}
 use Rattle.flow_bound.specs.Rest.{least_tail}
-use Rattle.flow_bound.proofs.Running.{zeros, tail-small}
+use Rattle.flow_core.proofs.Fronts.{zeros}
+use Rattle.flow_bound.proofs.Running.{tail-small}
 use Rattle.flow_bound.proofs.Rests.{written, tail-before}
 use Rattle.flow_bound.proofs.rest.Rest.of.Goals as goal
 
