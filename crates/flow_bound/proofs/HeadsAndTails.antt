@@ -10,11 +10,10 @@ use Rattle.flow_core.specs.Front.{IsFrontOf, IsWithinFront}
 use Rattle.flow_core.proofs.Extremes.{range-le-greatest, greatest-range-le}
 use Rattle.flow_core.proofs.Recurrence.{after, completed, completion-is, completion-after, after-same, time_between-none, time_between-first, weight-le-completed, completed-attained, path-up, path-le-greatest, greatest-path-le}
 use Rattle.flow_core.proofs.Admissible.{completed-append, after-later}
-use Rattle.flow_core.proofs.Fronts.{free_at, completion-small}
+use Rattle.flow_core.proofs.Fronts.{free_at, completion-small, zeros}
 use Rattle.flow_bound.specs.Insertion.{tail, SpanIsOfHeadsAndTails}
 use Rattle.flow_bound.specs.internal.Tails.{AreTails}
 use Rattle.flow_bound.proofs.Loads.{completed-grows}
-use Rattle.flow_core.proofs.Fronts.{zeros}
 
 -- no path is heavier than the tail
 weight-le-tail : (shop : Shop) (jobs machines : List ℕ) (machine : ℕ) → length machines ≡ length jobs →

@@ -11,7 +11,9 @@ use Rattle.flow_core.proofs.Extremes.{greatest-append, map-map-append}
 use Rattle.flow_core.proofs.Fronts.{zeros}
 use Rattle.flow_core.proofs.JobsLeft.{numbers-more}
 use Rattle.flow_core.proofs.Recurrence.{time_between-more, time_between-none}
-use Rattle.flow_bound.proofs.Steps.{capped, capped-push, capped-is, least-le-first, time_between-small}
+use Rattle.flow_core.proofs.Fronts.{zeros}
+use Rattle.flow_core.proofs.TwoLeast.{least-le-first}
+use Rattle.flow_bound.proofs.Steps.{capped, capped-push, capped-is, time_between-small}
 
 -- a value that is written for one more number
 pub done-more : (f : ℕ → ℕ) (xs : List ℕ) (k value : ℕ) → 1 ≤ k → k - 1 < length xs → value ≡ f k →

@@ -52,10 +52,6 @@ pub capped-is : (cap : ℕ) (x : ℕ) (xs : List ℕ) → capped cap (x ∷ xs) 
 capped-is cap x [] = refl
 capped-is cap x (y ∷ ys) = omega (arith, capped-is cap y ys)
 
-pub least-le-first : (x : ℕ) (xs : List ℕ) → least (x ∷ xs) ≤ x
-least-le-first x [] = omega arith
-least-le-first x (y ∷ ys) = omega arith
-
 -- the times from a machine on fit
 pub time_between-small : (shop : Shop) (job a b : ℕ) → 1 ≤ a → IsWithinLimits shop →
     time_between shop job a b ≤ b * greatest_time

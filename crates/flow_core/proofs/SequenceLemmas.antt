@@ -95,11 +95,8 @@ placed n earlier (job ∷ jobs) e =
 pub fault-none-is : (n : ℕ) (jobs : List ℕ) → length jobs ≡ n → place_fault n [] jobs ≡ None → IsSequence n jobs
 fault-none-is n jobs whole e =
     let each = placed n [] jobs e in
-    record {
-      whole = whole;
-      each =
-          record { range = All-from_recursion (λ job. (1 ≤ job) × (job ≤ n)) jobs each.range; distinct = each.distinct };
-    }
+    let range = All-from_recursion (λ job. (1 ≤ job) × (job ≤ n)) jobs each.range in
+    record { whole = whole; each = record { range = range; distinct = each.distinct } }
 
 apart-more : (earlier jobs : List ℕ) (job : ℕ) → has jobs job ≡ false →
     ((other : ℕ) → has earlier other ≡ true → has (job ∷ jobs) other ≡ false) → (other : ℕ) →

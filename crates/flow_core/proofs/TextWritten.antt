@@ -291,7 +291,8 @@ pub row-piece : (shop : Shop) (k : ℕ) → k * shop.jobs + shop.jobs ≤ length
 row-piece shop k fits =
     let f : ℕ → ℕ = λ job. time shop job (suc k) in
     let count : shop.jobs + 1 - 1 ≡ shop.jobs = omega arith in
-    let here : times_on shop (suc k) ≡ map f (range_with_len 1 shop.jobs) = ap (λ n. map f (range_with_len 1 n)) count in
+    let here : times_on shop (suc k) ≡ map f (range_with_len 1 shop.jobs) =
+    ap (λ n. map f (range_with_len 1 n)) count in
     let long : length (map f (range_with_len 1 shop.jobs)) ≡ shop.jobs = length-map-range_with_len f 1 shop.jobs in
     let there : length (take shop.jobs (drop (k * shop.jobs) shop.times))
     ≡ shop.jobs = length-take-le shop.jobs (drop (k * shop.jobs) shop.times) (omega (
@@ -314,7 +315,8 @@ row-piece shop k fits =
         ∙ sym (get_or-take shop.jobs (drop (k * shop.jobs) shop.times) i 0 below
         ∙ get_or-drop (k * shop.jobs) shop.times i 0)
 
-pub rows_text-more : (shop : Shop) (k : ℕ) → rows_text shop (suc k) ≡ rows_text shop k ++ row_text (times_on shop (suc k))
+pub rows_text-more : (shop : Shop) (k : ℕ) →
+    rows_text shop (suc k) ≡ rows_text shop k ++ row_text (times_on shop (suc k))
 rows_text-more shop k =
     let f : ℕ → List ℕ = λ j. row_text (times_on shop j) in
     ap (flat_map f) (numbers-more k) ∙ flat_map-append f (numbers 1 k) (suc k ∷ [])

@@ -42,7 +42,7 @@ least-below-is : (c x : ℕ) (xs : List ℕ) → least_below c (x ∷ xs) ≡ mi
 least-below-is c x [] = refl
 least-below-is c x (y ∷ ys) = omega (arith, least-below-is (min c x) y ys)
 
-least-le-first : (x : ℕ) (xs : List ℕ) → least (x ∷ xs) ≤ x
+pub least-le-first : (x : ℕ) (xs : List ℕ) → least (x ∷ xs) ≤ x
 least-le-first x [] = omega arith
 least-le-first x (y ∷ ys) = omega arith
 
