@@ -6,7 +6,7 @@ mod bounds;
 #[cfg(test)]
 mod bytes;
 #[cfg(test)]
-mod certificates;
+mod checker;
 #[cfg(test)]
 mod instances;
 #[cfg(test)]
@@ -16,4 +16,4 @@ mod text;
 #[cfg(test)]
 mod values;
 #[cfg(test)]
-mod written;
+mod writer;
