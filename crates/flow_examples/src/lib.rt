@@ -6,7 +6,7 @@ mod bounds;
 #[cfg(test)]
 mod bytes;
 #[cfg(test)]
-mod certificates;
+mod checker;
 #[cfg(test)]
 mod greatest;
 #[cfg(test)]
@@ -18,4 +18,4 @@ mod text;
 #[cfg(test)]
 mod values;
 #[cfg(test)]
-mod written;
+mod writer;

@@ -8,7 +8,8 @@ ghost use Rattle.flow_core.specs.declared.instance.InstanceFault.TheVariants as 
 ghost use Rattle.flow_search.specs.declared.plan.PlanFault.TheVariants as plan;
 ghost use Rattle.flow_pool.specs.declared.whole_run.SolveFault.TheVariants as solve;
 ghost use Rattle.flow_cert.specs.declared.fault.CheckFault.TheVariants as check;
-ghost use Rattle.flow_tool.specs.declared.fault.ToolFault.TheVariants as tool;
+ghost use Rattle.flow_tool.specs.declared.fault.ToolFault.TheVariants.{Memory, Read, Text, Sequence, Instance};
+ghost use Rattle.flow_tool.specs.declared.fault.ToolFault.TheVariants.{Choice, Plan, Run, Certificate, Write};
 
 use flow_cert::CheckFault;
 use flow_core::{InstanceFault, ReadFault, SequenceFault, TextFault, WriteFault};
@@ -56,7 +57,7 @@ pub(crate) enum ToolFault {
 }
 
 impl From<AllocError> for ToolFault {
-    ghost from_gives = { λ _ given. given ≡ tool.Memory };
+    ghost from_gives = { λ _ given. given ≡ Memory };
 
     fn from(_error: AllocError) -> ToolFault {
         ToolFault::Memory
@@ -64,7 +65,7 @@ impl From<AllocError> for ToolFault {
 }
 
 impl From<ReadFault> for ToolFault {
-    ghost from_gives = { λ fault given. given ≡ (elim fault [ read.Memory ↦ tool.Memory | other ↦ tool.Read other ]) };
+    ghost from_gives = { λ fault given. given ≡ (elim fault [ read.Memory ↦ Memory | other ↦ Read other ]) };
 
     fn from(fault: ReadFault) -> ToolFault {
         match fault {
@@ -75,7 +76,7 @@ impl From<ReadFault> for ToolFault {
 }
 
 impl From<TextFault> for ToolFault {
-    ghost from_gives = { λ fault given. given ≡ (elim fault [ text.Memory ↦ tool.Memory | other ↦ tool.Text other ]) };
+    ghost from_gives = { λ fault given. given ≡ (elim fault [ text.Memory ↦ Memory | other ↦ Text other ]) };
 
     fn from(fault: TextFault) -> ToolFault {
         match fault {
@@ -86,7 +87,7 @@ impl From<TextFault> for ToolFault {
 }
 
 impl From<SequenceFault> for ToolFault {
-    ghost from_gives = { λ fault given. given ≡ (elim fault [ sequence.Memory ↦ tool.Memory | other ↦ tool.Sequence other ]) };
+    ghost from_gives = { λ fault given. given ≡ (elim fault [ sequence.Memory ↦ Memory | other ↦ Sequence other ]) };
 
     fn from(fault: SequenceFault) -> ToolFault {
         match fault {
@@ -97,7 +98,7 @@ impl From<SequenceFault> for ToolFault {
 }
 
 impl From<InstanceFault> for ToolFault {
-    ghost from_gives = { λ fault given. given ≡ (elim fault [ instance.Memory ↦ tool.Memory | other ↦ tool.Instance other ]) };
+    ghost from_gives = { λ fault given. given ≡ (elim fault [ instance.Memory ↦ Memory | other ↦ Instance other ]) };
 
     fn from(fault: InstanceFault) -> ToolFault {
         match fault {
@@ -108,7 +109,7 @@ impl From<InstanceFault> for ToolFault {
 }
 
 impl From<OptionFault> for ToolFault {
-    ghost from_gives = { λ fault given. given ≡ tool.Choice fault };
+    ghost from_gives = { λ fault given. given ≡ Choice fault };
 
     fn from(fault: OptionFault) -> ToolFault {
         ToolFault::Choice(fault)
@@ -116,7 +117,7 @@ impl From<OptionFault> for ToolFault {
 }
 
 impl From<PlanFault> for ToolFault {
-    ghost from_gives = { λ fault given. given ≡ (elim fault [ plan.Memory ↦ tool.Memory | other ↦ tool.Plan other ]) };
+    ghost from_gives = { λ fault given. given ≡ (elim fault [ plan.Memory ↦ Memory | other ↦ Plan other ]) };
 
     fn from(fault: PlanFault) -> ToolFault {
         match fault {
@@ -127,7 +128,7 @@ impl From<PlanFault> for ToolFault {
 }
 
 impl From<SolveFault> for ToolFault {
-    ghost from_gives = { λ fault given. given ≡ (elim fault [ solve.Memory ↦ tool.Memory | other ↦ tool.Run other ]) };
+    ghost from_gives = { λ fault given. given ≡ (elim fault [ solve.Memory ↦ Memory | other ↦ Run other ]) };
 
     fn from(fault: SolveFault) -> ToolFault {
         match fault {
@@ -138,7 +139,7 @@ impl From<SolveFault> for ToolFault {
 }
 
 impl From<CheckFault> for ToolFault {
-    ghost from_gives = { λ fault given. given ≡ (elim fault [ check.Memory ↦ tool.Memory | other ↦ tool.Certificate other ]) };
+    ghost from_gives = { λ fault given. given ≡ (elim fault [ check.Memory ↦ Memory | other ↦ Certificate other ]) };
 
     fn from(fault: CheckFault) -> ToolFault {
         match fault {
@@ -149,7 +150,7 @@ impl From<CheckFault> for ToolFault {
 }
 
 impl From<WriteFault> for ToolFault {
-    ghost from_gives = { λ fault given. given ≡ tool.Write fault };
+    ghost from_gives = { λ fault given. given ≡ Write fault };
 
     fn from(fault: WriteFault) -> ToolFault {
         ToolFault::Write(fault)

@@ -164,9 +164,7 @@ fn gen_writes_block_with_bounds(rt: HostRuntime) -> Result<(), Fail> {
     let alloc = rt.alloc();
     let mut out = MemorySink::new(alloc, ROOM);
     run_gen(alloc, 2, 2, 1, &mut out)?;
-    let text = b"number of jobs, number of machines, initial seed, upper bound and lower bound :\n\
-2 2 1 122 122\nprocessing times :\n1 14\n75 46\n";
-    assert!(rt; out.bytes() == text.as_slice());
+    assert!(rt; out.bytes() == GENERATED);
     let mut out = MemorySink::new(alloc, ROOM);
     run_gen(alloc, 1, 1, 2_147_483_646, &mut out)?;
     let text = b"number of jobs, number of machines, initial seed, upper bound and lower bound :\n\
@@ -231,7 +229,7 @@ fn solve_writes_same_bytes_with_any_workers(rt: HostRuntime) -> Result<(), Fail>
             b"flowshop certificate 1\n3 2 0\n9\n2 3 1\n+BBB\nend\n"
         )
     );
-    let ran = solved(&rt, alloc, b"a\n1 1 0 0 0\nb\n0\n", 1, 0, AMPLE);
+    let ran = solved(&rt, alloc, ONE_JOB, 1, 0, AMPLE);
     assert!(rt; wrote(&ran, b"flowshop certificate 1\n1 1 0\n0\n1\nA\nend\n"));
     Ok(())
 }

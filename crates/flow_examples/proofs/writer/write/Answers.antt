@@ -1,5 +1,5 @@
 use Rattle.flow_cert.proofs.Lawful.{verdict_is_certified}
-use Rattle.flow_examples.proofs.written.write.Goals as goal
+use Rattle.flow_examples.proofs.writer.write.Goals as goal
 
 pub write_certificate-requires-clause-each : goal.write_certificate-requires-clause-each
 write_certificate-requires-clause-each c =
