@@ -35,8 +35,8 @@ fn read_title(text: &[u8]) -> Option<&[u8]>
     text.strip_prefix(TITLE)
 }
 
-/// Reads the line of the sizes, with which a text begins. Returns the depth in it, and the text after it. `None` where it
-/// is not the line of so many jobs and machines and a depth that they allow.
+/// The depth in the line of the sizes, with which a text begins, and the text after that line. `None` where the text
+/// begins with no such line of so many jobs and machines.
 fn read_size(jobs: u16, machines: u16, text: &[u8]) -> Option<(u16, &[u8])>
     ensures found { IfSome result (λ r. BeginsWithSize jobs machines text.now r.0 r.1.now) }
     ensures only { (depth : ℕ) (rest : List ℕ) → BeginsWithSize jobs machines text.now depth rest →

@@ -1,0 +1,76 @@
+//! Makes each library call that may return that memory ran out, on worked instances, and compares what it returns with
+//! what it should. A group of calls ends at a call for which memory ran out, and the next group follows.
+//!
+//! The status is 0 where each call returned what it should. It is 1 where memory ran out in some call, or a worker could
+//! not be started, and all other calls returned what they should. It is 2 where a call returned anything else.
+//!
+//! `rt try --fail-alloc N` refuses growth N of a run, and builds the program anew for each N. So N can stay as it is:
+//! standard input says how many growths are made and given back before the calls, none where it is empty.
+#![tactic(auto)]
+
+mod bounds;
+mod certificates;
+mod growths;
+mod instances;
+mod lanes;
+mod search;
+mod texts;
+mod trouble;
+mod workers;
+
+use growths::{asked, grow};
+use std::alloc::Global;
+use std::process::ExitCode;
+use std::sync::Wait;
+use std::thread::Threads;
+use trouble::Trouble;
+
+/// The status where memory ran out in some call, or a worker could not be started.
+const REFUSED: u8 = 1;
+
+/// The status where a call returned something that it should not.
+const WRONG: u8 = 2;
+
+/// How many groups of calls there are.
+const GROUPS: usize = 14;
+
+/// Makes all calls: each group, also where one before it did not return what it should.
+fn found<T: Threads + Wait + Sync>(threads: &T, alloc: Global) -> [Result<(), Trouble>; GROUPS] {
+    [
+        instances::instances_are_made(alloc),
+        instances::instance_is_generated(alloc),
+        texts::text_is_read(alloc),
+        texts::source_is_read(alloc),
+        texts::sink_takes_all(alloc),
+        bounds::starting_sequence_is_found(alloc),
+        bounds::insertions_are_tried(alloc),
+        search::prefixes_are_answered(alloc),
+        search::outcomes_are_concluded(alloc),
+        search::plan_is_solved(alloc),
+        certificates::certificate_is_written(alloc),
+        certificates::certificates_are_checked(alloc),
+        lanes::lane_is_used(alloc),
+        workers::workers_solve(threads, alloc),
+    ]
+}
+
+fn main(rt: HostRuntime) -> ExitCode {
+    let alloc = rt.alloc();
+    if grow(alloc, asked(&rt)).is_err() {
+        return ExitCode::from(REFUSED);
+    }
+    let mut status = 0;
+    let mut right = 0u32;
+    for one in found(&rt, alloc) {
+        match one {
+            Ok(()) => right = right.saturating_add(1),
+            Err(Trouble::Refused) => status = status.max(REFUSED),
+            Err(Trouble::Wrong(call)) => {
+                drop(eprintln!(&rt; "{call}: not what it should be"));
+                status = WRONG;
+            }
+        }
+    }
+    drop(println!(&rt; "{right} of {GROUPS} groups of calls returned what they should"));
+    ExitCode::from(status)
+}
