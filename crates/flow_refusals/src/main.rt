@@ -32,13 +32,15 @@ const REFUSED: u8 = 1;
 const WRONG: u8 = 2;
 
 /// How many groups of calls there are.
-const GROUPS: usize = 14;
+const GROUPS: usize = 16;
 
 /// Makes all calls: each group, also where one before it did not return what it should.
 fn found<T: Threads + Wait + Sync>(threads: &T, alloc: Global) -> [Result<(), Trouble>; GROUPS] {
     [
         instances::instances_are_made(alloc),
         instances::instance_is_generated(alloc),
+        instances::instance_is_mirrored(alloc),
+        instances::rows_are_made(alloc),
         texts::text_is_read(alloc),
         texts::source_is_read(alloc),
         texts::sink_takes_all(alloc),

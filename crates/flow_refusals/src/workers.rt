@@ -5,7 +5,7 @@ use crate::search::{AMPLE, TIGHT, is_worked};
 use crate::trouble::{Trouble, confirm};
 use flow_core::Instance;
 use flow_lanes::{lane, settle};
-use flow_pool::{Gate, Open, SolveFault, Task, WorkerEnds, serve, solve};
+use flow_pool::{Gate, Open, SolveFault, Task, WorkerEnds, serve, solve, solve_limited};
 use flow_search::{Options, Outcome, prepare};
 use std::alloc::Global;
 use std::sync::Wait;
@@ -105,7 +105,24 @@ fn budget_is_kept<T: Threads + Wait + Sync>(
     }
 }
 
-/// `serve` and `solve`.
+/// `solve_limited` where the third worker may not start. No prefix is reached.
+fn start_is_refused<T: Threads + Wait + Sync>(
+    rt: &T,
+    alloc: Global,
+    instance: &Instance,
+) -> Result<(), Trouble> {
+    let plan = prepare(alloc, instance, Options::new(3, 1, AMPLE)?)?;
+    let counts = Counts::new();
+    let solved = solve_limited(rt, alloc, &plan, &counts, 2);
+    confirm(counts.are(0), "solve_limited")?;
+    match solved {
+        Err(SolveFault::Threads) => Ok(()),
+        Err(SolveFault::Memory) => Err(Trouble::Refused),
+        _ => Err(Trouble::Wrong("solve_limited")),
+    }
+}
+
+/// `serve`, `solve` and `solve_limited`.
 pub(crate) fn workers_solve<T: Threads + Wait + Sync>(
     threads: &T,
     alloc: Global,
@@ -113,5 +130,6 @@ pub(crate) fn workers_solve<T: Threads + Wait + Sync>(
     let instance = three_machines(alloc)?;
     worker_serves(threads, alloc, &instance)?;
     plan_is_solved(threads, alloc, &instance)?;
-    budget_is_kept(threads, alloc, &instance)
+    budget_is_kept(threads, alloc, &instance)?;
+    start_is_refused(threads, alloc, &instance)
 }
