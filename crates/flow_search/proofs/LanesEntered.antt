@@ -1,7 +1,7 @@
 -- The first node of a subtree.
 use Rattle.std.proofs.Common.{◌≡◌, ◌≢◌, ℕ, zero, suc, ◌+◌, ◌-◌, ◌<◌, ◌≤◌, Bool, true, false, cond, not, ◌||◌, nat_eq, List, [], ◌∷◌, ◌++◌, length, length-append, append_assoc, take, slice_index, slice_index_or, set, refl, ap, sym, ◌∙◌, subst, inl, inr, arith}
 use Rattle.std.specs.List.{filter, range_with_len, sum_by}
-use Rattle.std.proofs.lemmas.Bool.{cases_lt, false≢true, eq-eqb, or_left, or_right, not-true}
+use Rattle.std.proofs.lemmas.Bool.{cases_lt, false≢true, eq-eqb, ne_eqb, or_left, or_right, not-true}
 use Rattle.std.proofs.lemmas.Bool.Decides.{eqb_tells}
 use Rattle.std.proofs.lemmas.List.{get_or-set_other, get_or-set_same, take_more_set, length-take, append-nil}
 use Rattle.std.proofs.lemmas.List.Sums.{sum_by-cons}
@@ -13,60 +13,12 @@ use Rattle.flow_search.specs.declared.eight.group.TheConstants.{GONE}
 use Rattle.flow_search.specs.declared.eight.group.LaneRow.{LaneRow}
 use Rattle.flow_search.specs.declared.eight.group.Group.{Group}
 use Rattle.flow_search.specs.declared.eight.group.LaneFrame.{LaneFrame}
-use Rattle.flow_search.specs.internal.Lanes.{IsLaneLeft, IsFrameOf, IsRowOf, IsSmallRow}
+use Rattle.flow_search.specs.internal.Lanes.{IsLaneLeft, IsFrameOf, IsRowOf, IsSmallRow, lanes_of}
 use Rattle.flow_search.specs.internal.Lanes.{AreJobsOf, IsFew}
 use Rattle.flow_search.proofs.Nodes.{filter-here, left-count, left-is, members-are, numbers-none}
 use Rattle.flow_search.proofs.JobsTaken.{filter-has, left-here}
-
--- a list has what stands at each place, and nothing else
-
-has-at : (xs : List ℕ) (k : ℕ) → k < length xs → has xs (slice_index xs k) ≡ true
-has-at [] k low = absurd (omega (arith, low))
-has-at (x ∷ xs) zero low = or_left (nat_eq x x) (has xs x) (eq-eqb x x refl)
-has-at (x ∷ xs) (suc k) low =
-    or_right (nat_eq (slice_index xs k) x) (has xs (slice_index xs k)) (has-at xs k (omega (arith, low)))
-
-pub place-of : (xs : List ℕ) (job : ℕ) → has xs job ≡ true → (k : ℕ) × (k < length xs) × (slice_index xs k ≡ job)
-place-of [] job h = absurd (false≢true h)
-place-of (x ∷ xs) job h = elim (eqb_tells job x) [
-  | inl same ↦ (0, omega arith, sym same.1)
-  | inr differ ↦
-      let rest = place-of xs job (sym (ap (λ b. b || has xs job) differ.0) ∙ h) in
-      (suc rest.0, omega (arith, rest.1), rest.2)
-]
-
--- what passes a test stands in increasing order
-abbrev pub Increases : ℕ → List ℕ → Type 0
-Increases from [] = Unit {0}
-Increases from (x ∷ xs) = (from ≤ x) × Increases (x + 1) xs
-
-increases-weak : (a b : ℕ) (xs : List ℕ) → a ≤ b → Increases b xs → Increases a xs
-increases-weak a b [] h is = tt
-increases-weak a b (x ∷ xs) h is = (omega (arith, h, is.0), is.1)
-
-pub increases-filter : (p : ℕ → Bool) (a n : ℕ) → Increases a (filter p (range_with_len a n))
-increases-filter p a zero = tt
-increases-filter p a (suc n) =
-    let rest : Increases (a + 1) (filter p (range_with_len (a + 1) n)) = increases-filter p (a + 1) n in
-    elim (p a) as (λ b. Increases a (cond b (a ∷ filter p (range_with_len (a + 1) n)) (filter p (range_with_len (a
-    + 1) n)))) [
-      | true ↦ (omega arith, rest)
-      | false ↦ increases-weak a (a + 1) (filter p (range_with_len (a + 1) n)) (omega arith) rest
-    ]
-
-pub increases-from : (from : ℕ) (xs : List ℕ) (k : ℕ) → Increases from xs → k < length xs → from ≤ slice_index xs k
-increases-from from [] k is low = absurd (omega (arith, low))
-increases-from from (x ∷ xs) zero is low = is.0
-increases-from from (x ∷ xs) (suc k) is low = omega (arith, is.0, increases-from (x + 1) xs k is.1 (omega (arith, low)))
-
-increases-order : (from : ℕ) (xs : List ℕ) (i j : ℕ) → Increases from xs → i < j → j < length xs →
-    slice_index xs i < slice_index xs j
-increases-order from [] i j is less low = absurd (omega (arith, low))
-increases-order from (x ∷ xs) i zero is less low = absurd (omega (arith, less))
-increases-order from (x ∷ xs) zero (suc j) is less low =
-    omega (arith, increases-from (x + 1) xs j is.1 (omega (arith, low)))
-increases-order from (x ∷ xs) (suc i) (suc j) is less low =
-    increases-order (x + 1) xs i j is.1 (omega (arith, less)) (omega (arith, low))
+use Rattle.flow_search.proofs.Increasing.{has-at, place-of, Increases, increases-filter, increases-order, below-filter}
+use Rattle.std.proofs.lemmas.List.FromFn.{get_or-range_with_len, length-range_with_len}
 
 left-at : (shop : Shop) (list front jobs : List ℕ) (lane : ℕ) → IsFew shop list front jobs → lane < length jobs →
     (1 ≤ slice_index jobs lane) × (slice_index jobs lane ≤ shop.jobs) × (has list (slice_index jobs lane) ≡ false)
@@ -142,8 +94,8 @@ pub entered : (shop : Shop) (list front jobs : List ℕ) (group : Group) (frame 
     ((lane : ℕ) → lane < length jobs → slice_index group.jobs lane ≡ slice_index jobs lane) →
     ((lane : ℕ) → lane < 8 → lane < length jobs → slice_index frame.gone lane ≡ 0) →
     ((lane : ℕ) → lane < 8 → length jobs ≤ lane → slice_index frame.gone lane ≡ GONE) →
-    IsFrameOf shop list group frame
-entered shop list front jobs group frame machine is e done lanes left gone =
+    frame.lanes ≡ range_with_len 0 8 → IsFrameOf shop list group frame
+entered shop list front jobs group frame machine is e done lanes left gone all =
     let filled : (lane : ℕ) → IsLaneLeft frame lane → lane < length jobs =
     λ lane here. elim (cases_lt lane (length jobs)) [
       | inl there ↦ there
@@ -151,6 +103,12 @@ entered shop list front jobs group frame machine is e done lanes left gone =
     ] in
     let job : (lane : ℕ) → IsLaneLeft frame lane → slice_index group.jobs lane ≡ slice_index jobs lane =
     λ lane here. lanes lane (filled lane here) in
+    let firsts : lanes_of frame ≡ range_with_len 0 (length jobs) =
+    below-filter (λ lane. nat_eq (slice_index frame.gone lane) 0) 0 8 (length jobs) is.few
+    (λ lane low high. eq-eqb (slice_index frame.gone lane) 0
+    (left lane (omega (arith, high, is.few)) (omega (arith, high))))
+    (λ lane low high. ne_eqb (slice_index frame.gone lane) 0
+    (λ none. omega (arith, none, gone lane (omega (arith, high)) (omega (arith, low))))) in
     record {
       count = omega (arith, is.count, ap length is.left);
       times = λ k from to. done.begins k (omega (arith, e, from)) to ∙ is.times k from to;
@@ -185,6 +143,12 @@ entered shop list front jobs group frame machine is e done lanes left gone =
             increases-order 1 jobs lane other whole less
                 (filled other there),
           );
+      lanes = λ place low.
+          let within : place < length jobs =
+          omega (arith, low, ap length firsts, length-range_with_len 0 (length jobs)) in
+          ap (λ xs. slice_index xs place) all
+          ∙ get_or-range_with_len 0 8 place 0 (omega (arith, within, is.few))
+          ∙ sym (ap (λ xs. slice_index xs place) firsts ∙ get_or-range_with_len 0 (length jobs) place 0 within);
     }
 
 -- the jobs that pass a test, gathered in increasing order: one more, and none more

@@ -1,65 +1,67 @@
 -- The walk of a root's children in the lanes, with a stack of frames, is the walk of the definition.
-use Rattle.std.proofs.Common.{◌≡◌, ℕ, suc, ◌+◌, ◌-◌, ◌<◌, ◌≤◌, nat_eq, nat_le, List, [], ◌∷◌, ◌++◌, Some, None, length, map, reverse, take, slice_index, slice_index_or, set, refl, ap, sym, ◌∙◌, subst, arith, append_assoc, length-append}
+use Rattle.std.proofs.Common.{◌≡◌, ℕ, suc, ◌+◌, ◌-◌, ◌<◌, ◌≤◌, nat_eq, nat_le, List, [], ◌∷◌, ◌++◌, Some, None, length, map, reverse, take, drop, slice_index, slice_index_or, set, refl, ap, sym, ◌∙◌, subst, arith, append_assoc, length-append}
 use Rattle.std.specs.List.{filter, find, range_with_len}
-use Rattle.std.proofs.lemmas.Bool.{eqb-true}
 use Rattle.std.proofs.lemmas.List.{append-nil, take_more, take_more_set, take-set, take-append-le, get_or-take, get_or-set_same, get_or-append_right}
-use Rattle.std.proofs.Math.Seq.{take-length}
+use Rattle.std.proofs.Math.ListN.{drop_of_length-le}
+use Rattle.std.proofs.Math.Seq.{drop-cons, take-length}
 use Rattle.flow_core.specs.Shop.{Shop, numbers}
 use Rattle.flow_core.specs.Sequences.{jobs_left}
 use Rattle.flow_core.specs.Bound.{bound_at}
 use Rattle.flow_search.specs.Walk.{walk, walk_each}
 use Rattle.flow_search.specs.internal.Nodes.{Gave, Opens, children_walked, incumbent_of, then_walk}
-use Rattle.flow_search.specs.internal.Lanes.{IsFrameOf, IsLaneLeft, IsTested, IsInLanes, AreTested, is_left, job_of, child, lane_walked, lanes_walked, lanes_from, lane_path, lanes_left, frame_at}
+use Rattle.flow_search.specs.internal.Lanes.{IsFrameOf, IsLaneLeft, IsTested, IsInLanes, AreTested, job_of, child, lane_walked, lanes_walked, lanes_of, lane_path, lanes_left, frame_at}
 use Rattle.flow_search.specs.declared.subtree.Search.{Search}
 use Rattle.flow_search.specs.declared.eight.group.Group.{Group}
 use Rattle.flow_search.specs.declared.eight.group.LaneFrame.{LaneFrame}
 use Rattle.flow_search.proofs.Walk.{Incumbent, answer_of}
-use Rattle.flow_search.proofs.Resume.{next-in, none-in, then-assoc, reverse-push}
-use Rattle.flow_search.proofs.LanesOrder.{lanes-are-jobs}
+use Rattle.flow_search.proofs.Resume.{then-assoc, reverse-push}
+use Rattle.flow_search.proofs.LanesOrder.{lanes-are-jobs, lane-left}
 
 abbrev Walk : Type 0
 Walk = List ℕ × Incumbent
 
+-- a lane before the next, and the frame after its child
+pub record IsStep (here later : LaneFrame) (lane : ℕ) : Type 0 where
+  pub is : drop here.next (lanes_of here) ≡ lane ∷ drop (here.next + 1) (lanes_of here)
+  pub gone : later.gone ≡ here.gone
+  pub next : later.next ≡ here.next + 1
+  pub place : slice_index later.lanes (later.next - 1) ≡ lane
+
 -- the next lane whose job is left
-pub lane-next : (frame : LaneFrame) (lane : ℕ) →
-    Some lane ≡ find (is_left frame) (range_with_len frame.next (8 - frame.next)) →
-    (lanes_from frame frame.next ≡ lane ∷ lanes_from frame (lane + 1)) × IsLaneLeft frame lane
-lane-next frame lane found =
-    let next = next-in (is_left frame) (is_left frame) frame.next (8 - frame.next) lane (λ k low high. refl) found in
-    let rest : frame.next + (8 - frame.next) - (lane + 1) ≡ 8 - (lane + 1) = omega (arith, next.1, next.2) in (
-      next.0 ∙ ap (λ n. lane ∷ filter (is_left frame) (range_with_len (lane + 1) n)) rest,
-      record { within = omega (arith, next.1, next.2); left = eqb-true (slice_index frame.gone lane) 0 next.3 },
+pub lane-next : (shop : Shop) (list : List ℕ) (group : Group) (frame : LaneFrame) →
+    IsFrameOf shop list group frame → frame.next < length (lanes_of frame) →
+    (drop frame.next (lanes_of frame)
+    ≡ slice_index frame.lanes frame.next ∷ drop (frame.next + 1) (lanes_of frame))
+    × IsLaneLeft frame (slice_index frame.lanes frame.next)
+lane-next shop list group frame at low =
+    let place : slice_index frame.lanes frame.next ≡ slice_index (lanes_of frame) frame.next =
+    at.lanes frame.next low in
+    let e : suc frame.next ≡ frame.next + 1 = omega arith in (
+      drop-cons (lanes_of frame) frame.next 0 low
+          ∙ ap (λ n. slice_index (lanes_of frame) frame.next ∷ drop n (lanes_of frame)) e
+          ∙ ap (λ lane. lane ∷ drop (frame.next + 1) (lanes_of frame)) (sym place),
+      subst (IsLaneLeft frame) (sym place) (lane-left frame frame.next low),
     )
 
-pub lane-none : (frame : LaneFrame) → None ≡ find (is_left frame) (range_with_len frame.next (8 - frame.next)) →
-    lanes_from frame frame.next ≡ []
-lane-none frame found =
-    none-in (is_left frame) (is_left frame) frame.next (8 - frame.next) (λ k low high. refl) found
-
-same-lanes : (a b : LaneFrame) (lane : ℕ) → b.gone ≡ a.gone → lanes_from b lane ≡ lanes_from a lane
-same-lanes a b lane e = ap (λ gone. filter (λ k. nat_eq (slice_index gone k) 0) (range_with_len lane (8 - lane))) e
-
--- the frame after the child in a lane
-pub record IsPast (here later : LaneFrame) (lane : ℕ) : Type 0 where
-  pub is : lanes_from here here.next ≡ lane ∷ lanes_from here (lane + 1)
-  pub gone : later.gone ≡ here.gone
-  pub next : later.next ≡ lane + 1
+pub lane-none : (frame : LaneFrame) → length (lanes_of frame) ≤ frame.next → drop frame.next (lanes_of frame) ≡ []
+lane-none frame high = drop_of_length-le (lanes_of frame) high
 
 left-next : (shop : Shop) (root : List ℕ) (group : Group) (below lane : ℕ) (here later : LaneFrame)
-    (fs : List LaneFrame) (st : Incumbent) → IsPast here later lane →
+    (fs : List LaneFrame) (st : Incumbent) → IsStep here later lane →
     lanes_left shop root group below (here ∷ fs) st
     ≡ then_walk (walk shop bound_at below (child (lane_path root group fs) group lane) st)
     (lanes_left shop root group below (later ∷ fs))
-left-next shop root group below lane here later fs st past =
+left-next shop root group below lane here later fs st step =
     let w : ℕ → Incumbent → Walk = λ k. walk shop bound_at below (child (lane_path root group fs) group k) in
     let more : Incumbent → Walk = lanes_left shop root group (suc below) fs in
-    let after : lanes_from here (lane + 1) ≡ lanes_from later later.next =
-    sym (ap (lanes_from later) past.next ∙ same-lanes here later (lane + 1) past.gone) in
-    ap (λ ls. then_walk (walk_each w ls st) more) (past.is ∙ ap (λ ls. lane ∷ ls) after)
-    ∙ then-assoc (w lane st) (walk_each w (lanes_from later later.next)) more
+    let after : drop (here.next + 1) (lanes_of here) ≡ drop later.next (lanes_of later) =
+    sym (ap (λ n. drop n (lanes_of later)) step.next
+    ∙ ap (λ gone. drop (here.next + 1) (filter (λ k. nat_eq (slice_index gone k) 0) (range_with_len 0 8))) step.gone) in
+    ap (λ ls. then_walk (walk_each w ls st) more) (step.is ∙ ap (λ ls. lane ∷ ls) after)
+    ∙ then-assoc (w lane st) (walk_each w (drop later.next (lanes_of later))) more
 
 left-none : (shop : Shop) (root : List ℕ) (group : Group) (below : ℕ) (here : LaneFrame) (fs : List LaneFrame)
-    (st : Incumbent) → lanes_from here here.next ≡ [] →
+    (st : Incumbent) → drop here.next (lanes_of here) ≡ [] →
     lanes_left shop root group below (here ∷ fs) st ≡ lanes_left shop root group (suc below) fs st
 left-none shop root group below here fs st e =
     ap (λ ls. then_walk (walk_each (λ k. walk shop bound_at below (child (lane_path root group fs) group k)) ls st)
@@ -72,13 +74,13 @@ each-lane f g [] st = refl
 each-lane f g (lane ∷ lanes) st =
     ap (λ rest. ((f (g lane) st).0 ++ rest.0, rest.1)) (each-lane f g lanes (f (g lane) st).1)
 
-lanes-whole : (shop : Shop) (left : ℕ) (list : List ℕ) (group : Group) (frame : LaneFrame) (lane : ℕ)
-    (st : Incumbent) → IsFrameOf shop list group frame → lane ≡ 0 →
-    lanes_walked shop left list group frame lane st
+lanes-whole : (shop : Shop) (left : ℕ) (list : List ℕ) (group : Group) (frame : LaneFrame) (next : ℕ)
+    (st : Incumbent) → IsFrameOf shop list group frame → next ≡ 0 →
+    lanes_walked shop left list group (drop next (lanes_of frame)) st
     ≡ walk_each (λ job. walk shop bound_at left (list ++ job ∷ [])) (jobs_left shop.jobs list) st
-lanes-whole shop left list group frame lane st at first =
-    ap (λ k. lanes_walked shop left list group frame k st) first
-    ∙ each-lane (λ job. walk shop bound_at left (list ++ job ∷ [])) (job_of group) (lanes_from frame 0) st
+lanes-whole shop left list group frame next st at first =
+    ap (λ k. lanes_walked shop left list group (drop k (lanes_of frame)) st) first
+    ∙ each-lane (λ job. walk shop bound_at left (list ++ job ∷ [])) (job_of group) (lanes_of frame) st
     ∙ ap (λ jobs. walk_each (λ job. walk shop bound_at left (list ++ job ∷ [])) jobs st)
     (lanes-are-jobs shop list group frame at)
 
@@ -103,7 +105,7 @@ lanes-start shop budget group old here below tested next count within =
       count = count;
       tested = (tested, tt);
       text =
-          ap (λ t. old.tree.items ++ t) (append-nil (lanes_walked shop below root group here here.next st).0)
+          ap (λ t. old.tree.items ++ t) (append-nil (lanes_walked shop below root group (drop here.next (lanes_of here)) st).0)
           ∙ ap (λ w. old.tree.items ++ w.0) all;
       state = ap (λ w. w.1) all;
       unscheduled = refl;
@@ -114,17 +116,17 @@ module _ {shop : Shop} {budget : ℕ} {group : Group} {root : List ℕ} {whole :
     {here : LaneFrame} {below : ℕ} {fs : List LaneFrame} {now : Search}
     (i : IsInLanes shop budget group root whole old here below fs now) where
   -- a child's subtree was walked
-  pub lanes-walked : (lane : ℕ) (later : LaneFrame) (new : Search) → IsPast here later lane →
+  pub lanes-walked : (lane : ℕ) (later : LaneFrame) (new : Search) → IsStep here later lane →
       IsTested shop (lane_path root group fs) group later → Gave budget (lane_walked shop below group lane now) now new →
       IsInLanes shop budget group root whole old later below fs new
-  lanes-walked lane later new past tested gave =
+  lanes-walked lane later new step tested gave =
       let st : Incumbent = incumbent_of now in
       let first : Walk = walk shop bound_at below (child (lane_path root group fs) group lane) st in
       let first_is : lane_walked shop below group lane now ≡ first =
       ap (λ q. walk shop bound_at below (child q group lane) st) i.node in
       let rest : Incumbent → Walk = lanes_left shop root group below (later ∷ fs) in
       let all : lanes_left shop root group below (here ∷ fs) st ≡ then_walk first rest =
-      left-next shop root group below lane here later fs st past in
+      left-next shop root group below lane here later fs st step in
       let after : incumbent_of new ≡ first.1 = gave.incumbent ∙ ap (λ w. w.1) first_is in
       let tree : new.tree.items ≡ now.tree.items ++ first.0 = gave.tree ∙ ap (λ w. now.tree.items ++ w.0) first_is in
       record {
@@ -143,17 +145,17 @@ module _ {shop : Shop} {budget : ℕ} {group : Group} {root : List ℕ} {whole :
       }
 
   -- a child's text is longer than the budget
-  pub lanes-over : (lane : ℕ) (later : LaneFrame) → IsPast here later lane →
+  pub lanes-over : (lane : ℕ) (later : LaneFrame) → IsStep here later lane →
       budget < length now.tree.items + length (lane_walked shop below group lane now).0 →
       budget < length old.tree.items + length whole.0
-  lanes-over lane later past over =
+  lanes-over lane later step over =
       let st : Incumbent = incumbent_of now in
       let first : Walk = walk shop bound_at below (child (lane_path root group fs) group lane) st in
       let rest : Walk = lanes_left shop root group below (later ∷ fs) first.1 in
       let first_is : length (lane_walked shop below group lane now).0 ≡ length first.0 =
       ap (λ q. length (walk shop bound_at below (child q group lane) st).0) i.node in
       let all : now.tree.items ++ (first.0 ++ rest.0) ≡ old.tree.items ++ whole.0 =
-      ap (λ w. now.tree.items ++ w.0) (sym (left-next shop root group below lane here later fs st past)) ∙ i.text in
+      ap (λ w. now.tree.items ++ w.0) (sym (left-next shop root group below lane here later fs st step)) ∙ i.text in
       let sizes : length (now.tree.items ++ (first.0 ++ rest.0)) ≡ length (old.tree.items ++ whole.0) = ap length all in
       omega (
         arith,
@@ -166,25 +168,25 @@ module _ {shop : Shop} {budget : ℕ} {group : Group} {root : List ℕ} {whole :
       )
 
   -- the plus of a child is written, and its node entered
-  pub lanes-down : (lane : ℕ) (later made : LaneFrame) (mid new : Search) → IsPast here later lane →
+  pub lanes-down : (lane : ℕ) (later made : LaneFrame) (mid new : Search) → IsStep here later lane →
       IsTested shop (lane_path root group fs) group later → 1 ≤ below →
       Opens shop budget (job_of group lane) now mid → IsMoved (mid.node.items ++ job_of group lane ∷ []) mid new →
       IsTested shop (child (lane_path root group fs) group lane) group made → made.next ≡ 0 →
       IsInLanes shop budget group root whole old made (below - 1) (later ∷ fs) new
-  lanes-down lane later made mid new past tested some opens moved made_is first_lane =
+  lanes-down lane later made mid new step tested some opens moved made_is first_lane =
       let st : Incumbent = incumbent_of now in
       let more : below ≡ suc (below - 1) = omega (arith, some) in
       let left : ℕ = below - 1 in
       let node : List ℕ = child (lane_path root group fs) group lane in
-      let back : later.next - 1 ≡ lane = omega (arith, past.next) in
-      let path_is : lane_path root group (later ∷ fs) ≡ node = ap (child (lane_path root group fs) group) back in
+      let path_is : lane_path root group (later ∷ fs) ≡ node =
+      ap (child (lane_path root group fs) group) step.place in
       let node_is : new.node.items ≡ node =
       moved.node ∙ ap (λ q. child q group lane) (opens.wrote.node ∙ i.node) in
       let st_is : incumbent_of new ≡ st = moved.incumbent ∙ opens.wrote.incumbent in
       let made_at : IsTested shop (lane_path root group (later ∷ fs)) group made =
       subst (λ q. IsTested shop q group made) (sym path_is) made_is in
       let first : Walk = walk shop bound_at below node st in
-      let deeper : Incumbent → Walk = lanes_walked shop left (lane_path root group (later ∷ fs)) group made made.next in
+      let deeper : Incumbent → Walk = λ s. lanes_walked shop left (lane_path root group (later ∷ fs)) group (drop made.next (lanes_of made)) s in
       let rest : Incumbent → Walk = lanes_left shop root group below (later ∷ fs) in
       let uncut : find (λ machine. nat_le st.0 (bound_at shop node machine)) (numbers 1 shop.machines) ≡ None =
       ap (λ q. find (λ machine. nat_le st.0 (bound_at shop (child q group lane) machine)) (numbers 1 shop.machines))
@@ -199,7 +201,7 @@ module _ {shop : Shop} {budget : ℕ} {group : Group} {root : List ℕ} {whole :
       ∙ ap (answer_of st (children node)) uncut
       ∙ ap (λ w. (43 ∷ w.0, w.1)) (sym below_is) in
       let all : lanes_left shop root group below (here ∷ fs) st ≡ then_walk first rest =
-      left-next shop root group below lane here later fs st past in
+      left-next shop root group below lane here later fs st step in
       let tree : new.tree.items ≡ now.tree.items ++ 43 ∷ [] = moved.tree ∙ opens.wrote.tree in
       let made_rest : Incumbent → Walk = lanes_left shop root group left (made ∷ later ∷ fs) in
       let made_rest_is : made_rest st ≡ then_walk (deeper st) rest =
@@ -228,7 +230,7 @@ module _ {shop : Shop} {budget : ℕ} {group : Group} {root : List ℕ} {whole :
       }
 
   -- no child is left: back at the node above
-  pub lanes-up : (f : LaneFrame) (gs : List LaneFrame) (new : Search) → lanes_from here here.next ≡ [] →
+  pub lanes-up : (f : LaneFrame) (gs : List LaneFrame) (new : Search) → drop here.next (lanes_of here) ≡ [] →
       fs ≡ f ∷ gs → IsMoved (lane_path root group gs) now new →
       IsInLanes shop budget group root whole old f (suc below) gs new
   lanes-up f gs new empty e moved =
@@ -240,7 +242,7 @@ module _ {shop : Shop} {budget : ℕ} {group : Group} {root : List ℕ} {whole :
         count = omega (
           arith,
           ap (λ xs. length (lane_path root group xs)) e,
-          length-append (lane_path root group gs) (job_of group (f.next - 1) ∷ []),
+          length-append (lane_path root group gs) (job_of group (slice_index f.lanes (f.next - 1)) ∷ []),
           i.count,
         );
         tested = subst (AreTested shop root group) e i.tested.1;
@@ -257,7 +259,7 @@ module _ {shop : Shop} {budget : ℕ} {group : Group} {root : List ℕ} {whole :
       }
 
   -- no child is left, of the root
-  pub lanes-done : lanes_from here here.next ≡ [] → fs ≡ [] → root ≡ old.node.items → Gave budget whole old now
+  pub lanes-done : drop here.next (lanes_of here) ≡ [] → fs ≡ [] → root ≡ old.node.items → Gave budget whole old now
   lanes-done empty e root_is =
       let st : Incumbent = incumbent_of now in
       let same : lanes_left shop root group below (here ∷ fs) st ≡ ([], st) =

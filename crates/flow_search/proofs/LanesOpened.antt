@@ -1,7 +1,7 @@
 -- The nodes of children.
-use Rattle.std.proofs.Common.{◌≡◌, ◌≢◌, ℕ, ◌+◌, ◌-◌, ◌<◌, ◌≤◌, false, List, [], ◌∷◌, ◌++◌, length, slice_index, slice_index_or, set, refl, ap, sym, ◌∙◌, inl, inr, arith, length-append}
-use Rattle.std.specs.List.{sum_by}
-use Rattle.std.proofs.lemmas.Bool.{cases_eq, cases_order, false≢true}
+use Rattle.std.proofs.Common.{◌≡◌, ◌≢◌, ℕ, ◌+◌, ◌-◌, ◌<◌, ◌≤◌, false, List, [], ◌∷◌, ◌++◌, length, nat_eq, slice_index, slice_index_or, set, refl, ap, sym, ◌∙◌, inl, inr, arith, length-append}
+use Rattle.std.specs.List.{filter, range_with_len, sum_by}
+use Rattle.std.proofs.lemmas.Bool.{cases_eq, cases_order, false≢true, ne_eqb}
 use Rattle.std.proofs.lemmas.List.{get_or-set_other, get_or-set_same}
 use Rattle.flow_core.specs.Shop.{Shop, time}
 use Rattle.flow_core.specs.Paths.{completion}
@@ -11,13 +11,14 @@ use Rattle.flow_search.specs.declared.eight.group.TheConstants.{GONE}
 use Rattle.flow_search.specs.declared.eight.group.LaneRow.{LaneRow}
 use Rattle.flow_search.specs.declared.eight.group.Group.{Group}
 use Rattle.flow_search.specs.declared.eight.group.LaneFrame.{LaneFrame}
-use Rattle.flow_search.specs.internal.Lanes.{IsLaneLeft, IsFrameOf, IsOpened, IsTested, job_of, child}
+use Rattle.flow_search.specs.internal.Lanes.{IsLaneLeft, IsFrameOf, IsOpened, IsTested, job_of, child, lanes_of}
+use Rattle.flow_search.proofs.Increasing.{without-one, places-gone, size-filter}
 use Rattle.flow_search.proofs.JobsTaken.{left-sum, left-count, has-other, has-more, has-same}
 
 -- a node that differs in the answers only
 at-same : (shop : Shop) (list : List ℕ) (group : Group) (a b : LaneFrame) → b.front ≡ a.front → b.sum ≡ a.sum →
-    b.gone ≡ a.gone → IsFrameOf shop list group a → IsFrameOf shop list group b
-at-same shop list group a b front sum gone at =
+    b.gone ≡ a.gone → b.lanes ≡ a.lanes → IsFrameOf shop list group a → IsFrameOf shop list group b
+at-same shop list group a b front sum gone lanes at =
     let back : (lane : ℕ) → IsLaneLeft b lane → IsLaneLeft a lane =
     λ lane left. record { within = left.within; left = sym (ap (λ g. slice_index g lane) gone) ∙ left.left } in
     record {
@@ -44,15 +45,20 @@ at-same shop list group a b front sum gone at =
             stands.2,
           );
       order = λ lane other here there. at.order lane other (back lane here) (back other there);
+      lanes = λ place low.
+          let same : lanes_of b ≡ lanes_of a =
+          ap (λ g. filter (λ lane. nat_eq (slice_index g lane) 0) (range_with_len 0 8)) gone in
+          ap (λ xs. slice_index xs place) lanes ∙ at.lanes place (omega (arith, low, ap length same))
+          ∙ ap (λ xs. slice_index xs place) (sym same);
     }
 
 pub opened-same : (shop : Shop) (list : List ℕ) (group : Group) (a b : LaneFrame) → b.front ≡ a.front → b.sum ≡ a.sum →
-    b.gone ≡ a.gone → IsFrameOf shop list group a →
+    b.gone ≡ a.gone → b.lanes ≡ a.lanes → IsFrameOf shop list group a →
     ((place lane : ℕ) → IsLaneLeft a lane → place < shop.machines →
     slice_index (slice_index_or b.free place []) lane ≡ completion shop (child list group lane) (place + 1)) →
     IsOpened shop list group b
-opened-same shop list group a b front sum gone at free = record {
-  at = at-same shop list group a b front sum gone at;
+opened-same shop list group a b front sum gone lanes at free = record {
+  at = at-same shop list group a b front sum gone lanes at;
   free = λ place lane left. free place lane (record {
     within = left.within;
     left =
@@ -78,15 +84,17 @@ time-within shop list group frame row lane place at here to =
     + 1)) shop.jobs list (job_of group lane) (at.from lane here) (at.to lane here) (at.fresh lane here) in
     omega (arith, load, row_is, sum)
 
-pub child-at : (shop : Shop) (list : List ℕ) (group : Group) (parent made : LaneFrame) (row : LaneRow) (lane : ℕ) →
-    IsOpened shop list group parent → IsLaneLeft parent lane →
-    ((place : ℕ) → place < shop.machines → slice_index made.front place
-    ≡ slice_index (slice_index_or parent.free place []) lane) →
-    ((place : ℕ) → place < shop.machines → slice_index made.sum place
-    ≡ slice_index parent.sum place - slice_index (slice_index_or group.rows place row).time lane) →
+pub child-at : (shop : Shop) (list : List ℕ) (group : Group) (parent made : LaneFrame) (row : LaneRow)
+    (lane place : ℕ) → IsOpened shop list group parent → IsLaneLeft parent lane →
+    place < length (lanes_of parent) → slice_index (lanes_of parent) place ≡ lane →
+    ((k : ℕ) → k < shop.machines → slice_index made.front k ≡ slice_index (slice_index_or parent.free k []) lane) →
+    ((k : ℕ) → k < shop.machines → slice_index made.sum k
+    ≡ slice_index parent.sum k - slice_index (slice_index_or group.rows k row).time lane) →
     made.gone ≡ set parent.gone lane GONE → length parent.gone ≡ 8 →
+    ((k : ℕ) → k < place → k < 8 → slice_index made.lanes k ≡ slice_index parent.lanes k) →
+    ((k : ℕ) → place ≤ k → k < 7 → slice_index made.lanes k ≡ slice_index parent.lanes (k + 1)) →
     IsFrameOf shop (child list group lane) group made
-child-at shop list group parent made row lane is here front sum gone size =
+child-at shop list group parent made row lane place is here stands lane_is front sum gone size before behind =
     let at : IsFrameOf shop list group parent = is.at in
     let job : ℕ = job_of group lane in
     let there : slice_index made.gone lane ≡ GONE = ap (λ g. slice_index g lane) gone
@@ -151,6 +159,11 @@ child-at shop list group parent made row lane is here front sum gone size =
           ∙ has-same list job) in
           (stands.0, record { within = stands.1.within; left = elsewhere stands.0 other ∙ stands.1.left }, stands.2);
       order = λ k other a b. at.order k other (back k a) (back other b);
+      lanes = places-gone parent.lanes made.lanes (lanes_of parent) (lanes_of made) place at.lanes
+          (without-one (λ k. nat_eq (slice_index parent.gone k) 0) (λ k. nat_eq (slice_index made.gone k) 0) 0 8 place
+          lane (λ k other. ap (λ n. nat_eq n 0) (elsewhere k other))
+          (ne_eqb (slice_index made.gone lane) 0 (λ none. omega (arith, none, there))) stands lane_is)
+          stands (size-filter (λ k. nat_eq (slice_index parent.gone k) 0) 0 8) before behind;
     }
 
 -- a node whose next lane is another
@@ -162,13 +175,14 @@ moved-lane frame next = record {
   gone = frame.gone;
   uncut = frame.uncut;
   value = frame.value;
+  lanes = frame.lanes;
   next = next;
 }
 
 pub tested-moved : (shop : Shop) (list : List ℕ) (group : Group) (frame : LaneFrame) (next : ℕ) →
     IsTested shop list group frame → IsTested shop list group (moved-lane frame next)
 tested-moved shop list group frame next is = record {
-  opened = opened-same shop list group frame (moved-lane frame next) refl refl refl is.opened.at is.opened.free;
+  opened = opened-same shop list group frame (moved-lane frame next) refl refl refl refl is.opened.at is.opened.free;
   uncut = λ lane other here there.
       is.uncut lane other (record { within = here.within; left = here.left })
       (record { within = there.within; left = there.left });

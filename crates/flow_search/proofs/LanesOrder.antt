@@ -1,16 +1,17 @@
 -- The lanes that are left, in increasing order, have the jobs that are left, in increasing order.
-use Rattle.std.proofs.Common.{◌≡◌, ◌≢◌, ℕ, zero, suc, ◌+◌, ◌-◌, ◌<◌, ◌≤◌, Bool, true, false, cond, not, nat_eq, List, [], ◌∷◌, map, slice_index, refl, ap, sym, ◌∙◌, inl, inr, arith}
+use Rattle.std.proofs.Common.{◌≡◌, ◌≢◌, ℕ, zero, suc, ◌+◌, ◌-◌, ◌<◌, ◌≤◌, Bool, true, false, cond, not, nat_eq, List, [], ◌∷◌, length, map, slice_index, refl, ap, sym, ◌∙◌, inl, inr, arith}
 use Rattle.std.specs.List.{filter, range_with_len}
 use Rattle.std.proofs.lemmas.Bool.{false≢true, eq-eqb, eqb-true, or_left, or_right, or_cases}
+use Rattle.std.proofs.lemmas.List.{length-map}
 use Rattle.std.proofs.lemmas.Bool.Decides.{eqb_tells}
 use Rattle.flow_core.specs.Shop.{Shop}
 use Rattle.flow_core.specs.Sequences.{has, jobs_left}
 use Rattle.flow_core.proofs.JobsLeft.{bool_cases}
 use Rattle.flow_search.specs.declared.eight.group.Group.{Group}
 use Rattle.flow_search.specs.declared.eight.group.LaneFrame.{LaneFrame}
-use Rattle.flow_search.specs.internal.Lanes.{IsLaneLeft, IsFrameOf, job_of, lanes_from}
+use Rattle.flow_search.specs.internal.Lanes.{IsLaneLeft, IsFrameOf, job_of, lanes_of}
 use Rattle.flow_search.proofs.JobsTaken.{filter-has, left-here}
-use Rattle.flow_search.proofs.LanesEntered.{Increases, increases-filter, increases-from, place-of}
+use Rattle.flow_search.proofs.Increasing.{has-at, Increases, increases-filter, increases-from, place-of}
 
 has-first : (x : ℕ) (xs : List ℕ) → has (x ∷ xs) x ≡ true
 has-first x xs = or_left (nat_eq x x) (has xs x) (eq-eqb x x refl)
@@ -102,7 +103,7 @@ has-range p a (suc n) k pass low high = elim (eqb_tells k a) [
       ]
 ]
 
-range-has : (p : ℕ → Bool) (a n k : ℕ) → has (filter p (range_with_len a n)) k ≡ true → (p k ≡ true) × (k < a + n)
+pub range-has : (p : ℕ → Bool) (a n k : ℕ) → has (filter p (range_with_len a n)) k ≡ true → (p k ≡ true) × (k < a + n)
 range-has p a zero k h = absurd (false≢true h)
 range-has p a (suc n) k h = elim (bool_cases (p a)) [
   | inl pass ↦
@@ -123,18 +124,18 @@ range-has p a (suc n) k h = elim (bool_cases (p a)) [
 ]
 
 pub lanes-are-jobs : (shop : Shop) (list : List ℕ) (group : Group) (frame : LaneFrame) →
-    IsFrameOf shop list group frame → map (job_of group) (lanes_from frame 0) ≡ jobs_left shop.jobs list
+    IsFrameOf shop list group frame → map (job_of group) (lanes_of frame) ≡ jobs_left shop.jobs list
 lanes-are-jobs shop list group frame at =
     let p : ℕ → Bool = λ lane. nat_eq (slice_index frame.gone lane) 0 in
-    let left : (lane : ℕ) → has (lanes_from frame 0) lane ≡ true → IsLaneLeft frame lane =
+    let left : (lane : ℕ) → has (lanes_of frame) lane ≡ true → IsLaneLeft frame lane =
     λ lane h. let is = range-has p 0 8 lane h in
     record { within = omega (arith, is.1); left = eqb-true (slice_index frame.gone lane) 0 is.0 } in
-    same-increasing 1 1 (map (job_of group) (lanes_from frame 0)) (jobs_left shop.jobs list)
-    (increases-map (job_of group) (lanes_from frame 0) 0 1 (increases-filter p 0 8) (λ i j a b. at.order i j (left i a)
+    same-increasing 1 1 (map (job_of group) (lanes_of frame)) (jobs_left shop.jobs list)
+    (increases-map (job_of group) (lanes_of frame) 0 1 (increases-filter p 0 8) (λ i j a b. at.order i j (left i a)
     (left j b)) (λ k h. at.from k (left k h)))
     (increases-filter (λ k. not (has list k)) 1 (shop.jobs + 1 - 1))
     (λ j h.
-    let stands = has-map (job_of group) (lanes_from frame 0) j h in
+    let stands = has-map (job_of group) (lanes_of frame) j h in
     let here = left stands.0 stands.1 in
     ap (has (jobs_left shop.jobs list)) (sym stands.2)
     ∙ left-here shop.jobs list (job_of group stands.0) (at.from stands.0 here) (at.to stands.0 here)
@@ -146,5 +147,24 @@ lanes-are-jobs shop list group frame at =
     let stands = at.each j is.1 is.2 fresh in
     let lane = has-range p 0 8 stands.0 (eq-eqb (slice_index frame.gone stands.0) 0 stands.1.left) (omega arith) (omega
     (arith, stands.1.within)) in
-    sym (ap (has (map (job_of group) (lanes_from frame 0))) stands.2)
-    ∙ map-has (job_of group) (lanes_from frame 0) stands.0 lane)
+    sym (ap (has (map (job_of group) (lanes_of frame))) stands.2)
+    ∙ map-has (job_of group) (lanes_of frame) stands.0 lane)
+
+-- how many they are
+pub lanes-count : (shop : Shop) (list : List ℕ) (group : Group) (frame : LaneFrame) → IsFrameOf shop list group frame →
+    length list + length (lanes_of frame) ≡ shop.jobs
+lanes-count shop list group frame at =
+    omega (
+      arith,
+      at.count,
+      ap length (lanes-are-jobs shop list group frame at),
+      length-map (lanes_of frame) (job_of group),
+    )
+
+-- each of them is left
+pub lane-left : (frame : LaneFrame) (place : ℕ) → place < length (lanes_of frame) →
+    IsLaneLeft frame (slice_index (lanes_of frame) place)
+lane-left frame place low =
+    let is = range-has (λ lane. nat_eq (slice_index frame.gone lane) 0) 0 8 (slice_index (lanes_of frame) place)
+    (has-at (lanes_of frame) place low) in
+    record { within = omega (arith, is.1); left = eqb-true (slice_index frame.gone _) 0 is.0 }

@@ -262,15 +262,15 @@ behind-small shop list group frame row place lane value tails at to made is =
     ]
 
 -- one more place of a list of lists
-pub done-more : (P : ℕ → List ℕ → Type 0) (lists : List (List ℕ)) (place : ℕ) (value : List ℕ) → place < length lists →
-    P place value → ((k : ℕ) → k < place → P k (slice_index_or lists k [])) →
-    (k : ℕ) → k < place + 1 → P k (slice_index_or (set lists place value) k [])
-done-more P lists place value within here done k low = elim (cases_lt k place) [
+pub done-more : {A : Type 0} (P : ℕ → A → Type 0) (xs : List A) (other : A) (place : ℕ) (value : A) →
+    place < length xs → P place value → ((k : ℕ) → k < place → P k (slice_index_or xs k other)) →
+    (k : ℕ) → k < place + 1 → P k (slice_index_or (set xs place value) k other)
+done-more P xs other place value within here done k low = elim (cases_lt k place) [
   | inl earlier ↦
-      let other : k ≢ place = omega (arith, earlier) in
-      subst (P k) (sym (get_or-set_other lists place k value [] other)) (done k earlier)
+      let apart : k ≢ place = omega (arith, earlier) in
+      subst (P k) (sym (get_or-set_other xs place k value other apart)) (done k earlier)
   | inr last ↦
       let e : place ≡ k = omega (arith, last, low) in
-      subst (λ i. P i (slice_index_or (set lists place value) i [])) e (subst (P place) (sym
-      (get_or-set_same lists place value [] within)) here)
+      subst (λ i. P i (slice_index_or (set xs place value) i other)) e (subst (P place) (sym
+      (get_or-set_same xs place value other within)) here)
 ]

@@ -28,7 +28,7 @@ pub reverse-push : {A : Type 0} (xs new : List A) (x : A) → new ≡ xs ++ x �
 reverse-push xs new x e = ap reverse e ∙ reverse-append xs (x ∷ [])
 
 -- the first of some numbers that pass a test, which agrees with another test on them
-pub next-in : (p q : ℕ → Bool) (a len j : ℕ) → ((k : ℕ) → a ≤ k → k < a + len → p k ≡ q k) →
+next-in : (p q : ℕ → Bool) (a len j : ℕ) → ((k : ℕ) → a ≤ k → k < a + len → p k ≡ q k) →
     Some j ≡ find p (range_with_len a len) →
     (filter q (range_with_len a len) ≡ j ∷ filter q (range_with_len (j + 1) (a + len - (j + 1)))) × (a ≤ j)
     × (j < a + len) × (p j ≡ true)
@@ -64,7 +64,7 @@ next-in p q a (suc len) j same e =
           )
     ]
 
-pub none-in : (p q : ℕ → Bool) (a len : ℕ) → ((k : ℕ) → a ≤ k → k < a + len → p k ≡ q k) →
+none-in : (p q : ℕ → Bool) (a len : ℕ) → ((k : ℕ) → a ≤ k → k < a + len → p k ≡ q k) →
     None ≡ find p (range_with_len a len) →
     filter q (range_with_len a len) ≡ []
 none-in p q a zero same e = refl

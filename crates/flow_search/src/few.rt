@@ -1,11 +1,10 @@
 //! The walk of a subtree with at most eight jobs left.
 
-ghost use Rattle.std.specs.Prelude.{◌≡◌, ◌+◌, ◌-◌, ◌<◌, ◌≤◌, suc, true, false, length, filter, find, take, OnOk};
-ghost use Rattle.std.specs.List.{range_with_len};
+ghost use Rattle.std.specs.Prelude.{◌≡◌, ◌+◌, ◌-◌, ◌<◌, ◌≤◌, suc, true, false, length, filter, take, OnOk};
 ghost use Rattle.flow_core.specs.Shop.{numbers};
 ghost use Rattle.flow_core.specs.JobSet.{contains};
 ghost use Rattle.flow_search.specs.internal.Nodes.{IsAt, Gave, Opens, children_walked};
-ghost use Rattle.flow_search.specs.internal.Lanes.{IsFrameOf, IsTested, IsLaneLeft, is_left, job_of};
+ghost use Rattle.flow_search.specs.internal.Lanes.{IsFrameOf, IsTested, IsLaneLeft, job_of};
 ghost use Rattle.flow_search.specs.internal.Lanes.{lane_walked, frame_at};
 
 use crate::eight::{Group, LaneFrame, Lanes, enter_few, open_child, retest_children, test_children};
@@ -27,18 +26,6 @@ fn jobs_of(instance: &Instance, set: &JobSet) -> [u16; 8]
         }
     }
     made
-}
-
-/// The first lane from a frame's next on whose job is left.
-fn next_lane(frame: &LaneFrame) -> Option<usize>
-    ensures { result ≡ find (is_left frame.now) (range_with_len frame.now.next (8 - frame.now.next)) }
-{
-    for lane in frame.next..8 {
-        if frame.gone[lane] == 0 {
-            return Some(lane);
-        }
-    }
-    None
 }
 
 /// Begins the walk of a lane's child, with so many jobs left below it: true for a plus, where its children follow, and
@@ -93,6 +80,7 @@ fn walk_lanes(
     requires tested { IsTested instance.now search.old.node.items group.now (frame_at frames.old 0) }
     requires next { (frame_at frames.old 0).next ≡ 0 }
     requires some { 1 ≤ length frames.old }
+    requires few { length frames.old ≤ 8 }
     requires count { length search.old.node.items + length frames.old ≡ instance.now.jobs }
     requires within { length search.old.tree.items ≤ budget }
     ensures done { OnOk result
@@ -100,24 +88,26 @@ fn walk_lanes(
     ensures over { result ≡ Err Stop.OverBudget → budget
         < length search.old.tree.items + length (children_walked instance.now (length frames.old - 1) search.old).0 }
 {
-    let last = frames.len() - 1;
+    let left = frames.len();
     let mut depth = 0;
     'walk: loop {
-        let Some(lane) = next_lane(&frames[depth]) else {
+        let place = frames[depth].next;
+        if place >= left - depth {
             if depth == 0 {
                 return Ok(());
             }
             search.node.pop();
             depth -= 1;
             continue 'walk;
-        };
+        }
         let frame = &mut frames[depth];
+        let lane = frame.lanes[place] as usize;
         retest_children(instance, group, frame, search.value);
-        frame.next = lane + 1;
-        if visit_lane(instance, budget, group, frame, lane, last - depth, search)? {
+        frame.next = place + 1;
+        if visit_lane(instance, budget, group, frame, lane, left - 1 - depth, search)? {
             let (above, below) = frames.split_at_mut(depth + 1);
             let made = &mut below[0];
-            open_child(instance, group, &above[depth], made, lane);
+            open_child(instance, group, &above[depth], made, place);
             test_children(instance, group, made, search.value);
             search.node.push(group.jobs[lane])?;
             depth += 1;

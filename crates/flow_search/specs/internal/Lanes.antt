@@ -1,5 +1,5 @@
 -- The jobs of a node with at most eight jobs left, side by side in eight lanes.
-use Rattle.std.specs.Prelude.{ℕ, suc, ◌≡◌, ◌≢◌, ◌⊎◌, ◌+◌, ◌-◌, ◌<◌, ◌≤◌, false, List, [], ◌∷◌, ◌++◌, slice_index, slice_index_or, sum_by, length, filter, nat_eq, Bool, Option}
+use Rattle.std.specs.Prelude.{ℕ, suc, ◌≡◌, ◌≢◌, ◌⊎◌, ◌+◌, ◌-◌, ◌<◌, ◌≤◌, false, List, [], ◌∷◌, ◌++◌, slice_index, slice_index_or, sum_by, length, drop, filter, nat_eq, Option}
 use Rattle.std.specs.List.{range_with_len}
 use Rattle.flow_core.specs.Limits.{greatest_time}
 use Rattle.flow_core.specs.Shop.{Shop, time, time_between}
@@ -38,6 +38,10 @@ pub record IsLaneLeft (frame : LaneFrame) (lane : ℕ) : Type 0 where
   pub within : lane < 8
   pub left : slice_index frame.gone lane ≡ 0
 
+-- the lanes whose jobs are left, in increasing order
+abbrev pub lanes_of : LaneFrame → List ℕ
+lanes_of frame = filter (λ lane. nat_eq (slice_index frame.gone lane) 0) (range_with_len 0 8)
+
 -- the job of a lane
 abbrev pub job_of : Group → ℕ → ℕ
 job_of group lane = slice_index group.jobs lane
@@ -75,6 +79,8 @@ pub record IsFrameOf (shop : Shop) (list : List ℕ) (group : Group) (frame : La
       (lane : ℕ) × IsLaneLeft frame lane × (job_of group lane ≡ job)
   pub order : (lane other : ℕ) → IsLaneLeft frame lane → IsLaneLeft frame other → lane < other →
       job_of group lane < job_of group other
+  pub lanes : (place : ℕ) → place < length (lanes_of frame) →
+      slice_index frame.lanes place ≡ slice_index (lanes_of frame) place
 
 -- and each child's front is known too
 pub record IsOpened (shop : Shop) (list : List ℕ) (group : Group) (frame : LaneFrame) : Type 0 where
@@ -94,29 +100,21 @@ pub record IsTested (shop : Shop) (list : List ℕ) (group : Group) (frame : Lan
   pub uncut : (lane other : ℕ) → IsLaneLeft frame lane → IsLaneLeft frame other → other ≢ lane →
       IsUncutCount shop (child list group lane) frame.value shop.machines (slice_index frame.uncut lane)
 
--- whether the job of a lane is left
-abbrev pub is_left : LaneFrame → ℕ → Bool
-is_left frame lane = nat_eq (slice_index frame.gone lane) 0
-
--- the lanes whose jobs are left, in increasing order, from a lane on
-abbrev pub lanes_from : LaneFrame → ℕ → List ℕ
-lanes_from frame lane = filter (is_left frame) (range_with_len lane (8 - lane))
-
 -- the walk of a lane's child, with so many jobs left there
 abbrev pub lane_walked : Shop → ℕ → Group → ℕ → Search → List ℕ × (ℕ × Option Found)
 lane_walked shop left group lane search =
     walk shop bound_at left (child search.node.items group lane) (incumbent_of search)
 
--- the walks of the children in the lanes from one on, one after another, each with so many jobs left
-abbrev pub lanes_walked : Shop → ℕ → List ℕ → Group → LaneFrame → ℕ → ℕ × Option Found → List ℕ × (ℕ × Option Found)
-lanes_walked shop left list group frame lane incumbent =
-    walk_each (λ lane. walk shop bound_at left (child list group lane)) (lanes_from frame lane) incumbent
+-- the walks of the children in some lanes, one after another, each with so many jobs left
+abbrev pub lanes_walked : Shop → ℕ → List ℕ → Group → List ℕ → ℕ × Option Found → List ℕ × (ℕ × Option Found)
+lanes_walked shop left list group lanes incumbent =
+    walk_each (λ lane. walk shop bound_at left (child list group lane)) lanes incumbent
 
--- the node that a stack of frames, the deepest first, leads to: each frame's child just walked is in the lane before its
+-- the node that a stack of frames, the deepest first, leads to: each frame's child just walked is in the lane before the
 -- next
 abbrev pub lane_path : List ℕ → Group → List LaneFrame → List ℕ
 lane_path root group [] = root
-lane_path root group (f ∷ fs) = child (lane_path root group fs) group (f.next - 1)
+lane_path root group (f ∷ fs) = child (lane_path root group fs) group (slice_index f.lanes (f.next - 1))
 
 -- each frame is that of its node, with the children tested
 abbrev pub AreTested : Shop → List ℕ → Group → List LaneFrame → Type 0
@@ -127,7 +125,7 @@ AreTested shop root group (f ∷ fs) = IsTested shop (lane_path root group fs) g
 abbrev pub lanes_left : Shop → List ℕ → Group → ℕ → List LaneFrame → ℕ × Option Found → List ℕ × (ℕ × Option Found)
 lanes_left shop root group left [] incumbent = ([], incumbent)
 lanes_left shop root group left (f ∷ fs) incumbent =
-    then_walk (lanes_walked shop left (lane_path root group fs) group f f.next incumbent)
+    then_walk (lanes_walked shop left (lane_path root group fs) group (drop f.next (lanes_of f)) incumbent)
     (lanes_left shop root group (suc left) fs)
 
 -- the walk of a root's children stands at a node below it, whose frame is `here`: what was written, with what is still
@@ -147,4 +145,4 @@ pub record IsInLanes (shop : Shop) (budget : ℕ) (group : Group) (root : List �
 abbrev pub frame_at : List LaneFrame → ℕ → LaneFrame
 frame_at frames depth =
     slice_index_or frames depth
-    (record { free = []; front = []; sum = []; gone = []; uncut = []; value = 0; next = 0 })
+    (record { free = []; front = []; sum = []; gone = []; uncut = []; value = 0; lanes = []; next = 0 })

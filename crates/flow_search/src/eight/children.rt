@@ -1,11 +1,10 @@
 //! The children of a node, side by side: their fronts, and the machines that cut them.
 
-ghost use Rattle.std.specs.Prelude.{◌≡◌, ℕ, ◌+◌, ◌<◌, ◌≤◌, List, slice_index, slice_set};
-ghost use Rattle.flow_search.specs.declared.eight.group.TheConstants.{GONE};
-ghost use Rattle.flow_search.specs.internal.Lanes.{IsLaneLeft, IsFrameOf, IsOpened, IsTested, child};
+ghost use Rattle.std.specs.Prelude.{◌≡◌, ℕ, ◌+◌, ◌<◌, ◌≤◌, List, length, slice_index};
+ghost use Rattle.flow_search.specs.internal.Lanes.{IsFrameOf, IsOpened, IsTested, child, lanes_of};
 
 use crate::eight::group::{GONE, Group, LaneFrame};
-use crate::eight::numbers::{at_least, below, greater, others, sums};
+use crate::eight::numbers::{at_least, below, greater, others, sums, without};
 use flow_core::Instance;
 
 /// Computes when each child leaves each machine, and how many machines there are before the first whose bound reaches a
@@ -16,6 +15,7 @@ pub fn test_children(instance: &Instance, group: &Group, frame: &mut LaneFrame, 
     ensures front { frame.new.front ≡ frame.old.front }
     ensures sum { frame.new.sum ≡ frame.old.sum }
     ensures gone { frame.new.gone ≡ frame.old.gone }
+    ensures lanes { frame.new.lanes ≡ frame.old.lanes }
     ensures next { frame.new.next ≡ frame.old.next }
     ensures value { frame.new.value ≡ value }
     ensures tested { (list : List ℕ) → IsFrameOf instance.now list group.now frame.old →
@@ -48,6 +48,7 @@ pub fn test_children(instance: &Instance, group: &Group, frame: &mut LaneFrame, 
 pub fn retest_children(instance: &Instance, group: &Group, frame: &mut LaneFrame, value: u64)
     requires { (list : List ℕ) × IsTested instance.now list group.now frame.old }
     ensures gone { frame.new.gone ≡ frame.old.gone }
+    ensures lanes { frame.new.lanes ≡ frame.old.lanes }
     ensures next { frame.new.next ≡ frame.old.next }
     ensures value { frame.new.value ≡ value }
     ensures tested { (list : List ℕ) → IsTested instance.now list group.now frame.old →
@@ -58,28 +59,28 @@ pub fn retest_children(instance: &Instance, group: &Group, frame: &mut LaneFrame
     }
 }
 
-/// Makes the node of a child: its front is what the test of the parent's children left.
+/// Makes the node of the child in the lane at a place: its front is what the test of the parent's children left.
 #[inline(always)]
 pub fn open_child(
     instance: &Instance,
     group: &Group,
     parent: &LaneFrame,
     made: &mut LaneFrame,
-    lane: usize,
+    place: usize,
 )
     requires at { (list : List ℕ) × IsOpened instance.now list group.now parent.now }
-    requires left { IsLaneLeft parent.now lane }
+    requires left { place < length (lanes_of parent.now) }
     ensures at { (list : List ℕ) → IsOpened instance.now list group.now parent.now →
-        IsFrameOf instance.now (child list group.now lane) group.now made.new }
-    ensures gone { made.new.gone ≡ slice_set parent.now.gone lane GONE }
+        IsFrameOf instance.now (child list group.now (slice_index parent.now.lanes place)) group.now made.new }
     ensures next { made.new.next ≡ 0 }
 {
-    let machines = instance.machines() as usize;
-    for place in 0..machines {
-        made.front[place] = parent.free[place][lane];
-        made.sum[place] = parent.sum[place] - group.rows[place].time[lane];
+    let lane = parent.lanes[place] as usize;
+    for row in 0..instance.machines() as usize {
+        made.front[row] = parent.free[row][lane];
+        made.sum[row] = parent.sum[row] - group.rows[row].time[lane];
     }
     made.gone = parent.gone;
     made.gone[lane] = GONE;
+    made.lanes = without(&parent.lanes, place);
     made.next = 0;
 }

@@ -93,5 +93,6 @@ pub fn enter_few(
     }
     group.jobs = lanes_of(jobs);
     frame.gone = gone_from(jobs.len());
+    frame.lanes = [0, 1, 2, 3, 4, 5, 6, 7];
     frame.next = 0;
 }

@@ -51,7 +51,9 @@ pub struct LaneFrame {
     pub uncut: [u32; 8],
     /// The makespan against which the children were tested.
     pub value: u64,
-    /// No lane below this one has a child that is still to be walked.
+    /// The lanes whose jobs are left, in increasing order, from the first place on.
+    pub lanes: [u8; 8],
+    /// The place of the lane whose child is walked next.
     pub next: usize,
 }
 
@@ -65,6 +67,7 @@ impl LaneFrame {
             gone: [0; 8],
             uncut: [0; 8],
             value: 0,
+            lanes: [0; 8],
             next: 0,
         }
     }

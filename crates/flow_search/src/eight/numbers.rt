@@ -31,6 +31,23 @@ pub(crate) fn others(numbers: &[u32; 8]) -> [u32; 8]
     ]
 }
 
+/// The numbers without that at a place. The last one stands twice.
+#[inline(always)]
+pub(crate) fn without(numbers: &[u8; 8], place: usize) -> [u8; 8]
+    ensures before { (k : ℕ) → k < place → k < 8 → slice_index result k ≡ slice_index numbers.now k }
+    ensures behind { (k : ℕ) → place ≤ k → k < 7 → slice_index result k ≡ slice_index numbers.now (k + 1) }
+{
+    let mut made = [0u8; 8];
+    for k in 0..8usize {
+        made[k] = if k < place {
+            numbers[k]
+        } else {
+            numbers[(k + 1).min(7)]
+        };
+    }
+    made
+}
+
 /// In each lane the number, or one that is the same for all where that is greater.
 #[inline(always)]
 pub(crate) fn at_least(numbers: &[u32; 8], least: u32) -> [u32; 8]

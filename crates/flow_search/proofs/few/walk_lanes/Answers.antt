@@ -1,10 +1,10 @@
-use Rattle.std.proofs.Common.{◌≡◌, ℕ, suc, ◌+◌, ◌-◌, ◌*◌, ◌<◌, ◌≤◌, Bool, true, false, Some, None, Ok, Err, Result, List, [], ◌∷◌, ◌++◌, length, reverse, take, slice_index, slice_index_or, set, vec_len, refl, sym, subst, ◌∙◌, ap, arith, length-append}
-use Rattle.std.specs.List.{find, range_with_len}
+use Rattle.std.proofs.Common.{◌≡◌, ℕ, suc, ◌+◌, ◌-◌, ◌*◌, ◌<◌, ◌≤◌, Bool, true, false, Some, None, Ok, Err, Result, List, [], ◌∷◌, ◌++◌, length, reverse, take, drop, nat_eq, slice_index, slice_index_or, set, vec_len, refl, sym, subst, ◌∙◌, ap, arith, length-append}
+use Rattle.std.specs.List.{filter, range_with_len}
 use Rattle.std.proofs.lemmas.List.{length-set, get_or-set_same}
 use Rattle.std.proofs.lemmas.Result.{err_from_is_err_and}
 use Rattle.flow_core.specs.Shop.{Shop}
 use Rattle.flow_search.specs.internal.Nodes.{Gave, Opens, children_walked, incumbent_of}
-use Rattle.flow_search.specs.internal.Lanes.{IsLaneLeft, IsFrameOf, IsOpened, IsTested, IsInLanes, job_of, child, lane_walked, lanes_from, lane_path, frame_at}
+use Rattle.flow_search.specs.internal.Lanes.{IsLaneLeft, IsFrameOf, IsOpened, IsTested, IsInLanes, job_of, child, lane_walked, lanes_of, lane_path, frame_at}
 use Rattle.flow_search.specs.declared.subtree.Search.{Search}
 use Rattle.flow_search.specs.declared.eight.group.LaneFrame.{LaneFrame}
 use Rattle.flow_search.specs.declared.subtree.Stop.{Stop}
@@ -12,9 +12,10 @@ use Rattle.flow_search.specs.declared.subtree.Stop.TheVariants.{OverBudget}
 use Rattle.flow_search.proofs.Nodes.{take-last}
 use Rattle.flow_search.proofs.Resume.{walk-some}
 use Rattle.flow_search.proofs.LanesOpened.{moved-lane, tested-moved}
-use Rattle.flow_search.proofs.LanesLeft.{IsPast, IsMoved, lane-next, lane-none, lanes-start, lanes-walked, lanes-over, lanes-down, lanes-up, lanes-done, stack-top, stack-same, stack-split, stack-down}
+use Rattle.flow_search.proofs.LanesOrder.{lanes-count}
+use Rattle.flow_search.proofs.LanesLeft.{IsStep, IsMoved, lane-next, lane-none, lanes-start, lanes-walked, lanes-over, lanes-down, lanes-up, lanes-done, stack-top, stack-same, stack-split, stack-down}
 use Rattle.flow_search.proofs.few.walk_lanes.Goals as goal
-use Rattle.flow_search.proofs.few.walk_lanes.Goals.{In-Some, After-retest_children, Then-branch, After-split_at_mut-above, After-open_child, Else-branch}
+use Rattle.flow_search.proofs.few.walk_lanes.Goals.{Then-place-left, After-retest_children, Then-branch, After-split_at_mut-above, After-open_child, Else-branch}
 
 pub walk-init : goal.walk-init
 walk-init c =
@@ -30,14 +31,28 @@ walk-init c =
           (omega (arith, c.requires.some, c.requires.count)) c.requires.within);
     }
 
+-- all children are walked
+empty : (c : Then-place-left) →
+    drop (frame_at c.walk.frames c.walk.depth).next (lanes_of (frame_at c.walk.frames c.walk.depth)) ≡ []
+empty c =
+    let count = lanes-count c.args.instance.now _ c.args.group.now (frame_at c.walk.frames c.walk.depth)
+    c.walk.invariant.at.tested.0.opened.at in
+    lane-none (frame_at c.walk.frames c.walk.depth) (omega (
+      arith,
+      count,
+      c.walk.invariant.at.count,
+      c.walk.invariant.deep,
+      c.walk.invariant.size,
+      c.if-place-left.true,
+    ))
+
 pub returns-then-depth-eq0-clause-done : goal.returns-then-depth-eq0-clause-done
 returns-then-depth-eq0-clause-done c =
-    lanes-done c.walk.invariant.at
-    (lane-none (frame_at c.walk.frames c.walk.depth) (sym c.in_default.is ∙ c.next_lane.ensures))
+    lanes-done c.walk.invariant.at (empty (goal.at.returns-then-depth-eq0-clause-done c).Then-place-left)
     (ap (λ n. reverse (take n c.walk.frames)) c.if-depth-eq0.true) refl
 
-pub walk-preserved-in_default : goal.walk-preserved-in_default
-walk-preserved-in_default c =
+pub walk-preserved-then-place-left : goal.walk-preserved-then-place-left
+walk-preserved-then-place-left c =
     let shop : Shop = c.args.instance.now in
     let root : List ℕ = c.args.search.now.node.items in
     let depth : ℕ = c.walk.depth in
@@ -46,7 +61,7 @@ walk-preserved-in_default c =
     let some : 1 ≤ depth = omega (arith, c.if-depth-eq0.false) in
     let top : reverse (take depth c.walk.frames) ≡ f ∷ gs =
     stack-top c.walk.frames depth some (omega (arith, c.walk.invariant.deep)) in
-    let node : c.walk.search.node.items ≡ lane_path root c.args.group.now gs ++ job_of c.args.group.now (f.next - 1)
+    let node : c.walk.search.node.items ≡ lane_path root c.args.group.now gs ++ job_of c.args.group.now (slice_index f.lanes (f.next - 1))
     ∷ [] = c.walk.invariant.at.node ∙ ap (lane_path root c.args.group.now) top in
     let new : Search = record {
       node = c.pop.new.self;
@@ -58,7 +73,7 @@ walk-preserved-in_default c =
     } in
     let moved : IsMoved (lane_path root c.args.group.now gs) c.walk.search new = record {
       node = c.pop.ensures.rest ∙ take-last (vec_len c.walk.search.node) c.walk.search.node.items
-          (lane_path root c.args.group.now gs) (job_of c.args.group.now (f.next - 1)) node c.walk.search.node.ok.0;
+          (lane_path root c.args.group.now gs) (job_of c.args.group.now (slice_index f.lanes (f.next - 1))) node c.walk.search.node.ok.0;
       incumbent = refl;
       tree = refl;
       unscheduled = refl;
@@ -71,28 +86,16 @@ walk-preserved-in_default c =
       at = subst (λ n. IsInLanes shop c.args.budget c.args.group.now root
           (children_walked shop (length c.args.frames.now - 1) c.args.search.now) c.args.search.now f n gs new) below
           (lanes-up c.walk.invariant.at f gs new
-          (lane-none (frame_at c.walk.frames depth) (sym c.in_default.is ∙ c.next_lane.ensures)) top moved);
+          (empty (goal.at.walk-preserved-then-place-left c).Then-place-left) top moved);
     }
 
--- the lane that was found
-found : (c : In-Some) →
-    (lanes_from (frame_at c.walk.frames c.walk.depth) (frame_at c.walk.frames c.walk.depth).next
-    ≡ c.in-Some.lane ∷ lanes_from (frame_at c.walk.frames c.walk.depth) (c.in-Some.lane + 1))
-    × IsLaneLeft (frame_at c.walk.frames c.walk.depth) c.in-Some.lane
-found c = lane-next (frame_at c.walk.frames c.walk.depth) c.in-Some.lane (sym c.in-Some.is ∙ c.next_lane.ensures)
-
-pub overflow_add-frame : goal.overflow_add-frame
-overflow_add-frame c = let is = found (goal.at.overflow_add-frame c).In-Some in omega (arith, is.1.within)
-
-pub bounds-group-lane : goal.bounds-group-lane
-bounds-group-lane c = let is = found (goal.at.bounds-group-lane c).In-Some in omega (arith, is.1.within)
-
-pub offset_bounds-group-lane : goal.offset_bounds-group-lane
-offset_bounds-group-lane c = let is = found (goal.at.offset_bounds-group-lane c).In-Some in omega (arith, is.1.within)
+-- the lane of the next child
+abbrev lane_of : LaneFrame → ℕ
+lane_of frame = slice_index frame.lanes frame.next
 
 -- the frame after the child in the lane
 abbrev later : After-retest_children → LaneFrame
-later c = moved-lane c.retest_children.new.frame (c.in-Some.lane + 1)
+later c = moved-lane c.retest_children.new.frame ((frame_at c.walk.frames c.walk.depth).next + 1)
 
 -- its node
 abbrev node_of : After-retest_children → List ℕ
@@ -100,22 +103,42 @@ node_of c = lane_path c.args.search.now.node.items c.args.group.now (reverse (ta
 
 -- what is known of it
 record IsLater (c : After-retest_children) : Type 0 where
-  pub past : IsPast (frame_at c.walk.frames c.walk.depth) (later c) c.in-Some.lane
+  pub step : IsStep (frame_at c.walk.frames c.walk.depth) (later c) (lane_of (frame_at c.walk.frames c.walk.depth))
   pub tested : IsTested c.args.instance.now (node_of c) c.args.group.now (later c)
-  pub left : IsLaneLeft (later c) c.in-Some.lane
+  pub left : IsLaneLeft (later c) (lane_of (frame_at c.walk.frames c.walk.depth))
+  pub low : (frame_at c.walk.frames c.walk.depth).next < length (lanes_of (later c))
 
 is-later : (c : After-retest_children) → IsLater c
 is-later c =
-    let found = lane-next (frame_at c.walk.frames c.walk.depth) c.in-Some.lane
-    (sym c.in-Some.is ∙ c.next_lane.ensures) in
+    let at = c.walk.invariant.at.tested.0.opened.at in
+    let frame = frame_at c.walk.frames c.walk.depth in
+    let count = lanes-count c.args.instance.now _ c.args.group.now frame at in
+    let low : frame.next < length (lanes_of frame) = omega (
+      arith,
+      count,
+      c.walk.invariant.at.count,
+      c.walk.invariant.deep,
+      c.walk.invariant.size,
+      c.if-place-left.false,
+    ) in
+    let is = lane-next c.args.instance.now _ c.args.group.now frame at low in
+    let back : frame.next + 1 - 1 ≡ frame.next = omega arith in
     record {
-      past = record { is = found.0; gone = c.retest_children.ensures.gone; next = refl };
-      tested = tested-moved c.args.instance.now (node_of c) c.args.group.now c.retest_children.new.frame
-          (c.in-Some.lane + 1) (c.retest_children.ensures.tested (node_of c) c.walk.invariant.at.tested.0);
-      left = record {
-        within = found.1.within;
-        left = ap (λ gone. slice_index gone c.in-Some.lane) c.retest_children.ensures.gone ∙ found.1.left;
+      step = record {
+        is = is.0;
+        gone = c.retest_children.ensures.gone;
+        next = refl;
+        place = ap (λ lanes. slice_index lanes (frame.next + 1 - 1)) c.retest_children.ensures.lanes
+            ∙ ap (slice_index frame.lanes) back;
       };
+      tested = tested-moved c.args.instance.now (node_of c) c.args.group.now c.retest_children.new.frame
+          (frame.next + 1) (c.retest_children.ensures.tested (node_of c) c.walk.invariant.at.tested.0);
+      left = record {
+        within = is.1.within;
+        left = ap (λ gone. slice_index gone (lane_of frame)) c.retest_children.ensures.gone ∙ is.1.left;
+      };
+      low = subst (λ n. frame.next < n) (ap (λ gone. length (filter (λ k. nat_eq (slice_index gone k) 0)
+          (range_with_len 0 8))) (sym c.retest_children.ensures.gone)) low;
     }
 
 pub visit_lane-requires-clause-tested : goal.visit_lane-requires-clause-tested
@@ -136,15 +159,15 @@ returns-in_err-visit_lane-clause-over c e =
     let put_bool : Stop → Result Bool Stop = λ stop. Err stop in
     let was : p.0 ≡ OverBudget = let r : put p.0 ≡ put OverBudget = sym p.1 ∙ e in cc in
     let same : put_bool c.in_err-visit_lane.field-0.0 ≡ put_bool OverBudget = ap put_bool (sym p.2 ∙ was) in
-    lanes-over c.walk.invariant.at c.in-Some.lane (later at) (is-later at).past (c.in_err-visit_lane.ensures.over same)
+    lanes-over c.walk.invariant.at (lane_of (frame_at c.walk.frames c.walk.depth)) (later at) (is-later at).step (c.in_err-visit_lane.ensures.over same)
 
 -- the frame of the node, once the frames are split below it
 parent : (c : After-split_at_mut-above) →
     frame_at c.split_at_mut-above.result.0.now c.walk.depth
-    ≡ moved-lane c.retest_children.new.frame (c.in-Some.lane + 1)
+    ≡ moved-lane c.retest_children.new.frame ((frame_at c.walk.frames c.walk.depth).next + 1)
 parent c =
     stack-split c.walk.frames c.split_at_mut-above.result.0.now c.walk.depth
-    (moved-lane c.retest_children.new.frame (c.in-Some.lane + 1)) c.walk.invariant.deep
+    (moved-lane c.retest_children.new.frame ((frame_at c.walk.frames c.walk.depth).next + 1)) c.walk.invariant.deep
     c.split_at_mut-above.ensures.front
 
 pub open_child-requires-clause-at : goal.open_child-requires-clause-at
@@ -157,30 +180,38 @@ open_child-requires-clause-at c =
 
 pub open_child-requires-clause-left : goal.open_child-requires-clause-left
 open_child-requires-clause-left c =
-    subst (λ frame. IsLaneLeft frame c.in-Some.lane)
+    subst (λ frame. (frame_at c.walk.frames c.walk.depth).next < length (lanes_of frame))
     (sym (parent (goal.at.open_child-requires-clause-left c).After-split_at_mut-above))
-    (is-later (goal.at.open_child-requires-clause-left c).After-retest_children).left
+    (is-later (goal.at.open_child-requires-clause-left c).After-retest_children).low
 
 -- the node of the child
 child-at : (c : After-open_child) (list : List ℕ) →
-    IsTested c.args.instance.now list c.args.group.now (moved-lane c.retest_children.new.frame (c.in-Some.lane + 1)) →
-    IsFrameOf c.args.instance.now (child list c.args.group.now c.in-Some.lane) c.args.group.now c.open_child.new.made
+    IsTested c.args.instance.now list c.args.group.now
+    (moved-lane c.retest_children.new.frame ((frame_at c.walk.frames c.walk.depth).next + 1)) →
+    IsFrameOf c.args.instance.now (child list c.args.group.now (lane_of (frame_at c.walk.frames c.walk.depth)))
+    c.args.group.now c.open_child.new.made
 child-at c list tested =
+    let frame = frame_at c.walk.frames c.walk.depth in
     let parent = stack-split c.walk.frames c.split_at_mut-above.result.0.now c.walk.depth
-    (moved-lane c.retest_children.new.frame (c.in-Some.lane + 1)) c.walk.invariant.deep
+    (moved-lane c.retest_children.new.frame (frame.next + 1)) c.walk.invariant.deep
     c.split_at_mut-above.ensures.front in
-    c.open_child.ensures.at list (subst (IsOpened c.args.instance.now list c.args.group.now) (sym parent) tested.opened)
+    subst (λ lane. IsFrameOf c.args.instance.now (child list c.args.group.now lane) c.args.group.now
+    c.open_child.new.made)
+    (ap (λ f. slice_index f.lanes frame.next) parent
+    ∙ ap (λ lanes. slice_index lanes frame.next) c.retest_children.ensures.lanes)
+    (c.open_child.ensures.at list
+    (subst (IsOpened c.args.instance.now list c.args.group.now) (sym parent) tested.opened))
 
 pub test_children-requires : goal.test_children-requires
 test_children-requires c =
     let at = (goal.at.test_children-requires c).After-retest_children in (
-      child (node_of at) c.args.group.now c.in-Some.lane,
+      child (node_of at) c.args.group.now (lane_of (frame_at c.walk.frames c.walk.depth)),
       child-at (goal.at.test_children-requires c).After-open_child (node_of at) (is-later at).tested,
     )
 
 -- the plus that was written
 opens : (c : Then-branch) →
-    Opens c.args.instance.now c.args.budget (job_of c.args.group.now c.in-Some.lane) c.walk.search
+    Opens c.args.instance.now c.args.budget (job_of c.args.group.now (lane_of (frame_at c.walk.frames c.walk.depth))) c.walk.search
     c.visit_lane.new.search × (1 ≤ length c.args.frames.now - 1 - c.walk.depth)
 opens c =
     let put : Bool → Result Bool Stop = λ b. Ok b in
@@ -226,10 +257,10 @@ walk-preserved-then-branch c =
       best = c.visit_lane.new.search.best;
       tree = c.visit_lane.new.search.tree;
     } in
-    let moved : IsMoved (c.visit_lane.new.search.node.items ++ job_of c.args.group.now c.in-Some.lane ∷ [])
+    let moved : IsMoved (c.visit_lane.new.search.node.items ++ job_of c.args.group.now (lane_of (frame_at c.walk.frames c.walk.depth)) ∷ [])
     c.visit_lane.new.search new =
     record { node = c.in_ok-push.ensures.items; incumbent = refl; tree = refl; unscheduled = refl } in
-    let tested = c.test_children.ensures.tested (child (node_of at) c.args.group.now c.in-Some.lane)
+    let tested = c.test_children.ensures.tested (child (node_of at) c.args.group.now (lane_of (frame_at c.walk.frames c.walk.depth)))
     (child-at (goal.at.walk-preserved-then-branch c).After-open_child (node_of at) is.tested) in
     let less : length c.args.frames.now - 1 - depth - 1 ≡ length c.args.frames.now - 1 - (depth + 1) = omega arith in
     let walking : LaneFrame → ℕ → List LaneFrame → Type 0 =
@@ -242,24 +273,24 @@ walk-preserved-then-branch c =
           (reverse (take (depth + 1) (above ++ set below 0 made)))) (sym down.0)
           (subst (λ frames. walking made (length c.args.frames.now - 1 - (depth + 1)) frames) (sym down.1)
           (subst (λ n. walking made n (later at ∷ reverse (take depth c.walk.frames))) less
-          (lanes-down c.walk.invariant.at c.in-Some.lane (later at) made c.visit_lane.new.search new is.past is.tested
+          (lanes-down c.walk.invariant.at (lane_of (frame_at c.walk.frames c.walk.depth)) (later at) made c.visit_lane.new.search new is.step is.tested
           plus.1 plus.0 moved tested (c.test_children.ensures.next ∙ c.open_child.ensures.next))));
     }
 
 -- the child's subtree that was walked
 whole : (c : Else-branch) →
     Gave c.args.budget (lane_walked c.args.instance.now (length c.args.frames.now - 1 - c.walk.depth) c.args.group.now
-    c.in-Some.lane c.walk.search) c.walk.search c.visit_lane.new.search
+    (lane_of (frame_at c.walk.frames c.walk.depth)) c.walk.search) c.walk.search c.visit_lane.new.search
 whole c = let put : Bool → Result Bool Stop = λ b. Ok b in c.in_ok-visit_lane.ensures.whole (ap put c.if-branch.false)
 
 pub walk-smaller : goal.walk-smaller
 walk-smaller c =
     let g = whole c in
     let text : List ℕ = (lane_walked c.args.instance.now (length c.args.frames.now - 1 - c.walk.depth)
-    c.args.group.now c.in-Some.lane c.walk.search).0 in
+    c.args.group.now (lane_of (frame_at c.walk.frames c.walk.depth)) c.walk.search).0 in
     let some : 1 ≤ length text =
     walk-some c.args.instance.now (length c.args.frames.now - 1 - c.walk.depth)
-    (child c.walk.search.node.items c.args.group.now c.in-Some.lane) (incumbent_of c.walk.search) in
+    (child c.walk.search.node.items c.args.group.now (lane_of (frame_at c.walk.frames c.walk.depth))) (incumbent_of c.walk.search) in
     let tree : length c.visit_lane.new.search.tree.items ≡ length (c.walk.search.tree.items ++ text) =
     ap length g.tree in
     omega (arith, some, tree, g.within, length-append c.walk.search.tree.items text)
@@ -282,6 +313,12 @@ walk-preserved c =
           c.args.search.now.node.items
           (children_walked c.args.instance.now (length c.args.frames.now - 1) c.args.search.now) c.args.search.now
           (later at) (length c.args.frames.now - 1 - c.walk.depth) frames c.visit_lane.new.search) (sym same.1)
-          (lanes-walked c.walk.invariant.at c.in-Some.lane (later at) c.visit_lane.new.search is.past is.tested
+          (lanes-walked c.walk.invariant.at (lane_of (frame_at c.walk.frames c.walk.depth)) (later at) c.visit_lane.new.search is.step is.tested
           (whole c)));
     }
+
+pub retest_children-requires : goal.retest_children-requires
+retest_children-requires c = (_, c.walk.invariant.at.tested.0)
+
+pub bounds-group-lane : goal.bounds-group-lane
+bounds-group-lane c = (is-later (goal.at.bounds-group-lane c).After-retest_children).left.within

@@ -1,24 +1,65 @@
-use Rattle.std.proofs.Common.{rules, ◌≡◌, ◌<◌, [], length, refl, arith}
+use Rattle.std.proofs.Common.{rules, ◌≡◌, ◌∙◌, ◌-◌, ◌<◌, ◌≤◌, [], length, slice_index, slice_index_or, refl, subst, sym, ap, arith}
+use Rattle.std.proofs.lemmas.List.{length-set}
+use Rattle.flow_core.specs.Limits.{most_machines}
+use Rattle.flow_search.proofs.LanesPassed.{done-more}
+use Rattle.flow_search.specs.internal.Lanes.{IsLaneLeft, IsFrameOf, child, lanes_of}
+use Rattle.flow_search.proofs.Increasing.{size-filter}
 use Rattle.flow_search.proofs.LanesOpened.{time-within, child-at}
+use Rattle.flow_search.proofs.LanesOrder.{lane-left}
 use Rattle.flow_search.proofs.eight.children.open_child.Goals as goal
+use Rattle.flow_search.proofs.eight.children.open_child.Goals.{Start}
+
+-- the lane at the place is left
+here : (c : Start) → IsLaneLeft c.args.parent.now (slice_index c.args.parent.now.lanes c.args.place)
+here c = subst (IsLaneLeft c.args.parent.now) (sym (c.requires.at.1.at.lanes c.args.place c.requires.left))
+    (lane-left c.args.parent.now c.args.place c.requires.left)
+
+pub bounds-parent-lane : goal.bounds-parent-lane
+bounds-parent-lane c = (here (goal.at.bounds-parent-lane c).Start).within
+
+pub bounds-group-lane : goal.bounds-group-lane
+bounds-group-lane c = (here (goal.at.bounds-group-lane c).Start).within
+
+pub bounds-made-lane : goal.bounds-made-lane
+bounds-made-lane c = (here (goal.at.bounds-made-lane c).Start).within
+
+pub loop-row-preserved : goal.loop-row-preserved
+loop-row-preserved c =
+    let row = c.loop-row.row in
+    let lane = slice_index c.args.parent.now.lanes c.args.place in
+    let most : c.args.instance.now.machines ≤ most_machines = c.machines-row-end.ensures.limits.machines in
+    let to : row < most_machines = omega (arith, c.loop-row-test.true, c.machines-row-end.ensures.value, most) in
+    record {
+      front_size = length-set c.loop-row.made.front row _ ∙ c.loop-row.invariant.front_size;
+      sum_size = length-set c.loop-row.made.sum row _ ∙ c.loop-row.invariant.sum_size;
+      front = done-more (λ k v. v ≡ slice_index (slice_index_or c.args.parent.now.free k []) lane)
+          c.loop-row.made.front 0 row _ (omega (arith, to, c.loop-row.invariant.front_size)) refl
+          c.loop-row.invariant.front;
+      sum = done-more (λ k v. v ≡ slice_index c.args.parent.now.sum k
+          - slice_index (slice_index_or c.args.group.now.rows k (record { time = []; tail = [] })).time lane)
+          c.loop-row.made.sum 0 row _ (omega (arith, to, c.loop-row.invariant.sum_size)) refl
+          c.loop-row.invariant.sum;
+    }
 
 pub overflow_sub-made : goal.overflow_sub-made
 overflow_sub-made c =
-    let to : c.loop-place.place < c.args.instance.now.machines = omega
-    (arith, c.loop-place-test.true, c.machines-machines.ensures.value) in
+    let to : c.loop-row.row < c.args.instance.now.machines = omega
+    (arith, c.loop-row-test.true, c.machines-row-end.ensures.value) in
     omega (
       arith,
       time-within c.args.instance.now c.requires.at.0 c.args.group.now c.args.parent.now
-          (record { time = []; tail = [] }) c.args.lane c.loop-place.place c.requires.at.1.at c.requires.left to,
+          (record { time = []; tail = [] }) (slice_index c.args.parent.now.lanes c.args.place) c.loop-row.row
+          c.requires.at.1.at (here (goal.at.overflow_sub-made c).Start) to,
     )
 
 pub returns-clause-at : goal.returns-clause-at
 returns-clause-at c list is =
     let size : length c.args.parent.now.gone ≡ 8 = search rules in
     child-at c.args.instance.now list c.args.group.now c.args.parent.now _ (record { time = []; tail = [] })
-    c.args.lane is c.requires.left
-    (λ place low. c.loop-place.invariant.front place
-    (omega (arith, low, c.loop-place-test.false, c.loop-place.auto.place-end, c.machines-machines.ensures.value)))
-    (λ place low. c.loop-place.invariant.sum place
-    (omega (arith, low, c.loop-place-test.false, c.loop-place.auto.place-end, c.machines-machines.ensures.value)))
-    refl size
+    (slice_index c.args.parent.now.lanes c.args.place) c.args.place is (here (goal.at.returns-clause-at c).Start)
+    c.requires.left (sym (is.at.lanes c.args.place c.requires.left))
+    (λ k low. c.loop-row.invariant.front k
+    (omega (arith, low, c.loop-row-test.false, c.loop-row.auto.row-end, c.machines-row-end.ensures.value)))
+    (λ k low. c.loop-row.invariant.sum k
+    (omega (arith, low, c.loop-row-test.false, c.loop-row.auto.row-end, c.machines-row-end.ensures.value)))
+    refl size c.without-made.ensures.before c.without-made.ensures.behind

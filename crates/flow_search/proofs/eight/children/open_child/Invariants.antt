@@ -3,11 +3,12 @@ use Rattle.flow_core.specs.Limits.{most_machines}
 use Rattle.flow_search.proofs.eight.children.open_child.Given as goal
 
 -- the machines so far are those of the child
-abbrev pub invariant-loop-place : goal.invariant-loop-place
-invariant-loop-place l = record {
+abbrev pub invariant-loop-row : goal.invariant-loop-row
+invariant-loop-row l = record {
   front_size : length l.made.front ≡ most_machines;
   sum_size : length l.made.sum ≡ most_machines;
-  front : (k : ℕ) → k < l.place → slice_index l.made.front k ≡ slice_index (slice_index_or l.parent.free k []) l.lane;
-  sum : (k : ℕ) → k < l.place → slice_index l.made.sum k ≡ slice_index l.parent.sum k - slice_index
-      (slice_index_or l.group.rows k (record { time = []; tail = [] })).time l.lane;
+  front : (k : ℕ) → k < l.row → slice_index l.made.front k ≡ slice_index (slice_index_or l.parent.free k []) l.lane;
+  sum : (k : ℕ) → k < l.row → slice_index l.made.sum k
+      ≡ slice_index l.parent.sum k - slice_index (slice_index_or l.group.rows k (record { time = []; tail = [] })).time
+      l.lane;
 }

@@ -14,6 +14,7 @@ loop-place-init c = record {
   front = refl;
   sum = refl;
   gone = refl;
+  lanes = refl;
   next = refl;
   size = search rules;
   free_small = λ lane low. omega (arith, all-same 8 0 lane low);
@@ -95,6 +96,7 @@ loop-place-preserved c =
       front = c.loop-place.invariant.front;
       sum = c.loop-place.invariant.sum;
       gone = c.loop-place.invariant.gone;
+      lanes = c.loop-place.invariant.lanes;
       next = c.loop-place.invariant.next;
       size = length-set c.loop-place.frame.free place c.sums-free.result ∙ c.loop-place.invariant.size;
       free_small = λ lane low.
@@ -167,7 +169,7 @@ loop-place-preserved c =
           (c.sums-uncut.ensures.each lane here.within);
       done = λ list there lane at here low.
           done-more (λ k times. slice_index times lane ≡ completion shop (child list c.args.group.now lane) (k + 1))
-          c.loop-place.frame.free place c.sums-free.result
+          c.loop-place.frame.free [] place c.sums-free.result
           (omega (arith, c.loop-place.invariant.size, to, most)) (leaves list lane at here)
           (λ k earlier. c.loop-place.invariant.done list k lane at here earlier) there low;
     }
@@ -180,7 +182,7 @@ returns-clause-tested c list at =
     λ k left. sym (ap (λ g. slice_index g k) c.loop-place.invariant.gone) ∙ left in
     record {
       opened = opened-same c.args.instance.now list c.args.group.now c.args.frame.now _ c.loop-place.invariant.front
-          c.loop-place.invariant.sum c.loop-place.invariant.gone at
+          c.loop-place.invariant.sum c.loop-place.invariant.gone c.loop-place.invariant.lanes at
           (λ place lane left low. c.loop-place.invariant.done list place lane at left (omega (arith, low, e)));
       uncut = λ lane other here there differ.
           subst (λ m. IsUncutCount c.args.instance.now (child list c.args.group.now lane) c.args.value m

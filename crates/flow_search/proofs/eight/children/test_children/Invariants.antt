@@ -11,6 +11,7 @@ invariant-loop-place l = record {
   front : l.frame.front ≡ l.fn.frame.front;
   sum : l.frame.sum ≡ l.fn.frame.sum;
   gone : l.frame.gone ≡ l.fn.frame.gone;
+  lanes : l.frame.lanes ≡ l.fn.frame.lanes;
   next : l.frame.next ≡ l.fn.frame.next;
   size : length l.frame.free ≡ most_machines;
   free_small : (lane : ℕ) → lane < 8 → slice_index l.free lane ≤ greatest_completion + l.place * greatest_time;

@@ -1,4 +1,4 @@
-use Rattle.std.proofs.Common.{◌≡◌, ℕ, ◌+◌, ◌-◌, ◌<◌, ◌≤◌, slice_index, ap, ◌∙◌, arith}
+use Rattle.std.proofs.Common.{◌≡◌, ℕ, ◌+◌, ◌-◌, ◌<◌, ◌≤◌, slice_index, refl, ap, ◌∙◌, arith}
 use Rattle.std.proofs.lemmas.List.{length-set}
 use Rattle.flow_core.specs.Limits.{most_machines}
 use Rattle.flow_core.specs.Shop.{Shop, time_between}
@@ -80,4 +80,4 @@ pub returns-clause-at : goal.returns-clause-at
 returns-clause-at c list is =
     entered c.args.instance.now list c.args.front.now c.args.jobs.now _ _ c.loop-machine.machine is
     (omega (arith, c.loop-machine-test.false))
-    c.loop-machine.invariant.done c.lanes_of-group.ensures c.gone_from-frame.ensures.left c.gone_from-frame.ensures.gone
+    c.loop-machine.invariant.done c.lanes_of-group.ensures c.gone_from-frame.ensures.left c.gone_from-frame.ensures.gone refl
