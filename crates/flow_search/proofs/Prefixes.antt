@@ -4,6 +4,7 @@ use Rattle.std.proofs.lemmas.List.{take_more}
 use Rattle.std.proofs.lemmas.Bool.{cond-true, or_left, or_right, eq-eqb, false≢true}
 use Rattle.std.proofs.lemmas.Bool.Decides.{eqb_tells}
 use Rattle.std.proofs.lemmas.List.Elements.{All-from_recursion, recursion_from_All}
+use Rattle.flow_core.specs.declared.row.Row.{Row}
 use Rattle.flow_core.specs.Shop.{Shop, IsWithinLimits}
 use Rattle.flow_core.specs.Front.{IsFrontOf}
 use Rattle.flow_core.specs.JobSet.{contains}
@@ -187,21 +188,23 @@ prefix-over plan prefix front i budget count old are short left low high way ove
     omega (arith, over, same, nothing)
 
 -- the prefixes of a plan, one after another
-pub stored-size : (plan : Planned) (count : ℕ) (lists : List ℕ) → IsStored plan count lists →
+pub stored-size : (plan : Planned) (count : ℕ) (lists : List ℕ) (rows : List Row) →
+    IsStored plan count lists rows →
     length lists ≡ length (prefixes_of plan) * plan.options.depth
-stored-size plan count lists s =
+stored-size plan count lists rows s =
     ap length s.lists_are
     ∙ joined-size plan.options.depth (prefixes_of plan)
     (all-weaken (λ p. Fresh plan.shop.jobs p × (length p ≡ 0 + plan.options.depth)) (λ p. length p
     ≡ plan.options.depth) (prefixes_of plan) (λ p h. omega (arith, h.1))
     (cut-fresh plan.shop.jobs plan.options.depth [] (tt, tt)))
 
-pub stored-prefix : (plan : Planned) (count : ℕ) (lists : List ℕ) (number : ℕ) → IsStored plan count lists →
+pub stored-prefix : (plan : Planned) (count : ℕ) (lists : List ℕ) (rows : List Row) (number : ℕ) →
+    IsStored plan count lists rows →
     number < length (prefixes_of plan) →
     take (number * plan.options.depth
     + plan.options.depth - number * plan.options.depth) (drop (number * plan.options.depth) lists)
     ≡ prefix_of plan number
-stored-prefix plan count lists number s h =
+stored-prefix plan count lists rows number s h =
     let depth : ℕ = plan.options.depth in
     let size : number * depth + depth - number * depth ≡ depth = omega arith in
     ap (λ k. take k (drop (number * depth) lists)) size

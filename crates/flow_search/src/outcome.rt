@@ -11,7 +11,7 @@ use crate::eight::Lanes;
 use crate::frame::Setting;
 use crate::plan::Plan;
 use crate::subtree::{Search, Stop, explore};
-use flow_core::{Front, Instance, Sequence, front_push, rows};
+use flow_core::{Front, Instance, Sequence, front_push};
 use std::alloc::{AllocError, Global};
 
 /// The best sequence that extends a prefix. Its makespan is below that of the start.
@@ -62,11 +62,10 @@ fn search_below(alloc: Global, plan: &Plan, number: u32) -> Result<Search, Stop>
     }
     let count = jobs - prefix.len() as u16;
     let budget = plan.options().budget() as usize;
-    let rows = rows(alloc, instance)?;
     let stack = Vec::with_capacity(alloc, count as usize)?;
     let setting = Setting {
         instance,
-        rows: &rows,
+        rows: plan.rows(),
         budget,
     };
     let mut lanes = Lanes::new();

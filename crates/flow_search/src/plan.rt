@@ -1,6 +1,7 @@
 //! Plans: an instance, its starting sequence, the options, and the prefixes into which the search is divided.
 
 ghost use Rattle.std.specs.Prelude.{◌≡◌, ℕ, ◌<◌, ◌≤◌, None, length, IfOk, OnOk, IfErr};
+ghost use Rattle.flow_core.specs.Rows.{AreRows};
 ghost use Rattle.flow_core.specs.Sequences.{AreJobs};
 ghost use Rattle.flow_search.specs.Plans.{IsPlan, prefixes_of, prefix_of, plan_fault, but_memory};
 ghost use Rattle.flow_search.specs.declared.plan.PlanFault.TheVariants.{Memory};
@@ -8,7 +9,7 @@ ghost use Rattle.flow_search.specs.declared.plan.PlanFault.TheVariants.{Memory};
 use crate::cut_lists::{extend, prefix_count};
 use crate::options::Options;
 use flow_bound::neh;
-use flow_core::{Instance, Sequence};
+use flow_core::{Instance, Row, Sequence, rows};
 use std::alloc::{AllocError, AllocFailed, Global};
 use std::marker::Model;
 use thiserror::Error;
@@ -54,6 +55,8 @@ pub struct Plan<'a> {
     count: u32,
     /// The jobs of the prefixes, one prefix after another.
     lists: Vec<u16>,
+    /// The times and tails of the jobs, which every search uses.
+    rows: Vec<Row>,
 }
 
 impl<'a> Model for Plan<'a> {
@@ -72,7 +75,7 @@ impl<'a> Model for Plan<'a> {
       shop = p.instance.now;
       start = record { value = p.start_value; sequence = p.start };
       options = p.options;
-    }) p.count p.lists.items };
+    }) p.count p.lists.items p.rows.items };
 }
 
 impl<'a> Plan<'a> {
@@ -111,6 +114,13 @@ impl<'a> Plan<'a> {
         let depth = self.options.depth() as usize;
         let from = number as usize * depth;
         &self.lists[from..from + depth]
+    }
+
+    /// The times and tails of the jobs, that of job 1 first.
+    pub(crate) fn rows(&self) -> &[Row]
+        ensures { AreRows self.now.shop result.now }
+    {
+        &self.rows
     }
 
     /// The starting sequence.
@@ -154,6 +164,7 @@ pub fn prepare<'a>(
     let mut list = Vec::with_capacity(alloc, depth as usize)?;
     let mut lists = Vec::with_capacity(alloc, count as usize * depth as usize)?;
     extend(jobs, depth, &mut list, &mut lists)?;
+    let rows = rows(alloc, instance)?;
     Ok(Plan {
         instance,
         options,
@@ -161,5 +172,6 @@ pub fn prepare<'a>(
         start_value,
         count,
         lists,
+        rows,
     })
 }
