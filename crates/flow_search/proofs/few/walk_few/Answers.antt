@@ -5,11 +5,10 @@ use Rattle.flow_search.proofs.LanesEntered.{count-is, few-at}
 use Rattle.flow_search.proofs.few.walk_few.Goals as goal
 use Rattle.flow_search.proofs.few.walk_few.Goals.{After-jobs_of-jobs, After-test_children}
 
-pub jobs_of-jobs-requires : goal.jobs_of-jobs-requires
-jobs_of-jobs-requires c =
-    let size = count-is c.args.instance.now c.args.search.now.node.items c.args.front.now
-    c.args.search.now.unscheduled c.args.count c.requires.at in
-    omega (arith, size, c.requires.to)
+pub jobs_of-jobs-requires-clause-count : goal.jobs_of-jobs-requires-clause-count
+jobs_of-jobs-requires-clause-count c =
+    count-is c.args.instance.now c.args.search.now.node.items c.args.front.now c.args.search.now.unscheduled
+    c.args.count c.requires.at
 
 -- the jobs that are left
 few : (c : After-jobs_of-jobs) →
