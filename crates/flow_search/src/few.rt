@@ -7,7 +7,9 @@ ghost use Rattle.flow_search.specs.internal.Nodes.{IsAt, Gave, Opens, children_w
 ghost use Rattle.flow_search.specs.internal.Lanes.{IsFrameOf, IsTested, IsLaneLeft, job_of};
 ghost use Rattle.flow_search.specs.internal.Lanes.{lane_walked, frame_at};
 
-use crate::eight::{Group, LaneFrame, Lanes, enter_few, open_child, retest_children, test_children};
+use crate::eight::{
+    Group, LaneFrame, Lanes, enter_few, open_child, retest_children, test_children,
+};
 use crate::subtree::{Search, Stop};
 use flow_core::{Front, Instance, JobSet};
 
@@ -107,7 +109,15 @@ fn walk_lanes(
         let lane = frame.lanes[place] as usize;
         retest_children(instance, group, frame, search.value);
         frame.next = place + 1;
-        if visit_lane(instance, budget, group, frame, lane, left - 1 - depth, search)? {
+        if visit_lane(
+            instance,
+            budget,
+            group,
+            frame,
+            lane,
+            left - 1 - depth,
+            search,
+        )? {
             let (above, below) = frames.split_at_mut(depth + 1);
             let made = &mut below[0];
             open_child(instance, group, &above[depth], made, place);

@@ -1,5 +1,5 @@
-use Rattle.std.proofs.Common.{rules, ◌≡◌, ℕ, ◌<◌, ◌≤◌, length, set, take, ap, sym, subst, ◌∙◌, arith}
-use Rattle.std.proofs.lemmas.List.{length-set, get_or-set_same, get_or-take}
+use Rattle.std.proofs.Common.{rules, ◌≡◌, length, set, take, ap, sym, subst, ◌∙◌, arith}
+use Rattle.std.proofs.lemmas.List.{get_or-set_same, get_or-take}
 use Rattle.flow_search.specs.internal.Lanes.{IsFew, IsTested, frame_at}
 use Rattle.flow_search.proofs.LanesEntered.{count-is, few-at}
 use Rattle.flow_search.proofs.few.walk_few.Goals as goal
