@@ -74,19 +74,10 @@ factor n depth used count h =
 pub at-least : (count m k : ℕ) → k ≤ m → count ≤ count * falling m k
 at-least count m k h = times-some count (falling m k) (falling-some m k h)
 
-pub no-factor : (count m k : ℕ) → k ≡ 0 → count * falling m k ≡ count
-no-factor count m k e = ap (λ k. count * falling m k) e ∙ one count
-  where
-    one : (a : ℕ) → a * 1 ≡ a
-    one a = omega arith
-
 -- what the children of a list from a job on add
 abbrev pub added : ℕ → ℕ → List ℕ → ℕ → List (List ℕ)
 added n below list job =
     flat_map (λ k. extensions n below (list ++ k ∷ [])) (filter (λ k. not (has list k)) (numbers job n))
-
-pub added-first : (n more below : ℕ) (list : List ℕ) → more ≡ suc below → added n below list 1 ≡ extensions n more list
-added-first n more below list e = sym (ap (λ m. extensions n m list) e)
 
 pub added-none : (n below : ℕ) (list : List ℕ) → added n below list (n + 1) ≡ []
 added-none n below list =
@@ -114,11 +105,6 @@ added-taken n below list job now next whole high free e w =
     ∙ append_assoc now (concat here) (concat rest)
     ∙ ap (λ xs. now ++ xs) (sym (concat-append here rest))
     ∙ ap (λ ls. now ++ concat ls) (sym (added-here n below list job high free))
-    ∙ w
-
-pub added-done : (n below : ℕ) (list now whole : List ℕ) → now ++ concat (added n below list (n + 1)) ≡ whole →
-    now ≡ whole
-added-done n below list now whole w = sym (append-nil now) ∙ ap (λ ls. now ++ concat ls) (sym (added-none n below list))
     ∙ w
 
 -- no job more

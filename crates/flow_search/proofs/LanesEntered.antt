@@ -1,9 +1,8 @@
 -- The first node of a subtree.
-use Rattle.std.proofs.Common.{◌≡◌, ◌≢◌, ℕ, zero, suc, ◌+◌, ◌-◌, ◌<◌, ◌≤◌, Bool, true, false, cond, not, ◌||◌, nat_eq, List, [], ◌∷◌, ◌++◌, length, length-append, append_assoc, take, slice_index, slice_index_or, set, refl, ap, sym, ◌∙◌, subst, inl, inr, arith}
+use Rattle.std.proofs.Common.{◌≡◌, ◌≢◌, ℕ, suc, ◌+◌, ◌-◌, ◌<◌, ◌≤◌, ◌⊎◌, Bool, true, false, not, nat_eq, List, [], ◌∷◌, ◌++◌, length, length-append, append_assoc, take, slice_index, slice_index_or, set, ap, sym, ◌∙◌, subst, inl, inr, arith}
 use Rattle.std.specs.List.{filter, range_with_len, sum_by}
-use Rattle.std.proofs.lemmas.Bool.{cases_lt, false≢true, eq-eqb, ne_eqb, or_left, or_right, not-true}
-use Rattle.std.proofs.lemmas.Bool.Decides.{eqb_tells}
-use Rattle.std.proofs.lemmas.List.{get_or-set_other, get_or-set_same, take_more_set, length-take, append-nil}
+use Rattle.std.proofs.lemmas.Bool.{cases_lt, eq-eqb, ne_eqb, not-true}
+use Rattle.std.proofs.lemmas.List.{get_or-set_other, get_or-set_same, take_more_set, length-take, append-nil, nil_from_length}
 use Rattle.std.proofs.lemmas.List.Sums.{sum_by-cons}
 use Rattle.flow_core.specs.Shop.{Shop, numbers, time, time_between}
 use Rattle.flow_core.specs.JobSet.{contains}
@@ -177,16 +176,29 @@ gathered-more p made count job n size few all to pass so_far =
           ∙ so_far,
     )
 
-pub gathered-all : (p : ℕ → Bool) (made : List ℕ) (count job n : ℕ) → job ≡ n + 1 → length made ≡ 8 → count ≤ 8 →
-    take count made ++ filter p (numbers job n) ≡ filter p (numbers 1 n) →
-    take (length (filter p (numbers 1 n))) made ≡ filter p (numbers 1 n)
-gathered-all p made count job n end size few so_far =
-    let none : filter p (numbers job n) ≡ [] = ap (λ k. filter p (numbers k n)) end ∙ ap (filter p) (numbers-none n) in
-    let all : take count made ≡ filter p (numbers 1 n) = sym (append-nil (take count made))
-    ∙ ap (λ xs. take count made ++ xs) (sym none) ∙ so_far in
-    let long : length (filter p (numbers 1 n)) ≡ count =
-    omega (arith, ap length all, length-take count made, size, few) in
-    ap (λ k. take k made) long ∙ all
+-- all of them, where there are no more
+pub gathered-all : (p : ℕ → Bool) (made : List ℕ) (left count job n : ℕ) → length made ≡ 8 → count ≤ 8 →
+    length (filter p (numbers 1 n)) ≡ left → (job ≡ n + 1) ⊎ (count ≡ left) →
+    take count made ++ filter p (numbers job n) ≡ filter p (numbers 1 n) → take left made ≡ filter p (numbers 1 n)
+gathered-all p made left count job n size few all end so_far =
+    let sizes : count + length (filter p (numbers job n)) ≡ left =
+    omega (
+      arith,
+      ap length so_far,
+      length-append (take count made) (filter p (numbers job n)),
+      length-take count made,
+      size,
+      few,
+      all,
+    ) in
+    let none : filter p (numbers job n) ≡ [] =
+    elim end [
+      | inl past ↦ ap (λ k. filter p (numbers k n)) past ∙ ap (filter p) (numbers-none n)
+      | inr whole ↦ nil_from_length (filter p (numbers job n)) (omega (arith, sizes, whole))
+    ] in
+    let long : left ≡ count = omega (arith, sizes, ap length none) in
+    ap (λ k. take k made) long ∙ sym (append-nil (take count made)) ∙ ap (λ xs. take count made ++ xs) (sym none)
+    ∙ so_far
 
 -- how many jobs are left at a node
 pub count-is : (shop : Shop) (node front : List ℕ) (unscheduled : List Bool) (count : ℕ) →
@@ -199,16 +211,13 @@ count-is shop node front unscheduled count at =
 -- the jobs that were gathered at a node
 pub few-at : (shop : Shop) (node front : List ℕ) (unscheduled : List Bool) (count : ℕ) (made : List ℕ) →
     IsAt shop node front unscheduled count → count ≤ 8 →
-    take (length (filter (contains unscheduled) (numbers 1 shop.jobs))) made
-    ≡ filter (contains unscheduled) (numbers 1 shop.jobs) →
+    take count made ≡ filter (contains unscheduled) (numbers 1 shop.jobs) →
     IsFew shop node front (take count made)
 few-at shop node front unscheduled count made at few is =
     let size = count-is shop node front unscheduled count at in
-    let all : take count made ≡ filter (contains unscheduled) (numbers 1 shop.jobs) = ap (λ k. take k made) (sym size)
-    ∙ is in
     record {
-      few = omega (arith, ap length all, size, few);
-      left = all ∙ left-is shop node front unscheduled count at;
-      count = omega (arith, ap length all, size, at.whole);
+      few = omega (arith, ap length is, size, few);
+      left = is ∙ left-is shop node front unscheduled count at;
+      count = omega (arith, ap length is, size, at.whole);
       times = at.is_front;
     }

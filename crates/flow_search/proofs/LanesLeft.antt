@@ -1,5 +1,5 @@
 -- The walk of a root's children in the lanes, with a stack of frames, is the walk of the definition.
-use Rattle.std.proofs.Common.{◌≡◌, ℕ, suc, ◌+◌, ◌-◌, ◌<◌, ◌≤◌, nat_eq, nat_le, List, [], ◌∷◌, ◌++◌, Some, None, length, map, reverse, take, drop, slice_index, slice_index_or, set, refl, ap, sym, ◌∙◌, subst, arith, append_assoc, length-append}
+use Rattle.std.proofs.Common.{◌≡◌, ℕ, suc, ◌+◌, ◌-◌, ◌<◌, ◌≤◌, nat_eq, nat_le, List, [], ◌∷◌, ◌++◌, None, length, map, reverse, take, drop, slice_index, set, refl, ap, sym, ◌∙◌, subst, arith, append_assoc, length-append}
 use Rattle.std.specs.List.{filter, find, range_with_len}
 use Rattle.std.proofs.lemmas.List.{append-nil, take_more, take_more_set, take-set, take-append-le, get_or-take, get_or-set_same, get_or-append_right}
 use Rattle.std.proofs.Math.ListN.{drop_of_length-le}

@@ -1,8 +1,7 @@
 -- What the code does at a node and at a lane's child is what the walk does.
-use Rattle.std.proofs.Common.{◌≡◌, ◌≢◌, ℕ, suc, ◌+◌, ◌-◌, ◌<◌, ◌≤◌, Bool, true, cond, nat_eq, nat_lt, nat_le, List, [], ◌∷◌, ◌++◌, Some, None, length, map, slice_index, refl, ap, sym, ◌∙◌, subst, arith, append_assoc, length-append}
-use Rattle.std.specs.List.{filter, find, range_with_len}
-use Rattle.std.proofs.lemmas.Bool.{cond-true, cond-false, eq-eqb, ne_eqb, lt-ltb, le-ltb, or_left}
-use Rattle.std.proofs.lemmas.List.{append-nil}
+use Rattle.std.proofs.Common.{◌≡◌, ◌≢◌, ℕ, suc, ◌+◌, ◌-◌, ◌<◌, ◌≤◌, true, cond, nat_eq, nat_lt, nat_le, List, [], ◌∷◌, ◌++◌, Some, None, length, slice_index, refl, ap, sym, ◌∙◌, subst, arith, append_assoc, length-append}
+use Rattle.std.specs.List.{find}
+use Rattle.std.proofs.lemmas.Bool.{eq-eqb, lt-ltb, or_left}
 use Rattle.flow_core.specs.Shop.{Shop, numbers}
 use Rattle.flow_core.specs.Sequences.{has, jobs_left}
 use Rattle.flow_core.specs.JobSet.{members}
@@ -17,7 +16,6 @@ use Rattle.flow_search.proofs.Walk.{Incumbent, answer_of}
 use Rattle.flow_search.proofs.Nodes.{find-is}
 use Rattle.flow_search.proofs.JobsTaken.{left-count, left-child}
 use Rattle.flow_search.proofs.UncutFound.{count-found}
-use Rattle.flow_search.proofs.LanesOrder.{lanes-are-jobs}
 
 -- The walk at a node.
 

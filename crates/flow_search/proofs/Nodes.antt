@@ -1,9 +1,9 @@
 -- What the code of the search does at a node is what the walk does.
-use Rattle.std.proofs.Common.{◌≡◌, ◌≢◌, ℕ, zero, suc, ◌+◌, ◌-◌, ◌<◌, ◌≤◌, Bool, true, false, cond, not, ◌||◌, nat_eq, nat_le, List, [], ◌∷◌, ◌++◌, Option, Some, None, length, map, set, slice_index, slice_index_or, slice_set, take, refl, ap, sym, subst, ◌∙◌, inl, inr, arith, append_assoc, length-append}
+use Rattle.std.proofs.Common.{◌≡◌, ◌≢◌, ℕ, zero, suc, ◌+◌, ◌-◌, ◌<◌, ◌≤◌, Bool, true, false, cond, not, ◌||◌, nat_eq, nat_le, List, [], ◌∷◌, ◌++◌, Option, Some, None, length, map, set, slice_index, slice_index_or, slice_set, take, refl, ap, sym, ◌∙◌, inl, inr, arith, length-append}
 use Rattle.std.specs.List.{filter, find, range_with_len, sum_by}
 use Rattle.std.proofs.lemmas.Bool.{cond-true, cond-false, eqb-false}
 use Rattle.std.proofs.lemmas.Bool.Decides.{eqb_tells}
-use Rattle.std.proofs.lemmas.List.{get_or-set_other, get_or-set_same, append-nil}
+use Rattle.std.proofs.lemmas.List.{get_or-set_other, get_or-set_same}
 use Rattle.std.proofs.lemmas.List.Folds.{list_any-append}
 use Rattle.std.proofs.lemmas.List.Elements.{recursion_from_All, All-from_recursion}
 use Rattle.flow_core.specs.Shop.{Shop, numbers, time, time_between, IsWithinLimits}
@@ -17,10 +17,9 @@ use Rattle.flow_core.proofs.JobsLeft.{filter-same, kept, kept-more, kept-has, su
 use Rattle.flow_core.proofs.Fronts.{front-within}
 use Rattle.flow_core.proofs.JobSetLemmas.{members-is}
 use Rattle.flow_core.proofs.Admissible.{front_of-is}
-use Rattle.flow_search.specs.Walk.{walk, walk_each}
 use Rattle.flow_search.specs.internal.Nodes.{IsAt, Wrote, Walked, walked, children_walked, incumbent_of}
 use Rattle.flow_search.specs.declared.subtree.Search.{Search}
-use Rattle.flow_search.proofs.Walk.{Incumbent, Fresh, fresh-push, range-all, answer_of, has-at}
+use Rattle.flow_search.proofs.Walk.{Fresh, fresh-push, range-all, answer_of, has-at}
 use Rattle.flow_search.proofs.Lists.{find-some}
 
 -- the first of the numbers

@@ -5,7 +5,7 @@ use Rattle.std.proofs.lemmas.Bool.{cond-true, or_left, or_right, eq-eqb, false�
 use Rattle.std.proofs.lemmas.Bool.Decides.{eqb_tells}
 use Rattle.std.proofs.lemmas.List.Elements.{All-from_recursion, recursion_from_All}
 use Rattle.flow_core.specs.declared.row.Row.{Row}
-use Rattle.flow_core.specs.Shop.{Shop, IsWithinLimits}
+use Rattle.flow_core.specs.Shop.{Shop}
 use Rattle.flow_core.specs.Front.{IsFrontOf}
 use Rattle.flow_core.specs.JobSet.{contains}
 use Rattle.flow_core.specs.Sequences.{has, AreJobs, AreDistinct, IsSequence, cut}
@@ -15,7 +15,7 @@ use Rattle.flow_search.specs.Search.{Found, tree, best}
 use Rattle.flow_search.specs.Walk.{walk}
 use Rattle.flow_search.specs.Plans.{Planned, IsPlan, prefixes_of, prefix_of, best_of, tree_of}
 use Rattle.flow_search.specs.internal.Stored.{IsStored}
-use Rattle.flow_search.specs.internal.Nodes.{IsAt, IsFresh, Entered, Walked, walked, found_if, incumbent_of}
+use Rattle.flow_search.specs.internal.Nodes.{IsAt, Entered, Walked, walked, found_if, incumbent_of}
 use Rattle.flow_search.specs.declared.subtree.Search.{Search}
 use Rattle.flow_search.proofs.Walk.{Fresh, walk_is_tree}
 use Rattle.flow_search.proofs.LeastVerdict.{cut-fresh, best-is}
@@ -71,26 +71,6 @@ pub record IsOnTheWay (plan : Planned) (prefix : List ℕ) (i : ℕ) (front : Li
   pub incumbent : incumbent_of search ≡ (plan.start.value, None)
   pub tree : search.tree.items ≡ []
 
-pub way-begins : (plan : Planned) (prefix front : List ℕ) (search : Search) → IsWithinLimits plan.shop →
-    IsFrontOf plan.shop [] front →
-    IsFresh plan.shop plan.start.value search → IsOnTheWay plan prefix 0 front search
-way-begins plan prefix front search limits is_front fresh =
-    let empty : length search.node.items ≡ 0 = ap length fresh.node in
-    record {
-      at = subst (λ q. IsAt plan.shop q front search.unscheduled (plan.shop.jobs - 0)) (sym fresh.node) (record {
-        limits = limits;
-        whole = omega arith;
-        jobs = record { range = All-from_recursion (λ job. (1 ≤ job) × (job ≤ plan.shop.jobs)) [] tt; distinct = tt };
-        is_front = is_front;
-        left = fresh.left;
-        none = fresh.none;
-        size = fresh.size;
-      });
-      node = fresh.node;
-      incumbent = fresh.incumbent;
-      tree = fresh.tree;
-    }
-
 -- one more job of the prefix
 pub way-goes-on : (plan : Planned) (prefix front next_front : List ℕ) (i : ℕ) (now next : Search) →
     AreJobs plan.shop.jobs prefix → length prefix ≤ plan.shop.jobs → i < length prefix →
@@ -133,14 +113,6 @@ prefix-walk plan prefix front i count search left low high way =
     ∙ ap (λ q. walk plan.shop bound_at (plan.shop.jobs - length prefix) q (incumbent_of search))
     (arrived prefix search.node.items i low high way.node)
     ∙ ap (walk plan.shop bound_at (plan.shop.jobs - length prefix) prefix) way.incumbent
-
-pub way-ends : (plan : Planned) (prefix front : List ℕ) (i count : ℕ) (search : Search) →
-    count ≡ plan.shop.jobs - length prefix → i ≤ length prefix → length prefix ≤ i →
-    IsOnTheWay plan prefix i front search → IsAt plan.shop search.node.items front search.unscheduled count
-way-ends plan prefix front i count search left low high way =
-    let same : i ≡ length prefix = omega arith in
-    subst (IsAt plan.shop search.node.items front search.unscheduled) (ap (λ k. plan.shop.jobs - k) same
-    ∙ sym left) way.at
 
 prefix-done : (plan : Planned) (prefix front : List ℕ) (i budget count : ℕ) (old new : Search) →
     AreJobs plan.shop.jobs prefix → length prefix ≤ plan.shop.jobs →

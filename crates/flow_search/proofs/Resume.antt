@@ -1,5 +1,5 @@
 -- The walk of a node's children with a stack of frames is the walk of the definition.
-use Rattle.std.proofs.Common.{◌≡◌, ◌≢◌, ℕ, zero, suc, ◌+◌, ◌-◌, ◌<◌, ◌≤◌, Bool, true, false, cond, not, nat_le, nat_lt, List, [], ◌∷◌, ◌++◌, Option, Some, None, length, slice_index_or, slice_set, reverse, refl, ap, sym, subst, ◌∙◌, inl, inr, arith, append_assoc, length-append}
+use Rattle.std.proofs.Common.{◌≡◌, ◌≢◌, ℕ, zero, suc, ◌+◌, ◌-◌, ◌<◌, ◌≤◌, Bool, true, false, cond, not, nat_le, List, [], ◌∷◌, ◌++◌, Option, Some, None, length, slice_index_or, slice_set, reverse, refl, ap, sym, subst, ◌∙◌, inl, inr, arith, append_assoc, length-append}
 use Rattle.std.specs.List.{filter, find, range_with_len}
 use Rattle.std.proofs.lemmas.Bool.{cases_lt}
 use Rattle.std.proofs.lemmas.Bool.Decides.{eqb_tells}
@@ -9,19 +9,18 @@ use Rattle.flow_core.specs.Shop.{Shop, numbers}
 use Rattle.flow_core.specs.Front.{IsFrontOf}
 use Rattle.flow_core.specs.JobSet.{contains, members}
 use Rattle.flow_core.specs.Sequences.{has, jobs_left, AreJobs}
-use Rattle.flow_core.specs.Bound.{letter, machine_bound, bound_at, front_of}
-use Rattle.flow_core.specs.Paths.{span}
+use Rattle.flow_core.specs.Bound.{letter, bound_at, front_of}
 use Rattle.flow_core.proofs.JobsLeft.{bool_cases}
 use Rattle.flow_core.proofs.Admissible.{front_of-is}
 use Rattle.flow_bound.specs.Rest.{IsRestOf}
-use Rattle.flow_search.specs.Walk.{walk, walk_each, better}
+use Rattle.flow_search.specs.Walk.{walk, walk_each}
 use Rattle.flow_search.specs.internal.Lows.{second_tail}
-use Rattle.flow_search.specs.internal.Nodes.{IsAt, Wrote, Entered, Left, Gave, Walked, Opens, walked, children_walked, incumbent_of, then_walk}
+use Rattle.flow_search.specs.internal.Nodes.{IsAt, Wrote, Entered, Left, Gave, Walked, Opens, walked, incumbent_of, then_walk}
 use Rattle.flow_search.specs.internal.Frames.{IsFrame, IsChild, IsStack, IsWalking, path, left_from, walk_from, resume}
 use Rattle.flow_search.specs.declared.frame.Frame.{Frame}
 use Rattle.flow_search.specs.declared.subtree.Search.{Search}
 use Rattle.flow_search.proofs.Walk.{Incumbent, answer_of}
-use Rattle.flow_search.proofs.Nodes.{at-child, find-is, size-set, members-are, left-count, put-back}
+use Rattle.flow_search.proofs.Nodes.{at-child, size-set, members-are, left-count, put-back}
 use Rattle.flow_core.proofs.Taken.{has-other}
 
 pub reverse-push : {A : Type 0} (xs new : List A) (x : A) → new ≡ xs ++ x ∷ [] → reverse new ≡ x ∷ reverse xs
@@ -157,30 +156,6 @@ walk-some shop (suc left) node st =
     some : (below : Walk) (o : Option ℕ) → 1 ≤ length (answer_of st below o).0
     some below None = omega arith
     some below (Some machine) = omega arith
-
--- the walk before its first child
-pub walking-start : (shop : Shop) (budget below : ℕ) (old : Search) (here : Frame) →
-    IsAt shop old.node.items here.front old.unscheduled (suc below) → IsFrame shop old.node.items (suc below) here →
-    here.next ≡ 1 →
-    8 ≤ below → length old.tree.items ≤ budget →
-    IsWalking shop budget old.node.items (children_walked shop below old) old here below [] old
-walking-start shop budget below old here at frame next many within =
-    let root : List ℕ = old.node.items in
-    let st : Incumbent = incumbent_of old in
-    record {
-      at = at;
-      node = refl;
-      frame = frame;
-      next = omega (arith, next);
-      past = omega (arith, next);
-      stack = tt;
-      text =
-          ap (λ t. old.tree.items ++ t) (append-nil (walk_from shop below root here.next st).0)
-          ∙ ap (λ k. old.tree.items ++ (walk_from shop below root k st).0) next;
-      state = ap (λ k. (walk_from shop below root k st).1) next;
-      many = many;
-      within = within;
-    }
 
 -- a job that a node leaves
 pub kid-of : (shop : Shop) (node front : List ℕ) (set : List Bool) (count job : ℕ) → IsAt shop node front set count →

@@ -63,10 +63,6 @@ and-true : (b : Bool) → (b && true) ≡ b
 and-true true = refl
 and-true false = refl
 
-and-false : (b : Bool) → (b && false) ≡ false
-and-false true = refl
-and-false false = refl
-
 -- one more at the end
 pub first-push : (fs : List Found) (g : Found) → first (fs ++ g ∷ []) ≡ lower (first fs) (Some g)
 first-push [] g = refl

@@ -13,15 +13,18 @@ use crate::eight::{
 use crate::subtree::{Search, Stop};
 use flow_core::{Front, Instance, JobSet};
 
-/// The jobs of a set of at most eight, in increasing order, from the first place on.
-fn jobs_of(instance: &Instance, set: &JobSet) -> [u16; 8]
-    requires { length (filter (contains set.now) (numbers 1 instance.now.jobs)) ≤ 8 }
-    ensures { take (length (filter (contains set.now) (numbers 1 instance.now.jobs))) result
-        ≡ filter (contains set.now) (numbers 1 instance.now.jobs) }
+/// The jobs of a set, at most eight, in increasing order, from the first place on.
+fn jobs_of(instance: &Instance, set: &JobSet, left: usize) -> [u16; 8]
+    requires few { left ≤ 8 }
+    requires count { length (filter (contains set.now) (numbers 1 instance.now.jobs)) ≡ left }
+    ensures { take left result ≡ filter (contains set.now) (numbers 1 instance.now.jobs) }
 {
     let mut made = [0u16; 8];
     let mut count = 0;
     for job in 1..instance.jobs() + 1 {
+        if count == left {
+            return made;
+        }
         if set.contains(job) {
             made[count] = job;
             count += 1;
@@ -144,8 +147,8 @@ pub fn walk_few(
     ensures over { result ≡ Err Stop.OverBudget →
         budget < length search.old.tree.items + length (children_walked instance.now (count - 1) search.old).0 }
 {
-    let jobs = jobs_of(instance, &search.unscheduled);
     let left = count as usize;
+    let jobs = jobs_of(instance, &search.unscheduled, left);
     let group = &mut lanes.group;
     let frames = &mut lanes.frames[..];
     let first = &mut frames[0];

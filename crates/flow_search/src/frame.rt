@@ -27,7 +27,7 @@ pub struct Setting<'a> {
 pub struct Frame {
     /// When each machine is free after the node's jobs.
     pub front: Front,
-    /// What each machine owes the jobs left.
+    /// For each machine the sum of the times of the jobs left, and their least tail behind it.
     pub rest: Rest,
     /// For each machine the second least tail of the jobs left: the least tail without a job that has the least.
     pub second: [u32; MAX_MACHINES],
@@ -57,11 +57,11 @@ impl Lows {
     }
 
     /// Takes one job more in.
-    fn take(&mut self, row: &Row)
-        ensures { (shop : Shop) (jobs : List ℕ) (job : ℕ) → IsWithinLimits shop → IsRow shop job row.now →
-            AreLows shop jobs self.old → AreLows shop (jobs ++ job ∷ []) self.new }
+    fn take(&mut self, instance: &Instance, row: &Row)
+        ensures { (jobs : List ℕ) (job : ℕ) → IsRow instance.now job row.now → AreLows instance.now jobs self.old →
+            AreLows instance.now (jobs ++ job ∷ []) self.new }
     {
-        for place in 0..MAX_MACHINES {
+        for place in 0..instance.machines() as usize {
             let tail = row.tails[place];
             let least = self.least[place];
             self.second[place] = self.second[place].min(least.max(tail));
@@ -76,10 +76,11 @@ fn lows_of(setting: &Setting, set: &JobSet) -> Lows
     requires jobs { (job : ℕ) → setting.now.instance.now.jobs < job → contains set.now job ≡ false }
     ensures { AreLows setting.now.instance.now (members set.now) result }
 {
+    let instance = setting.instance;
     let mut lows = Lows::none();
-    for job in 1..setting.instance.jobs() + 1 {
+    for job in 1..instance.jobs() + 1 {
         if set.contains(job) {
-            lows.take(&setting.rows[job as usize - 1]);
+            lows.take(instance, &setting.rows[job as usize - 1]);
         }
     }
     lows

@@ -44,7 +44,7 @@ fn load(instance: &Instance, jobs: &[u16], machine: u16) -> u32
 }
 
 /// Some jobs, each in its lane.
-fn lanes_of(jobs: &[u16]) -> [u16; 8]
+fn in_lanes(jobs: &[u16]) -> [u16; 8]
     requires few { length jobs.now ≤ 8 }
     ensures { (lane : ℕ) → lane < length jobs.now → slice_index result lane ≡ slice_index jobs.now lane }
 {
@@ -91,7 +91,7 @@ pub fn enter_few(
         behind = sums(&behind, &time);
         machine -= 1;
     }
-    group.jobs = lanes_of(jobs);
+    group.jobs = in_lanes(jobs);
     frame.gone = gone_from(jobs.len());
     frame.lanes = [0, 1, 2, 3, 4, 5, 6, 7];
     frame.next = 0;

@@ -1,4 +1,4 @@
-use Rattle.std.proofs.Common.{◌≡◌, ◌+◌, ◌++◌, true, sym, ◌∙◌, ap, arith, length, take, set}
+use Rattle.std.proofs.Common.{◌≡◌, ◌+◌, ◌++◌, true, sym, ◌∙◌, ap, inl, inr, arith, length, take, set}
 use Rattle.std.specs.List.{filter}
 use Rattle.std.proofs.lemmas.List.{length-set}
 use Rattle.flow_core.specs.Shop.{numbers}
@@ -14,7 +14,8 @@ loop-job-preserved c = elim c.if-contains.branch [
       let there : contains c.args.set.now c.loop-job.job ≡ true = sym c.contains.ensures.value ∙ w.if-contains.true in
       let more = gathered-more (contains c.args.set.now) c.loop-job.made c.loop-job.count c.loop-job.job
       c.args.instance.now.jobs
-      c.loop-job.invariant.size c.loop-job.invariant.few c.requires (omega arith) there c.loop-job.invariant.jobs in
+      c.loop-job.invariant.size c.loop-job.invariant.few (omega (arith, c.requires.few, c.requires.count))
+      (omega arith) there c.loop-job.invariant.jobs in
       record {
         size = ap length w.made-is ∙ length-set c.loop-job.made c.loop-job.count c.loop-job.job
             ∙ c.loop-job.invariant.size;
@@ -42,8 +43,14 @@ loop-job-preserved c = elim c.if-contains.branch [
       }
 ]
 
+pub returns-then-count-left : goal.returns-then-count-left
+returns-then-count-left c =
+    gathered-all (contains c.args.set.now) c.loop-job.made c.args.left c.loop-job.count c.loop-job.job
+    c.args.instance.now.jobs c.loop-job.invariant.size c.loop-job.invariant.few c.requires.count
+    (inr c.if-count-left.true) c.loop-job.invariant.jobs
+
 pub returns : goal.returns
 returns c =
-    gathered-all (contains c.args.set.now) c.loop-job.made c.loop-job.count c.loop-job.job c.args.instance.now.jobs
-    (omega arith)
-    c.loop-job.invariant.size c.loop-job.invariant.few c.loop-job.invariant.jobs
+    gathered-all (contains c.args.set.now) c.loop-job.made c.args.left c.loop-job.count c.loop-job.job
+    c.args.instance.now.jobs c.loop-job.invariant.size c.loop-job.invariant.few c.requires.count
+    (inl (omega arith)) c.loop-job.invariant.jobs

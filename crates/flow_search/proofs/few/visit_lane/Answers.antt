@@ -1,7 +1,6 @@
-use Rattle.std.proofs.Common.{◌≡◌, ℕ, suc, ◌+◌, ◌<◌, ◌≤◌, ◌∷◌, ◌++◌, [], Bool, Err, None, Some, Result, cond, nat_lt, length, slice_index, subst, ap, sym, ◌∙◌, arith}
+use Rattle.std.proofs.Common.{◌≡◌, ℕ, ◌+◌, ◌≤◌, Bool, Err, None, Some, Result, cond, slice_index, subst, ap, sym, ◌∙◌, arith}
 use Rattle.std.proofs.lemmas.Bool.{le-ltb}
 use Rattle.std.proofs.lemmas.Result.{err_from_is_err_and}
-use Rattle.flow_core.specs.Shop.{Shop}
 use Rattle.flow_search.specs.internal.Nodes.{incumbent_of}
 use Rattle.flow_search.specs.internal.Lanes.{IsUncutCount, child}
 use Rattle.flow_search.specs.declared.subtree.Stop.{Stop}

@@ -1,15 +1,14 @@
-use Rattle.std.proofs.Common.{rules, ◌≡◌, ℕ, ◌<◌, ◌≤◌, length, set, take, ap, sym, subst, ◌∙◌, arith}
-use Rattle.std.proofs.lemmas.List.{length-set, get_or-set_same, get_or-take}
+use Rattle.std.proofs.Common.{rules, ◌≡◌, length, set, take, ap, sym, subst, ◌∙◌, arith}
+use Rattle.std.proofs.lemmas.List.{get_or-set_same, get_or-take}
 use Rattle.flow_search.specs.internal.Lanes.{IsFew, IsTested, frame_at}
 use Rattle.flow_search.proofs.LanesEntered.{count-is, few-at}
 use Rattle.flow_search.proofs.few.walk_few.Goals as goal
 use Rattle.flow_search.proofs.few.walk_few.Goals.{After-jobs_of-jobs, After-test_children}
 
-pub jobs_of-jobs-requires : goal.jobs_of-jobs-requires
-jobs_of-jobs-requires c =
-    let size = count-is c.args.instance.now c.args.search.now.node.items c.args.front.now
-    c.args.search.now.unscheduled c.args.count c.requires.at in
-    omega (arith, size, c.requires.to)
+pub jobs_of-jobs-requires-clause-count : goal.jobs_of-jobs-requires-clause-count
+jobs_of-jobs-requires-clause-count c =
+    count-is c.args.instance.now c.args.search.now.node.items c.args.front.now c.args.search.now.unscheduled
+    c.args.count c.requires.at
 
 -- the jobs that are left
 few : (c : After-jobs_of-jobs) →

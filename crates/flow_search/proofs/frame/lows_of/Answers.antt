@@ -22,7 +22,7 @@ loop-job-preserved c =
           subst (λ l. AreLows shop (filter (contains set) (numbers 1 (job + 1 - 1))) l) (sym w.lows-is)
           (subst (λ js. AreLows shop js w.take.new.self) (sym (filter-take
           (contains set) job c.loop-job.auto.job there))
-          (w.take.ensures shop (filter (contains set) (numbers 1 (job - 1))) job c.requires.rows.limits
+          (w.take.ensures (filter (contains set) (numbers 1 (job - 1))) job
           (c.requires.rows.each job (record {
             times =
                 [];

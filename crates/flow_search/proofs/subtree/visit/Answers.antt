@@ -1,4 +1,4 @@
-use Rattle.std.proofs.Common.{◌≡◌, ℕ, suc, ◌+◌, ◌-◌, ◌≤◌, Bool, Some, nat_le, List, [], ◌∷◌, ◌++◌, refl, sym, subst, ◌∙◌, ap, arith}
+use Rattle.std.proofs.Common.{◌≡◌, ℕ, suc, ◌-◌, Bool, nat_le, [], ◌∷◌, ◌++◌, sym, subst, ◌∙◌, arith}
 use Rattle.std.specs.List.{find}
 use Rattle.flow_core.specs.Shop.{numbers}
 use Rattle.flow_core.specs.Bound.{bound_at}

@@ -1,4 +1,4 @@
-use Rattle.std.proofs.Common.{◌≡◌, ℕ, suc, ◌+◌, ◌-◌, ◌*◌, ◌<◌, ◌≤◌, Bool, true, false, Some, None, Ok, Err, Result, List, [], ◌∷◌, ◌++◌, length, reverse, take, slice_set, refl, sym, subst, ◌∙◌, ap, arith, length-append}
+use Rattle.std.proofs.Common.{◌≡◌, ℕ, suc, ◌+◌, ◌-◌, ◌≤◌, Bool, true, Some, Ok, Err, Result, List, [], ◌∷◌, ◌++◌, length, reverse, take, slice_set, refl, sym, subst, ◌∙◌, ap, arith, length-append}
 use Rattle.std.specs.List.{find}
 use Rattle.std.proofs.lemmas.Result.{err_from_is_err_and}
 use Rattle.flow_core.specs.Limits.{most_jobs}
@@ -8,9 +8,8 @@ use Rattle.flow_core.specs.JobSet.{contains, members}
 use Rattle.flow_core.specs.Bound.{bound_at, front_of}
 use Rattle.flow_search.specs.Walk.{walk}
 use Rattle.flow_bound.specs.Rest.{IsRestOf}
-use Rattle.flow_search.specs.internal.Nodes.{IsAt, Entered, Left, Gave, Opens, children_walked, incumbent_of}
+use Rattle.flow_search.specs.internal.Nodes.{IsAt, Left, Gave, Opens, children_walked, incumbent_of}
 use Rattle.flow_search.specs.internal.Frames.{IsWalking, IsChild, path}
-use Rattle.flow_search.specs.declared.frame.Frame.{Frame}
 use Rattle.flow_search.specs.declared.subtree.Stop.{Stop}
 use Rattle.flow_search.specs.declared.subtree.Stop.TheVariants.{OverBudget}
 use Rattle.flow_search.proofs.Nodes.{left-count, within-front}

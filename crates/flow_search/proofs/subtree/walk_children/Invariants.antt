@@ -1,4 +1,4 @@
-use Rattle.std.proofs.Common.{◌≡◌, ◌+◌, ◌-◌, ◌*◌, length, reverse}
+use Rattle.std.proofs.Common.{◌+◌, ◌-◌, ◌*◌, length, reverse}
 use Rattle.flow_search.specs.internal.Nodes.{children_walked}
 use Rattle.flow_search.specs.internal.Frames.{IsWalking}
 use Rattle.flow_search.proofs.subtree.walk_children.Given as goal

@@ -1,9 +1,8 @@
-use Rattle.std.proofs.Common.{rules, ◌≡◌, ◌∙◌, ◌-◌, ◌<◌, ◌≤◌, [], length, slice_index, slice_index_or, refl, subst, sym, ap, arith}
+use Rattle.std.proofs.Common.{rules, ◌≡◌, ◌∙◌, ◌-◌, ◌<◌, ◌≤◌, [], length, slice_index, slice_index_or, refl, subst, sym, arith}
 use Rattle.std.proofs.lemmas.List.{length-set}
 use Rattle.flow_core.specs.Limits.{most_machines}
 use Rattle.flow_search.proofs.LanesPassed.{done-more}
-use Rattle.flow_search.specs.internal.Lanes.{IsLaneLeft, IsFrameOf, child, lanes_of}
-use Rattle.flow_search.proofs.Increasing.{size-filter}
+use Rattle.flow_search.specs.internal.Lanes.{IsLaneLeft}
 use Rattle.flow_search.proofs.LanesOpened.{time-within, child-at}
 use Rattle.flow_search.proofs.LanesOrder.{lane-left}
 use Rattle.flow_search.proofs.eight.children.open_child.Goals as goal

@@ -1,4 +1,4 @@
-use Rattle.std.proofs.Common.{◌≡◌, ◌≢◌, ℕ, ◌+◌, ◌-◌, ◌<◌, ◌≤◌, min, max, set, slice_index, ap, sym, ◌∙◌, inl, inr, arith}
+use Rattle.std.proofs.Common.{◌≡◌, ◌≢◌, ℕ, ◌+◌, ◌-◌, ◌<◌, min, max, set, slice_index, ap, sym, ◌∙◌, inl, inr, arith}
 use Rattle.std.proofs.lemmas.Bool.{cases_lt}
 use Rattle.std.proofs.lemmas.List.{get_or-set_same, get_or-set_other, length-set}
 use Rattle.flow_core.specs.Limits.{most_machines}
@@ -12,7 +12,8 @@ pub loop-place-preserved : goal.loop-place-preserved
 loop-place-preserved c =
     let place : ℕ = c.loop-place.place in
     let i = c.loop-place.invariant in
-    let low : place < most_machines = c.loop-place-test.true in
+    let low : place < most_machines = omega
+    (arith, c.loop-place-test.true, c.machines-place-end.ensures.value, c.machines-place-end.ensures.limits.machines) in
     let here = i.others place (omega arith) in
     record {
       least_size = length-set c.loop-place.self.least place c.min-in-loop-place.result ∙ i.least_size;
@@ -57,13 +58,14 @@ loop-place-preserved c =
     }
 
 pub returns : goal.returns
-returns c shop jobs job limits row are machine from to =
+returns c jobs job row are machine from to =
+    let shop = c.args.instance.now in
     let k : ℕ = machine - 1 in
-    let most : shop.machines ≤ most_machines = limits.machines in
     let was = are machine from to in
     let tail : slice_index c.args.row.now.tails k ≡ time_between shop job (machine + 1) shop.machines =
     (row machine from to).1 in
-    let done = c.loop-place.invariant.done k (omega (arith, c.loop-place-test.false)) in (
+    let done = c.loop-place.invariant.done k
+    (omega (arith, from, to, c.loop-place-test.false, c.machines-place-end.ensures.value)) in (
       done.0
           ∙ ap (λ n. min n (slice_index c.args.row.now.tails k)) was.0
           ∙ ap (min (least_below unknown (tails shop machine jobs))) tail
