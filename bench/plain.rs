@@ -756,7 +756,7 @@ impl<'a> TreeCheck<'a> {
                 let low = self.front[self.instance.machines - 1] < self.value;
                 refuse_where(low, "Low")
             }
-            b'A'..=b'T' if !self.left.is_empty() => {
+            b'A'..=b'Z' if !self.left.is_empty() => {
                 let machine = usize::from(byte - b'A');
                 if machine >= self.instance.machines {
                     return Err("Tree");

@@ -1,5 +1,6 @@
 -- The makespan of a list with a job between two others is that of its heads and tails, and tails go by a recurrence.
-use Rattle.std.proofs.Common.{◌≡◌, ℕ, zero, suc, ◌+◌, ◌-◌, ◌<◌, ◌≤◌, max, List, [], ◌∷◌, ◌++◌, length, drop, map, slice_index, replicate, refl, ap, sym, ◌∙◌, inl, inr, arith}
+use Rattle.std.proofs.Common.{◌≡◌, ℕ, zero, suc, ◌+◌, ◌-◌, ◌<◌, ◌≤◌, max, List, [], ◌∷◌, ◌++◌, length, drop, map}
+use Rattle.std.proofs.Common.{slice_index, replicate, refl, ap, sym, ◌∙◌, inl, inr, arith}
 use Rattle.std.proofs.lemmas.Bool.{cases_lt}
 use Rattle.std.proofs.lemmas.List.{length-replicate, drop_all}
 use Rattle.flow_core.specs.Limits.{most_jobs, most_machines}
@@ -8,7 +9,9 @@ use Rattle.flow_core.specs.Least.{greatest}
 use Rattle.flow_core.specs.Paths.{IsPath, weight, completion, span}
 use Rattle.flow_core.specs.Front.{IsFrontOf, IsWithinFront}
 use Rattle.flow_core.proofs.Extremes.{range-le-greatest, greatest-range-le}
-use Rattle.flow_core.proofs.Recurrence.{after, completed, completion-is, completion-after, after-same, time_between-none, time_between-first, weight-le-completed, completed-attained, path-up, path-le-greatest, greatest-path-le}
+use Rattle.flow_core.proofs.Recurrence.{after, completed, completion-is, completion-after, after-same}
+use Rattle.flow_core.proofs.Recurrence.{time_between-none, time_between-first, weight-le-completed, completed-attained}
+use Rattle.flow_core.proofs.Recurrence.{path-up, path-le-greatest, greatest-path-le}
 use Rattle.flow_core.proofs.Admissible.{completed-append, after-later}
 use Rattle.flow_core.proofs.Fronts.{free_at, completion-small, zeros}
 use Rattle.flow_bound.specs.Insertion.{tail, SpanIsOfHeadsAndTails}

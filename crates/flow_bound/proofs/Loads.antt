@@ -1,5 +1,6 @@
 -- No sequence has a smaller makespan than Taillard's lower bound.
-use Rattle.std.proofs.Common.{◌≡◌, ℕ, zero, suc, ◌+◌, ◌-◌, ◌≤◌, List, [], ◌∷◌, ◌++◌, map, refl, ap, sym, ◌∙◌, inl, inr, arith, true, ◌||◌}
+use Rattle.std.proofs.Common.{◌≡◌, ℕ, zero, suc, ◌+◌, ◌-◌, ◌≤◌, List, [], ◌∷◌, ◌++◌, map, refl, ap, sym, ◌∙◌, inl, inr}
+use Rattle.std.proofs.Common.{arith, true, ◌||◌}
 use Rattle.std.specs.List.{sum_by}
 use Rattle.std.proofs.lemmas.List.Sums.{sum_by-cons}
 use Rattle.std.proofs.lemmas.List.Elements.{recursion_from_All}
@@ -10,7 +11,8 @@ use Rattle.flow_core.specs.Least.{least, greatest}
 use Rattle.flow_core.specs.Paths.{span}
 use Rattle.flow_core.specs.Sequences.{has, jobs_left, IsSequence}
 use Rattle.flow_core.proofs.Extremes.{greatest-range-le}
-use Rattle.flow_core.proofs.JobsLeft.{InRange, numbers-more, filter-more, has-filter, sum_by-jobs_left, least-le, sequence-has}
+use Rattle.flow_core.proofs.JobsLeft.{InRange, numbers-more, filter-more, has-filter, sum_by-jobs_left, least-le}
+use Rattle.flow_core.proofs.JobsLeft.{sequence-has}
 use Rattle.flow_core.proofs.Recurrence.{after, completed, completion-is, after-first}
 use Rattle.flow_core.proofs.Admissible.{after-here, after-later, rest-bound}
 use Rattle.flow_bound.specs.Totals.{total}

@@ -1,5 +1,6 @@
 -- What a checker gives that answers what a text is read as.
-use Rattle.std.proofs.Common.{◌≡◌, ◌⊎◌, inl, inr, ℕ, Bool, true, false, cond, ◌-◌, List, take, drop, length, IfErr, Result, Ok, Err, refl, ap, subst, sym, ◌∙◌}
+use Rattle.std.proofs.Common.{◌≡◌, ◌⊎◌, inl, inr, ℕ, Bool, true, false, cond, ◌-◌, List, take, drop, length, IfErr}
+use Rattle.std.proofs.Common.{Result, Ok, Err, refl, ap, subst, sym, ◌∙◌}
 use Rattle.std.specs.Str.{bytes_eq}
 use Rattle.std.proofs.lemmas.List.{take_rest}
 use Rattle.flow_core.specs.Shop.{Shop, IsWithinLimits}
@@ -8,7 +9,8 @@ use Rattle.flow_cert.specs.Certificate.{IsCertificate, line, ending}
 use Rattle.flow_cert.specs.Check.{IsFirstFault, IsOfNoValue}
 use Rattle.flow_cert.specs.CertificateFaults.{certificate_value, cut_value, end_value}
 use Rattle.flow_cert.specs.internal.Trees.{TreesGive}
-use Rattle.flow_cert.specs.declared.fault.CheckFault.TheVariants.{Memory, Header, Size, Value, Sequence, NotAttained, Tree, Weak, Low, End}
+use Rattle.flow_cert.specs.declared.fault.CheckFault.TheVariants.{Memory, Header, Size, Value, Sequence, NotAttained}
+use Rattle.flow_cert.specs.declared.fault.CheckFault.TheVariants.{Tree, Weak, Low, End}
 use Rattle.flow_cert.specs.declared.fault.CheckFault.{CheckFault}
 use Rattle.flow_cert.proofs.Exact.{value_is_exact}
 use Rattle.flow_cert.proofs.TreesExact.{fault-value}

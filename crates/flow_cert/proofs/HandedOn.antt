@@ -1,5 +1,6 @@
 -- Bytes that are handed on in pieces.
-use Rattle.std.proofs.Common.{◌≡◌, ℕ, List, [], ◌∷◌, Option, Result, Ok, Err, OnErr, ◌++◌, arith, append_assoc, append-nil, refl, sym, ap, subst, ◌∙◌, length-append}
+use Rattle.std.proofs.Common.{◌≡◌, ℕ, List, [], ◌∷◌, Option, Result, Ok, Err, OnErr, ◌++◌, arith, append_assoc}
+use Rattle.std.proofs.Common.{append-nil, refl, sym, ap, subst, ◌∙◌, length-append}
 use Rattle.std.specs.Io.KnownBytes.{Appends}
 use Rattle.std.proofs.KnownBytes.{Appends-trans}
 use Rattle.flow_core.specs.Bytes.{AddsProperPrefix}

@@ -1,5 +1,6 @@
 -- What each line before the trees makes of the value of a text, and what its absence makes of it.
-use Rattle.std.proofs.Common.{◌≡◌, ◌^◌, ℕ, ◌<◌, ◌≤◌, cond, ◌&&◌, nat_eq, nat_lt, nat_le, List, [], ◌∷◌, ◌++◌, length, Option, Some, None, Result, Err, refl, ap, sym, subst, ◌∙◌, inl, inr, arith, append_assoc}
+use Rattle.std.proofs.Common.{◌≡◌, ◌^◌, ℕ, ◌<◌, ◌≤◌, cond, ◌&&◌, nat_eq, nat_lt, nat_le, List, [], ◌∷◌, ◌++◌, length}
+use Rattle.std.proofs.Common.{Option, Some, None, Result, Err, refl, ap, sym, subst, ◌∙◌, inl, inr, arith, append_assoc}
 use Rattle.std.specs.Option.{option_map_or}
 use Rattle.std.specs.Str.{bytes_eq}
 use Rattle.std.specs.Cmp.Lexicographic.{bytes_decides}
@@ -13,12 +14,14 @@ use Rattle.flow_core.specs.SequenceFaults.{sequence_fault}
 use Rattle.flow_core.specs.declared.sequence.SequenceFault.{SequenceFault}
 use Rattle.flow_core.proofs.SequenceLemmas.{sequence-fault-none-is, is-fault-none}
 use Rattle.flow_cert.specs.Certificate.{line, spaced, title}
-use Rattle.flow_cert.specs.CertificateFaults.{header_value, size_value, value_value, sequence_value, cut_value, first_line, on_line, numbers_in}
+use Rattle.flow_cert.specs.CertificateFaults.{header_value, size_value, value_value, sequence_value, cut_value}
+use Rattle.flow_cert.specs.CertificateFaults.{first_line, on_line, numbers_in}
 use Rattle.flow_cert.specs.internal.Heading.{BeginsWithNumber, BeginsWithSize, BeginsWithSequence}
 use Rattle.flow_cert.specs.declared.fault.CheckFault.{CheckFault}
 use Rattle.flow_cert.specs.declared.fault.CheckFault.TheVariants.{Header, Size, Value, Sequence, NotAttained}
 use Rattle.flow_cert.proofs.Numbers.{Fit, numbers-sound, numbers-complete, spaced-plain}
-use Rattle.flow_cert.proofs.Exact.{LineOf, first-line-is, on-line-complete, plain-test, numbers-whole, size-true, size-fit, sequence-fit, four, after_header, after_size, after_value}
+use Rattle.flow_cert.proofs.Exact.{LineOf, first-line-is, on-line-complete, plain-test, numbers-whole, size-true}
+use Rattle.flow_cert.proofs.Exact.{size-fit, sequence-fit, four, after_header, after_size, after_value}
 
 -- a line that is at fault whatever stands in it
 refused-of : (fault : CheckFault) (next : List ℕ → List ℕ →

@@ -1,5 +1,6 @@
 -- The steps of reading the lines of the trees.
-use Rattle.std.proofs.Common.{◌≡◌, ◌≢◌, ℕ, zero, suc, ◌+◌, ◌-◌, ◌≤◌, List, [], ◌∷◌, ◌++◌, drop, Result, Ok, Err, refl, ap, sym, subst, ◌∙◌, arith, append_assoc}
+use Rattle.std.proofs.Common.{◌≡◌, ◌≢◌, ℕ, zero, suc, ◌+◌, ◌-◌, ◌≤◌, List, [], ◌∷◌, ◌++◌, drop, Result, Ok, Err, refl}
+use Rattle.std.proofs.Common.{ap, sym, subst, ◌∙◌, arith, append_assoc}
 use Rattle.std.specs.List.{flat_map}
 use Rattle.flow_core.specs.Shop.{Shop}
 use Rattle.flow_core.specs.Bound.{bound_at}
@@ -8,7 +9,8 @@ use Rattle.flow_cert.specs.CertificateFaults.{read_tree, after_tree, trees_value
 use Rattle.flow_cert.specs.internal.Links.{children, IsNext}
 use Rattle.flow_cert.specs.internal.Reader.{awaited, TreeGives, LineEnds, LinesGive}
 use Rattle.flow_cert.specs.declared.fault.CheckFault.{CheckFault}
-use Rattle.flow_cert.specs.declared.fault.CheckFault.TheVariants.{Memory, Header, Size, Value, Sequence, NotAttained, Tree, Weak, Low, End}
+use Rattle.flow_cert.specs.declared.fault.CheckFault.TheVariants.{Memory, Header, Size, Value, Sequence, NotAttained}
+use Rattle.flow_cert.specs.declared.fault.CheckFault.TheVariants.{Tree, Weak, Low, End}
 use Rattle.flow_cert.specs.declared.reading.reader.Spot.{Spot}
 use Rattle.flow_cert.proofs.Links.{children-next, children-none}
 

@@ -1,5 +1,6 @@
 -- The jobs that a list leaves, and the links between them.
-use Rattle.std.proofs.Common.{◌≡◌, ◌≢◌, ℕ, zero, suc, ◌+◌, ◌-◌, ◌<◌, ◌≤◌, Bool, false, cond, not, List, [], ◌∷◌, ◌++◌, slice_index, slice_set, refl, ap, sym, ◌∙◌, subst, inl, inr, arith, set}
+use Rattle.std.proofs.Common.{◌≡◌, ◌≢◌, ℕ, zero, suc, ◌+◌, ◌-◌, ◌<◌, ◌≤◌, Bool, false, cond, not, List, [], ◌∷◌, ◌++◌}
+use Rattle.std.proofs.Common.{slice_index, slice_set, refl, ap, sym, ◌∙◌, subst, inl, inr, arith, set}
 use Rattle.std.specs.List.{filter, range_with_len}
 use Rattle.std.proofs.lemmas.List.{get_or-set_same, get_or-set_other, set-set, set-get_or, length-set}
 use Rattle.std.proofs.lemmas.Bool.Decides.{eqb_tells}

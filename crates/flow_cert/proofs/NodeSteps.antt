@@ -1,5 +1,7 @@
--- The fronts, the times owed and the bounds of lists.
-use Rattle.std.proofs.Common.{◌≡◌, ◌≢◌, ℕ, zero, suc, ◌+◌, ◌-◌, ◌*◌, ◌<◌, ◌≤◌, Bool, true, false, cond, not, List, [], ◌∷◌, ◌++◌, length, slice_index, replicate, refl, ap, sym, ◌∙◌, subst, inl, inr, arith, set, length-append}
+-- The fronts, the work left and the bounds of lists.
+use Rattle.std.proofs.Common.{◌≡◌, ◌≢◌, ℕ, zero, suc, ◌+◌, ◌-◌, ◌*◌, ◌<◌, ◌≤◌, Bool, true, false, cond, not, List, []}
+use Rattle.std.proofs.Common.{◌∷◌, ◌++◌, length, slice_index, replicate, refl, ap, sym, ◌∙◌, subst, inl, inr, arith}
+use Rattle.std.proofs.Common.{set, length-append}
 use Rattle.std.specs.List.{filter, sum_by}
 use Rattle.std.proofs.lemmas.List.{get_or-set_same, get_or-set_other, length-set}
 use Rattle.std.proofs.lemmas.Bool.{cases_lt}
@@ -32,10 +34,10 @@ kept-small f p most (suc n) small =
     one true v = omega arith
     one false v = omega arith
 
--- the time owed to the jobs left fits
-pub owed-small : (shop : Shop) (list : List ℕ) (machine : ℕ) → IsWithinLimits shop →
+-- the sum of the times of the jobs left fits
+pub work-small : (shop : Shop) (list : List ℕ) (machine : ℕ) → IsWithinLimits shop →
     sum_by (λ job. time shop job machine) (jobs_left shop.jobs list) ≤ shop.jobs * greatest_time
-owed-small shop list machine limits =
+work-small shop list machine limits =
     kept-small (λ job. time shop job machine) (λ job. not (has list job)) greatest_time shop.jobs
     (λ k. time-small shop k machine limits)
 
@@ -69,14 +71,14 @@ pub known-more : (shop : Shop) (list : List ℕ) (node : Node) (left machine : �
     IsNode shop list node left → 1 ≤ machine → machine ≤ shop.machines → AreLows shop list machine lows →
     IsNode shop list (record {
       front = node.front;
-      owed = node.owed;
+      work = node.work;
       least =
           set node.least (machine - 1) lows.least;
       second = set node.second (machine - 1) lows.second;
     }) left
 known-more shop list node left machine lows limits is from to low = record {
   times = is.times;
-  owed = is.owed;
+  work = is.work;
   size = is.size;
   known = record {
     each = λ k low_k high_k. elim (eqb_tells k machine) [
@@ -113,14 +115,14 @@ known-more shop list node left machine lows limits is from to low = record {
 -- the empty list
 pub root-node : (shop : Shop) (node : Node) → IsWithinLimits shop → IsFrontOf shop [] node.front →
     ((machine : ℕ) → 1 ≤ machine → machine ≤ shop.machines →
-    slice_index node.owed (machine - 1) ≡ sum_by (λ job. time shop job machine) (jobs_left shop.jobs [])) →
-    length node.owed ≡ most_machines → node.least ≡ replicate most_machines unknown →
+    slice_index node.work (machine - 1) ≡ sum_by (λ job. time shop job machine) (jobs_left shop.jobs [])) →
+    length node.work ≡ most_machines → node.least ≡ replicate most_machines unknown →
     node.second ≡ replicate most_machines unknown → IsNode shop [] node shop.jobs
-root-node shop node limits times owed size least second =
+root-node shop node limits times work size least second =
     let most : shop.machines ≤ most_machines = limits.machines in
     record {
       times = times;
-      owed = owed;
+      work = work;
       size = size;
       known = none-known shop [] node.least node.second (λ machine from to. ap (λ l. slice_index l (machine - 1)) least
           ∙ all-same most_machines unknown (machine - 1) (omega (arith, from, to, most))) (ap length least)
@@ -132,19 +134,19 @@ root-node shop node limits times owed size least second =
 -- a list's child
 pub child-node : (shop : Shop) (list : List ℕ) (node child : Node) (left job : ℕ) → IsWithinLimits shop →
     IsNode shop list node (suc left) → 1 ≤ job → job ≤ shop.jobs → has list job ≡ false →
-    IsFrontOf shop (list ++ job ∷ []) child.front → length child.owed ≡ most_machines →
+    IsFrontOf shop (list ++ job ∷ []) child.front → length child.work ≡ most_machines →
     ((machine : ℕ) → 1 ≤ machine → machine ≤ shop.machines →
-    slice_index child.owed (machine - 1) + time shop job machine ≡ slice_index node.owed (machine - 1)) →
+    slice_index child.work (machine - 1) + time shop job machine ≡ slice_index node.work (machine - 1)) →
     ((machine : ℕ) → 1 ≤ machine → machine ≤ shop.machines → slice_index child.least (machine - 1) ≡ unknown) →
     length child.least ≡ most_machines → length child.second ≡ most_machines →
     IsNode shop (list ++ job ∷ []) child left
 child-node shop list node child left job limits is low high fresh times size less least least_size second_size =
     record {
       times = times;
-      owed = λ machine from to. omega (
+      work = λ machine from to. omega (
         arith,
         less machine from to,
-        is.owed machine from to,
+        is.work machine from to,
         left-sum
             (λ j. time shop j machine) shop.jobs list job low high fresh,
       );
@@ -154,12 +156,12 @@ child-node shop list node child left job limits is low high fresh times size les
       some = omega (arith, is.some, left-count shop.jobs list job low high fresh);
     }
 
--- what is owed to a job that is left is no more than what is owed to all
-pub owed-covers : (shop : Shop) (list : List ℕ) (node : Node) (left job machine : ℕ) → IsNode shop list node left →
+-- the time of a job that is left is no more than the sum of all
+pub work-covers : (shop : Shop) (list : List ℕ) (node : Node) (left job machine : ℕ) → IsNode shop list node left →
     1 ≤ job → job ≤ shop.jobs → has list job ≡ false → 1 ≤ machine → machine ≤ shop.machines →
-    time shop job machine ≤ slice_index node.owed (machine - 1)
-owed-covers shop list node left job machine is low high fresh from to =
-    omega (arith, is.owed machine from to, left-sum (λ j. time shop j machine) shop.jobs list job low high fresh)
+    time shop job machine ≤ slice_index node.work (machine - 1)
+work-covers shop list node left job machine is low high fresh from to =
+    omega (arith, is.work machine from to, left-sum (λ j. time shop j machine) shop.jobs list job low high fresh)
 
 pub node-within : (shop : Shop) (list : List ℕ) (node : Node) (left : ℕ) → IsWithinLimits shop →
     IsNode shop list node left → IsWithinFront shop node.front
@@ -182,7 +184,7 @@ tails-append shop machine (u ∷ us) vs =
 -- the bound of a list with jobs left
 pub own-bound : (shop : Shop) (list : List ℕ) (node : Node) (left machine : ℕ) (lows : Lows) → IsWithinLimits shop →
     IsNode shop list node (suc left) → 1 ≤ machine → machine ≤ shop.machines → AreLows shop list machine lows →
-    (slice_index node.front (machine - 1) + slice_index node.owed (machine - 1) + lows.least
+    (slice_index node.front (machine - 1) + slice_index node.work (machine - 1) + lows.least
     ≡ bound_at shop list machine) × (lows.least ≤ most_machines * greatest_time)
 own-bound shop list node left machine lows limits is from to low =
     let most : shop.machines ≤ most_machines = limits.machines in
@@ -192,7 +194,7 @@ own-bound shop list node left machine lows limits is from to low =
     (omega arith) in
     let front : slice_index node.front (machine - 1) ≡ slice_index (front_of shop list) (machine - 1) =
     is.times machine from to ∙ sym (front_of-is shop list machine from to) in
-    (omega (arith, front, is.owed machine from to, low.0, cap.0), omega (arith, low.0, cap.0, cap.1))
+    (omega (arith, front, is.work machine from to, low.0, cap.0), omega (arith, low.0, cap.0, cap.1))
 
 -- the bound of a child with jobs left
 pub child-bound : (shop : Shop) (list : List ℕ) (node : Node) (left job machine free t tail behind : ℕ) (lows : Lows) →
@@ -200,7 +202,7 @@ pub child-bound : (shop : Shop) (list : List ℕ) (node : Node) (left job machin
     1 ≤ job → job ≤ shop.jobs → has list job ≡ false → AreLows shop list machine lows →
     free ≡ completion shop (list ++ job ∷ []) machine → t ≡ time shop job machine →
     tail ≡ time_between shop job (machine + 1) shop.machines → Without tail lows.least lows.second behind →
-    (free + (slice_index node.owed (machine - 1) - t) + behind ≡ bound_at shop (list ++ job ∷ []) machine)
+    (free + (slice_index node.work (machine - 1) - t) + behind ≡ bound_at shop (list ++ job ∷ []) machine)
     × (behind ≤ most_machines * greatest_time)
 child-bound shop list node left job machine free t tail behind lows limits is from to low high fresh are is_free is_t
     is_tail picked =
@@ -237,7 +239,7 @@ child-bound shop list node left job machine free t tail behind lows limits is fr
     let front : free ≡ slice_index (front_of shop (list ++ job ∷ [])) (machine - 1) = is_free
     ∙ sym (front_of-is shop (list ++ job ∷ []) machine from to) in
     let sum = left-sum (λ j. time shop j machine) shop.jobs list job low high fresh in
-    (omega (arith, front, is.owed machine from to, sum, is_t, behind_is, cap.0), omega (arith, behind_is, cap.0, cap.1))
+    (omega (arith, front, is.work machine from to, sum, is_t, behind_is, cap.0), omega (arith, behind_is, cap.0, cap.1))
   where
     same-without : (y z p q r s m n : ℕ) → y ≡ z → p ≡ q → r ≡ s → Without y p r m → Without z q s n → m ≡ n
     same-without y z p q r s m n yz pq rs a b = elim (eqb_tells y p) [
@@ -259,9 +261,9 @@ filled-more P xs machine v from within here done k low high = elim (cases_lt k m
       (machine - 1) v 0 within)) here)
 ]
 
-pub owed-fits : (shop : Shop) (list : List ℕ) (node : Node) (left machine : ℕ) → IsWithinLimits shop →
+pub work-fits : (shop : Shop) (list : List ℕ) (node : Node) (left machine : ℕ) → IsWithinLimits shop →
     IsNode shop list node left → 1 ≤ machine → machine ≤ shop.machines →
-    slice_index node.owed (machine - 1) ≤ most_jobs * greatest_time
-owed-fits shop list node left machine limits is from to =
+    slice_index node.work (machine - 1) ≤ most_jobs * greatest_time
+work-fits shop list node left machine limits is from to =
     let most : shop.jobs ≤ most_jobs = limits.jobs in
-    omega (arith, is.owed machine from to, owed-small shop list machine limits, most)
+    omega (arith, is.work machine from to, work-small shop list machine limits, most)

@@ -1,8 +1,10 @@
 -- The steps of a reader that reads the children of a list.
-use Rattle.std.proofs.Common.{◌≡◌, ◌≢◌, ℕ, suc, ◌+◌, ◌-◌, ◌<◌, ◌≤◌, List, [], ◌∷◌, ◌++◌, length, drop, slice_index, slice_set, Result, refl, ap, sym, subst, ◌∙◌, arith}
+use Rattle.std.proofs.Common.{◌≡◌, ◌≢◌, ℕ, suc, ◌+◌, ◌-◌, ◌<◌, ◌≤◌, List, [], ◌∷◌, ◌++◌, length, drop, slice_index}
+use Rattle.std.proofs.Common.{slice_set, Result, refl, ap, sym, subst, ◌∙◌, arith}
 use Rattle.flow_core.specs.Shop.{Shop}
 use Rattle.flow_cert.specs.internal.Nodes.{IsNode, IsAt}
-use Rattle.flow_cert.specs.internal.Reader.{frame_at, here, above, path, put_back, Stands, IsBack, Opened, Closed, IsReading, children_read}
+use Rattle.flow_cert.specs.internal.Reader.{frame_at, here, above, path, put_back, Stands, IsBack, Opened, Closed}
+use Rattle.flow_cert.specs.internal.Reader.{IsReading, children_read}
 use Rattle.flow_cert.specs.declared.fault.CheckFault.{CheckFault}
 use Rattle.flow_cert.specs.declared.reading.reader.Frame.{Frame}
 use Rattle.flow_cert.specs.declared.reading.reader.TreeReader.{TreeReader}

@@ -1,6 +1,8 @@
 -- How a reader goes to a child and back.
-use Rattle.std.proofs.Common.{◌≡◌, ◌≢◌, ℕ, zero, suc, ◌+◌, ◌-◌, ◌<◌, ◌≤◌, List, [], ◌∷◌, ◌++◌, length, slice_index, slice_set, set, get_or, Option, Some, None, false, refl, ap, sym, subst, ◌∙◌, arith}
-use Rattle.std.proofs.lemmas.List.{get_or_default, get_or-set_same, get_or-set_other, length-set, set-append_left, set-append_right}
+use Rattle.std.proofs.Common.{◌≡◌, ◌≢◌, ℕ, zero, suc, ◌+◌, ◌-◌, ◌<◌, ◌≤◌, List, [], ◌∷◌, ◌++◌, length, slice_index}
+use Rattle.std.proofs.Common.{slice_set, set, get_or, Option, Some, None, false, refl, ap, sym, subst, ◌∙◌, arith}
+use Rattle.std.proofs.lemmas.List.{get_or_default, get_or-set_same, get_or-set_other, length-set, set-append_left}
+use Rattle.std.proofs.lemmas.List.{set-append_right}
 use Rattle.flow_core.specs.Shop.{Shop}
 use Rattle.flow_core.specs.Sequences.{has}
 use Rattle.flow_cert.specs.internal.Links.{AreLinks, IsPlace}

@@ -1,5 +1,7 @@
 -- The steps of reading a tree with a stack.
-use Rattle.std.proofs.Common.{◌≡◌, ◌≢◌, ℕ, zero, suc, ◌+◌, ◌<◌, ◌≤◌, Bool, true, false, List, [], ◌∷◌, ◌++◌, length, drop, slice_index, slice_set, Result, Ok, Err, refl, ap, sym, subst, ◌∙◌, arith, get_or, reverse}
+use Rattle.std.proofs.Common.{◌≡◌, ◌≢◌, ℕ, zero, suc, ◌+◌, ◌<◌, ◌≤◌, Bool, true, false, List, [], ◌∷◌, ◌++◌, length}
+use Rattle.std.proofs.Common.{drop, slice_index, slice_set, Result, Ok, Err, refl, ap, sym, subst, ◌∙◌, arith, get_or}
+use Rattle.std.proofs.Common.{reverse}
 use Rattle.std.proofs.lemmas.List.{reverse-append}
 use Rattle.std.proofs.Math.Seq.{drop-cons}
 use Rattle.flow_core.specs.Shop.{Shop}
@@ -10,10 +12,12 @@ use Rattle.flow_cert.specs.internal.Links.{children, AreLinks}
 use Rattle.flow_cert.specs.internal.Nodes.{IsNode, IsAt}
 use Rattle.flow_cert.specs.internal.Reader.{LetterGives, TreeGives, children_read, path, resume, IsStack, IsReading}
 use Rattle.flow_cert.specs.declared.fault.CheckFault.{CheckFault}
-use Rattle.flow_cert.specs.declared.fault.CheckFault.TheVariants.{Memory, Header, Size, Value, Sequence, NotAttained, Tree, Weak, Low, End}
+use Rattle.flow_cert.specs.declared.fault.CheckFault.TheVariants.{Memory, Header, Size, Value, Sequence, NotAttained}
+use Rattle.flow_cert.specs.declared.fault.CheckFault.TheVariants.{Tree, Weak, Low, End}
 use Rattle.flow_cert.specs.declared.reading.node.Node.{Node}
 use Rattle.flow_cert.specs.declared.reading.reader.Frame.{Frame}
-use Rattle.flow_cert.proofs.Links.{children-next, children-none, next-some, next-place, start-place, links-out, links-back}
+use Rattle.flow_cert.proofs.Links.{children-next, children-none, next-some, next-place, start-place, links-out}
+use Rattle.flow_cert.proofs.Links.{links-back}
 
 then-assoc : (r : Result (List ℕ) CheckFault) (f g : List ℕ → Result (List ℕ) CheckFault) →
     then_read (then_read r f) g ≡ then_read r (λ b. then_read (f b) g)

@@ -1,5 +1,6 @@
 -- From the lines of the trees to the text from the first tree on.
-use Rattle.std.proofs.Common.{◌≡◌, ℕ, ◌-◌, ◌≤◌, List, [], ◌∷◌, ◌++◌, length, Result, Ok, Err, ap, sym, subst, ◌∙◌, arith}
+use Rattle.std.proofs.Common.{◌≡◌, ℕ, ◌-◌, ◌≤◌, List, [], ◌∷◌, ◌++◌, length, Result, Ok, Err, ap, sym, subst, ◌∙◌}
+use Rattle.std.proofs.Common.{arith}
 use Rattle.std.proofs.lemmas.List.{append-nil}
 use Rattle.flow_core.specs.Shop.{Shop}
 use Rattle.flow_core.specs.Bound.{bound_at}
@@ -8,7 +9,8 @@ use Rattle.flow_cert.specs.CertificateFaults.{trees_value, cut_value}
 use Rattle.flow_cert.specs.internal.Trees.{TreesGive}
 use Rattle.flow_cert.specs.internal.Reader.{LinesGive}
 use Rattle.flow_cert.specs.declared.fault.CheckFault.{CheckFault}
-use Rattle.flow_cert.specs.declared.fault.CheckFault.TheVariants.{Memory, Header, Size, Value, Sequence, NotAttained, Tree, Weak, Low, End}
+use Rattle.flow_cert.specs.declared.fault.CheckFault.TheVariants.{Memory, Header, Size, Value, Sequence, NotAttained}
+use Rattle.flow_cert.specs.declared.fault.CheckFault.TheVariants.{Tree, Weak, Low, End}
 use Rattle.flow_cert.specs.declared.reading.reader.Spot.{Spot}
 
 whole : (shop : Shop) (depth value : ℕ) (bytes : List ℕ) → cut_value shop depth value bytes

@@ -1,5 +1,6 @@
 -- A front after one more job.
-use Rattle.std.proofs.Common.{◌≡◌, ℕ, zero, suc, ◌+◌, ◌-◌, ◌*◌, ◌<◌, ◌≤◌, max, List, [], ◌∷◌, ◌++◌, length, slice_index, replicate, refl, ap, sym, ◌∙◌, arith}
+use Rattle.std.proofs.Common.{◌≡◌, ℕ, zero, suc, ◌+◌, ◌-◌, ◌*◌, ◌<◌, ◌≤◌, max, List, [], ◌∷◌, ◌++◌, length, slice_index}
+use Rattle.std.proofs.Common.{replicate, refl, ap, sym, ◌∙◌, arith}
 use Rattle.std.proofs.Common.{inl, inr, ◌≢◌, set}
 use Rattle.std.proofs.lemmas.Bool.{cases_lt}
 use Rattle.std.proofs.lemmas.List.{get_or_past, get_or-set_other, get_or-set_same}
@@ -7,7 +8,8 @@ use Rattle.flow_core.specs.Limits.{most_jobs, most_machines, greatest_time, grea
 use Rattle.flow_core.specs.Shop.{Shop, time, time_between, IsWithinLimits}
 use Rattle.flow_core.specs.Paths.{completion}
 use Rattle.flow_core.specs.Front.{IsFrontOf, IsWithinFront}
-use Rattle.flow_core.proofs.Recurrence.{after, completed, completion-is, completion-after, after-same, time_between-none, time_between-first}
+use Rattle.flow_core.proofs.Recurrence.{after, completed, completion-is, completion-after, after-same}
+use Rattle.flow_core.proofs.Recurrence.{time_between-none, time_between-first}
 
 -- what a front says of a machine
 abbrev pub free_at : List ℕ → ℕ → ℕ

@@ -1,5 +1,6 @@
 -- Numbers have no fault exactly where they are an instance within the limits.
-use Rattle.std.proofs.Common.{◌≡◌, ℕ, ◌+◌, ◌*◌, ◌<◌, ◌≤◌, Bool, true, false, nat_eq, nat_lt, cond, get_or, List, [], ◌∷◌, length, Option, Some, None, refl, ap, sym, arith}
+use Rattle.std.proofs.Common.{◌≡◌, ℕ, ◌+◌, ◌*◌, ◌<◌, ◌≤◌, Bool, true, false, nat_eq, nat_lt, cond, get_or, List, []}
+use Rattle.std.proofs.Common.{◌∷◌, length, Option, Some, None, refl, ap, sym, arith}
 use Rattle.std.specs.Int.{is_in_range}
 use Rattle.std.specs.Prelude.{All, position}
 use Rattle.std.specs.List.{position_or_len}

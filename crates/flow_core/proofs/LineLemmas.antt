@@ -1,5 +1,6 @@
 -- The first line of a text.
-use Rattle.std.proofs.Common.{◌≡◌, ◌<◌, ◌-◌, ℕ, zero, suc, List, ◌∷◌, [], length, take, drop, get_or, arith, refl, add-one, length-drop}
+use Rattle.std.proofs.Common.{◌≡◌, ◌<◌, ◌-◌, ℕ, zero, suc, List, ◌∷◌, [], length, take, drop, get_or, arith, refl}
+use Rattle.std.proofs.Common.{add-one, length-drop}
 use Rattle.std.proofs.Math.Seq.{take-length}
 use Rattle.std.proofs.lemmas.List.{drop-drop}
 use Rattle.std.proofs.lemmas.Bool.Decides.{nat_tests}

@@ -1,11 +1,13 @@
 -- Paths read backwards: jobs take as long on a mirrored shop, the other way round.
-use Rattle.std.proofs.Common.{◌≡◌, ℕ, zero, suc, ◌+◌, ◌-◌, ◌≤◌, List, [], ◌∷◌, ◌++◌, length, reverse, refl, ap, sym, ◌∙◌, subst, arith, append_assoc, append-nil}
+use Rattle.std.proofs.Common.{◌≡◌, ℕ, zero, suc, ◌+◌, ◌-◌, ◌≤◌, List, [], ◌∷◌, ◌++◌, length, reverse, refl, ap, sym}
+use Rattle.std.proofs.Common.{◌∙◌, subst, arith, append_assoc, append-nil}
 use Rattle.std.specs.List.{range_with_len, sum_by, AllByRecursion}
 use Rattle.std.proofs.lemmas.List.{reverse-reverse, reverse-append}
 use Rattle.std.proofs.lemmas.List.Sums.{sum_by-cons, sum_by_push}
 use Rattle.flow_core.specs.Shop.{Shop, time, time_between}
 use Rattle.flow_core.specs.Paths.{IsPath, weight, completion}
-use Rattle.flow_core.proofs.Recurrence.{after, completed, completion-is, completion-attained, weight-le-completion, range-more, path-up}
+use Rattle.flow_core.proofs.Recurrence.{after, completed, completion-is, completion-attained, weight-le-completion}
+use Rattle.flow_core.proofs.Recurrence.{range-more, path-up}
 
 -- a sum over a range, read backwards
 sum-backwards : (f g : ℕ → ℕ) (low a n : ℕ) →

@@ -1,5 +1,7 @@
 -- The numbers of a line, read byte by byte.
-use Rattle.std.proofs.Common.{◌≡◌, ◌∙◌, ap, ◌<◌, ◌≤◌, ◌+◌, ◌*◌, ℕ, Bool, true, false, cond, nat_lt, nat_le, List, Option, Some, None, Err, ◌++◌, ◌∷◌, [], length, map, filter, drop, get_or, unwrap_or, arith, refl, sym, append_assoc}
+use Rattle.std.proofs.Common.{◌≡◌, ◌∙◌, ap, ◌<◌, ◌≤◌, ◌+◌, ◌*◌, ℕ, Bool, true, false, cond, nat_lt, nat_le, List}
+use Rattle.std.proofs.Common.{Option, Some, None, Err, ◌++◌, ◌∷◌, [], length, map, filter, drop, get_or, unwrap_or}
+use Rattle.std.proofs.Common.{arith, refl, sym, append_assoc}
 use Rattle.std.specs.List.{onto_first, slice_split}
 use Rattle.std.specs.Char.{digit_value}
 use Rattle.std.specs.Str.Parse.{digits_value, digits_value_after}

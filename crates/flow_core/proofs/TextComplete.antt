@@ -1,10 +1,13 @@
 -- What is in the grammar is what the walk over the lines gives.
-use Rattle.std.proofs.Common.{◌≡◌, ◌∙◌, ap, subst, ◌<◌, ◌≤◌, ◌+◌, ◌*◌, ℕ, Bool, true, false, not, cond, eqb, nat_lt, List, Some, None, Ok, Err, Result, ◌++◌, ◌∷◌, [], length, flat_map, arith, refl, sym, append_assoc, append-nil, length-append}
+use Rattle.std.proofs.Common.{◌≡◌, ◌∙◌, ap, subst, ◌<◌, ◌≤◌, ◌+◌, ◌*◌, ℕ, Bool, true, false, not, cond, eqb, nat_lt}
+use Rattle.std.proofs.Common.{List, Some, None, Ok, Err, Result, ◌++◌, ◌∷◌, [], length, flat_map, arith, refl, sym}
+use Rattle.std.proofs.Common.{append_assoc, append-nil, length-append}
 use Rattle.std.specs.List.{list_all, AllByRecursion}
 use Rattle.std.proofs.Math.Nat.{mul-le-mul_left}
 use Rattle.std.proofs.lemmas.List.Folds.{list_all-append}
 use Rattle.std.proofs.lemmas.Bool.Decides.{nat_tests}
-use Rattle.flow_core.specs.Lines.{lines_of, after_blanks, is_digit, is_blank, is_plain, numbers_of, is_blank_line, is_label_line, is_number_line}
+use Rattle.flow_core.specs.Lines.{lines_of, after_blanks, is_digit, is_blank, is_plain, numbers_of, is_blank_line}
+use Rattle.flow_core.specs.Lines.{is_label_line, is_number_line}
 use Rattle.flow_core.proofs.NumberLemmas.{numbers_after, numbers_of-after}
 use Rattle.flow_core.specs.declared.text.block.Block.{Block}
 use Rattle.flow_core.specs.TextFaults.{is_head}
@@ -12,13 +15,16 @@ use Rattle.flow_core.specs.Shop.{Shop, IsWithinLimits}
 use Rattle.flow_core.specs.Limits.{greatest_time}
 use Rattle.std.specs.Char.{digit_value}
 use Rattle.std.proofs.lemmas.List.Elements.{recursion_from_All}
-use Rattle.flow_core.specs.internal.TextWalk.{◌>>=◌, State, Sizes, sizes_of, start, walk, placed, at_end, after_line, after_label, after_numbers, after_head_numbers, after_times, line_numbers, block_of}
+use Rattle.flow_core.specs.internal.TextWalk.{◌>>=◌, State, Sizes, sizes_of, start, walk, placed, at_end, after_line}
+use Rattle.flow_core.specs.internal.TextWalk.{after_label, after_numbers, after_head_numbers, after_times, line_numbers}
+use Rattle.flow_core.specs.internal.TextWalk.{block_of}
 use Rattle.flow_core.specs.Text.{IsNumbers, IsBlock, AreGroups, Reads, head_of}
 use Rattle.flow_core.specs.declared.text.fault.LineFault.{LineFault}
 use Rattle.flow_core.specs.declared.text.fault.TextFault.TheVariants as text
 use Rattle.flow_core.specs.declared.text.progress.Want.{Want}
 use Rattle.flow_core.specs.declared.text.progress.Want.TheVariants.{FirstLabel, HeadNumbers, SecondLabel, Times}
-use Rattle.flow_core.proofs.TextGrammar.{solid, at, small, is_time, GoesOn, FromFirst, FromHead, FromSecond, FromTimes, and_true, solid-more, solid-blank}
+use Rattle.flow_core.proofs.TextGrammar.{solid, at, small, is_time, GoesOn, FromFirst, FromHead, FromSecond, FromTimes}
+use Rattle.flow_core.proofs.TextGrammar.{and_true, solid-more, solid-blank}
 
 -- something is still wanted
 abbrev pub Wants : State → Type 0

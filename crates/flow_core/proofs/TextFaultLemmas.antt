@@ -1,14 +1,20 @@
 -- The states of the reader agree with what the lines before decide, and what it returns with the first fault.
-use Rattle.std.proofs.Common.{◌≡◌, ◌∙◌, ap, subst, ◌<◌, ◌+◌, ◌*◌, ◌%◌, ℕ, Bool, true, false, not, cond, eqb, nat_lt, nat_le, List, Option, Some, None, Ok, Err, Result, ◌++◌, ◌∷◌, [], length, slice_index, arith, refl, sym, inl, inr, length-append, append-nil}
+use Rattle.std.proofs.Common.{◌≡◌, ◌∙◌, ap, subst, ◌<◌, ◌+◌, ◌*◌, ◌%◌, ℕ, Bool, true, false, not, cond, eqb, nat_lt}
+use Rattle.std.proofs.Common.{nat_le, List, Option, Some, None, Ok, Err, Result, ◌++◌, ◌∷◌, [], length, slice_index}
+use Rattle.std.proofs.Common.{arith, refl, sym, inl, inr, length-append, append-nil}
 use Rattle.std.specs.Int.{is_in_range}
 use Rattle.flow_core.specs.Limits.{most_jobs, most_machines}
 use Rattle.flow_core.proofs.InstanceLemmas.{range-in}
 use Rattle.std.specs.Option.{option_or}
 use Rattle.std.proofs.lemmas.Bool.Decides.{nat_tests}
 use Rattle.flow_core.specs.Refusals.{fault_unless, first_fault}
-use Rattle.flow_core.specs.Lines.{lines_of, after_blanks, is_blank, is_digit, is_blank_line, is_label_line, is_plain, numbers_of, are_small}
-use Rattle.flow_core.specs.TextFaults.{labels, numbers_since, numbers_between, is_in_head, numbers_wanted, is_head, are_times, line_fault, end_fault, lines_fault, text_fault}
-use Rattle.flow_core.specs.internal.TextWalk.{◌>>=◌, State, Sizes, sizes_of, start, walk, placed, at_line, at_end, after_line, after_label, after_numbers, after_head_numbers, after_times, line_numbers, block_of}
+use Rattle.flow_core.specs.Lines.{lines_of, after_blanks, is_blank, is_digit, is_blank_line, is_label_line, is_plain}
+use Rattle.flow_core.specs.Lines.{numbers_of, are_small}
+use Rattle.flow_core.specs.TextFaults.{labels, numbers_since, numbers_between, is_in_head, numbers_wanted, is_head}
+use Rattle.flow_core.specs.TextFaults.{are_times, line_fault, end_fault, lines_fault, text_fault}
+use Rattle.flow_core.specs.internal.TextWalk.{◌>>=◌, State, Sizes, sizes_of, start, walk, placed, at_line, at_end}
+use Rattle.flow_core.specs.internal.TextWalk.{after_line, after_label, after_numbers, after_head_numbers, after_times}
+use Rattle.flow_core.specs.internal.TextWalk.{line_numbers, block_of}
 use Rattle.flow_core.specs.declared.text.block.Block.{Block}
 use Rattle.flow_core.specs.declared.text.fault.LineFault.{LineFault}
 use Rattle.flow_core.specs.declared.text.fault.LineFault.TheVariants as line

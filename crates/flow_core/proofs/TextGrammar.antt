@@ -1,15 +1,20 @@
 -- What the walk over the lines accepts is in the grammar.
-use Rattle.std.proofs.Common.{◌≡◌, ◌∙◌, ap, subst, ◌<◌, ◌≤◌, ◌+◌, ◌*◌, ℕ, Bool, true, false, not, cond, eqb, nat_lt, nat_le, List, Ok, Err, Result, ◌++◌, ◌∷◌, [], length, filter, flat_map, slice_index, arith, refl, sym, append_assoc, append-nil, inl, inr, ◌⊎◌, ◌&&◌}
+use Rattle.std.proofs.Common.{◌≡◌, ◌∙◌, ap, subst, ◌<◌, ◌≤◌, ◌+◌, ◌*◌, ℕ, Bool, true, false, not, cond, eqb, nat_lt}
+use Rattle.std.proofs.Common.{nat_le, List, Ok, Err, Result, ◌++◌, ◌∷◌, [], length, filter, flat_map, slice_index}
+use Rattle.std.proofs.Common.{arith, refl, sym, append_assoc, append-nil, inl, inr, ◌⊎◌, ◌&&◌}
 use Rattle.std.specs.List.{list_all, AllByRecursion}
 use Rattle.std.proofs.lemmas.List.Folds.{list_all-append}
 use Rattle.std.proofs.lemmas.Bool.Decides.{nat_tests}
-use Rattle.flow_core.specs.Lines.{lines_of, after_blanks, is_digit, is_plain, numbers_of, is_blank_line, is_label_line, is_number_line}
+use Rattle.flow_core.specs.Lines.{lines_of, after_blanks, is_digit, is_plain, numbers_of, is_blank_line, is_label_line}
+use Rattle.flow_core.specs.Lines.{is_number_line}
 use Rattle.flow_core.specs.declared.text.block.Block.{Block}
 use Rattle.std.specs.Prelude.{IfOk}
 use Rattle.flow_core.specs.TextFaults.{is_head}
 use Rattle.flow_core.specs.Limits.{greatest_number, greatest_time}
 use Rattle.std.proofs.lemmas.List.Elements.{All-from_recursion}
-use Rattle.flow_core.specs.internal.TextWalk.{◌>>=◌, TextGives, SizesFit, Keeps, State, Sizes, sizes_of, start, walk, placed, at_end, after_line, after_label, after_numbers, after_head_numbers, after_times, line_numbers, block_of}
+use Rattle.flow_core.specs.internal.TextWalk.{◌>>=◌, TextGives, SizesFit, Keeps, State, Sizes, sizes_of, start, walk}
+use Rattle.flow_core.specs.internal.TextWalk.{placed, at_end, after_line, after_label, after_numbers}
+use Rattle.flow_core.specs.internal.TextWalk.{after_head_numbers, after_times, line_numbers, block_of}
 use Rattle.flow_core.specs.Text.{head_of, IsNumbers, IsBlock, AreGroups, Reads}
 use Rattle.flow_core.specs.declared.text.fault.LineFault.{LineFault}
 use Rattle.flow_core.specs.declared.text.fault.LineFault.TheVariants as line

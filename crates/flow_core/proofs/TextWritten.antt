@@ -1,5 +1,7 @@
 -- What is written is read again.
-use Rattle.std.proofs.Common.{◌≡◌, ◌∙◌, ap, ◌<◌, ◌≤◌, ◌+◌, ◌-◌, ◌*◌, ◌^◌, ℕ, zero, suc, Bool, true, false, cond, eqb, List, Some, None, ◌++◌, ◌∷◌, [], length, map, flat_map, get_or, take, drop, decimal, codes, arith, rules, refl, sym, append_assoc, append-nil, ◌&&◌, ◌||◌, length-drop}
+use Rattle.std.proofs.Common.{◌≡◌, ◌∙◌, ap, ◌<◌, ◌≤◌, ◌+◌, ◌-◌, ◌*◌, ◌^◌, ℕ, zero, suc, Bool, true, false, cond, eqb}
+use Rattle.std.proofs.Common.{List, Some, None, ◌++◌, ◌∷◌, [], length, map, flat_map, get_or, take, drop, decimal}
+use Rattle.std.proofs.Common.{codes, arith, rules, refl, sym, append_assoc, append-nil, ◌&&◌, ◌||◌, length-drop}
 use Rattle.std.specs.List.{list_all, AllByRecursion}
 use Rattle.std.specs.Str.{all_ascii_digits}
 use Rattle.std.specs.Char.{is_ascii_digit}
@@ -10,7 +12,8 @@ use Rattle.std.proofs.Math.Nat.{mul-le-mul_right}
 use Rattle.std.proofs.Math.Seq.{take-add, take-length}
 use Rattle.std.proofs.lemmas.Bool.Decides.{nat_tests}
 use Rattle.std.proofs.lemmas.List.Folds.{list_all-append}
-use Rattle.flow_core.specs.Lines.{lines_of, after_blanks, is_digit, is_blank, numbers_of, is_blank_line, is_label_line, is_number_line}
+use Rattle.flow_core.specs.Lines.{lines_of, after_blanks, is_digit, is_blank, numbers_of, is_blank_line, is_label_line}
+use Rattle.flow_core.specs.Lines.{is_number_line}
 use Rattle.std.specs.List.{onto_first}
 use Rattle.std.specs.Char.{digit_value}
 use Rattle.flow_core.proofs.NumberLemmas.{numbers_after, numbers_of-after}

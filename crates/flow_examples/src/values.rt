@@ -45,7 +45,11 @@ fn rows_have_times_and_tails(rt: HostRuntime) -> Result<(), Fail> {
     let two = two_machines(alloc)?;
     let rows = rows(alloc, &two)?;
     assert_eq!(rt; rows.len(), 3);
-    let expected: [([u32; 2], [u32; 2]); 3] = [([3, 2], [2, 0]), ([1, 4], [4, 0]), ([2, 2], [2, 0])];
+    let expected: [([u32; 2], [u32; 2]); 3] = [
+        ([3, 2], [2, 0]),
+        ([1, 4], [4, 0]),
+        ([2, 2], [2, 0]),
+    ];
     for (row, (times, tails)) in rows.iter().zip(expected) {
         assert_eq!(rt; (row.times[0], row.times[1]), (times[0], times[1]));
         assert_eq!(rt; (row.tails[0], row.tails[1]), (tails[0], tails[1]));

@@ -1,12 +1,14 @@
 -- How the facts of the hub and of the workers come together.
-use Rattle.std.proofs.Common.{◌≡◌, ℕ, ◌<◌, List, [], ◌∷◌, ◌++◌, length, map, get_or, refl, sym, ap, ◌∙◌, arith, length-append, subst, zero-add}
+use Rattle.std.proofs.Common.{◌≡◌, ℕ, ◌<◌, List, [], ◌∷◌, ◌++◌, length, map, get_or, refl, sym, ap, ◌∙◌, arith}
+use Rattle.std.proofs.Common.{length-append, subst, zero-add}
 use Rattle.std.specs.Prelude.{All, HoldsAt, slice_index_or, ◌/◌, ◌%◌}
 use Rattle.std.proofs.Math.Nat.{mod-lt}
 use Rattle.std.specs.List.{range_with_len}
 use Rattle.std.proofs.lemmas.List.{length-map, get_or-map, append_cancel_right}
 use Rattle.std.proofs.lemmas.Simd.{map-map}
 use Rattle.std.proofs.lemmas.List.Elements.{All-same}
-use Rattle.std.proofs.lemmas.List.FromFn.{fill_by_all, length-map-range_with_len, get_or-map-range_with_len, length-range_with_len, get_or-range_with_len}
+use Rattle.std.proofs.lemmas.List.FromFn.{fill_by_all, length-map-range_with_len, get_or-map-range_with_len}
+use Rattle.std.proofs.lemmas.List.FromFn.{length-range_with_len, get_or-range_with_len}
 use Rattle.flow_search.specs.declared.outcome.Outcome.{Outcome}
 use Rattle.flow_search.specs.Plans.{Planned}
 use Rattle.flow_search.specs.Outcomes.{IsLawful, AreLawful, IsDone}
@@ -23,9 +25,11 @@ use Rattle.flow_pool.specs.Work.{share, asking, tasks_of, prefix_count, answered
 use Rattle.flow_pool.specs.internal.Start.{IsServed}
 use Rattle.flow_pool.specs.Hub.{HasCollected, hub_lanes, sent_lists, received_lists}
 use Rattle.flow_pool.specs.internal.HubSteps.{hub_slots}
-use Rattle.flow_pool.specs.internal.Settling.{IsCollected, ends_once, worker_tasks, worker_answers, pair_lanes, pair_tasks, pair_answers}
+use Rattle.flow_pool.specs.internal.Settling.{IsCollected, ends_once, worker_tasks, worker_answers, pair_lanes}
+use Rattle.flow_pool.specs.internal.Settling.{pair_tasks, pair_answers}
 use Rattle.flow_pool.specs.Report.{IsDoneAnswer, AreWholeWork}
-use Rattle.flow_pool.proofs.Undeal.{same_from_dealt, All-from_dealt, length-dealt_from, All-dealt_from, dealt_from-range}
+use Rattle.flow_pool.proofs.Undeal.{same_from_dealt, All-from_dealt, length-dealt_from, All-dealt_from}
+use Rattle.flow_pool.proofs.Undeal.{dealt_from-range}
 use Rattle.flow_pool.proofs.Turns.{get_or-dealt}
 use Rattle.flow_pool.proofs.Settles.{ends_once-asking, asking-injective}
 

@@ -1,8 +1,29 @@
 -- The first node of a subtree.
-use Rattle.std.proofs.Common.{◌≡◌, ◌≢◌, ℕ, suc, ◌+◌, ◌-◌, ◌<◌, ◌≤◌, ◌⊎◌, Bool, true, false, not, nat_eq, List, [], ◌∷◌, ◌++◌, length, length-append, append_assoc, take, slice_index, slice_index_or, set, ap, sym, ◌∙◌, subst, inl, inr, arith}
+use Rattle.std.proofs.Common.{
+  ◌≡◌,
+  ◌≢◌,
+  ℕ,
+  suc,
+  ◌+◌,
+  ◌-◌,
+  ◌<◌,
+  ◌≤◌,
+  ◌⊎◌,
+  Bool,
+  true,
+  false,
+  not,
+  nat_eq,
+  List,
+  [],
+  ◌∷◌,
+}
+use Rattle.std.proofs.Common.{◌++◌, length, length-append, append_assoc, take, slice_index, slice_index_or, set, ap}
+use Rattle.std.proofs.Common.{sym, ◌∙◌, subst, inl, inr, arith}
 use Rattle.std.specs.List.{filter, range_with_len, sum_by}
 use Rattle.std.proofs.lemmas.Bool.{cases_lt, eq-eqb, ne_eqb, not-true}
-use Rattle.std.proofs.lemmas.List.{get_or-set_other, get_or-set_same, take_more_set, length-take, append-nil, nil_from_length}
+use Rattle.std.proofs.lemmas.List.{get_or-set_other, get_or-set_same, take_more_set, length-take, append-nil}
+use Rattle.std.proofs.lemmas.List.{nil_from_length}
 use Rattle.std.proofs.lemmas.List.Sums.{sum_by-cons}
 use Rattle.flow_core.specs.Shop.{Shop, numbers, time, time_between}
 use Rattle.flow_core.specs.JobSet.{contains}
@@ -16,7 +37,14 @@ use Rattle.flow_search.specs.internal.Lanes.{IsLaneLeft, IsFrameOf, IsRowOf, IsS
 use Rattle.flow_search.specs.internal.Lanes.{AreJobsOf, IsFew}
 use Rattle.flow_search.proofs.Nodes.{filter-here, left-count, left-is, members-are, numbers-none}
 use Rattle.flow_search.proofs.JobsTaken.{filter-has, left-here}
-use Rattle.flow_search.proofs.Increasing.{has-at, place-of, Increases, increases-filter, increases-order, below-filter}
+use Rattle.flow_search.proofs.Increasing.{
+  has-at,
+  place-of,
+  Increases,
+  increases-filter,
+  increases-order,
+  below-filter,
+}
 use Rattle.std.proofs.lemmas.List.FromFn.{get_or-range_with_len, length-range_with_len}
 
 left-at : (shop : Shop) (list front jobs : List ℕ) (lane : ℕ) → IsFew shop list front jobs → lane < length jobs →
@@ -37,7 +65,8 @@ pub record AreDone (shop : Shop) (front jobs : List ℕ) (rows : List LaneRow) (
   pub small : (row : LaneRow) (k lane : ℕ) → machine < k → k ≤ shop.machines → lane < 8 →
       IsSmallRow (slice_index_or rows (k - 1) row) lane
   pub begins : (k : ℕ) → machine < k → k ≤ shop.machines → slice_index times (k - 1) ≡ slice_index front (k - 1)
-  pub loads : (k : ℕ) → machine < k → k ≤ shop.machines → slice_index sums (k - 1) ≡ sum_by (λ job. time shop job k) jobs
+  pub loads : (k : ℕ) → machine < k → k ≤ shop.machines → slice_index sums (k - 1) ≡ sum_by
+      (λ job. time shop job k) jobs
 
 -- one more place of a list, from the back
 more : {A : Type 0} (P : ℕ → A → Type 0) (xs : List A) (other value : A) (machine most : ℕ) → 1 ≤ machine →
@@ -120,7 +149,8 @@ entered shop list front jobs group frame machine is e done lanes left gone all =
       small = λ row k lane from to within. done.small row k lane (omega (arith, e, from)) to within;
       from = λ lane here. omega (arith, job lane here, (left-at shop list front jobs lane is (filled lane here)).0);
       to = λ lane here. omega (arith, job lane here, (left-at shop list front jobs lane is (filled lane here)).1);
-      fresh = λ lane here. ap (has list) (job lane here) ∙ (left-at shop list front jobs lane is (filled lane here)).2;
+      fresh = λ lane here. ap (has list) (job lane here)
+          ∙ (left-at shop list front jobs lane is (filled lane here)).2;
       rows = λ row lane k here from to.
           subst (λ j. IsRowOf shop (slice_index_or group.rows (k - 1) row) lane j k) (sym (job lane here))
           (done.each row k lane (omega (arith, e, from)) to (filled lane here));

@@ -1,7 +1,10 @@
 -- The walk of a root's children in the lanes, with a stack of frames, is the walk of the definition.
-use Rattle.std.proofs.Common.{◌≡◌, ℕ, suc, ◌+◌, ◌-◌, ◌<◌, ◌≤◌, nat_eq, nat_le, List, [], ◌∷◌, ◌++◌, None, length, map, reverse, take, drop, slice_index, set, refl, ap, sym, ◌∙◌, subst, arith, append_assoc, length-append}
+use Rattle.std.proofs.Common.{◌≡◌, ℕ, suc, ◌+◌, ◌-◌, ◌<◌, ◌≤◌, nat_eq, nat_le, List, [], ◌∷◌, ◌++◌, None, length, map}
+use Rattle.std.proofs.Common.{reverse, take, drop, slice_index, set, refl, ap, sym, ◌∙◌, subst, arith, append_assoc}
+use Rattle.std.proofs.Common.{length-append}
 use Rattle.std.specs.List.{filter, find, range_with_len}
-use Rattle.std.proofs.lemmas.List.{append-nil, take_more, take_more_set, take-set, take-append-le, get_or-take, get_or-set_same, get_or-append_right}
+use Rattle.std.proofs.lemmas.List.{append-nil, take_more, take_more_set, take-set, take-append-le, get_or-take}
+use Rattle.std.proofs.lemmas.List.{get_or-set_same, get_or-append_right}
 use Rattle.std.proofs.Math.ListN.{drop_of_length-le}
 use Rattle.std.proofs.Math.Seq.{drop-cons, take-length}
 use Rattle.flow_core.specs.Shop.{Shop, numbers}
@@ -9,7 +12,8 @@ use Rattle.flow_core.specs.Sequences.{jobs_left}
 use Rattle.flow_core.specs.Bound.{bound_at}
 use Rattle.flow_search.specs.Walk.{walk, walk_each}
 use Rattle.flow_search.specs.internal.Nodes.{Gave, Opens, children_walked, incumbent_of, then_walk}
-use Rattle.flow_search.specs.internal.Lanes.{IsFrameOf, IsLaneLeft, IsTested, IsInLanes, AreTested, job_of, child, lane_walked, lanes_walked, lanes_of, lane_path, lanes_left, frame_at}
+use Rattle.flow_search.specs.internal.Lanes.{IsFrameOf, IsLaneLeft, IsTested, IsInLanes, AreTested, job_of, child}
+use Rattle.flow_search.specs.internal.Lanes.{lane_walked, lanes_walked, lanes_of, lane_path, lanes_left, frame_at}
 use Rattle.flow_search.specs.declared.subtree.Search.{Search}
 use Rattle.flow_search.specs.declared.eight.group.Group.{Group}
 use Rattle.flow_search.specs.declared.eight.group.LaneFrame.{LaneFrame}
@@ -56,7 +60,8 @@ left-next shop root group below lane here later fs st step =
     let more : Incumbent → Walk = lanes_left shop root group (suc below) fs in
     let after : drop (here.next + 1) (lanes_of here) ≡ drop later.next (lanes_of later) =
     sym (ap (λ n. drop n (lanes_of later)) step.next
-    ∙ ap (λ gone. drop (here.next + 1) (filter (λ k. nat_eq (slice_index gone k) 0) (range_with_len 0 8))) step.gone) in
+    ∙ ap (λ gone. drop (here.next + 1) (filter (λ k. nat_eq (slice_index gone k) 0)
+    (range_with_len 0 8))) step.gone) in
     ap (λ ls. then_walk (walk_each w ls st) more) (step.is ∙ ap (λ ls. lane ∷ ls) after)
     ∙ then-assoc (w lane st) (walk_each w (drop later.next (lanes_of later))) more
 
@@ -105,7 +110,8 @@ lanes-start shop budget group old here below tested next count within =
       count = count;
       tested = (tested, tt);
       text =
-          ap (λ t. old.tree.items ++ t) (append-nil (lanes_walked shop below root group (drop here.next (lanes_of here)) st).0)
+          ap (λ t. old.tree.items ++ t) (append-nil (lanes_walked shop below root group (drop here.next
+          (lanes_of here)) st).0)
           ∙ ap (λ w. old.tree.items ++ w.0) all;
       state = ap (λ w. w.1) all;
       unscheduled = refl;
@@ -117,7 +123,8 @@ module _ {shop : Shop} {budget : ℕ} {group : Group} {root : List ℕ} {whole :
     (i : IsInLanes shop budget group root whole old here below fs now) where
   -- a child's subtree was walked
   pub lanes-walked : (lane : ℕ) (later : LaneFrame) (new : Search) → IsStep here later lane →
-      IsTested shop (lane_path root group fs) group later → Gave budget (lane_walked shop below group lane now) now new →
+      IsTested shop (lane_path root group fs) group later → Gave budget
+      (lane_walked shop below group lane now) now new →
       IsInLanes shop budget group root whole old later below fs new
   lanes-walked lane later new step tested gave =
       let st : Incumbent = incumbent_of now in
@@ -156,7 +163,8 @@ module _ {shop : Shop} {budget : ℕ} {group : Group} {root : List ℕ} {whole :
       ap (λ q. length (walk shop bound_at below (child q group lane) st).0) i.node in
       let all : now.tree.items ++ (first.0 ++ rest.0) ≡ old.tree.items ++ whole.0 =
       ap (λ w. now.tree.items ++ w.0) (sym (left-next shop root group below lane here later fs st step)) ∙ i.text in
-      let sizes : length (now.tree.items ++ (first.0 ++ rest.0)) ≡ length (old.tree.items ++ whole.0) = ap length all in
+      let sizes : length (now.tree.items ++ (first.0 ++ rest.0)) ≡ length
+      (old.tree.items ++ whole.0) = ap length all in
       omega (
         arith,
         over,
@@ -186,7 +194,8 @@ module _ {shop : Shop} {budget : ℕ} {group : Group} {root : List ℕ} {whole :
       let made_at : IsTested shop (lane_path root group (later ∷ fs)) group made =
       subst (λ q. IsTested shop q group made) (sym path_is) made_is in
       let first : Walk = walk shop bound_at below node st in
-      let deeper : Incumbent → Walk = λ s. lanes_walked shop left (lane_path root group (later ∷ fs)) group (drop made.next (lanes_of made)) s in
+      let deeper : Incumbent → Walk = λ s. lanes_walked shop left (lane_path root group (later ∷ fs)) group
+      (drop made.next (lanes_of made)) s in
       let rest : Incumbent → Walk = lanes_left shop root group below (later ∷ fs) in
       let uncut : find (λ machine. nat_le st.0 (bound_at shop node machine)) (numbers 1 shop.machines) ≡ None =
       ap (λ q. find (λ machine. nat_le st.0 (bound_at shop (child q group lane) machine)) (numbers 1 shop.machines))
@@ -235,7 +244,8 @@ module _ {shop : Shop} {budget : ℕ} {group : Group} {root : List ℕ} {whole :
       IsInLanes shop budget group root whole old f (suc below) gs new
   lanes-up f gs new empty e moved =
       let st : Incumbent = incumbent_of now in
-      let same : lanes_left shop root group below (here ∷ fs) st ≡ lanes_left shop root group (suc below) (f ∷ gs) st =
+      let same : lanes_left shop root group below (here ∷ fs) st ≡ lanes_left shop root group (suc below)
+      (f ∷ gs) st =
       left-none shop root group below here fs st empty ∙ ap (λ xs. lanes_left shop root group (suc below) xs st) e in
       record {
         node = moved.node;

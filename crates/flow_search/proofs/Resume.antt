@@ -1,5 +1,7 @@
 -- The walk of a node's children with a stack of frames is the walk of the definition.
-use Rattle.std.proofs.Common.{◌≡◌, ◌≢◌, ℕ, zero, suc, ◌+◌, ◌-◌, ◌<◌, ◌≤◌, Bool, true, false, cond, not, nat_le, List, [], ◌∷◌, ◌++◌, Option, Some, None, length, slice_index_or, slice_set, reverse, refl, ap, sym, subst, ◌∙◌, inl, inr, arith, append_assoc, length-append}
+use Rattle.std.proofs.Common.{◌≡◌, ◌≢◌, ℕ, zero, suc, ◌+◌, ◌-◌, ◌<◌, ◌≤◌, Bool, true, false, cond, not, nat_le, List}
+use Rattle.std.proofs.Common.{[], ◌∷◌, ◌++◌, Option, Some, None, length, slice_index_or, slice_set, reverse, refl, ap}
+use Rattle.std.proofs.Common.{sym, subst, ◌∙◌, inl, inr, arith, append_assoc, length-append}
 use Rattle.std.specs.List.{filter, find, range_with_len}
 use Rattle.std.proofs.lemmas.Bool.{cases_lt}
 use Rattle.std.proofs.lemmas.Bool.Decides.{eqb_tells}
@@ -15,8 +17,18 @@ use Rattle.flow_core.proofs.Admissible.{front_of-is}
 use Rattle.flow_bound.specs.Rest.{IsRestOf}
 use Rattle.flow_search.specs.Walk.{walk, walk_each}
 use Rattle.flow_search.specs.internal.Lows.{second_tail}
-use Rattle.flow_search.specs.internal.Nodes.{IsAt, Wrote, Entered, Left, Gave, Walked, Opens, walked, incumbent_of, then_walk}
-use Rattle.flow_search.specs.internal.Frames.{IsFrame, IsChild, IsStack, IsWalking, path, left_from, walk_from, resume}
+use Rattle.flow_search.specs.internal.Nodes.{IsAt, Wrote, Entered, Left, Gave, Walked, Opens, walked, incumbent_of}
+use Rattle.flow_search.specs.internal.Nodes.{then_walk}
+use Rattle.flow_search.specs.internal.Frames.{
+  IsFrame,
+  IsChild,
+  IsStack,
+  IsWalking,
+  path,
+  left_from,
+  walk_from,
+  resume,
+}
 use Rattle.flow_search.specs.declared.frame.Frame.{Frame}
 use Rattle.flow_search.specs.declared.subtree.Search.{Search}
 use Rattle.flow_search.proofs.Walk.{Incumbent, answer_of}
@@ -91,7 +103,8 @@ left-next shop node front set count from j at low high e =
     let found = next-in (contains set) (λ k. not (has node k)) from (shop.jobs + 1 - from) j
     (λ k a b. at.left k (omega arith) (omega arith)) e in
     let len_is : from + (shop.jobs + 1 - from) - (j + 1) ≡ shop.jobs + 1 - (j + 1) = omega arith in
-    let free : not (has node j) ≡ true = sym (at.left j (omega (arith, found.1)) (omega (arith, found.2))) ∙ found.3 in (
+    let free : not (has node j) ≡ true = sym (at.left j (omega (arith, found.1)) (omega (arith, found.2)))
+    ∙ found.3 in (
       found.0 ∙ ap (λ n. j ∷ filter (λ k. not (has node k)) (range_with_len (j + 1) n)) len_is,
       record { from = omega (arith, found.1); to = omega (arith, found.2); fresh = not-has (has node j) free },
       found.1,
@@ -114,7 +127,8 @@ left-none shop node front set count from at low high e =
 abbrev Walk : Type 0
 Walk = List ℕ × Incumbent
 
-pub then-assoc : (a : Walk) (f g : Incumbent → Walk) → then_walk (then_walk a f) g ≡ then_walk a (λ st. then_walk (f st) g)
+pub then-assoc : (a : Walk) (f g : Incumbent → Walk) → then_walk (then_walk a f) g ≡ then_walk a (λ st. then_walk
+    (f st) g)
 then-assoc a f g = ap (λ t. (t, (g (f a.1).1).1)) (append_assoc a.0 (f a.1).0 (g (f a.1).1).0)
 
 resume-next : (shop : Shop) (root : List ℕ) (left job : ℕ) (here later : Frame) (fs : List Frame) (st : Incumbent) →
@@ -193,7 +207,8 @@ child-walk shop below job old in_child entered =
     ∙ ap (walk shop bound_at below (old.node.items ++ job ∷ [])) entered.incumbent
 
 pub child-done : (shop : Shop) (budget below job : ℕ) (old in_child after new : Search) → Entered job old in_child →
-    Walked shop budget below in_child after → Left job old.node.items after new → contains old.unscheduled job ≡ true →
+    Walked shop budget below in_child after → Left job old.node.items after new → contains old.unscheduled job ≡
+    true →
     Gave budget (walk shop bound_at below (old.node.items ++ job ∷ []) (incumbent_of old)) old new
 child-done shop budget below job old in_child after new entered w left there =
     let same = child-walk shop below job old in_child entered in
@@ -211,7 +226,8 @@ child-done shop budget below job old in_child after new entered w left there =
 
 pub child-over : (shop : Shop) (budget below job : ℕ) (old in_child : Search) → Entered job old in_child →
     budget < length in_child.tree.items + length (walked shop below in_child).0 →
-    budget < length old.tree.items + length (walk shop bound_at below (old.node.items ++ job ∷ []) (incumbent_of old)).0
+    budget < length old.tree.items + length (walk shop bound_at below (old.node.items ++ job ∷ [])
+    (incumbent_of old)).0
 child-over shop budget below job old in_child entered over =
     omega (arith, over, ap length entered.tree, ap (λ w. length w.0) (child-walk shop below job old in_child entered))
 
@@ -260,7 +276,8 @@ at-parent shop node front set count left job f at frame kid jobs =
         | inr other ↦
             let ne : k ≢ job = other.1 in
             let far : k - 1 ≢ job - 1 = omega arith in
-            get_or-set_other set (job - 1) (k - 1) true false far ∙ at.left k from to ∙ ap not (has-other node job k ne)
+            get_or-set_other set (job - 1) (k - 1) true false far ∙ at.left k from to
+            ∙ ap not (has-other node job k ne)
       ];
       none = λ k past.
           let far : k - 1 ≢ job - 1 = omega arith in
@@ -350,7 +367,8 @@ module _ {shop : Shop} {budget : ℕ} {root : List ℕ} {whole : List ℕ
       let all : now.tree.items ++ (first.0 ++ rest.0) ≡ old.tree.items ++ whole.0 =
       ap (λ w. now.tree.items ++ w.0) (sym (resume-next shop root below job here (moved here (job
       + 1)) fs st kid.0 refl)) ∙ i.text in
-      let sizes : length (now.tree.items ++ (first.0 ++ rest.0)) ≡ length (old.tree.items ++ whole.0) = ap length all in
+      let sizes : length (now.tree.items ++ (first.0 ++ rest.0)) ≡ length
+      (old.tree.items ++ whole.0) = ap length all in
       omega (
         arith,
         over,
@@ -427,7 +445,8 @@ module _ {shop : Shop} {budget : ℕ} {root : List ℕ} {whole : List ℕ
           rest_is = subst (λ js. IsRestOf shop js child.rest) left_is rest_given;
           second_is = λ machine from to. second machine from to ∙ ap (λ js. second_tail shop js machine) left_is;
           count = ap (λ q. length q + suc left) (sym (node ∙ sym here_at)) ∙ at_new.whole;
-          some = ap length (sym left_is) ∙ left-count shop new.node.items child.front new.unscheduled (suc left) at_new;
+          some = ap length (sym left_is)
+              ∙ left-count shop new.node.items child.front new.unscheduled (suc left) at_new;
         };
         next = omega (arith, next);
         past = omega (arith, next);

@@ -1,6 +1,7 @@
 -- What each command answers for the bytes and numbers that it is given: the text that it writes, or its first fault.
 -- That memory runs out and that a device fails is said in Runs.
-use Rattle.std.specs.Prelude.{◌≡◌, ℕ, ◌-◌, ◌≤◌, ◌<◌, ◌⊎◌, ◌++◌, List, [], ◌∷◌, length, codes, decimal, Some, None, Result, Ok, Err, slice_get}
+use Rattle.std.specs.Prelude.{◌≡◌, ℕ, ◌-◌, ◌≤◌, ◌<◌, ◌⊎◌, ◌++◌, List, [], ◌∷◌, length, codes, decimal, Some, None}
+use Rattle.std.specs.Prelude.{Result, Ok, Err, slice_get}
 use Rattle.std.specs.List.{flat_map}
 use Rattle.flow_core.specs.Shop.{Shop}
 use Rattle.flow_core.specs.Paths.{span}

@@ -4,7 +4,8 @@ use Rattle.flow_tool.specs.declared.fault.ToolFault.TheVariants.{Read, Write}
 use Rattle.flow_tool.specs.declared.stop.Stop.{Stop}
 use Rattle.flow_tool.specs.declared.stop.Stop.TheVariants.{CommandLine, Fault, Open}
 
--- 2 for the command line, 3 for a file or stream that can't be opened, read or written, 1 for all else
+-- 2 for the command line; 3 for a file or stream that can't be opened, read or written, or that has more bytes than are
+-- read; 1 for all else
 abbrev pub exit_status : Stop → ℕ
 exit_status CommandLine = 2
 exit_status Open = 3

@@ -1,5 +1,6 @@
 -- What the lines before the trees begin with.
-use Rattle.std.specs.Prelude.{ℕ, ◌≡◌, ◌≤◌, ◌<◌, ◌+◌, ◌-◌, ◌*◌, ◌^◌, Bool, cond, ◌&&◌, not, nat_eq, nat_lt, List, [], ◌∷◌, ◌++◌}
+use Rattle.std.specs.Prelude.{ℕ, ◌≡◌, ◌≤◌, ◌<◌, ◌+◌, ◌-◌, ◌*◌, ◌^◌, Bool, cond, ◌&&◌, not, nat_eq, nat_lt, List, []}
+use Rattle.std.specs.Prelude.{◌∷◌, ◌++◌}
 use Rattle.std.specs.Fmt.{decimal}
 use Rattle.flow_core.specs.Limits.{greatest_depth}
 use Rattle.flow_core.specs.Lines.{is_digit}

@@ -1,5 +1,6 @@
 -- What is kept of a list of jobs at which trees are read.
-use Rattle.std.specs.Prelude.{ℕ, suc, ◌≡◌, ◌+◌, ◌-◌, ◌≤◌, ◌⊎◌, false, List, [], ◌∷◌, ◌++◌, length, sum_by, slice_index, Option, Some, None}
+use Rattle.std.specs.Prelude.{ℕ, suc, ◌≡◌, ◌+◌, ◌-◌, ◌≤◌, ◌⊎◌, false, List, [], ◌∷◌, ◌++◌, length, sum_by, slice_index}
+use Rattle.std.specs.Prelude.{Option, Some, None}
 use Rattle.flow_core.specs.Limits.{most_machines}
 use Rattle.flow_core.specs.Shop.{Shop, time}
 use Rattle.flow_core.specs.Front.{IsFrontOf}
@@ -31,9 +32,9 @@ pub record AreKnown (shop : Shop) (list least second : List ℕ) : Type 0 where
 -- what is kept of a list with so many jobs left: its front, and the time of the jobs left on each machine
 pub record IsNode (shop : Shop) (list : List ℕ) (node : Node) (left : ℕ) : Type 0 where
   pub times : IsFrontOf shop list node.front
-  pub owed : (machine : ℕ) → 1 ≤ machine → machine ≤ shop.machines →
-      slice_index node.owed (machine - 1) ≡ sum_by (λ job. time shop job machine) (jobs_left shop.jobs list)
-  pub size : length node.owed ≡ most_machines
+  pub work : (machine : ℕ) → 1 ≤ machine → machine ≤ shop.machines →
+      slice_index node.work (machine - 1) ≡ sum_by (λ job. time shop job machine) (jobs_left shop.jobs list)
+  pub size : length node.work ≡ most_machines
   pub known : AreKnown shop list node.least node.second
   pub count : length list + left ≡ shop.jobs
   pub some : length (jobs_left shop.jobs list) ≡ left

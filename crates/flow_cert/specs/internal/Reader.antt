@@ -1,5 +1,6 @@
 -- Where a reader of trees stands, and what the text that it reads gives.
-use Rattle.std.specs.Prelude.{ℕ, zero, suc, ◌≡◌, ◌+◌, ◌-◌, ◌≤◌, ◌<◌, Bool, true, false, List, [], ◌∷◌, ◌++◌, length, drop, slice_index, slice_index_or, slice_set, Result, Ok, Err}
+use Rattle.std.specs.Prelude.{ℕ, zero, suc, ◌≡◌, ◌+◌, ◌-◌, ◌≤◌, ◌<◌, Bool, true, false, List, [], ◌∷◌, ◌++◌, length}
+use Rattle.std.specs.Prelude.{drop, slice_index, slice_index_or, slice_set, Result, Ok, Err}
 use Rattle.std.specs.List.{flat_map}
 use Rattle.flow_core.specs.Shop.{Shop}
 use Rattle.flow_core.specs.Bound.{bound_at}
@@ -17,7 +18,7 @@ use Rattle.flow_cert.specs.declared.reading.reader.Spot.{Spot}
 -- the frame at a place; any frame past the end
 abbrev pub frame_at : List Frame → ℕ → Frame
 frame_at frames place = slice_index_or frames place
-    (record { node = record { front = []; owed = []; least = []; second = [] }; job = 0; last = 0 })
+    (record { node = record { front = []; work = []; least = []; second = [] }; job = 0; last = 0 })
 
 -- the node of the list at which a reader stands
 abbrev pub here : TreeReader → Node

@@ -21,8 +21,8 @@ use flow_core::{Instance, MAX_MACHINES};
 pub(crate) struct Node {
     /// The completion time of the list on each machine.
     front: [u64; MAX_MACHINES],
-    /// The time that each machine still owes the jobs left, in all.
-    owed: [u64; MAX_MACHINES],
+    /// For each machine the sum of the times of the jobs left.
+    work: [u64; MAX_MACHINES],
     /// The least tail of the jobs left behind each machine. The greatest number means that it is not found yet.
     least: [u32; MAX_MACHINES],
     /// The second least tail, once the least is found. The child that takes the job with the least tail needs it.
@@ -59,13 +59,13 @@ impl Node {
         ensures { IsNode instance.now [] result instance.now.jobs }
     {
         let machines = instance.machines();
-        let mut owed = [0; MAX_MACHINES];
+        let mut work = [0; MAX_MACHINES];
         for machine in 1..machines + 1 {
-            owed[machine as usize - 1] = time_of_all(instance, machine);
+            work[machine as usize - 1] = time_of_all(instance, machine);
         }
         Node {
             front: [0; MAX_MACHINES],
-            owed,
+            work,
             least: [u32::MAX; MAX_MACHINES],
             second: [u32::MAX; MAX_MACHINES],
         }
@@ -91,7 +91,7 @@ impl Node {
             let time = u64::from(row.times[place]);
             free = list.front[place].max(free) + time;
             self.front[place] = free;
-            self.owed[place] = list.owed[place] - time;
+            self.work[place] = list.work[place] - time;
             self.least[place] = u32::MAX;
         }
     }
@@ -206,13 +206,13 @@ pub(crate) fn bound(
     let lows = lows_of(claim, node, links, machine);
     let place = machine as usize - 1;
     match child {
-        None => node.front[place] + node.owed[place] + u64::from(lows.least),
+        None => node.front[place] + node.work[place] + u64::from(lows.least),
         Some(job) => {
             let row = &claim.rows[job as usize - 1];
             let alone = row.tails[place] == lows.least;
             let behind = if alone { lows.second } else { lows.least };
-            let owed = node.owed[place] - u64::from(row.times[place]);
-            completion_of(claim, &node.front, job, machine) + owed + u64::from(behind)
+            let work = node.work[place] - u64::from(row.times[place]);
+            completion_of(claim, &node.front, job, machine) + work + u64::from(behind)
         }
     }
 }

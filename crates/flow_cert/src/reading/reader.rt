@@ -37,7 +37,8 @@ pub(crate) struct TreeReader {
     /// The linked list of the jobs left, in increasing order. The link of 0 is the least of them, the link of each is
     /// the next greater one, and the link of the greatest is 0.
     pub(crate) links: Vec<u16>,
-    /// The frames of the list and of the lists above it: at place `k` that of the list whose children have `k` jobs left.
+    /// The frames of the list and of the lists above it: at place `k` that of the list whose children have `k` jobs
+    /// left.
     pub(crate) frames: Vec<Frame>,
     /// How many jobs are left at each child of the list: the place of the list's frame.
     pub(crate) below: usize,

@@ -1,6 +1,7 @@
 -- The states in which a text is read line by line. Only contracts of private functions speak of them: which blocks a
 -- text reads as stands in Text, and what its first fault is in TextFaults.
-use Rattle.std.specs.Prelude.{◌≡◌, ℕ, ◌+◌, ◌*◌, ◌≤◌, true, not, ◌==◌, nat_lt, if◌then◌else◌, List, [], ◌∷◌, ◌++◌, length, Option, None, Some, Result, Ok, Err, slice_index}
+use Rattle.std.specs.Prelude.{◌≡◌, ℕ, ◌+◌, ◌*◌, ◌≤◌, true, not, ◌==◌, nat_lt, if◌then◌else◌, List, [], ◌∷◌, ◌++◌}
+use Rattle.std.specs.Prelude.{length, Option, None, Some, Result, Ok, Err, slice_index}
 use Rattle.flow_core.specs.Lines.{after_blanks, is_digit, is_plain, numbers_of, are_small}
 use Rattle.flow_core.specs.TextFaults.{is_head, are_times}
 use Rattle.flow_core.specs.Limits.{most_jobs, most_machines, greatest_number}

@@ -1,5 +1,6 @@
 -- What the hub has sent and received so far.
-use Rattle.std.specs.Prelude.{ℕ, List, [], ◌∷◌, ◌++◌, slice_set, slice_index_or, ◌≡◌, ◌≤◌, length, vec_len, vec_capacity}
+use Rattle.std.specs.Prelude.{ℕ, List, [], ◌∷◌, ◌++◌, slice_set, slice_index_or, ◌≡◌, ◌≤◌, length, vec_len}
+use Rattle.std.specs.Prelude.{vec_capacity}
 use Rattle.std.specs.Global.{Vec}
 use Rattle.flow_pool.specs.declared.ends.Task.{Task}
 use Rattle.flow_pool.specs.declared.ends.Answer.{Answer}

@@ -1,5 +1,6 @@
 -- The jobs of a node with at most eight jobs left, side by side in eight lanes.
-use Rattle.std.specs.Prelude.{ℕ, suc, ◌≡◌, ◌≢◌, ◌⊎◌, ◌+◌, ◌-◌, ◌<◌, ◌≤◌, false, List, [], ◌∷◌, ◌++◌, slice_index, slice_index_or, sum_by, length, drop, filter, nat_eq, Option}
+use Rattle.std.specs.Prelude.{ℕ, suc, ◌≡◌, ◌≢◌, ◌⊎◌, ◌+◌, ◌-◌, ◌<◌, ◌≤◌, false, List, [], ◌∷◌, ◌++◌, slice_index}
+use Rattle.std.specs.Prelude.{slice_index_or, sum_by, length, drop, filter, nat_eq, Option}
 use Rattle.std.specs.List.{range_with_len}
 use Rattle.flow_core.specs.Limits.{greatest_time}
 use Rattle.flow_core.specs.Shop.{Shop, time, time_between}

@@ -1,5 +1,6 @@
 -- The state of a search at a node, and how the steps of the code change it.
-use Rattle.std.specs.Prelude.{ℕ, ◌≡◌, ◌+◌, ◌-◌, ◌<◌, ◌≤◌, Bool, true, false, not, cond, nat_lt, nat_le, List, [], ◌∷◌, ◌++◌, length, find, slice_set, Option, Some, None}
+use Rattle.std.specs.Prelude.{ℕ, ◌≡◌, ◌+◌, ◌-◌, ◌<◌, ◌≤◌, Bool, true, false, not, cond, nat_lt, nat_le, List, [], ◌∷◌}
+use Rattle.std.specs.Prelude.{◌++◌, length, find, slice_set, Option, Some, None}
 use Rattle.flow_core.specs.Limits.{most_jobs}
 use Rattle.flow_core.specs.Shop.{Shop, IsWithinLimits, numbers}
 use Rattle.flow_core.specs.Front.{IsFrontOf}

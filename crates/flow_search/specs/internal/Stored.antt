@@ -5,8 +5,8 @@ use Rattle.flow_core.specs.Rows.{AreRows}
 use Rattle.flow_core.specs.declared.row.Row.{Row}
 use Rattle.flow_search.specs.Plans.{Planned, prefixes_of, IsPlan}
 
--- what is stored of a plan: how many prefixes there are, and their jobs, one prefix after another; and a row of times and
--- tails for each job
+-- what is stored of a plan: how many prefixes there are, and their jobs, one prefix after another; and a row of times
+-- and tails for each job
 pub record IsStored (plan : Planned) (count : ℕ) (lists : List ℕ) (rows : List Row) : Type 0 where
   pub is_plan : IsPlan plan
   pub count_is : count ≡ length (prefixes_of plan)

@@ -4,7 +4,8 @@ use Rattle.flow_tool.specs.declared.command_line.OfBlock.{OfBlock}
 use Rattle.flow_tool.specs.declared.command_line.OfBlock.TheVariants.{Span, Neh, Solve}
 use Rattle.flow_tool.specs.declared.command_line.Order.{Order}
 use Rattle.flow_tool.specs.declared.command_line.Order.TheVariants as order
-use Rattle.flow_tool.specs.Commands.{Answer, AnswersCheck, AnswersFor, AnswersGen, AnswersNeh, AnswersSolve, AnswersSpan}
+use Rattle.flow_tool.specs.Commands.{Answer, AnswersCheck, AnswersFor, AnswersGen, AnswersNeh, AnswersSolve}
+use Rattle.flow_tool.specs.Commands.{AnswersSpan}
 use Rattle.flow_tool.specs.Limits.{most_certificate, most_text}
 use Rattle.flow_tool.specs.Runs.{Wrote}
 

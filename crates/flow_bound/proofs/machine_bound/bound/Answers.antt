@@ -18,7 +18,14 @@ overflow_add-result-2 c =
 
 pub returns-clause-value : goal.returns-clause-value
 returns-clause-value c =
-    omega (arith, c.at.ensures, c.from.ensures, c.from-2.ensures, c.sum_of-sum.ensures, c.least_above-least_tail.ensures)
+    omega (
+      arith,
+      c.at.ensures,
+      c.from.ensures,
+      c.from-2.ensures,
+      c.sum_of-sum.ensures,
+      c.least_above-least_tail.ensures,
+    )
 
 pub returns-clause-admissible : goal.returns-clause-admissible
 returns-clause-admissible c scheduled sequence front left is extends =

@@ -6,7 +6,8 @@ use Rattle.flow_core.specs.Limits.{most_machines, greatest_time}
 use Rattle.flow_core.specs.Shop.{numbers, time, time_between}
 use Rattle.flow_core.specs.Least.{least}
 use Rattle.flow_bound.proofs.Steps.{capped}
-use Rattle.flow_bound.proofs.Running.{done-more, others-stay, head-step, head-small, tail-small, time_between-split, sum-step, least-step, least-of-jobs}
+use Rattle.flow_bound.proofs.Running.{done-more, others-stay, head-step, head-small, tail-small, time_between-split}
+use Rattle.flow_bound.proofs.Running.{sum-step, least-step, least-of-jobs}
 use Rattle.flow_bound.proofs.taillard.load_of.Goals as goal
 
 pub overflow_add-heads : goal.overflow_add-heads

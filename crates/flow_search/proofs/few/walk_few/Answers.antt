@@ -14,7 +14,8 @@ jobs_of-jobs-requires-clause-count c =
 few : (c : After-jobs_of-jobs) →
     IsFew c.args.instance.now c.args.search.now.node.items c.args.front.now (take c.args.count c.jobs_of-jobs.result)
 few c =
-    few-at c.args.instance.now c.args.search.now.node.items c.args.front.now c.args.search.now.unscheduled c.args.count
+    few-at c.args.instance.now c.args.search.now.node.items c.args.front.now c.args.search.now.unscheduled
+    c.args.count
     c.jobs_of-jobs.result c.requires.at c.requires.to c.jobs_of-jobs.ensures
 
 pub enter_few-requires : goal.enter_few-requires
@@ -28,10 +29,12 @@ test_children-requires c = (
 
 -- the first frame
 first : (c : After-test_children) →
-    frame_at (take c.args.count (set c.args.lanes.now.frames 0 c.test_children.new.frame)) 0 ≡ c.test_children.new.frame
+    frame_at (take c.args.count
+    (set c.args.lanes.now.frames 0 c.test_children.new.frame)) 0 ≡ c.test_children.new.frame
 first c =
     let size : length c.args.lanes.now.frames ≡ 8 = search rules in
-    get_or-take c.args.count (set c.args.lanes.now.frames 0 c.test_children.new.frame) 0 _ (omega (arith, c.requires.from))
+    get_or-take c.args.count (set c.args.lanes.now.frames 0 c.test_children.new.frame) 0 _ (omega
+    (arith, c.requires.from))
     ∙ get_or-set_same c.args.lanes.now.frames 0 c.test_children.new.frame _ (omega (arith, size))
 
 pub walk_lanes-requires-clause-tested : goal.walk_lanes-requires-clause-tested

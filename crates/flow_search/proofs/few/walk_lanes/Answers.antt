@@ -1,10 +1,27 @@
-use Rattle.std.proofs.Common.{◌≡◌, ℕ, suc, ◌+◌, ◌-◌, ◌<◌, ◌≤◌, Bool, Ok, Err, Result, List, [], ◌∷◌, ◌++◌, length, reverse, take, drop, nat_eq, slice_index, set, vec_len, refl, sym, subst, ◌∙◌, ap, arith, length-append}
+use Rattle.std.proofs.Common.{◌≡◌, ℕ, suc, ◌+◌, ◌-◌, ◌<◌, ◌≤◌, Bool, Ok, Err, Result, List, [], ◌∷◌, ◌++◌, length}
+use Rattle.std.proofs.Common.{
+  reverse,
+  take,
+  drop,
+  nat_eq,
+  slice_index,
+  set,
+  vec_len,
+  refl,
+  sym,
+  subst,
+  ◌∙◌,
+  ap,
+  arith,
+}
+use Rattle.std.proofs.Common.{length-append}
 use Rattle.std.specs.List.{filter, range_with_len}
 use Rattle.std.proofs.lemmas.List.{length-set}
 use Rattle.std.proofs.lemmas.Result.{err_from_is_err_and}
 use Rattle.flow_core.specs.Shop.{Shop}
 use Rattle.flow_search.specs.internal.Nodes.{Gave, Opens, children_walked, incumbent_of}
-use Rattle.flow_search.specs.internal.Lanes.{IsLaneLeft, IsFrameOf, IsOpened, IsTested, IsInLanes, job_of, child, lane_walked, lanes_of, lane_path, frame_at}
+use Rattle.flow_search.specs.internal.Lanes.{IsLaneLeft, IsFrameOf, IsOpened, IsTested, IsInLanes, job_of, child}
+use Rattle.flow_search.specs.internal.Lanes.{lane_walked, lanes_of, lane_path, frame_at}
 use Rattle.flow_search.specs.declared.subtree.Search.{Search}
 use Rattle.flow_search.specs.declared.eight.group.LaneFrame.{LaneFrame}
 use Rattle.flow_search.specs.declared.subtree.Stop.{Stop}
@@ -13,9 +30,12 @@ use Rattle.flow_search.proofs.Nodes.{take-last}
 use Rattle.flow_search.proofs.Resume.{walk-some}
 use Rattle.flow_search.proofs.LanesOpened.{moved-lane, tested-moved}
 use Rattle.flow_search.proofs.LanesOrder.{lanes-count}
-use Rattle.flow_search.proofs.LanesLeft.{IsStep, IsMoved, lane-next, lane-none, lanes-start, lanes-walked, lanes-over, lanes-down, lanes-up, lanes-done, stack-top, stack-same, stack-split, stack-down}
+use Rattle.flow_search.proofs.LanesLeft.{IsStep, IsMoved, lane-next, lane-none, lanes-start, lanes-walked, lanes-over}
+use Rattle.flow_search.proofs.LanesLeft.{lanes-down, lanes-up, lanes-done, stack-top, stack-same, stack-split}
+use Rattle.flow_search.proofs.LanesLeft.{stack-down}
 use Rattle.flow_search.proofs.few.walk_lanes.Goals as goal
-use Rattle.flow_search.proofs.few.walk_lanes.Goals.{Then-place-left, After-retest_children, Then-branch, After-split_at_mut-above, After-open_child, Else-branch}
+use Rattle.flow_search.proofs.few.walk_lanes.Goals.{Then-place-left, After-retest_children, Then-branch}
+use Rattle.flow_search.proofs.few.walk_lanes.Goals.{After-split_at_mut-above, After-open_child, Else-branch}
 
 pub walk-init : goal.walk-init
 walk-init c =
@@ -61,7 +81,8 @@ walk-preserved-then-place-left c =
     let some : 1 ≤ depth = omega (arith, c.if-depth-eq0.false) in
     let top : reverse (take depth c.walk.frames) ≡ f ∷ gs =
     stack-top c.walk.frames depth some (omega (arith, c.walk.invariant.deep)) in
-    let node : c.walk.search.node.items ≡ lane_path root c.args.group.now gs ++ job_of c.args.group.now (slice_index f.lanes (f.next - 1))
+    let node : c.walk.search.node.items ≡ lane_path root c.args.group.now gs ++ job_of c.args.group.now
+    (slice_index f.lanes (f.next - 1))
     ∷ [] = c.walk.invariant.at.node ∙ ap (lane_path root c.args.group.now) top in
     let new : Search = record {
       node = c.pop.new.self;
@@ -73,7 +94,8 @@ walk-preserved-then-place-left c =
     } in
     let moved : IsMoved (lane_path root c.args.group.now gs) c.walk.search new = record {
       node = c.pop.ensures.rest ∙ take-last (vec_len c.walk.search.node) c.walk.search.node.items
-          (lane_path root c.args.group.now gs) (job_of c.args.group.now (slice_index f.lanes (f.next - 1))) node c.walk.search.node.ok.0;
+          (lane_path root c.args.group.now gs) (job_of c.args.group.now (slice_index f.lanes
+          (f.next - 1))) node c.walk.search.node.ok.0;
       incumbent = refl;
       tree = refl;
       unscheduled = refl;
@@ -159,7 +181,8 @@ returns-in_err-visit_lane-clause-over c e =
     let put_bool : Stop → Result Bool Stop = λ stop. Err stop in
     let was : p.0 ≡ OverBudget = let r : put p.0 ≡ put OverBudget = sym p.1 ∙ e in cc in
     let same : put_bool c.in_err-visit_lane.field-0.0 ≡ put_bool OverBudget = ap put_bool (sym p.2 ∙ was) in
-    lanes-over c.walk.invariant.at (lane_of (frame_at c.walk.frames c.walk.depth)) (later at) (is-later at).step (c.in_err-visit_lane.ensures.over same)
+    lanes-over c.walk.invariant.at (lane_of (frame_at c.walk.frames c.walk.depth)) (later at) (is-later at).step
+    (c.in_err-visit_lane.ensures.over same)
 
 -- the frame of the node, once the frames are split below it
 parent : (c : After-split_at_mut-above) →
@@ -175,7 +198,8 @@ open_child-requires-clause-at c =
     let at = (goal.at.open_child-requires-clause-at c).After-retest_children in (
       node_of at,
       subst (IsOpened c.args.instance.now (node_of at) c.args.group.now)
-          (sym (parent (goal.at.open_child-requires-clause-at c).After-split_at_mut-above)) (is-later at).tested.opened,
+          (sym (parent (goal.at.open_child-requires-clause-at c).After-split_at_mut-above))
+          (is-later at).tested.opened,
     )
 
 pub open_child-requires-clause-left : goal.open_child-requires-clause-left
@@ -211,7 +235,8 @@ test_children-requires c =
 
 -- the plus that was written
 opens : (c : Then-branch) →
-    Opens c.args.instance.now c.args.budget (job_of c.args.group.now (lane_of (frame_at c.walk.frames c.walk.depth))) c.walk.search
+    Opens c.args.instance.now c.args.budget (job_of c.args.group.now (lane_of
+    (frame_at c.walk.frames c.walk.depth))) c.walk.search
     c.visit_lane.new.search × (1 ≤ length c.args.frames.now - 1 - c.walk.depth)
 opens c =
     let put : Bool → Result Bool Stop = λ b. Ok b in
@@ -257,10 +282,12 @@ walk-preserved-then-branch c =
       best = c.visit_lane.new.search.best;
       tree = c.visit_lane.new.search.tree;
     } in
-    let moved : IsMoved (c.visit_lane.new.search.node.items ++ job_of c.args.group.now (lane_of (frame_at c.walk.frames c.walk.depth)) ∷ [])
+    let moved : IsMoved (c.visit_lane.new.search.node.items ++ job_of c.args.group.now (lane_of
+    (frame_at c.walk.frames c.walk.depth)) ∷ [])
     c.visit_lane.new.search new =
     record { node = c.in_ok-push.ensures.items; incumbent = refl; tree = refl; unscheduled = refl } in
-    let tested = c.test_children.ensures.tested (child (node_of at) c.args.group.now (lane_of (frame_at c.walk.frames c.walk.depth)))
+    let tested = c.test_children.ensures.tested (child (node_of at) c.args.group.now (lane_of
+    (frame_at c.walk.frames c.walk.depth)))
     (child-at (goal.at.walk-preserved-then-branch c).After-open_child (node_of at) is.tested) in
     let less : length c.args.frames.now - 1 - depth - 1 ≡ length c.args.frames.now - 1 - (depth + 1) = omega arith in
     let walking : LaneFrame → ℕ → List LaneFrame → Type 0 =
@@ -273,7 +300,8 @@ walk-preserved-then-branch c =
           (reverse (take (depth + 1) (above ++ set below 0 made)))) (sym down.0)
           (subst (λ frames. walking made (length c.args.frames.now - 1 - (depth + 1)) frames) (sym down.1)
           (subst (λ n. walking made n (later at ∷ reverse (take depth c.walk.frames))) less
-          (lanes-down c.walk.invariant.at (lane_of (frame_at c.walk.frames c.walk.depth)) (later at) made c.visit_lane.new.search new is.step is.tested
+          (lanes-down c.walk.invariant.at (lane_of (frame_at c.walk.frames c.walk.depth))
+          (later at) made c.visit_lane.new.search new is.step is.tested
           plus.1 plus.0 moved tested (c.test_children.ensures.next ∙ c.open_child.ensures.next))));
     }
 
@@ -290,7 +318,8 @@ walk-smaller c =
     c.args.group.now (lane_of (frame_at c.walk.frames c.walk.depth)) c.walk.search).0 in
     let some : 1 ≤ length text =
     walk-some c.args.instance.now (length c.args.frames.now - 1 - c.walk.depth)
-    (child c.walk.search.node.items c.args.group.now (lane_of (frame_at c.walk.frames c.walk.depth))) (incumbent_of c.walk.search) in
+    (child c.walk.search.node.items c.args.group.now (lane_of (frame_at c.walk.frames c.walk.depth)))
+    (incumbent_of c.walk.search) in
     let tree : length c.visit_lane.new.search.tree.items ≡ length (c.walk.search.tree.items ++ text) =
     ap length g.tree in
     omega (arith, some, tree, g.within, length-append c.walk.search.tree.items text)
@@ -313,7 +342,8 @@ walk-preserved c =
           c.args.search.now.node.items
           (children_walked c.args.instance.now (length c.args.frames.now - 1) c.args.search.now) c.args.search.now
           (later at) (length c.args.frames.now - 1 - c.walk.depth) frames c.visit_lane.new.search) (sym same.1)
-          (lanes-walked c.walk.invariant.at (lane_of (frame_at c.walk.frames c.walk.depth)) (later at) c.visit_lane.new.search is.step is.tested
+          (lanes-walked c.walk.invariant.at (lane_of (frame_at c.walk.frames c.walk.depth))
+          (later at) c.visit_lane.new.search is.step is.tested
           (whole c)));
     }
 

@@ -1,4 +1,5 @@
-use Rattle.std.proofs.Common.{◌≡◌, ℕ, suc, ◌+◌, ◌-◌, ◌≤◌, Bool, true, Some, Ok, Err, Result, List, [], ◌∷◌, ◌++◌, length, reverse, take, slice_set, refl, sym, subst, ◌∙◌, ap, arith, length-append}
+use Rattle.std.proofs.Common.{◌≡◌, ℕ, suc, ◌+◌, ◌-◌, ◌≤◌, Bool, true, Some, Ok, Err, Result, List, [], ◌∷◌, ◌++◌}
+use Rattle.std.proofs.Common.{length, reverse, take, slice_set, refl, sym, subst, ◌∙◌, ap, arith, length-append}
 use Rattle.std.specs.List.{find}
 use Rattle.std.proofs.lemmas.Result.{err_from_is_err_and}
 use Rattle.flow_core.specs.Limits.{most_jobs}
@@ -13,9 +14,11 @@ use Rattle.flow_search.specs.internal.Frames.{IsWalking, IsChild, path}
 use Rattle.flow_search.specs.declared.subtree.Stop.{Stop}
 use Rattle.flow_search.specs.declared.subtree.Stop.TheVariants.{OverBudget}
 use Rattle.flow_search.proofs.Nodes.{left-count, within-front}
-use Rattle.flow_search.proofs.Resume.{walk-some, walking-child, walking-whole, walking-over, walking-entered, walking-down, walking-up, walking-done, moved, reverse-push}
+use Rattle.flow_search.proofs.Resume.{walk-some, walking-child, walking-whole, walking-over, walking-entered}
+use Rattle.flow_search.proofs.Resume.{walking-down, walking-up, walking-done, moved, reverse-push}
 use Rattle.flow_search.proofs.subtree.walk_children.Goals as goal
-use Rattle.flow_search.proofs.subtree.walk_children.Goals.{After-first_of, In-Some, In-Some-pop, In_ok-visit, In_ok-enter, After-leave, Then-branch}
+use Rattle.flow_search.proofs.subtree.walk_children.Goals.{After-first_of, In-Some, In-Some-pop, In_ok-visit}
+use Rattle.flow_search.proofs.subtree.walk_children.Goals.{In_ok-enter, After-leave, Then-branch}
 
 -- what the search for the next child found
 found : (c : After-first_of) →

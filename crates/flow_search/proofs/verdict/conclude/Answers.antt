@@ -1,4 +1,5 @@
-use Rattle.std.proofs.Common.{◌≡◌, ℕ, ◌+◌, ◌<◌, slice_index_or, [], ◌∷◌, ◌++◌, length, None, Some, subst, ap, sym, ◌∙◌, arith, append_assoc, length-append}
+use Rattle.std.proofs.Common.{◌≡◌, ℕ, ◌+◌, ◌<◌, slice_index_or, [], ◌∷◌, ◌++◌, length, None, Some, subst, ap, sym, ◌∙◌}
+use Rattle.std.proofs.Common.{arith, append_assoc, length-append}
 use Rattle.std.specs.Vec.Iter.{into_iter_items}
 use Rattle.flow_search.specs.Outcomes.{IsLawful, IsDone}
 use Rattle.flow_search.specs.declared.outcome.Outcome.TheVariants.{Done}

@@ -1,4 +1,5 @@
-use Rattle.std.proofs.Common.{ℕ, ◌+◌, ◌<◌, List, [], ◌∷◌, ◌++◌, drop, take, length, length-drop, length-set, length-take, slice_index_or, arith, sym, subst}
+use Rattle.std.proofs.Common.{ℕ, ◌+◌, ◌<◌, List, [], ◌∷◌, ◌++◌, drop, take, length, length-drop, length-set}
+use Rattle.std.proofs.Common.{length-take, slice_index_or, arith, sym, subst}
 use Rattle.std.specs.List.{insert}
 use Rattle.std.proofs.lemmas.List.{take_more}
 use Rattle.flow_core.specs.Limits.{most_machines}

@@ -1,6 +1,7 @@
 use Rattle.flow_cert.specs.declared.fault.CheckFault.TheVariants.{End}
 use Rattle.flow_cert.proofs.Exits.{exit}
-use Rattle.flow_cert.proofs.Checked.{first-fault, none-at, lawful-at, trees-fault, value-least, fault-lawless, checked-value, checked-end, lawful-value}
+use Rattle.flow_cert.proofs.Checked.{first-fault, none-at, lawful-at, trees-fault, value-least, fault-lawless}
+use Rattle.flow_cert.proofs.Checked.{checked-value, checked-end, lawful-value}
 use Rattle.flow_cert.proofs.Sound.{certificate_is_sound}
 use Rattle.flow_cert.proofs.reading.check.check.Goals as goal
 

@@ -4,9 +4,11 @@ use Rattle.flow_core.specs.Paths.{span}
 use Rattle.flow_cert.specs.CertificateFaults.{certificate_value, header_value, cut_value, on_line}
 use Rattle.flow_cert.specs.declared.fault.CheckFault.TheVariants.{Header, Value, Sequence, NotAttained}
 use Rattle.flow_cert.proofs.Exact.{after_size, after_value}
-use Rattle.flow_cert.proofs.HeadingLines.{title-read, title-refused, size-is, is-size, size-read, size-refused, value-read, value-refused, sequence-read, sequence-refused}
+use Rattle.flow_cert.proofs.HeadingLines.{title-read, title-refused, size-is, is-size, size-read, size-refused}
+use Rattle.flow_cert.proofs.HeadingLines.{value-read, value-refused, sequence-read, sequence-refused}
 use Rattle.flow_cert.proofs.reading.heading.read_heading.Goals as goal
-use Rattle.flow_cert.proofs.reading.heading.read_heading.Goals.{In-Some-read_size, In-Some-read_number, In-Some-read_sequence}
+use Rattle.flow_cert.proofs.reading.heading.read_heading.Goals.{In-Some-read_size, In-Some-read_number}
+use Rattle.flow_cert.proofs.reading.heading.read_heading.Goals.{In-Some-read_sequence}
 
 pub returns-in_default-clause-fault : goal.returns-in_default-clause-fault
 unfolding certificate_value

@@ -3,24 +3,25 @@ use Rattle.flow_core.specs.Limits.{most_jobs, most_machines, greatest_time, grea
 use Rattle.flow_core.specs.Shop.{time}
 use Rattle.flow_core.specs.Bound.{bound_at}
 use Rattle.flow_cert.specs.internal.Nodes.{IsAt, IsChild, grown, left_before}
-use Rattle.flow_cert.proofs.NodeSteps.{node-within, owed-fits, owed-covers, own-bound, child-bound}
+use Rattle.flow_cert.proofs.NodeSteps.{node-within, work-fits, work-covers, own-bound, child-bound}
 use Rattle.flow_cert.proofs.reading.node.bound.Goals as goal
-use Rattle.flow_cert.proofs.reading.node.bound.Goals.{After-lows_of-lows, After-from, After-from-in-Some, After-from-in-Some-2, then-alone, else-alone}
+use Rattle.flow_cert.proofs.reading.node.bound.Goals.{After-lows_of-lows, After-from, After-from-in-Some}
+use Rattle.flow_cert.proofs.reading.node.bound.Goals.{After-from-in-Some-2, then-alone, else-alone}
 
 pub lows_of-lows-requires-clause-at : goal.lows_of-lows-requires-clause-at
 lows_of-lows-requires-clause-at c = (c.requires.at.0, left_before c.args.child (suc c.requires.at.1), c.requires.at.2)
 
--- the list's time and what is owed fit
+-- the list's time and the sum of the times of the jobs left fit
 fits : (c : After-lows_of-lows) →
     (slice_index c.lows_of-lows.new.node.front (c.args.machine - 1) ≤ greatest_completion)
-    × (slice_index c.lows_of-lows.new.node.owed (c.args.machine - 1) ≤ most_jobs * greatest_time)
+    × (slice_index c.lows_of-lows.new.node.work (c.args.machine - 1) ≤ most_jobs * greatest_time)
 fits c =
     let list : List ℕ = c.requires.at.0 in
     let left : ℕ = left_before c.args.child (suc c.requires.at.1) in
     let here = (c.lows_of-lows.ensures.kept list left c.requires.at.2).is_node in (
       node-within c.args.claim.now.instance.now list c.lows_of-lows.new.node left c.requires.rows.limits here
           (c.args.machine - 1) (omega (arith, c.requires.from, c.requires.to)),
-      owed-fits c.args.claim.now.instance.now list c.lows_of-lows.new.node left c.args.machine c.requires.rows.limits
+      work-fits c.args.claim.now.instance.now list c.lows_of-lows.new.node left c.args.machine c.requires.rows.limits
           here c.requires.from c.requires.to,
     )
 
@@ -28,7 +29,7 @@ fits c =
 own : (c : After-from) (list : List ℕ) (left : ℕ) →
     IsAt c.args.claim.now.instance.now list c.args.node.now c.args.links.now (left_before c.args.child (suc left)) →
     (slice_index c.lows_of-lows.new.node.front (c.args.machine - 1)
-    + slice_index c.lows_of-lows.new.node.owed (c.args.machine - 1) + c.from.result
+    + slice_index c.lows_of-lows.new.node.work (c.args.machine - 1) + c.from.result
     ≡ bound_at c.args.claim.now.instance.now (grown list c.args.child) c.args.machine)
     × (c.from.result ≤ most_machines * greatest_time)
 own c list left at =
@@ -65,7 +66,7 @@ child : (c : After-from-in-Some-2) (list : List ℕ) (left : ℕ) →
     IsAt c.args.claim.now.instance.now list c.args.node.now c.args.links.now (left_before c.args.child (suc left)) →
     IsChild c.args.claim.now.instance.now.jobs list (Some c.in-Some.job)
     × (c.from-in-Some.result ≡ time c.args.claim.now.instance.now c.in-Some.job c.args.machine) →
-    (c.completion_of.result + (slice_index c.lows_of-lows.new.node.owed (c.args.machine - 1) - c.from-in-Some.result)
+    (c.completion_of.result + (slice_index c.lows_of-lows.new.node.work (c.args.machine - 1) - c.from-in-Some.result)
     + c.from-in-Some-2.result ≡ bound_at c.args.claim.now.instance.now (grown list c.args.child) c.args.machine)
     × (c.from-in-Some-2.result ≤ most_machines * greatest_time)
 child c list left at (kid, there) =
@@ -99,8 +100,8 @@ overflow_add-result-in-None c =
     let small = fits (goal.at.overflow_add-result-in-None c).After-lows_of-lows in
     omega (arith, small.0, small.1, (own c c.requires.at.0 c.requires.at.1 c.requires.at.2).1)
 
-pub overflow_sub-owed : goal.overflow_sub-owed
-overflow_sub-owed c =
+pub overflow_sub-work : goal.overflow_sub-work
+overflow_sub-work c =
     let list : List ℕ = c.requires.at.0 in
     let left : ℕ = left_before c.args.child (suc c.requires.at.1) in
     let here = (c.lows_of-lows.ensures.kept list left c.requires.at.2).is_node in
@@ -108,7 +109,7 @@ overflow_sub-owed c =
     omega (
       arith,
       there,
-      owed-covers c.args.claim.now.instance.now list c.lows_of-lows.new.node left c.in-Some.job
+      work-covers c.args.claim.now.instance.now list c.lows_of-lows.new.node left c.in-Some.job
           c.args.machine here kid.0 kid.1 kid.2 c.requires.from c.requires.to,
     )
 

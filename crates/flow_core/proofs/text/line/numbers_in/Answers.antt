@@ -1,8 +1,11 @@
 use Rattle.std.proofs.Common.{arith, ◌*◌, ◌+◌, unwrap_or, get_or, rules, sym, refl}
 use Rattle.std.specs.Char.{digit_value}
-use Rattle.flow_core.proofs.NumberLemmas.{numbers-close, numbers-skip, numbers-digit, small-push, large-all, line_numbers-large, numbers_of-after}
+use Rattle.flow_core.proofs.NumberLemmas.{numbers-close, numbers-skip, numbers-digit, small-push, large-all}
+use Rattle.flow_core.proofs.NumberLemmas.{line_numbers-large, numbers_of-after}
 use Rattle.flow_core.proofs.text.line.numbers_in.Goals as goal
-use Rattle.flow_core.proofs.text.line.numbers_in.Goals.{then-is_blank_byte+in-Some+in_ok-push-in-Some, then-is_blank_byte+in-None, else-is_blank_byte+in-Some-with_digit}
+use Rattle.flow_core.proofs.text.line.numbers_in.Goals.{then-is_blank_byte+in-Some+in_ok-push-in-Some}
+use Rattle.flow_core.proofs.text.line.numbers_in.Goals.{then-is_blank_byte+in-None}
+use Rattle.flow_core.proofs.text.line.numbers_in.Goals.{else-is_blank_byte+in-Some-with_digit}
 
 pub loop-byte-init : goal.loop-byte-init
 loop-byte-init c = record {

@@ -1,11 +1,13 @@
-use Rattle.std.proofs.Common.{rules, ◌≡◌, ℕ, ◌+◌, ◌<◌, ◌≤◌, max, List, [], slice_index, refl, ap, sym, ◌∙◌, subst, inl, inr, arith}
+use Rattle.std.proofs.Common.{rules, ◌≡◌, ℕ, ◌+◌, ◌<◌, ◌≤◌, max, List, [], slice_index, refl, ap, sym, ◌∙◌, subst, inl}
+use Rattle.std.proofs.Common.{inr, arith}
 use Rattle.std.proofs.lemmas.Bool.{cases_lt}
 use Rattle.std.proofs.lemmas.List.{length-set}
 use Rattle.flow_core.specs.Limits.{most_machines}
 use Rattle.flow_core.specs.Shop.{Shop}
 use Rattle.flow_core.specs.Paths.{completion}
 use Rattle.flow_search.specs.internal.Lanes.{IsLaneLeft, IsFrameOf, IsUncutCount, child, job_of}
-use Rattle.flow_search.proofs.LanesPassed.{all-same, passed-start, passed-more, free-none, free-is, bound-is, start-small, behind-small, sum-small, row-small, done-more}
+use Rattle.flow_search.proofs.LanesPassed.{all-same, passed-start, passed-more, free-none, free-is, bound-is}
+use Rattle.flow_search.proofs.LanesPassed.{start-small, behind-small, sum-small, row-small, done-more}
 use Rattle.flow_search.proofs.LanesOpened.{opened-same}
 use Rattle.flow_search.proofs.eight.children.test_children.Goals as goal
 

@@ -1,4 +1,5 @@
-use Rattle.std.proofs.Common.{◌≡◌, ℕ, ◌+◌, ◌-◌, ◌*◌, ◌<◌, ◌≤◌, suc, Bool, true, false, max, nat_le, List, [], ◌∷◌, ◌++◌, slice_index, slice_index_or, refl, ap, sym, ◌∙◌, arith}
+use Rattle.std.proofs.Common.{◌≡◌, ℕ, ◌+◌, ◌-◌, ◌*◌, ◌<◌, ◌≤◌, suc, Bool, true, false, max, nat_le, List, [], ◌∷◌, ◌++◌}
+use Rattle.std.proofs.Common.{slice_index, slice_index_or, refl, ap, sym, ◌∙◌, arith}
 use Rattle.std.proofs.lemmas.Bool.{le-leb, lt-leb}
 use Rattle.flow_core.specs.Limits.{most_machines, greatest_time, greatest_completion}
 use Rattle.flow_core.specs.Shop.{time}
@@ -10,7 +11,8 @@ use Rattle.flow_search.proofs.Children.{child-completion, child-bound, frame-wit
 use Rattle.flow_search.proofs.Nodes.{find-here, find-skip, find-past}
 use Rattle.flow_core.proofs.TwoLeast.{Without}
 use Rattle.flow_search.proofs.frame.Frame.cutting_machine.Goals as goal
-use Rattle.flow_search.proofs.frame.Frame.cutting_machine.Goals.{After-from, After-from-in-loop-machine, then-row-place, else-row-place}
+use Rattle.flow_search.proofs.frame.Frame.cutting_machine.Goals.{After-from, After-from-in-loop-machine, then-row-place}
+use Rattle.flow_search.proofs.frame.Frame.cutting_machine.Goals.{else-row-place}
 
 -- when the child's job starts, at most
 start-small : (c : After-from) →

@@ -5,20 +5,20 @@ use Rattle.flow_core.specs.Shop.{time}
 use Rattle.flow_core.proofs.Recurrence.{after}
 use Rattle.flow_core.proofs.Fronts.{free_at, after-step, time-small}
 use Rattle.flow_cert.specs.internal.Nodes.{unknown}
-use Rattle.flow_cert.proofs.NodeSteps.{node-within, owed-covers, filled-more, child-completion, child-node}
+use Rattle.flow_cert.proofs.NodeSteps.{node-within, work-covers, filled-more, child-completion, child-node}
 use Rattle.flow_cert.proofs.reading.node.Node.become_child.Goals as goal
 use Rattle.flow_cert.proofs.reading.node.Node.become_child.Goals.{After-max}
 
 pub loop-machine-init : goal.loop-machine-init
 loop-machine-init c = record {
   front_size = omega arith;
-  owed_size = omega arith;
+  work_size = omega arith;
   least_size = omega arith;
   second_size = omega arith;
   free = refl;
   small = omega arith;
   front = λ machine low high. absurd (omega (arith, low, high));
-  owed = λ machine low high. absurd (omega (arith, low, high));
+  work = λ machine low high. absurd (omega (arith, low, high));
   least = λ machine low high. absurd (omega (arith, low, high));
 }
 
@@ -26,7 +26,7 @@ loop-machine-init c = record {
 here : (c : After-max) → c.loop-machine.machine < c.machines-machines.result + 1 →
     (1 ≤ c.loop-machine.machine) × (c.loop-machine.machine ≤ c.args.claim.now.instance.now.machines)
     × (c.from-time.result ≡ time c.args.claim.now.instance.now c.args.job c.loop-machine.machine)
-    × (c.from-time.result ≤ slice_index c.args.list.now.owed (c.loop-machine.machine - 1))
+    × (c.from-time.result ≤ slice_index c.args.list.now.work (c.loop-machine.machine - 1))
     × (slice_index c.args.list.now.front (c.loop-machine.machine - 1) ≤ greatest_completion)
 here c test =
     let low : 1 ≤ c.loop-machine.machine = c.loop-machine.auto.machine in
@@ -35,7 +35,7 @@ here c test =
     let there : c.from-time.result ≡ time c.args.claim.now.instance.now c.args.job c.loop-machine.machine =
     c.from-time.ensures ∙ (c.requires.rows.each c.args.job _ c.requires.from c.requires.to c.loop-machine.machine low
     high).0 in
-    let covers = owed-covers c.args.claim.now.instance.now c.requires.at.0 c.args.list.now c.requires.at.1 c.args.job
+    let covers = work-covers c.args.claim.now.instance.now c.requires.at.0 c.args.list.now c.requires.at.1 c.args.job
     c.loop-machine.machine c.requires.at.2 c.requires.from c.requires.to c.requires.at.3 low high in
     let within = node-within c.args.claim.now.instance.now c.requires.at.0 c.args.list.now c.requires.at.1
     c.requires.rows.limits c.requires.at.2 (c.loop-machine.machine - 1) (omega (arith, low, high)) in
@@ -67,7 +67,7 @@ loop-machine-preserved c =
     let i = c.loop-machine.invariant in
     let place : ℕ = c.loop-machine.machine - 1 in
     let free : ℕ = c.max.result + c.from-time.result in
-    let owed : ℕ = slice_index c.args.list.now.owed place - c.from-time.result in
+    let work : ℕ = slice_index c.args.list.now.work place - c.from-time.result in
     let sum : free ≡ max (slice_index c.args.list.now.front place) c.loop-machine.free + c.from-time.result =
     omega (arith, c.max.ensures) in
     let value = after-step c.args.claim.now.instance.now c.args.list.now.front c.args.list.now.front c.args.job
@@ -75,7 +75,7 @@ loop-machine-preserved c =
     let next : c.loop-machine.machine + 1 - 1 ≡ c.loop-machine.machine = omega arith in
     record {
       front_size = length-set c.loop-machine.self.front place free ∙ i.front_size;
-      owed_size = length-set c.loop-machine.self.owed place owed ∙ i.owed_size;
+      work_size = length-set c.loop-machine.self.work place work ∙ i.work_size;
       least_size = length-set c.loop-machine.self.least place unknown ∙ i.least_size;
       second_size = i.second_size;
       free = value ∙ ap (after c.args.claim.now.instance.now (free_at c.args.list.now.front) c.args.job) (sym next);
@@ -93,9 +93,9 @@ loop-machine-preserved c =
           ≡ after c.args.claim.now.instance.now
           (free_at c.args.list.now.front) c.args.job k) c.loop-machine.self.front c.loop-machine.machine free is.0
           (omega (arith, is.0, is.1, most, i.front_size)) value i.front;
-      owed = filled-more (λ k v. v + time c.args.claim.now.instance.now c.args.job k
-          ≡ slice_index c.args.list.now.owed (k - 1)) c.loop-machine.self.owed c.loop-machine.machine owed is.0 (omega
-          (arith, is.0, is.1, most, i.owed_size)) (omega (arith, is.2, is.3)) i.owed;
+      work = filled-more (λ k v. v + time c.args.claim.now.instance.now c.args.job k
+          ≡ slice_index c.args.list.now.work (k - 1)) c.loop-machine.self.work c.loop-machine.machine work is.0 (omega
+          (arith, is.0, is.1, most, i.work_size)) (omega (arith, is.2, is.3)) i.work;
       least = filled-more (λ k v. v
           ≡ unknown) c.loop-machine.self.least c.loop-machine.machine unknown is.0 (omega
           (arith, is.0, is.1, most, i.least_size)) refl i.least;
@@ -110,5 +110,5 @@ returns c jobs left is fresh =
     c.requires.rows.limits is c.requires.from c.requires.to fresh
     (λ machine low high. i.front machine low (past machine high)
     ∙ child-completion c.args.claim.now.instance.now jobs c.args.list.now.front c.args.job machine high is.times)
-    i.owed_size (λ machine low high. i.owed machine low (past machine high)) (λ machine low high. i.least machine low
+    i.work_size (λ machine low high. i.work machine low (past machine high)) (λ machine low high. i.least machine low
     (past machine high)) i.least_size i.second_size

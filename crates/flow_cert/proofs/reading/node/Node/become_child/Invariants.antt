@@ -9,15 +9,15 @@ use Rattle.flow_cert.proofs.reading.node.Node.become_child.Given as goal
 abbrev pub invariant-loop-machine : goal.invariant-loop-machine
 invariant-loop-machine l = record {
   front_size : length l.self.front ≡ most_machines;
-  owed_size : length l.self.owed ≡ most_machines;
+  work_size : length l.self.work ≡ most_machines;
   least_size : length l.self.least ≡ most_machines;
   second_size : length l.self.second ≡ most_machines;
   free : l.free ≡ after l.claim.instance.now (free_at l.list.front) l.job (l.machine - 1);
   small : l.free ≤ greatest_completion + (l.machine - 1) * greatest_time;
   front : (machine : ℕ) → 1 ≤ machine → machine < l.machine →
       slice_index l.self.front (machine - 1) ≡ after l.claim.instance.now (free_at l.list.front) l.job machine;
-  owed : (machine : ℕ) → 1 ≤ machine → machine < l.machine →
-      slice_index l.self.owed (machine - 1) + time l.claim.instance.now l.job machine
-      ≡ slice_index l.list.owed (machine - 1);
+  work : (machine : ℕ) → 1 ≤ machine → machine < l.machine →
+      slice_index l.self.work (machine - 1) + time l.claim.instance.now l.job machine
+      ≡ slice_index l.list.work (machine - 1);
   least : (machine : ℕ) → 1 ≤ machine → machine < l.machine → slice_index l.self.least (machine - 1) ≡ unknown;
 }

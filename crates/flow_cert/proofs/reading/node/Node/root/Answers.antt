@@ -10,8 +10,8 @@ returns c =
     root-node c.args.instance.now (record {
       front =
           replicate most_machines 0;
-      owed =
-          c.loop-machine.owed;
+      work =
+          c.loop-machine.work;
       least =
           replicate most_machines unknown;
       second =

@@ -6,7 +6,7 @@ use Rattle.flow_cert.proofs.reading.node.Node.root.Given as goal
 
 abbrev pub invariant-loop-machine : goal.invariant-loop-machine
 invariant-loop-machine l = record {
-  size : length l.owed ≡ most_machines;
+  size : length l.work ≡ most_machines;
   done : (machine : ℕ) → 1 ≤ machine → machine < l.machine →
-      slice_index l.owed (machine - 1) ≡ sum_by (λ job. time l.instance job machine) (jobs_left l.instance.jobs []);
+      slice_index l.work (machine - 1) ≡ sum_by (λ job. time l.instance job machine) (jobs_left l.instance.jobs []);
 }

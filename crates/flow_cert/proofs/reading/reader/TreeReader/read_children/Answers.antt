@@ -1,15 +1,20 @@
-use Rattle.std.proofs.Common.{◌≡◌, ◌≢◌, ℕ, suc, ◌+◌, ◌-◌, ◌<◌, ◌≤◌, List, [], ◌∷◌, ◌++◌, length, drop, slice_index, Bool, Some, Ok, Err, true, false, refl, sym, ap, subst, ◌∙◌, arith}
+use Rattle.std.proofs.Common.{◌≡◌, ◌≢◌, ℕ, suc, ◌+◌, ◌-◌, ◌<◌, ◌≤◌, List, [], ◌∷◌, ◌++◌, length, drop, slice_index}
+use Rattle.std.proofs.Common.{Bool, Some, Ok, Err, true, false, refl, sym, ap, subst, ◌∙◌, arith}
 use Rattle.std.proofs.lemmas.Grind.{get_or_default_zero}
 use Rattle.flow_cert.specs.internal.Nodes.{IsAt, IsChild}
-use Rattle.flow_cert.specs.internal.Reader.{children_read, put_back, path, frame_at, here, Stands, IsStack, Opened, LetterGives}
+use Rattle.flow_cert.specs.internal.Reader.{children_read, put_back, path, frame_at, here, Stands, IsStack, Opened}
+use Rattle.flow_cert.specs.internal.Reader.{LetterGives}
 use Rattle.flow_core.specs.Bound.{bound_at}
 use Rattle.flow_cert.specs.CertificateFaults.{read_tree}
 use Rattle.flow_cert.proofs.Readers.{above-more}
 use Rattle.flow_cert.proofs.Exits.{exit}
-use Rattle.flow_cert.proofs.ReaderSteps.{Reads, reached, none-above, reads-start, reads-back, reads-open, reads-close, back-open, back-close, back-same}
-use Rattle.flow_cert.proofs.TreeReading.{reading-child, reading-fault, reading-leaf, reading-done, letter-open, letter-whole, tree-fails}
+use Rattle.flow_cert.proofs.ReaderSteps.{Reads, reached, none-above, reads-start, reads-back, reads-open, reads-close}
+use Rattle.flow_cert.proofs.ReaderSteps.{back-open, back-close, back-same}
+use Rattle.flow_cert.proofs.TreeReading.{reading-child, reading-fault, reading-leaf, reading-done, letter-open}
+use Rattle.flow_cert.proofs.TreeReading.{letter-whole, tree-fails}
 use Rattle.flow_cert.proofs.reading.reader.TreeReader.read_children.Goals as goal
-use Rattle.flow_cert.proofs.reading.reader.TreeReader.read_children.Goals.{After-index-job, After-branch-open, After-open}
+use Rattle.flow_cert.proofs.reading.reader.TreeReader.read_children.Goals.{After-index-job, After-branch-open}
+use Rattle.flow_cert.proofs.reading.reader.TreeReader.read_children.Goals.{After-open}
 
 pub children-init : goal.children-init
 children-init c =
