@@ -1,8 +1,8 @@
 //! Makes each library call that may return that memory ran out, on worked instances, and compares what it returns with
 //! what it should. A group of calls ends at a call for which memory ran out, and the next group follows.
 //!
-//! The status is 0 where each call returned what it should. It is 1 where memory ran out in some call, or a worker could
-//! not be started, and all other calls returned what they should. It is 2 where a call returned anything else.
+//! The status is 0 where each call returned what it should. It is 1 where memory ran out in some call, or a worker
+//! could not be started, and all other calls returned what they should. It is 2 where a call returned anything else.
 //!
 //! `rt try --fail-alloc N` refuses growth N of a run, and builds the program anew for each N. So N can stay as it is:
 //! standard input says how many growths are made and given back before the calls, none where it is empty.

@@ -73,8 +73,8 @@ fn visit_lane(
     Ok(true)
 }
 
-/// Walks the subtrees of the children of the first frame's node, in increasing order of their jobs. There is a frame for
-/// each job left.
+/// Walks the subtrees of the children of the first frame's node, in increasing order of their jobs. There is a frame
+/// for each job left.
 fn walk_lanes(
     instance: &Instance,
     budget: usize,
