@@ -37,7 +37,8 @@ pub record AreDone (shop : Shop) (front jobs : List ℕ) (rows : List LaneRow) (
   pub small : (row : LaneRow) (k lane : ℕ) → machine < k → k ≤ shop.machines → lane < 8 →
       IsSmallRow (slice_index_or rows (k - 1) row) lane
   pub begins : (k : ℕ) → machine < k → k ≤ shop.machines → slice_index times (k - 1) ≡ slice_index front (k - 1)
-  pub loads : (k : ℕ) → machine < k → k ≤ shop.machines → slice_index sums (k - 1) ≡ sum_by (λ job. time shop job k) jobs
+  pub loads : (k : ℕ) → machine < k → k ≤ shop.machines → slice_index sums (k - 1) ≡ sum_by
+      (λ job. time shop job k) jobs
 
 -- one more place of a list, from the back
 more : {A : Type 0} (P : ℕ → A → Type 0) (xs : List A) (other value : A) (machine most : ℕ) → 1 ≤ machine →

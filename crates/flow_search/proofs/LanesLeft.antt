@@ -105,7 +105,8 @@ lanes-start shop budget group old here below tested next count within =
       count = count;
       tested = (tested, tt);
       text =
-          ap (λ t. old.tree.items ++ t) (append-nil (lanes_walked shop below root group (drop here.next (lanes_of here)) st).0)
+          ap (λ t. old.tree.items ++ t) (append-nil (lanes_walked shop below root group
+          (drop here.next (lanes_of here)) st).0)
           ∙ ap (λ w. old.tree.items ++ w.0) all;
       state = ap (λ w. w.1) all;
       unscheduled = refl;
@@ -117,7 +118,8 @@ module _ {shop : Shop} {budget : ℕ} {group : Group} {root : List ℕ} {whole :
     (i : IsInLanes shop budget group root whole old here below fs now) where
   -- a child's subtree was walked
   pub lanes-walked : (lane : ℕ) (later : LaneFrame) (new : Search) → IsStep here later lane →
-      IsTested shop (lane_path root group fs) group later → Gave budget (lane_walked shop below group lane now) now new →
+      IsTested shop (lane_path root group fs) group later → Gave budget
+      (lane_walked shop below group lane now) now new →
       IsInLanes shop budget group root whole old later below fs new
   lanes-walked lane later new step tested gave =
       let st : Incumbent = incumbent_of now in
@@ -186,7 +188,8 @@ module _ {shop : Shop} {budget : ℕ} {group : Group} {root : List ℕ} {whole :
       let made_at : IsTested shop (lane_path root group (later ∷ fs)) group made =
       subst (λ q. IsTested shop q group made) (sym path_is) made_is in
       let first : Walk = walk shop bound_at below node st in
-      let deeper : Incumbent → Walk = λ s. lanes_walked shop left (lane_path root group (later ∷ fs)) group (drop made.next (lanes_of made)) s in
+      let deeper : Incumbent → Walk = λ s. lanes_walked shop left (lane_path root group (later ∷ fs)) group
+      (drop made.next (lanes_of made)) s in
       let rest : Incumbent → Walk = lanes_left shop root group below (later ∷ fs) in
       let uncut : find (λ machine. nat_le st.0 (bound_at shop node machine)) (numbers 1 shop.machines) ≡ None =
       ap (λ q. find (λ machine. nat_le st.0 (bound_at shop (child q group lane) machine)) (numbers 1 shop.machines))

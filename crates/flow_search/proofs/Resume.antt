@@ -91,7 +91,8 @@ left-next shop node front set count from j at low high e =
     let found = next-in (contains set) (λ k. not (has node k)) from (shop.jobs + 1 - from) j
     (λ k a b. at.left k (omega arith) (omega arith)) e in
     let len_is : from + (shop.jobs + 1 - from) - (j + 1) ≡ shop.jobs + 1 - (j + 1) = omega arith in
-    let free : not (has node j) ≡ true = sym (at.left j (omega (arith, found.1)) (omega (arith, found.2))) ∙ found.3 in (
+    let free : not (has node j) ≡ true = sym (at.left j (omega (arith, found.1)) (omega (arith, found.2)))
+    ∙ found.3 in (
       found.0 ∙ ap (λ n. j ∷ filter (λ k. not (has node k)) (range_with_len (j + 1) n)) len_is,
       record { from = omega (arith, found.1); to = omega (arith, found.2); fresh = not-has (has node j) free },
       found.1,
@@ -114,7 +115,8 @@ left-none shop node front set count from at low high e =
 abbrev Walk : Type 0
 Walk = List ℕ × Incumbent
 
-pub then-assoc : (a : Walk) (f g : Incumbent → Walk) → then_walk (then_walk a f) g ≡ then_walk a (λ st. then_walk (f st) g)
+pub then-assoc : (a : Walk) (f g : Incumbent → Walk) → then_walk (then_walk a f) g ≡ then_walk a
+    (λ st. then_walk (f st) g)
 then-assoc a f g = ap (λ t. (t, (g (f a.1).1).1)) (append_assoc a.0 (f a.1).0 (g (f a.1).1).0)
 
 resume-next : (shop : Shop) (root : List ℕ) (left job : ℕ) (here later : Frame) (fs : List Frame) (st : Incumbent) →

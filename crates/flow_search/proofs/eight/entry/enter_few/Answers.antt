@@ -80,4 +80,5 @@ pub returns-clause-at : goal.returns-clause-at
 returns-clause-at c list is =
     entered c.args.instance.now list c.args.front.now c.args.jobs.now _ _ c.loop-machine.machine is
     (omega (arith, c.loop-machine-test.false))
-    c.loop-machine.invariant.done c.in_lanes-group.ensures c.gone_from-frame.ensures.left c.gone_from-frame.ensures.gone refl
+    c.loop-machine.invariant.done c.in_lanes-group.ensures c.gone_from-frame.ensures.left
+    c.gone_from-frame.ensures.gone refl
