@@ -110,8 +110,8 @@ lanes-start shop budget group old here below tested next count within =
       count = count;
       tested = (tested, tt);
       text =
-          ap (λ t. old.tree.items ++ t) (append-nil (lanes_walked shop below root group (drop here.next
-          (lanes_of here)) st).0)
+          ap (λ t. old.tree.items ++ t) (append-nil (lanes_walked shop below root group
+          (drop here.next (lanes_of here)) st).0)
           ∙ ap (λ w. old.tree.items ++ w.0) all;
       state = ap (λ w. w.1) all;
       unscheduled = refl;

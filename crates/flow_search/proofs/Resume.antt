@@ -127,8 +127,8 @@ left-none shop node front set count from at low high e =
 abbrev Walk : Type 0
 Walk = List ℕ × Incumbent
 
-pub then-assoc : (a : Walk) (f g : Incumbent → Walk) → then_walk (then_walk a f) g ≡ then_walk a (λ st. then_walk
-    (f st) g)
+pub then-assoc : (a : Walk) (f g : Incumbent → Walk) → then_walk (then_walk a f) g ≡ then_walk a
+    (λ st. then_walk (f st) g)
 then-assoc a f g = ap (λ t. (t, (g (f a.1).1).1)) (append_assoc a.0 (f a.1).0 (g (f a.1).1).0)
 
 resume-next : (shop : Shop) (root : List ℕ) (left job : ℕ) (here later : Frame) (fs : List Frame) (st : Incumbent) →

@@ -10,6 +10,7 @@ ghost use Rattle.flow_search.specs.internal.Lanes.{lane_walked, frame_at};
 use crate::eight::{
     Group, LaneFrame, Lanes, enter_few, open_child, retest_children, test_children,
 };
+use crate::frame::Setting;
 use crate::subtree::{Search, Stop};
 use flow_core::{Front, Instance, JobSet};
 
@@ -36,29 +37,28 @@ fn jobs_of(instance: &Instance, set: &JobSet, left: usize) -> [u16; 8]
 /// Begins the walk of a lane's child, with so many jobs left below it: true for a plus, where its children follow, and
 /// false where its subtree is walked.
 fn visit_lane(
-    instance: &Instance,
-    budget: usize,
+    setting: &Setting,
     group: &Group,
     frame: &LaneFrame,
     lane: usize,
     below: usize,
     search: &mut Search,
 ) -> Result<bool, Stop>
-    requires tested { IsTested instance.now search.old.node.items group.now frame.now }
+    requires tested { IsTested setting.now.instance.now search.old.node.items group.now frame.now }
     requires value { frame.now.value ≡ search.old.value }
     requires left { IsLaneLeft frame.now lane }
-    requires count { length search.old.node.items + suc below ≡ instance.now.jobs }
-    ensures whole { result ≡ Ok false → Gave budget
-        (lane_walked instance.now below group.now lane search.old) search.old search.new }
+    requires count { length search.old.node.items + suc below ≡ setting.now.instance.now.jobs }
+    ensures whole { result ≡ Ok false → Gave setting.now.budget
+        (lane_walked setting.now.instance.now below group.now lane search.old) search.old search.new }
     ensures opens { result ≡ Ok true →
-        Opens instance.now budget (job_of group.now lane) search.old search.new }
+        Opens setting.now.instance.now setting.now.budget (job_of group.now lane) search.old search.new }
     ensures more { result ≡ Ok true → 1 ≤ below }
-    ensures over { result ≡ Err Stop.OverBudget →
-        budget < length search.old.tree.items + length (lane_walked instance.now below group.now lane search.old).0 }
+    ensures over { result ≡ Err Stop.OverBudget → setting.now.budget < length search.old.tree.items
+        + length (lane_walked setting.now.instance.now below group.now lane search.old).0 }
 {
-    let machines = instance.machines() as usize;
+    let machines = setting.instance.machines() as usize;
     if below == 0 {
-        search.write(budget, b'.')?;
+        search.write(setting.budget, b'.')?;
         search.node.push(group.jobs[lane])?;
         search.see(u64::from(frame.free[machines - 1][lane]))?;
         search.node.pop();
@@ -66,33 +66,33 @@ fn visit_lane(
     }
     let uncut = frame.uncut[lane];
     if uncut < machines as u32 {
-        search.write(budget, b'A' + uncut as u8)?;
+        search.write(setting.budget, b'A' + uncut as u8)?;
         return Ok(false);
     }
-    search.write(budget, b'+')?;
+    search.write(setting.budget, b'+')?;
     Ok(true)
 }
 
-/// Walks the subtrees of the children of the first frame's node, in increasing order of their jobs. There is a frame
-/// for each job left.
+/// Walks the subtrees of the children of the first frame's node, in increasing order of their jobs, with a frame for
+/// each job left.
 fn walk_lanes(
-    instance: &Instance,
-    budget: usize,
+    setting: &Setting,
     group: &Group,
     frames: &mut [LaneFrame],
     search: &mut Search,
 ) -> Result<(), Stop>
-    requires tested { IsTested instance.now search.old.node.items group.now (frame_at frames.old 0) }
+    requires tested { IsTested setting.now.instance.now search.old.node.items group.now (frame_at frames.old 0) }
     requires next { (frame_at frames.old 0).next ≡ 0 }
     requires some { 1 ≤ length frames.old }
     requires few { length frames.old ≤ 8 }
-    requires count { length search.old.node.items + length frames.old ≡ instance.now.jobs }
-    requires within { length search.old.tree.items ≤ budget }
-    ensures done { OnOk result
-        (Gave budget (children_walked instance.now (length frames.old - 1) search.old) search.old search.new) }
-    ensures over { result ≡ Err Stop.OverBudget → budget
-        < length search.old.tree.items + length (children_walked instance.now (length frames.old - 1) search.old).0 }
+    requires count { length search.old.node.items + length frames.old ≡ setting.now.instance.now.jobs }
+    requires within { length search.old.tree.items ≤ setting.now.budget }
+    ensures done { OnOk result (Gave setting.now.budget
+        (children_walked setting.now.instance.now (length frames.old - 1) search.old) search.old search.new) }
+    ensures over { result ≡ Err Stop.OverBudget → setting.now.budget < length search.old.tree.items
+        + length (children_walked setting.now.instance.now (length frames.old - 1) search.old).0 }
 {
+    let instance = setting.instance;
     let left = frames.len();
     let mut depth = 0;
     'walk: loop {
@@ -109,15 +109,7 @@ fn walk_lanes(
         let lane = frame.lanes[place] as usize;
         retest_children(instance, group, frame, search.value);
         frame.next = place + 1;
-        if visit_lane(
-            instance,
-            budget,
-            group,
-            frame,
-            lane,
-            left - 1 - depth,
-            search,
-        )? {
+        if visit_lane(setting, group, frame, lane, left - 1 - depth, search)? {
             let (above, below) = frames.split_at_mut(depth + 1);
             let made = &mut below[0];
             open_child(instance, group, &above[depth], made, place);
@@ -131,22 +123,22 @@ fn walk_lanes(
 /// Walks the subtrees of the children of the node where the search stands, with one to eight jobs left. What the memory
 /// for lanes holds before does not matter.
 pub fn walk_few(
-    instance: &Instance,
-    budget: usize,
+    setting: &Setting,
     front: &Front,
     count: u16,
     lanes: &mut Lanes,
     search: &mut Search,
 ) -> Result<(), Stop>
-    requires at { IsAt instance.now search.old.node.items front.now search.old.unscheduled count }
+    requires at { IsAt setting.now.instance.now search.old.node.items front.now search.old.unscheduled count }
     requires from { 1 ≤ count }
     requires to { count ≤ 8 }
-    requires within { length search.old.tree.items ≤ budget }
-    ensures done { OnOk result
-        (Gave budget (children_walked instance.now (count - 1) search.old) search.old search.new) }
-    ensures over { result ≡ Err Stop.OverBudget →
-        budget < length search.old.tree.items + length (children_walked instance.now (count - 1) search.old).0 }
+    requires within { length search.old.tree.items ≤ setting.now.budget }
+    ensures done { OnOk result (Gave setting.now.budget
+        (children_walked setting.now.instance.now (count - 1) search.old) search.old search.new) }
+    ensures over { result ≡ Err Stop.OverBudget → setting.now.budget
+        < length search.old.tree.items + length (children_walked setting.now.instance.now (count - 1) search.old).0 }
 {
+    let instance = setting.instance;
     let left = count as usize;
     let jobs = jobs_of(instance, &search.unscheduled, left);
     let group = &mut lanes.group;
@@ -154,5 +146,5 @@ pub fn walk_few(
     let first = &mut frames[0];
     enter_few(instance, front, &jobs[..left], group, first);
     test_children(instance, group, first, search.value);
-    walk_lanes(instance, budget, group, &mut frames[..left], search)
+    walk_lanes(setting, group, &mut frames[..left], search)
 }

@@ -184,14 +184,7 @@ fn walk_small(
     search.enter(job)?;
     search.write(setting.budget, b'+')?;
     front_push(setting.instance, &mut front, job);
-    walk_few(
-        setting.instance,
-        setting.budget,
-        &front,
-        below,
-        lanes,
-        search,
-    )?;
+    walk_few(setting, &front, below, lanes, search)?;
     search.leave(job);
     Ok(())
 }
@@ -311,7 +304,7 @@ pub fn explore(
     }
     search.write(setting.budget, b'+')?;
     if count <= 8 {
-        return walk_few(instance, setting.budget, front, count, lanes, search);
+        return walk_few(setting, front, count, lanes, search);
     }
     let here = Frame::new(setting, *front, rest, &search.unscheduled);
     walk_children(setting, here, count - 1, lanes, search, stack)

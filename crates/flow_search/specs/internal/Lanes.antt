@@ -111,8 +111,7 @@ abbrev pub lanes_walked : Shop → ℕ → List ℕ → Group → List ℕ → �
 lanes_walked shop left list group lanes incumbent =
     walk_each (λ lane. walk shop bound_at left (child list group lane)) lanes incumbent
 
--- the node that a stack of frames, the deepest first, leads to: each frame's child that is walked now is in the lane at
--- the place before the next
+-- the node that a stack of frames, the deepest first, leads to: each frame's child stands at the place before its next
 abbrev pub lane_path : List ℕ → Group → List LaneFrame → List ℕ
 lane_path root group [] = root
 lane_path root group (f ∷ fs) = child (lane_path root group fs) group (slice_index f.lanes (f.next - 1))

@@ -14,12 +14,14 @@ use Rattle.flow_search.proofs.few.visit_lane.Goals.{After-machines-machines}
 
 -- the test of the child, where it leaves a job
 tested : (c : After-machines-machines) → 1 ≤ c.args.below →
-    IsUncutCount c.args.instance.now (child c.args.search.now.node.items c.args.group.now c.args.lane)
-    c.args.search.now.value c.args.instance.now.machines (slice_index c.args.frame.now.uncut c.args.lane)
+    IsUncutCount c.args.setting.now.instance.now (child c.args.search.now.node.items c.args.group.now c.args.lane)
+    c.args.search.now.value c.args.setting.now.instance.now.machines (slice_index c.args.frame.now.uncut c.args.lane)
 tested c some =
-    subst (λ value. IsUncutCount c.args.instance.now (child c.args.search.now.node.items c.args.group.now c.args.lane)
-    value c.args.instance.now.machines (slice_index c.args.frame.now.uncut c.args.lane)) c.requires.value
-    (uncut-here c.args.instance.now c.args.search.now.node.items c.args.group.now c.args.frame.now c.args.lane
+    subst (λ value. IsUncutCount c.args.setting.now.instance.now
+    (child c.args.search.now.node.items c.args.group.now c.args.lane)
+    value c.args.setting.now.instance.now.machines (slice_index c.args.frame.now.uncut c.args.lane)) c.requires.value
+    (uncut-here c.args.setting.now.instance.now c.args.search.now.node.items c.args.group.now c.args.frame.now
+    c.args.lane
     c.requires.tested c.requires.left (omega (arith, some, c.requires.count)))
 
 pub returns-in_err-write-2-clause-over : goal.returns-in_err-write-2-clause-over
@@ -32,7 +34,8 @@ returns-in_err-write-2-clause-over c e =
     omega (
       arith,
       c.in_err-write-2.ensures.over same,
-      walk-some c.args.instance.now c.args.below (child c.args.search.now.node.items c.args.group.now c.args.lane)
+      walk-some c.args.setting.now.instance.now c.args.below
+          (child c.args.search.now.node.items c.args.group.now c.args.lane)
           (incumbent_of c.args.search.now),
     )
 
@@ -46,14 +49,16 @@ returns-in_err-write-3-clause-over c e =
     omega (
       arith,
       c.in_err-write-3.ensures.over same,
-      walk-some c.args.instance.now c.args.below (child c.args.search.now.node.items c.args.group.now c.args.lane)
+      walk-some c.args.setting.now.instance.now c.args.below
+          (child c.args.search.now.node.items c.args.group.now c.args.lane)
           (incumbent_of c.args.search.now),
     )
 
 pub returns-then-uncut-machines-clause-whole : goal.returns-then-uncut-machines-clause-whole
 returns-then-uncut-machines-clause-whole c e =
     let some : 1 ≤ c.args.below = omega (arith, c.if-below-eq0.false) in
-    lane-cut c.args.instance.now c.args.budget c.args.below (slice_index c.args.frame.now.uncut c.args.lane)
+    lane-cut c.args.setting.now.instance.now c.args.setting.now.budget c.args.below
+    (slice_index c.args.frame.now.uncut c.args.lane)
     c.args.group.now c.args.lane c.args.search.now c.write-then-uncut-machines.new.self some
     (tested (goal.at.returns-then-uncut-machines-clause-whole c).After-machines-machines some)
     (omega (arith, c.if-uncut-machines.true, c.machines-machines.ensures.value)) c.in_ok-write-2.ensures.done
@@ -62,12 +67,12 @@ pub returns-clause-opens : goal.returns-clause-opens
 returns-clause-opens c e =
     let some : 1 ≤ c.args.below = omega (arith, c.if-below-eq0.false) in
     let uncut : ℕ = slice_index c.args.frame.now.uncut c.args.lane in
-    let high : c.args.instance.now.machines ≤ uncut =
+    let high : c.args.setting.now.instance.now.machines ≤ uncut =
     omega (arith, c.if-uncut-machines.false, c.machines-machines.ensures.value) in
     record {
       wrote = c.in_ok-write-3.ensures.done;
       uncut =
-          count-found c.args.instance.now (child c.args.search.now.node.items c.args.group.now c.args.lane)
+          count-found c.args.setting.now.instance.now (child c.args.search.now.node.items c.args.group.now c.args.lane)
           c.args.search.now.value uncut (tested (goal.at.returns-clause-opens c).After-machines-machines some)
-          ∙ ap (λ b. cond b (Some (uncut + 1)) None) (le-ltb uncut c.args.instance.now.machines high);
+          ∙ ap (λ b. cond b (Some (uncut + 1)) None) (le-ltb uncut c.args.setting.now.instance.now.machines high);
     }

@@ -7,15 +7,16 @@ use Rattle.flow_search.proofs.few.walk_few.Goals.{After-jobs_of-jobs, After-test
 
 pub jobs_of-jobs-requires-clause-count : goal.jobs_of-jobs-requires-clause-count
 jobs_of-jobs-requires-clause-count c =
-    count-is c.args.instance.now c.args.search.now.node.items c.args.front.now c.args.search.now.unscheduled
+    count-is c.args.setting.now.instance.now c.args.search.now.node.items c.args.front.now c.args.search.now.unscheduled
     c.args.count c.requires.at
 
 -- the jobs that are left
 few : (c : After-jobs_of-jobs) →
-    IsFew c.args.instance.now c.args.search.now.node.items c.args.front.now (take c.args.count c.jobs_of-jobs.result)
+    IsFew c.args.setting.now.instance.now c.args.search.now.node.items c.args.front.now
+    (take c.args.count c.jobs_of-jobs.result)
 few c =
-    few-at c.args.instance.now c.args.search.now.node.items c.args.front.now c.args.search.now.unscheduled
-    c.args.count
+    few-at c.args.setting.now.instance.now c.args.search.now.node.items c.args.front.now
+    c.args.search.now.unscheduled c.args.count
     c.jobs_of-jobs.result c.requires.at c.requires.to c.jobs_of-jobs.ensures
 
 pub enter_few-requires : goal.enter_few-requires
@@ -33,13 +34,13 @@ first : (c : After-test_children) →
     (set c.args.lanes.now.frames 0 c.test_children.new.frame)) 0 ≡ c.test_children.new.frame
 first c =
     let size : length c.args.lanes.now.frames ≡ 8 = search rules in
-    get_or-take c.args.count (set c.args.lanes.now.frames 0 c.test_children.new.frame) 0 _ (omega
-    (arith, c.requires.from))
+    get_or-take c.args.count (set c.args.lanes.now.frames 0 c.test_children.new.frame) 0 _
+    (omega (arith, c.requires.from))
     ∙ get_or-set_same c.args.lanes.now.frames 0 c.test_children.new.frame _ (omega (arith, size))
 
 pub walk_lanes-requires-clause-tested : goal.walk_lanes-requires-clause-tested
 walk_lanes-requires-clause-tested c =
-    subst (IsTested c.args.instance.now c.args.search.now.node.items c.enter_few.new.group)
+    subst (IsTested c.args.setting.now.instance.now c.args.search.now.node.items c.enter_few.new.group)
     (sym (first (goal.at.walk_lanes-requires-clause-tested c).After-test_children))
     (c.test_children.ensures.tested c.args.search.now.node.items
     (c.enter_few.ensures.at c.args.search.now.node.items

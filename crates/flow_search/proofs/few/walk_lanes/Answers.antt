@@ -43,10 +43,12 @@ walk-init c =
     record {
       deep = c.requires.some;
       size = refl;
-      at = subst (λ n. IsInLanes c.args.instance.now c.args.budget c.args.group.now c.args.search.now.node.items
-          (children_walked c.args.instance.now (length c.args.frames.now - 1) c.args.search.now) c.args.search.now
+      at = subst (λ n. IsInLanes c.args.setting.now.instance.now c.args.setting.now.budget c.args.group.now
+          c.args.search.now.node.items
+          (children_walked c.args.setting.now.instance.now (length c.args.frames.now - 1) c.args.search.now)
+          c.args.search.now
           (frame_at c.args.frames.now 0) n [] c.args.search.now) below
-          (lanes-start c.args.instance.now c.args.budget c.args.group.now c.args.search.now
+          (lanes-start c.args.setting.now.instance.now c.args.setting.now.budget c.args.group.now c.args.search.now
           (frame_at c.args.frames.now 0) (length c.args.frames.now - 1) c.requires.tested c.requires.next
           (omega (arith, c.requires.some, c.requires.count)) c.requires.within);
     }
@@ -55,7 +57,7 @@ walk-init c =
 empty : (c : Then-place-left) →
     drop (frame_at c.walk.frames c.walk.depth).next (lanes_of (frame_at c.walk.frames c.walk.depth)) ≡ []
 empty c =
-    let count = lanes-count c.args.instance.now _ c.args.group.now (frame_at c.walk.frames c.walk.depth)
+    let count = lanes-count c.args.setting.now.instance.now _ c.args.group.now (frame_at c.walk.frames c.walk.depth)
     c.walk.invariant.at.tested.0.opened.at in
     lane-none (frame_at c.walk.frames c.walk.depth) (omega (
       arith,
@@ -73,7 +75,7 @@ returns-then-depth-eq0-clause-done c =
 
 pub walk-preserved-then-place-left : goal.walk-preserved-then-place-left
 walk-preserved-then-place-left c =
-    let shop : Shop = c.args.instance.now in
+    let shop : Shop = c.args.setting.now.instance.now in
     let root : List ℕ = c.args.search.now.node.items in
     let depth : ℕ = c.walk.depth in
     let f : LaneFrame = frame_at c.walk.frames (depth - 1) in
@@ -94,8 +96,8 @@ walk-preserved-then-place-left c =
     } in
     let moved : IsMoved (lane_path root c.args.group.now gs) c.walk.search new = record {
       node = c.pop.ensures.rest ∙ take-last (vec_len c.walk.search.node) c.walk.search.node.items
-          (lane_path root c.args.group.now gs) (job_of c.args.group.now (slice_index f.lanes
-          (f.next - 1))) node c.walk.search.node.ok.0;
+          (lane_path root c.args.group.now gs) (job_of c.args.group.now (slice_index f.lanes (f.next - 1))) node
+          c.walk.search.node.ok.0;
       incumbent = refl;
       tree = refl;
       unscheduled = refl;
@@ -105,7 +107,7 @@ walk-preserved-then-place-left c =
     record {
       deep = omega (arith, c.walk.invariant.deep);
       size = c.walk.invariant.size;
-      at = subst (λ n. IsInLanes shop c.args.budget c.args.group.now root
+      at = subst (λ n. IsInLanes shop c.args.setting.now.budget c.args.group.now root
           (children_walked shop (length c.args.frames.now - 1) c.args.search.now) c.args.search.now f n gs new) below
           (lanes-up c.walk.invariant.at f gs new
           (empty (goal.at.walk-preserved-then-place-left c).Then-place-left) top moved);
@@ -126,7 +128,7 @@ node_of c = lane_path c.args.search.now.node.items c.args.group.now (reverse (ta
 -- what is known of it
 record IsLater (c : After-retest_children) : Type 0 where
   pub step : IsStep (frame_at c.walk.frames c.walk.depth) (later c) (lane_of (frame_at c.walk.frames c.walk.depth))
-  pub tested : IsTested c.args.instance.now (node_of c) c.args.group.now (later c)
+  pub tested : IsTested c.args.setting.now.instance.now (node_of c) c.args.group.now (later c)
   pub left : IsLaneLeft (later c) (lane_of (frame_at c.walk.frames c.walk.depth))
   pub low : (frame_at c.walk.frames c.walk.depth).next < length (lanes_of (later c))
 
@@ -134,7 +136,7 @@ is-later : (c : After-retest_children) → IsLater c
 is-later c =
     let at = c.walk.invariant.at.tested.0.opened.at in
     let frame = frame_at c.walk.frames c.walk.depth in
-    let count = lanes-count c.args.instance.now _ c.args.group.now frame at in
+    let count = lanes-count c.args.setting.now.instance.now _ c.args.group.now frame at in
     let low : frame.next < length (lanes_of frame) = omega (
       arith,
       count,
@@ -143,7 +145,7 @@ is-later c =
       c.walk.invariant.size,
       c.if-place-left.false,
     ) in
-    let is = lane-next c.args.instance.now _ c.args.group.now frame at low in
+    let is = lane-next c.args.setting.now.instance.now _ c.args.group.now frame at low in
     let back : frame.next + 1 - 1 ≡ frame.next = omega arith in
     record {
       step = record {
@@ -153,7 +155,7 @@ is-later c =
         place = ap (λ lanes. slice_index lanes (frame.next + 1 - 1)) c.retest_children.ensures.lanes
             ∙ ap (slice_index frame.lanes) back;
       };
-      tested = tested-moved c.args.instance.now (node_of c) c.args.group.now c.retest_children.new.frame
+      tested = tested-moved c.args.setting.now.instance.now (node_of c) c.args.group.now c.retest_children.new.frame
           (frame.next + 1) (c.retest_children.ensures.tested (node_of c) c.walk.invariant.at.tested.0);
       left = record {
         within = is.1.within;
@@ -166,7 +168,8 @@ is-later c =
 pub visit_lane-requires-clause-tested : goal.visit_lane-requires-clause-tested
 visit_lane-requires-clause-tested c =
     let at = (goal.at.visit_lane-requires-clause-tested c).After-retest_children in
-    subst (λ list. IsTested c.args.instance.now list c.args.group.now (later at)) (sym c.walk.invariant.at.node)
+    subst (λ list. IsTested c.args.setting.now.instance.now list c.args.group.now (later at))
+    (sym c.walk.invariant.at.node)
     (is-later at).tested
 
 pub visit_lane-requires-clause-left : goal.visit_lane-requires-clause-left
@@ -197,9 +200,8 @@ pub open_child-requires-clause-at : goal.open_child-requires-clause-at
 open_child-requires-clause-at c =
     let at = (goal.at.open_child-requires-clause-at c).After-retest_children in (
       node_of at,
-      subst (IsOpened c.args.instance.now (node_of at) c.args.group.now)
-          (sym (parent (goal.at.open_child-requires-clause-at c).After-split_at_mut-above))
-          (is-later at).tested.opened,
+      subst (IsOpened c.args.setting.now.instance.now (node_of at) c.args.group.now)
+          (sym (parent (goal.at.open_child-requires-clause-at c).After-split_at_mut-above)) (is-later at).tested.opened,
     )
 
 pub open_child-requires-clause-left : goal.open_child-requires-clause-left
@@ -210,21 +212,22 @@ open_child-requires-clause-left c =
 
 -- the node of the child
 child-at : (c : After-open_child) (list : List ℕ) →
-    IsTested c.args.instance.now list c.args.group.now
+    IsTested c.args.setting.now.instance.now list c.args.group.now
     (moved-lane c.retest_children.new.frame ((frame_at c.walk.frames c.walk.depth).next + 1)) →
-    IsFrameOf c.args.instance.now (child list c.args.group.now (lane_of (frame_at c.walk.frames c.walk.depth)))
+    IsFrameOf c.args.setting.now.instance.now (child list c.args.group.now
+    (lane_of (frame_at c.walk.frames c.walk.depth)))
     c.args.group.now c.open_child.new.made
 child-at c list tested =
     let frame = frame_at c.walk.frames c.walk.depth in
     let parent = stack-split c.walk.frames c.split_at_mut-above.result.0.now c.walk.depth
     (moved-lane c.retest_children.new.frame (frame.next + 1)) c.walk.invariant.deep
     c.split_at_mut-above.ensures.front in
-    subst (λ lane. IsFrameOf c.args.instance.now (child list c.args.group.now lane) c.args.group.now
+    subst (λ lane. IsFrameOf c.args.setting.now.instance.now (child list c.args.group.now lane) c.args.group.now
     c.open_child.new.made)
     (ap (λ f. slice_index f.lanes frame.next) parent
     ∙ ap (λ lanes. slice_index lanes frame.next) c.retest_children.ensures.lanes)
     (c.open_child.ensures.at list
-    (subst (IsOpened c.args.instance.now list c.args.group.now) (sym parent) tested.opened))
+    (subst (IsOpened c.args.setting.now.instance.now list c.args.group.now) (sym parent) tested.opened))
 
 pub test_children-requires : goal.test_children-requires
 test_children-requires c =
@@ -235,8 +238,8 @@ test_children-requires c =
 
 -- the plus that was written
 opens : (c : Then-branch) →
-    Opens c.args.instance.now c.args.budget (job_of c.args.group.now (lane_of
-    (frame_at c.walk.frames c.walk.depth))) c.walk.search
+    Opens c.args.setting.now.instance.now c.args.setting.now.budget
+    (job_of c.args.group.now (lane_of (frame_at c.walk.frames c.walk.depth))) c.walk.search
     c.visit_lane.new.search × (1 ≤ length c.args.frames.now - 1 - c.walk.depth)
 opens c =
     let put : Bool → Result Bool Stop = λ b. Ok b in
@@ -250,7 +253,7 @@ walk-smaller-then-branch c =
 
 pub walk-preserved-then-branch : goal.walk-preserved-then-branch
 walk-preserved-then-branch c =
-    let shop : Shop = c.args.instance.now in
+    let shop : Shop = c.args.setting.now.instance.now in
     let root : List ℕ = c.args.search.now.node.items in
     let depth : ℕ = c.walk.depth in
     let at = (goal.at.walk-preserved-then-branch c).After-retest_children in
@@ -282,16 +285,16 @@ walk-preserved-then-branch c =
       best = c.visit_lane.new.search.best;
       tree = c.visit_lane.new.search.tree;
     } in
-    let moved : IsMoved (c.visit_lane.new.search.node.items ++ job_of c.args.group.now (lane_of
-    (frame_at c.walk.frames c.walk.depth)) ∷ [])
+    let moved : IsMoved (c.visit_lane.new.search.node.items ++ job_of c.args.group.now
+    (lane_of (frame_at c.walk.frames c.walk.depth)) ∷ [])
     c.visit_lane.new.search new =
     record { node = c.in_ok-push.ensures.items; incumbent = refl; tree = refl; unscheduled = refl } in
-    let tested = c.test_children.ensures.tested (child (node_of at) c.args.group.now (lane_of
-    (frame_at c.walk.frames c.walk.depth)))
+    let tested = c.test_children.ensures.tested (child (node_of at) c.args.group.now
+    (lane_of (frame_at c.walk.frames c.walk.depth)))
     (child-at (goal.at.walk-preserved-then-branch c).After-open_child (node_of at) is.tested) in
     let less : length c.args.frames.now - 1 - depth - 1 ≡ length c.args.frames.now - 1 - (depth + 1) = omega arith in
     let walking : LaneFrame → ℕ → List LaneFrame → Type 0 =
-    λ frame n frames. IsInLanes shop c.args.budget c.args.group.now root
+    λ frame n frames. IsInLanes shop c.args.setting.now.budget c.args.group.now root
     (children_walked shop (length c.args.frames.now - 1) c.args.search.now) c.args.search.now frame n frames new in
     record {
       deep = omega (arith, sizes, plus.1);
@@ -300,24 +303,25 @@ walk-preserved-then-branch c =
           (reverse (take (depth + 1) (above ++ set below 0 made)))) (sym down.0)
           (subst (λ frames. walking made (length c.args.frames.now - 1 - (depth + 1)) frames) (sym down.1)
           (subst (λ n. walking made n (later at ∷ reverse (take depth c.walk.frames))) less
-          (lanes-down c.walk.invariant.at (lane_of (frame_at c.walk.frames c.walk.depth))
-          (later at) made c.visit_lane.new.search new is.step is.tested
+          (lanes-down c.walk.invariant.at (lane_of (frame_at c.walk.frames c.walk.depth)) (later at) made
+          c.visit_lane.new.search new is.step is.tested
           plus.1 plus.0 moved tested (c.test_children.ensures.next ∙ c.open_child.ensures.next))));
     }
 
 -- the child's subtree that was walked
 whole : (c : Else-branch) →
-    Gave c.args.budget (lane_walked c.args.instance.now (length c.args.frames.now - 1 - c.walk.depth) c.args.group.now
+    Gave c.args.setting.now.budget (lane_walked c.args.setting.now.instance.now
+    (length c.args.frames.now - 1 - c.walk.depth) c.args.group.now
     (lane_of (frame_at c.walk.frames c.walk.depth)) c.walk.search) c.walk.search c.visit_lane.new.search
 whole c = let put : Bool → Result Bool Stop = λ b. Ok b in c.in_ok-visit_lane.ensures.whole (ap put c.if-branch.false)
 
 pub walk-smaller : goal.walk-smaller
 walk-smaller c =
     let g = whole c in
-    let text : List ℕ = (lane_walked c.args.instance.now (length c.args.frames.now - 1 - c.walk.depth)
+    let text : List ℕ = (lane_walked c.args.setting.now.instance.now (length c.args.frames.now - 1 - c.walk.depth)
     c.args.group.now (lane_of (frame_at c.walk.frames c.walk.depth)) c.walk.search).0 in
     let some : 1 ≤ length text =
-    walk-some c.args.instance.now (length c.args.frames.now - 1 - c.walk.depth)
+    walk-some c.args.setting.now.instance.now (length c.args.frames.now - 1 - c.walk.depth)
     (child c.walk.search.node.items c.args.group.now (lane_of (frame_at c.walk.frames c.walk.depth)))
     (incumbent_of c.walk.search) in
     let tree : length c.visit_lane.new.search.tree.items ≡ length (c.walk.search.tree.items ++ text) =
@@ -333,17 +337,20 @@ walk-preserved c =
     record {
       deep = omega (arith, size, c.walk.invariant.deep);
       size = size ∙ c.walk.invariant.size;
-      at = subst (λ frame. IsInLanes c.args.instance.now c.args.budget c.args.group.now c.args.search.now.node.items
-          (children_walked c.args.instance.now (length c.args.frames.now - 1) c.args.search.now) c.args.search.now
+      at = subst (λ frame. IsInLanes c.args.setting.now.instance.now c.args.setting.now.budget c.args.group.now
+          c.args.search.now.node.items
+          (children_walked c.args.setting.now.instance.now (length c.args.frames.now - 1) c.args.search.now)
+          c.args.search.now
           frame (length c.args.frames.now - 1 - c.walk.depth)
           (reverse (take c.walk.depth (set c.walk.frames c.walk.depth (later at)))) c.visit_lane.new.search)
           (sym same.0)
-          (subst (λ frames. IsInLanes c.args.instance.now c.args.budget c.args.group.now
+          (subst (λ frames. IsInLanes c.args.setting.now.instance.now c.args.setting.now.budget c.args.group.now
           c.args.search.now.node.items
-          (children_walked c.args.instance.now (length c.args.frames.now - 1) c.args.search.now) c.args.search.now
+          (children_walked c.args.setting.now.instance.now (length c.args.frames.now - 1) c.args.search.now)
+          c.args.search.now
           (later at) (length c.args.frames.now - 1 - c.walk.depth) frames c.visit_lane.new.search) (sym same.1)
-          (lanes-walked c.walk.invariant.at (lane_of (frame_at c.walk.frames c.walk.depth))
-          (later at) c.visit_lane.new.search is.step is.tested
+          (lanes-walked c.walk.invariant.at (lane_of (frame_at c.walk.frames c.walk.depth)) (later at)
+          c.visit_lane.new.search is.step is.tested
           (whole c)));
     }
 

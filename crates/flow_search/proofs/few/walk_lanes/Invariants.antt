@@ -7,10 +7,11 @@ abbrev pub invariant-walk : goal.invariant-walk
 invariant-walk l = record {
   deep : l.depth < length l.frames;
   size : length l.frames ≡ length l.fn.frames;
-  at : IsInLanes l.instance l.budget l.group l.fn.search.node.items
-      (children_walked l.instance (length l.fn.frames - 1) l.fn.search) l.fn.search (frame_at l.frames l.depth)
+  at : IsInLanes l.setting.instance.now l.setting.budget l.group l.fn.search.node.items
+      (children_walked l.setting.instance.now (length l.fn.frames - 1) l.fn.search) l.fn.search
+      (frame_at l.frames l.depth)
       (length l.fn.frames - 1 - l.depth) (reverse (take l.depth l.frames)) l.search;
 }
 
 abbrev pub decreases-walk : goal.decreases-walk
-decreases-walk l = 2 * (l.budget - length l.search.tree.items) + l.depth
+decreases-walk l = 2 * (l.setting.budget - length l.search.tree.items) + l.depth
