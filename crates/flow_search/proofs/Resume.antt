@@ -92,6 +92,10 @@ none-in p q a (suc len) same e =
           ∙ ap (λ b. cond b (Some a) (find p rest)) fail)
     ]
 
+not-has : (b : Bool) → not b ≡ true → b ≡ false
+not-has true e = absurd (cc)
+not-has false e = refl
+
 -- the jobs that a node leaves, where the next one is found in the set of them
 
 pub left-next : (shop : Shop) (node front : List ℕ) (set : List Bool) (count from j : ℕ) →
@@ -110,10 +114,6 @@ left-next shop node front set count from j at low high e =
       found.1,
       found.3,
     )
-  where
-    not-has : (b : Bool) → not b ≡ true → b ≡ false
-    not-has true e = absurd (cc)
-    not-has false e = refl
 
 pub left-none : (shop : Shop) (node front : List ℕ) (set : List Bool) (count from : ℕ) →
     IsAt shop node front set count → 1 ≤ from →
@@ -177,10 +177,6 @@ pub kid-of : (shop : Shop) (node front : List ℕ) (set : List Bool) (count job 
     contains set job ≡ true → IsChild shop.jobs node job
 kid-of shop node front set count job at low high there =
     record { from = low; to = high; fresh = not-has (has node job) (sym (at.left job low high) ∙ there) }
-  where
-    not-has : (b : Bool) → not b ≡ true → b ≡ false
-    not-has true e = absurd (cc)
-    not-has false e = refl
 
 -- the frame of a node, from its rest
 pub frame-of : (shop : Shop) (node front : List ℕ) (set : List Bool) (left : ℕ) (frame : Frame) →

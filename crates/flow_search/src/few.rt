@@ -120,8 +120,8 @@ fn walk_lanes(
     }
 }
 
-/// Walks the subtrees of the children of the node where the search stands, with one to eight jobs left. What the memory
-/// for lanes holds before does not matter.
+/// Walks the subtrees of the children of the node where the search stands, with one to eight jobs left. What the lanes
+/// hold before does not matter.
 pub fn walk_few(
     setting: &Setting,
     front: &Front,

@@ -274,8 +274,8 @@ fn walk_children(
     }
 }
 
-/// Walks the subtree of the node where the search stands, with so many jobs left. What the memory for lanes
-/// holds before does not matter.
+/// Walks the subtree of the node where the search stands, with so many jobs left. What the lanes hold before does not
+/// matter.
 pub fn explore(
     setting: &Setting,
     front: &Front,

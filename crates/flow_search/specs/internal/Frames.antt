@@ -28,7 +28,8 @@ pub record IsChild (n : ℕ) (node : List ℕ) (job : ℕ) : Type 0 where
   pub to : job ≤ n
   pub fresh : has node job ≡ false
 
--- the node that a stack of frames, the deepest first, leads to: each frame's child just walked is that before its next
+-- the node that a stack of frames, the deepest first, leads to: from each frame's node to the child of the job before
+-- its next
 abbrev pub path : List ℕ → List Frame → List ℕ
 path root [] = root
 path root (f ∷ fs) = path root fs ++ (f.next - 1) ∷ []

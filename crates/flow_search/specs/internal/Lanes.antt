@@ -83,7 +83,7 @@ pub record IsFrameOf (shop : Shop) (list : List ℕ) (group : Group) (frame : La
   pub lanes : (place : ℕ) → place < length (lanes_of frame) →
       slice_index frame.lanes place ≡ slice_index (lanes_of frame) place
 
--- and each child's front is known too
+-- the node of a frame, where each child's front is known too
 pub record IsOpened (shop : Shop) (list : List ℕ) (group : Group) (frame : LaneFrame) : Type 0 where
   pub at : IsFrameOf shop list group frame
   pub free : (place lane : ℕ) → IsLaneLeft frame lane → place < shop.machines →
@@ -111,7 +111,8 @@ abbrev pub lanes_walked : Shop → ℕ → List ℕ → Group → List ℕ → �
 lanes_walked shop left list group lanes incumbent =
     walk_each (λ lane. walk shop bound_at left (child list group lane)) lanes incumbent
 
--- the node that a stack of frames, the deepest first, leads to: each frame's child stands at the place before its next
+-- the node that a stack of frames, the deepest first, leads to: from each frame's node to the child in the lane before
+-- its next
 abbrev pub lane_path : List ℕ → Group → List LaneFrame → List ℕ
 lane_path root group [] = root
 lane_path root group (f ∷ fs) = child (lane_path root group fs) group (slice_index f.lanes (f.next - 1))
