@@ -1,8 +1,10 @@
 //! The work of `flowshop` in plain safe Rust, with no proofs and no other crates: a program to measure beside.
 //!
-//! It is written apart from the proved crates, from the rules of docs/formats.md, and writes the same texts. Each bound is computed anew
-//! at each node, each insertion's makespan from heads and tails, and a certificate is read in one pass with a stack. Of workers, prefix
-//! `i` belongs to worker `i mod k`. Build it with `rustc -O bench/plain.rs`.
+//! It is written apart from the proved crates, from the rules of docs/formats.md, and writes the same texts. Each
+//! bound is computed anew at each node, each insertion's makespan from heads and tails, and a certificate is read in
+//! one pass with a stack. Of workers, prefix `i` belongs to worker `i mod k`.
+//!
+//! Build it with `rustc -O bench/plain.rs`.
 
 use std::cmp::Reverse;
 use std::convert::TryFrom;
