@@ -18,7 +18,7 @@ use Rattle.flow_search.specs.declared.subtree.Search.{Search}
 use Rattle.flow_search.specs.declared.eight.group.Group.{Group}
 use Rattle.flow_search.specs.declared.eight.group.LaneFrame.{LaneFrame}
 use Rattle.flow_search.proofs.Walk.{Incumbent, answer_of}
-use Rattle.flow_search.proofs.Resume.{then-assoc, reverse-push}
+use Rattle.flow_search.proofs.Resume.{then-assoc, longer-part, reverse-push}
 use Rattle.flow_search.proofs.LanesOrder.{lanes-are-jobs, lane-left}
 
 abbrev Walk : Type 0
@@ -159,21 +159,12 @@ module _ {shop : Shop} {budget : ℕ} {group : Group} {root : List ℕ} {whole :
       let st : Incumbent = incumbent_of now in
       let first : Walk = walk shop bound_at below (child (lane_path root group fs) group lane) st in
       let rest : Walk = lanes_left shop root group below (later ∷ fs) first.1 in
-      let first_is : length (lane_walked shop below group lane now).0 ≡ length first.0 =
-      ap (λ q. length (walk shop bound_at below (child q group lane) st).0) i.node in
+      let first_is : lane_walked shop below group lane now ≡ first =
+      ap (λ q. walk shop bound_at below (child q group lane) st) i.node in
       let all : now.tree.items ++ (first.0 ++ rest.0) ≡ old.tree.items ++ whole.0 =
       ap (λ w. now.tree.items ++ w.0) (sym (left-next shop root group below lane here later fs st step)) ∙ i.text in
-      let sizes : length (now.tree.items ++ (first.0 ++ rest.0)) ≡ length
-      (old.tree.items ++ whole.0) = ap length all in
-      omega (
-        arith,
-        over,
-        first_is,
-        sizes,
-        length-append now.tree.items (first.0 ++ rest.0),
-        length-append first.0 rest.0,
-        length-append old.tree.items whole.0,
-      )
+      longer-part budget now.tree.items first.0 rest.0 old.tree.items whole.0
+      (subst (λ w. budget < length now.tree.items + length w.0) first_is over) all
 
   -- the plus of a child is written, and its node entered
   pub lanes-down : (lane : ℕ) (later made : LaneFrame) (mid new : Search) → IsStep here later lane →

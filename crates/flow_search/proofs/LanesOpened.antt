@@ -14,7 +14,7 @@ use Rattle.flow_search.specs.declared.eight.group.Group.{Group}
 use Rattle.flow_search.specs.declared.eight.group.LaneFrame.{LaneFrame}
 use Rattle.flow_search.specs.internal.Lanes.{IsLaneLeft, IsFrameOf, IsOpened, IsTested, job_of, child, lanes_of}
 use Rattle.flow_search.proofs.Increasing.{without-one, places-gone, size-filter}
-use Rattle.flow_search.proofs.JobsTaken.{left-sum, left-count, has-other, has-more, has-same}
+use Rattle.flow_core.proofs.Taken.{left-sum, left-count, has-other, has-more, has-same}
 
 -- a node that differs in the answers only
 at-same : (shop : Shop) (list : List ℕ) (group : Group) (a b : LaneFrame) → b.front ≡ a.front → b.sum ≡ a.sum →
@@ -145,7 +145,7 @@ child-at shop list group parent made row lane place is here stands lane_is front
       small = at.small;
       from = λ k left. at.from k (back k left);
       to = λ k left. at.to k (back k left);
-      fresh = λ k left. has-other list job (job_of group k) (differ k left) (at.fresh k (back k left));
+      fresh = λ k left. has-other list job (job_of group k) (differ k left) ∙ at.fresh k (back k left);
       rows = λ r k machine left. at.rows r k machine (back k left);
       each = λ j low high fresh.
           let before : has list j ≡ false =

@@ -21,7 +21,8 @@ use Rattle.flow_search.specs.declared.eight.group.Group.{Group}
 use Rattle.flow_search.specs.declared.eight.group.LaneFrame.{LaneFrame}
 use Rattle.flow_search.specs.internal.Lanes.{IsLeastOfOthers}
 use Rattle.flow_search.specs.internal.Lanes.{IsLaneLeft, IsFrameOf, IsUncutCount, IsSmallRow, job_of, child}
-use Rattle.flow_search.proofs.JobsTaken.{left-here, left-child, least-is, left-sum, has-other}
+use Rattle.flow_core.proofs.Taken.{left-sum, has-other}
+use Rattle.flow_search.proofs.JobsTaken.{left-here, left-child, least-is}
 
 -- the jobs of two lanes that are left differ
 lanes-differ : (shop : Shop) (list : List ℕ) (group : Group) (frame : LaneFrame) (lane other : ℕ) →
@@ -68,7 +69,7 @@ behind-is shop list group frame row lane other machine value tails at here there
     } in
     let apart = lanes-differ shop list group frame lane best at here still is.one.2 in
     let left = left-here shop.jobs (child list group lane) (job_of group best) (at.from best still) (at.to best still)
-    (has-other list (job_of group lane) (job_of group best) apart (at.fresh best still)) in
+    (has-other list (job_of group lane) (job_of group best) apart ∙ at.fresh best still) in
     least-is f (jobs_left shop.jobs (child list group lane)) (job_of group best) value left (is.one.3
     ∙ tail-of best still)
     (λ job h.

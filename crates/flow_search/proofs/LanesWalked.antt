@@ -16,7 +16,8 @@ use Rattle.flow_search.specs.declared.eight.group.Group.{Group}
 use Rattle.flow_search.specs.declared.eight.group.LaneFrame.{LaneFrame}
 use Rattle.flow_search.proofs.Walk.{Incumbent, answer_of}
 use Rattle.flow_search.proofs.Nodes.{find-is}
-use Rattle.flow_search.proofs.JobsTaken.{left-count, left-child}
+use Rattle.flow_core.proofs.Taken.{left-count}
+use Rattle.flow_search.proofs.JobsTaken.{left-child}
 use Rattle.flow_search.proofs.UncutFound.{count-found}
 
 -- The walk at a node.

@@ -122,6 +122,19 @@ left-none shop node front set count from at low high e =
     none-in (contains set) (λ k. not (has node k)) from (shop.jobs
     + 1 - from) (λ k a b. at.left k (omega arith) (omega arith)) e
 
+-- where a part of a text is longer than the budget, the text is
+pub longer-part : (budget : ℕ) (now first rest old whole : List ℕ) → budget < length now + length first →
+    now ++ (first ++ rest) ≡ old ++ whole → budget < length old + length whole
+longer-part budget now first rest old whole over same =
+    omega (
+      arith,
+      over,
+      ap length same,
+      length-append now (first ++ rest),
+      length-append first rest,
+      length-append old whole,
+    )
+
 -- walks one after another
 
 abbrev Walk : Type 0
@@ -358,22 +371,13 @@ module _ {shop : Shop} {budget : ℕ} {root : List ℕ} {whole : List ℕ
       let st : Incumbent = incumbent_of now in
       let first : Walk = walk shop bound_at below (path root fs ++ job ∷ []) st in
       let rest : Walk = resume shop root below (moved here (job + 1) ∷ fs) first.1 in
-      let first_is : length (walk shop bound_at below (now.node.items ++ job ∷ []) st).0 ≡ length first.0 =
-      ap (λ q. length (walk shop bound_at below (q ++ job ∷ []) st).0) i.node in
+      let first_is : walk shop bound_at below (now.node.items ++ job ∷ []) st ≡ first =
+      ap (λ q. walk shop bound_at below (q ++ job ∷ []) st) i.node in
       let all : now.tree.items ++ (first.0 ++ rest.0) ≡ old.tree.items ++ whole.0 =
       ap (λ w. now.tree.items ++ w.0) (sym (resume-next shop root below job here (moved here (job
       + 1)) fs st kid.0 refl)) ∙ i.text in
-      let sizes : length (now.tree.items ++ (first.0 ++ rest.0)) ≡ length
-      (old.tree.items ++ whole.0) = ap length all in
-      omega (
-        arith,
-        over,
-        first_is,
-        sizes,
-        length-append now.tree.items (first.0 ++ rest.0),
-        length-append first.0 rest.0,
-        length-append old.tree.items whole.0,
-      )
+      longer-part budget now.tree.items first.0 rest.0 old.tree.items whole.0
+      (subst (λ w. budget < length now.tree.items + length w.0) first_is over) all
 
   -- the plus of a child is written, and its node entered
   pub walking-down : (job : ℕ) (mid new : Search) (child : Frame) →
