@@ -2,9 +2,9 @@
 use Rattle.std.proofs.Common.{◌≡◌, inl, inr, subst, ℕ, Bool, List, Option, Result, Ok}
 use Rattle.flow_core.specs.Shop.{Shop}
 use Rattle.flow_core.specs.declared.text.block.Block.{Block}
-use Rattle.flow_search.specs.Choices.{Choices, options_or_fault}
+use Rattle.flow_search.specs.Choices.{Choices}
 use Rattle.flow_search.specs.declared.options.OptionFault.{OptionFault}
-use Rattle.flow_tool.specs.Commands.{Answer, AnswersOptions, AnswersPlan, AnswersSolve, Picks}
+use Rattle.flow_tool.specs.Commands.{Answer, AnswersOptions, AnswersPlan, AnswersSolve, Picks, asked_options}
 use Rattle.flow_tool.specs.Runs.{Came, Ends, EndsAlone, Wrote}
 use Rattle.flow_tool.specs.declared.fault.ToolFault.{ToolFault}
 use Rattle.flow_tool.specs.Limits.{most_text}
@@ -13,12 +13,13 @@ options-answer : (shop : Shop) (read : Result Choices OptionFault) (options : Ch
     Ok options ≡ read → AnswersPlan shop options answer → AnswersOptions shop read answer
 options-answer shop read options answer is answers = subst (λ r. AnswersOptions shop r answer) is answers
 
-pub solve-written : (index workers depth budget : ℕ) (block : Block) (options : Choices) (given gives : Option (List ℕ))
-    (ended : Bool) (taken takes : Option (List ℕ)) → Ok options ≡ options_or_fault workers depth budget →
+pub solve-written : (index workers depth budget version : ℕ) (block : Block) (options : Choices)
+    (given gives : Option (List ℕ)) (ended : Bool) (taken takes : Option (List ℕ)) →
+    Ok options ≡ asked_options workers depth budget version →
     Came most_text (λ text. Picks text index (Ok block)) given gives ended →
     Wrote (AnswersPlan block.instance options) taken takes →
-    Came most_text (λ text. Wrote (AnswersSolve index workers depth budget text) taken takes) given gives ended
-solve-written index workers depth budget block options given gives ended taken takes is came wrote = (
+    Came most_text (λ text. Wrote (AnswersSolve index workers depth budget version text) taken takes) given gives ended
+solve-written index workers depth budget version block options given gives ended taken takes is came wrote = (
   came.0,
   came.1,
   came.2,
@@ -31,15 +32,15 @@ solve-written index workers depth budget block options given gives ended taken t
   ),
 )
 
-pub solve-ended : (Untouched : Type 0) (index workers depth budget : ℕ) (block : Block) (options : Choices)
+pub solve-ended : (Untouched : Type 0) (index workers depth budget version : ℕ) (block : Block) (options : Choices)
     (given gives : Option (List ℕ)) (ended : Bool) (taken takes : Option (List ℕ)) (fault : ToolFault) →
-    Ok options ≡ options_or_fault workers depth budget →
+    Ok options ≡ asked_options workers depth budget version →
     Came most_text (λ text. Picks text index (Ok block)) given gives ended →
     EndsAlone Untouched (AnswersPlan block.instance options) taken takes fault →
-    Ends Untouched most_text (AnswersSolve index workers depth budget) given gives ended taken takes fault
-solve-ended Untouched index workers depth budget block options given gives ended taken takes fault is came (inl
+    Ends Untouched most_text (AnswersSolve index workers depth budget version) given gives ended taken takes fault
+solve-ended Untouched index workers depth budget version block options given gives ended taken takes fault is came (inl
     (untouched, inl memory)) = inl (untouched, inl (memory, (came.0, came.1, came.2)))
-solve-ended Untouched index workers depth budget block options given gives ended taken takes fault is came (inl
+solve-ended Untouched index workers depth budget version block options given gives ended taken takes fault is came (inl
     (untouched, inr answers)) =
     inl (
       untouched,
@@ -52,7 +53,7 @@ solve-ended Untouched index workers depth budget block options given gives ended
             (block, came.4, options-answer block.instance _ options _ is answers),
       ))),
     )
-solve-ended Untouched index workers depth budget block options given gives ended taken takes fault is came (inr
+solve-ended Untouched index workers depth budget version block options given gives ended taken takes fault is came (inr
     (writing, part)) =
     inr (
       writing,

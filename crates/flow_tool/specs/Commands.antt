@@ -14,7 +14,7 @@ use Rattle.flow_core.specs.declared.instance.InstanceFault.{InstanceFault}
 use Rattle.flow_core.specs.declared.text.block.Block.{Block}
 use Rattle.flow_bound.specs.Neh.{IsNeh}
 use Rattle.flow_bound.specs.Taillard.{taillard_bound}
-use Rattle.flow_search.specs.Choices.{Choices, options_or_fault}
+use Rattle.flow_search.specs.Choices.{Choices, options_or_fault, version_or_fault}
 use Rattle.flow_search.specs.Plans.{Planned, IsPlan, plan_fault}
 use Rattle.flow_search.specs.Outcomes.{first_over_budget}
 use Rattle.flow_search.specs.declared.options.OptionFault.{OptionFault}
@@ -123,7 +123,13 @@ abbrev pub AnswersOptions : Shop → Result Choices OptionFault → Answer → T
 AnswersOptions shop (Ok options) answer = AnswersPlan shop options answer
 AnswersOptions shop (Err fault) answer = answer ≡ Err (tool.Choice fault)
 
+-- the options of workers, depth, budget and version; or the first fault
+abbrev pub asked_options : ℕ → ℕ → ℕ → ℕ → Result Choices OptionFault
+asked_options workers depth budget version =
+    elim (options_or_fault workers depth budget)
+    [ Ok options ↦ version_or_fault options version | Err fault ↦ Err fault ]
+
 -- what `solve` answers for a text
-abbrev pub AnswersSolve : ℕ → ℕ → ℕ → ℕ → List ℕ → Answer → Type 0
-AnswersSolve index workers depth budget =
-    AnswersFor index (λ block. AnswersOptions block.instance (options_or_fault workers depth budget))
+abbrev pub AnswersSolve : ℕ → ℕ → ℕ → ℕ → ℕ → List ℕ → Answer → Type 0
+AnswersSolve index workers depth budget version =
+    AnswersFor index (λ block. AnswersOptions block.instance (asked_options workers depth budget version))

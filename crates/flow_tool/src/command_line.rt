@@ -3,6 +3,9 @@
 use clap::{Arg, ArgAction, ArgMatches, Command, value_parser};
 use std::alloc::{AllocError, Global};
 
+/// The version of the program, and those of the certificates that it writes and reads.
+const VERSION: &str = "1.0, certificate versions 1 and 2";
+
 /// What the command line asks for.
 #[derive(Debug, PartialEq, Drop)]
 pub(crate) enum Order<'a> {
@@ -53,6 +56,8 @@ pub(crate) enum OfBlock {
         depth: u32,
         /// The most bytes of a tree.
         budget: u32,
+        /// The version of the certificate.
+        version: u32,
     },
 }
 
@@ -60,6 +65,7 @@ pub(crate) enum OfBlock {
 pub(crate) fn make_command<'a>(alloc: Global) -> Result<Command<'a>, AllocError> {
     Command::new(alloc, "flowshop")
         .about("Least makespans of permutation flow shops, with certificates")
+        .version(VERSION)
         .subcommand_required(true)
         .subcommand(span_command(alloc)?)?
         .subcommand(gen_command(alloc)?)?
@@ -71,24 +77,28 @@ pub(crate) fn make_command<'a>(alloc: Global) -> Result<Command<'a>, AllocError>
 fn span_command<'a>(alloc: Global) -> Result<Command<'a>, AllocError> {
     Command::new(alloc, "span")
         .about("Prints the makespan of jobs in the given order")
-        .arg(word(alloc, "FILE"))?
-        .arg(number(alloc, "INDEX"))?
+        .arg(file(alloc))?
+        .arg(index(alloc))?
         .arg(jobs(alloc))
 }
 
 fn gen_command<'a>(alloc: Global) -> Result<Command<'a>, AllocError> {
     Command::new(alloc, "gen")
         .about("Writes the instance of a seed, with its bounds")
-        .arg(number(alloc, "JOBS"))?
-        .arg(number(alloc, "MACHINES"))?
-        .arg(number(alloc, "SEED"))
+        .arg(number(alloc, "JOBS", "How many jobs there are, 1 to 800"))?
+        .arg(number(alloc, "MACHINES", "How many machines there are, 1 to 26"))?
+        .arg(number(
+            alloc,
+            "SEED",
+            "The first state of Taillard's generator, 1 to 2147483646",
+        ))
 }
 
 fn neh_command<'a>(alloc: Global) -> Result<Command<'a>, AllocError> {
     Command::new(alloc, "neh")
         .about("Prints the starting sequence and its makespan")
-        .arg(word(alloc, "FILE"))?
-        .arg(number(alloc, "INDEX"))
+        .arg(file(alloc))?
+        .arg(index(alloc))
 }
 
 fn solve_command<'a>(alloc: Global) -> Result<Command<'a>, AllocError> {
@@ -106,33 +116,65 @@ fn solve_command<'a>(alloc: Global) -> Result<Command<'a>, AllocError> {
         "1",
         "How many jobs a prefix has, 0 to 3",
     );
-    let budget = option(alloc, "budget", "B", "1000000", "The most bytes of a tree");
+    let budget = option(
+        alloc,
+        "budget",
+        "B",
+        "1000000",
+        "The most bytes of a tree, 1 to 100000000",
+    );
+    let version = option(
+        alloc,
+        "certificate",
+        "V",
+        "1",
+        "The version of the certificate, 1 or 2",
+    );
     Command::new(alloc, "solve")
         .about("Finds the least makespan, and writes a certificate of it")
-        .arg(word(alloc, "FILE"))?
-        .arg(number(alloc, "INDEX"))?
+        .arg(file(alloc))?
+        .arg(index(alloc))?
         .arg(workers)?
         .arg(depth)?
-        .arg(budget)
+        .arg(budget)?
+        .arg(version)
 }
 
 fn check_command<'a>(alloc: Global) -> Result<Command<'a>, AllocError> {
     Command::new(alloc, "check")
         .about("Checks a certificate, and prints the value that it proves least")
-        .arg(word(alloc, "FILE"))?
-        .arg(number(alloc, "INDEX"))?
-        .arg(word(alloc, "CERT"))
+        .arg(file(alloc))?
+        .arg(index(alloc))?
+        .arg(word(alloc, "CERT", "The file of the certificate"))
+}
+
+/// The file of a benchmark text.
+fn file<'a>(alloc: Global) -> Arg<'a> {
+    word(
+        alloc,
+        "FILE",
+        "The file of a benchmark text, or stdin for standard input",
+    )
+}
+
+/// The number of a block of a text.
+fn index<'a>(alloc: Global) -> Arg<'a> {
+    number(alloc, "INDEX", "The block of the text, from 1")
 }
 
 /// A required word.
-fn word<'a>(alloc: Global, id: &'a str) -> Arg<'a> {
-    Arg::new(alloc, id).required(true).action(ArgAction::Set)
+fn word<'a>(alloc: Global, id: &'a str, help: &'a str) -> Arg<'a> {
+    Arg::new(alloc, id)
+        .required(true)
+        .action(ArgAction::Set)
+        .help(help)
 }
 
 /// A required number.
-fn number<'a>(alloc: Global, id: &'a str) -> Arg<'a> {
+fn number<'a>(alloc: Global, id: &'a str, help: &'a str) -> Arg<'a> {
     Arg::new(alloc, id)
         .required(true)
+        .help(help)
         .value_parser(value_parser!(u32))
 }
 
@@ -140,6 +182,7 @@ fn number<'a>(alloc: Global, id: &'a str) -> Arg<'a> {
 fn jobs<'a>(alloc: Global) -> Arg<'a> {
     Arg::new(alloc, "JOB")
         .required(true)
+        .help("The jobs in their order, from 1, each once")
         .num_args(1..)
         .action(ArgAction::Append)
         .value_parser(value_parser!(u16))
@@ -207,12 +250,14 @@ fn solve_order<'a>(given: &ArgMatches<'a>) -> Option<Order<'a>> {
     let workers = given.get_one::<u32>("workers")?;
     let depth = given.get_one::<u32>("depth")?;
     let budget = given.get_one::<u32>("budget")?;
+    let version = given.get_one::<u32>("certificate")?;
     block_order(
         given,
         OfBlock::Solve {
             workers,
             depth,
             budget,
+            version,
         },
     )
 }

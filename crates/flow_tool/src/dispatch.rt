@@ -28,7 +28,7 @@ use std::thread::Threads;
 /// The word that stands for standard input in the place of a text's file.
 const STANDARD: &str = "stdin";
 
-/// Does what the words of a command line ask for. Help that was asked for is written too.
+/// Does what the words of a command line ask for. Help or a version that was asked for is written too.
 pub(crate) fn run_words<R: Threads + Wait + Sync, I: Inputs, W: AsStr, K: Sink>(
     rt: &R,
     alloc: Global,
@@ -44,14 +44,16 @@ pub(crate) fn run_words<R: Threads + Wait + Sync, I: Inputs, W: AsStr, K: Sink>(
             obey(rt, alloc, inputs, &order, out)
         }
         Err(error) => match error.kind() {
-            ErrorKind::DisplayHelp => Ok(write_help(alloc, &error, out)?),
+            ErrorKind::DisplayHelp | ErrorKind::DisplayVersion => {
+                Ok(write_help(alloc, &error, out)?)
+            }
             ErrorKind::OutOfMemory => Err(Stop::Memory),
             _ => Err(Stop::CommandLine),
         },
     }
 }
 
-/// Writes the help that the words ask for.
+/// Writes the help or the version that the words ask for.
 fn write_help<K: Sink>(alloc: Global, help: &Error, out: &mut K) -> Result<(), ToolFault>
     requires { K.has_failed out.old ≡ false }
 {
@@ -121,8 +123,9 @@ fn obey_for_block<R: Threads + Wait + Sync, S: Source, K: Sink>(
             workers,
             depth,
             budget,
+            version,
         } => run_solve(
-            rt, alloc, text, index, *workers, *depth, *budget, &Open, out,
+            rt, alloc, text, index, *workers, *depth, *budget, *version, &Open, out,
         ),
     }
 }

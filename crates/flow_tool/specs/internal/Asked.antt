@@ -13,7 +13,7 @@ use Rattle.flow_tool.specs.Runs.{Wrote}
 abbrev pub AnswersAsked : ℕ → OfBlock → List ℕ → Answer → Type 0
 AnswersAsked index (Span jobs) = AnswersSpan index jobs.items
 AnswersAsked index Neh = AnswersNeh index
-AnswersAsked index (Solve workers depth budget) = AnswersSolve index workers depth budget
+AnswersAsked index (Solve workers depth budget version) = AnswersSolve index workers depth budget version
 
 -- what is answered for an order, by the bytes of the text and of the certificate that it names
 abbrev pub AnswersOrder : Order → List ℕ → List ℕ → Answer → Type 0

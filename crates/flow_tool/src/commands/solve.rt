@@ -5,7 +5,7 @@ ghost use Rattle.flow_core.specs.Bytes.{Grows};
 ghost use Rattle.flow_core.specs.declared.bytes.fault.ReadFault.TheVariants as read;
 ghost use Rattle.flow_core.specs.declared.bytes.fault.WriteFault.TheVariants as write;
 ghost use Rattle.flow_core.specs.declared.text.block.Block.{Block};
-ghost use Rattle.flow_tool.specs.Commands.{AnswersPlan, AnswersSolve, Picks};
+ghost use Rattle.flow_tool.specs.Commands.{AnswersPlan, AnswersSolve, Picks, asked_options};
 ghost use Rattle.flow_tool.specs.Runs.{Came, Ends, EndsAlone, Wrote, WroteCertificate};
 ghost use Rattle.flow_tool.specs.Limits.{most_text};
 
@@ -14,7 +14,7 @@ use crate::fault::ToolFault;
 use flow_cert::write_certificate;
 use flow_core::{Instance, Sink, Source};
 use flow_pool::{Gate, solve};
-use flow_search::{Options, prepare};
+use flow_search::{OptionFault, Options, prepare};
 use std::alloc::Global;
 use std::sync::Wait;
 use std::thread::Threads;
@@ -41,7 +41,15 @@ fn solve_instance<R: Threads + Wait + Sync, G: Gate + Sync, K: Sink>(
     Ok(())
 }
 
-/// Solves the block that an index names with so many workers, and writes the certificate of its plan.
+/// The options of four numbers; or the first fault, that of the version last.
+fn options_of(workers: u32, depth: u32, budget: u32, version: u32) -> Result<Options, OptionFault>
+    ensures { result ≡ asked_options workers depth budget version }
+{
+    let options = Options::new(workers, depth, budget)?;
+    options.with_version(version)
+}
+
+/// Solves the block that an index names with so many workers, and writes the certificate of its plan, in a version.
 pub(crate) fn run_solve<R: Threads + Wait + Sync, S: Source, G: Gate + Sync, K: Sink>(
     rt: &R,
     alloc: Global,
@@ -50,25 +58,26 @@ pub(crate) fn run_solve<R: Threads + Wait + Sync, S: Source, G: Gate + Sync, K: 
     workers: u32,
     depth: u32,
     budget: u32,
+    version: u32,
     gate: &G,
     out: &mut K,
 ) -> Result<(), ToolFault>
     requires file_works { S.has_failed file.old ≡ false }
     requires out_works { K.has_failed out.old ≡ false }
     ensures written { OnOk result (Came most_text
-        (λ text. Wrote (AnswersSolve index workers depth budget text) (K.taken out.old) (K.taken out.new))
+        (λ text. Wrote (AnswersSolve index workers depth budget version text) (K.taken out.old) (K.taken out.new))
         (S.given file.old) (S.given file.new) (S.has_ended file.new)) }
     ensures lawful { OnOk result (Came most_text (λ text.
         (block : Block) × Picks text index (Ok block)
         × WroteCertificate block.instance (K.taken out.old) (K.taken out.new))
         (S.given file.old) (S.given file.new) (S.has_ended file.new)) }
-    ensures ended { IfErr result (Ends (out.new ≡ out.old) most_text (AnswersSolve index workers depth budget)
+    ensures ended { IfErr result (Ends (out.new ≡ out.old) most_text (AnswersSolve index workers depth budget version)
         (S.given file.old) (S.given file.new) (S.has_ended file.new) (K.taken out.old) (K.taken out.new)) }
     ensures read_device { IsErrOf result (ToolFault.Read read.Device) ↔ (S.has_failed file.new ≡ true) }
     ensures write_device { IsErrOf result (ToolFault.Write write.Device) ↔ (K.has_failed out.new ≡ true) }
     ensures stands { Grows (S.given file.old) (S.given file.new) }
 {
     let block = read_block(alloc, file, index)?;
-    let options = Options::new(workers, depth, budget)?;
+    let options = options_of(workers, depth, budget, version)?;
     solve_instance(rt, alloc, &block.instance, options, gate, out)
 }

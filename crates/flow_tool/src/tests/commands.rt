@@ -92,6 +92,7 @@ fn solved<T: Threads + Wait + Sync>(
         workers,
         depth,
         budget,
+        1,
         &Open,
         &mut out,
     )?;
@@ -309,6 +310,7 @@ fn solve_fills_a_sink_up_to_its_limit(rt: HostRuntime) -> Result<(), Fail> {
             1,
             0,
             AMPLE,
+            1,
             &Open,
             &mut out,
         );
@@ -328,7 +330,7 @@ fn solve_and_check_write_nothing_after_a_failed_read(rt: HostRuntime) -> Result<
     for most in 0..THREE_MACHINES.len() + 2 {
         let mut out = MemorySink::new(alloc, ROOM);
         let mut file = MemorySource::new(THREE_MACHINES, 7, Some(most));
-        let ran = run_solve(&rt, alloc, &mut file, 1, 1, 0, AMPLE, &Open, &mut out);
+        let ran = run_solve(&rt, alloc, &mut file, 1, 1, 0, AMPLE, 1, &Open, &mut out);
         if most > THREE_MACHINES.len() {
             assert_eq!(rt; ran, Ok(()));
             assert!(rt; out.bytes() == DEPTH_0);
@@ -445,7 +447,9 @@ fn run_solve_starts_workers(rt: HostRuntime) -> Result<(), Fail> {
         let gate = Meeting::new(workers);
         let mut out = MemorySink::new(alloc, ROOM);
         let mut file = all_of(THREE_MACHINES);
-        run_solve(&rt, alloc, &mut file, 1, workers, 1, AMPLE, &gate, &mut out)?;
+        run_solve(
+            &rt, alloc, &mut file, 1, workers, 1, AMPLE, 1, &gate, &mut out,
+        )?;
         assert!(rt; gate.is_complete());
         assert!(rt; !gate.late.load(Ordering::SeqCst));
         assert!(rt; out.bytes() == DEPTH_1);

@@ -172,6 +172,37 @@ fn each_option_of_solve_has_its_effect(rt: HostRuntime) -> Result<(), Fail> {
 }
 
 #[test]
+fn each_version_has_its_certificate(rt: HostRuntime) -> Result<(), Fail> {
+    let of_two: &[u8] = b"flowshop certificate 2\n3 2 0\n9\n2 3 1\nB\nend\n";
+    let depth_0: &[u8] = b"flowshop certificate 2\n3 3 0\n12\n3 1 2\n+BC++.B\nend\n";
+    let depth_1: &[u8] = b"flowshop certificate 2\n3 3 1\n12\n3 1 2\nB\nC\n++.B\nend\n";
+    let rows: [(&str, &[u8], &str); 15] = [
+        ("1 --depth 0", OF_TWO_MACHINES, ""),
+        ("1 --depth 0 --budget 3", b"", "refused run OverBudget 0"),
+        ("1 --depth 0 --certificate 2", of_two, ""),
+        ("1 --depth 0 --certificate 2 --budget 1", of_two, ""),
+        ("1 --depth 0 --certificate 1", OF_TWO_MACHINES, ""),
+        ("2 --depth 0 --certificate 2", depth_0, ""),
+        ("2 --certificate 2", depth_1, ""),
+        ("2 --certificate 2 --workers 2", depth_1, ""),
+        ("2 --certificate 2 --workers 3", depth_1, ""),
+        ("2 --certificate 2 --workers 64", depth_1, ""),
+        ("2 --certificate 0", b"", "refused option Version"),
+        ("2 --certificate 3", b"", "refused option Version"),
+        ("2 --certificate 3 --budget 0", b"", "refused option Budget"),
+        ("2 --certificate x", b"", "refused command line"),
+        ("3 --certificate 3", b"", "refused index"),
+    ];
+    for (words, bytes, refusal) in rows {
+        let line = format!(in rt.alloc(); "solve stdin {words}")?;
+        let (out, said) = run_line(&rt, rt.alloc(), line.as_str())?;
+        assert_eq!(rt; said.as_str(), refusal, "after {line}");
+        assert!(rt; out.bytes() == bytes, "after {line}");
+    }
+    Ok(())
+}
+
+#[test]
 fn check_takes_each_file_by_its_name(rt: HostRuntime) -> Result<(), Fail> {
     let rows: [(&str, &[u8], &str); 25] = [
         ("check text_three 1 of_three", b"optimal 12\n", ""),
@@ -241,6 +272,7 @@ fn words_are_read_as_orders(rt: HostRuntime) -> Result<(), Fail> {
             workers: 1,
             depth: 2,
             budget: 1_000_000,
+            version: 1,
         },
     };
     assert_eq!(rt; ordered(alloc, words.as_slice()), Ok(Some(wanted)));
@@ -278,6 +310,9 @@ fn other_words_are_refused(rt: HostRuntime) -> Result<(), Fail> {
     let words = words_of(alloc, "--help")?;
     run_words(&rt, alloc, &inputs, words.as_slice(), &mut out)?;
     assert!(rt; !out.bytes().is_empty());
+    let (out, said) = run_line(&rt, alloc, "--version")?;
+    assert_eq!(rt; said.as_str(), "");
+    assert!(rt; out.bytes() == b"flowshop 1.0, certificate versions 1 and 2\n");
     let mut out = MemorySink::new(alloc, 10);
     let ran = run_words(&rt, alloc, &inputs, words.as_slice(), &mut out);
     assert_eq!(rt; ran, Err(Stop::Fault(ToolFault::Write(WriteFault::Device))));
