@@ -9,6 +9,7 @@ use Rattle.flow_core.specs.SequenceFaults.{sequence_fault}
 use Rattle.flow_core.specs.TextFaults.{text_fault}
 use Rattle.flow_core.specs.Text.{Reads}
 use Rattle.flow_core.specs.Generator.{generated, generator_fault}
+use Rattle.flow_core.specs.Mirror.{mirrored}
 use Rattle.flow_core.specs.Written.{written}
 use Rattle.flow_core.specs.declared.instance.InstanceFault.{InstanceFault}
 use Rattle.flow_core.specs.declared.text.block.Block.{Block}
@@ -73,6 +74,19 @@ AnswersStart shop answer =
 -- what `neh` answers for a text
 abbrev pub AnswersNeh : ℕ → List ℕ → Answer → Type 0
 AnswersNeh index = AnswersFor index (λ block. AnswersStart block.instance)
+
+-- a block with its shop mirrored; its three other numbers are the same
+abbrev pub mirrored_block : Block → Block
+mirrored_block block = record {
+  seed = block.seed;
+  upper = block.upper;
+  lower = block.lower;
+  instance = mirrored block.instance;
+}
+
+-- what `mirror` answers for a text
+abbrev pub AnswersMirror : ℕ → List ℕ → Answer → Type 0
+AnswersMirror index = AnswersFor index (λ block answer. answer ≡ Ok (written (mirrored_block block)))
 
 -- the text of a generated instance: upper bound is the makespan of the starting sequence, lower bound Taillard's
 abbrev pub IsGeneratedText : ℕ → Shop → List ℕ → Type 0

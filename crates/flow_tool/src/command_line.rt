@@ -48,6 +48,8 @@ pub(crate) enum OfBlock {
     },
     /// The starting sequence and its makespan.
     Neh,
+    /// The block with its machines in reverse order.
+    Mirror,
     /// A certificate of the least makespan.
     Solve {
         /// The number of workers.
@@ -70,6 +72,7 @@ pub(crate) fn make_command<'a>(alloc: Global) -> Result<Command<'a>, AllocError>
         .subcommand(span_command(alloc)?)?
         .subcommand(gen_command(alloc)?)?
         .subcommand(neh_command(alloc)?)?
+        .subcommand(mirror_command(alloc)?)?
         .subcommand(solve_command(alloc)?)?
         .subcommand(check_command(alloc)?)
 }
@@ -97,6 +100,13 @@ fn gen_command<'a>(alloc: Global) -> Result<Command<'a>, AllocError> {
 fn neh_command<'a>(alloc: Global) -> Result<Command<'a>, AllocError> {
     Command::new(alloc, "neh")
         .about("Prints the starting sequence and its makespan")
+        .arg(file(alloc))?
+        .arg(index(alloc))
+}
+
+fn mirror_command<'a>(alloc: Global) -> Result<Command<'a>, AllocError> {
+    Command::new(alloc, "mirror")
+        .about("Writes a block with its machines in reverse order")
         .arg(file(alloc))?
         .arg(index(alloc))
 }
@@ -220,6 +230,9 @@ pub(crate) fn order_of<'a>(
     }
     if let Some(given) = matches.subcommand_matches("neh") {
         return Ok(block_order(given, OfBlock::Neh));
+    }
+    if let Some(given) = matches.subcommand_matches("mirror") {
+        return Ok(block_order(given, OfBlock::Mirror));
     }
     if let Some(given) = matches.subcommand_matches("solve") {
         return Ok(solve_order(given));

@@ -5,6 +5,7 @@
 
 pub(crate) mod check;
 pub(crate) mod generate;
+pub(crate) mod mirror;
 pub(crate) mod neh;
 pub(crate) mod solve;
 pub(crate) mod span;

@@ -10,6 +10,7 @@ ghost use Rattle.flow_tool.specs.Runs.{Came, Ends, Wrote, WroteLeast};
 use crate::command_line::{OfBlock, Order, make_command, order_of};
 use crate::commands::check::run_check;
 use crate::commands::generate::run_gen;
+use crate::commands::mirror::run_mirror;
 use crate::commands::neh::run_neh;
 use crate::commands::solve::run_solve;
 use crate::commands::span::run_span;
@@ -119,6 +120,7 @@ fn obey_for_block<R: Threads + Wait + Sync, S: Source, K: Sink>(
     match what {
         OfBlock::Span { jobs } => run_span(alloc, text, index, jobs.as_slice(), out),
         OfBlock::Neh => run_neh(alloc, text, index, out),
+        OfBlock::Mirror => run_mirror(alloc, text, index, out),
         OfBlock::Solve {
             workers,
             depth,

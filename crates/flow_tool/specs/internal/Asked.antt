@@ -1,11 +1,11 @@
 -- What is answered for what a command line asks.
 use Rattle.std.specs.Prelude.{ℕ, ◌≤◌, List, length, Option}
 use Rattle.flow_tool.specs.declared.command_line.OfBlock.{OfBlock}
-use Rattle.flow_tool.specs.declared.command_line.OfBlock.TheVariants.{Span, Neh, Solve}
+use Rattle.flow_tool.specs.declared.command_line.OfBlock.TheVariants.{Span, Neh, Mirror, Solve}
 use Rattle.flow_tool.specs.declared.command_line.Order.{Order}
 use Rattle.flow_tool.specs.declared.command_line.Order.TheVariants as order
-use Rattle.flow_tool.specs.Commands.{Answer, AnswersCheck, AnswersFor, AnswersGen, AnswersNeh, AnswersSolve}
-use Rattle.flow_tool.specs.Commands.{AnswersSpan}
+use Rattle.flow_tool.specs.Commands.{Answer, AnswersCheck, AnswersFor, AnswersGen, AnswersMirror, AnswersNeh}
+use Rattle.flow_tool.specs.Commands.{AnswersSolve, AnswersSpan}
 use Rattle.flow_tool.specs.Limits.{most_certificate, most_text}
 use Rattle.flow_tool.specs.Runs.{Wrote}
 
@@ -13,6 +13,7 @@ use Rattle.flow_tool.specs.Runs.{Wrote}
 abbrev pub AnswersAsked : ℕ → OfBlock → List ℕ → Answer → Type 0
 AnswersAsked index (Span jobs) = AnswersSpan index jobs.items
 AnswersAsked index Neh = AnswersNeh index
+AnswersAsked index Mirror = AnswersMirror index
 AnswersAsked index (Solve workers depth budget version) = AnswersSolve index workers depth budget version
 
 -- what is answered for an order, by the bytes of the text and of the certificate that it names

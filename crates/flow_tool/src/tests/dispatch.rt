@@ -23,13 +23,14 @@ const BOTH: &[u8] = b"a\n3 2 0 0 0\nb\n3 1 2\n2 4 2\na\n3 3 0 0 0\nb\n4 0 0\n0 8
 const OF_TWO_MACHINES: &[u8] = b"flowshop certificate 1\n3 2 0\n9\n2 3 1\n+BBB\nend\n";
 
 /// What each file holds. One that is broken refuses each call.
-const FILES: [(&str, &[u8]); 8] = [
+const FILES: [(&str, &[u8]); 9] = [
     ("text_three", THREE_MACHINES),
     ("text_both", BOTH),
     ("./stdin", THREE_MACHINES),
     ("text_broken", b""),
     ("of_three", DEPTH_0),
     ("of_two", OF_TWO_MACHINES),
+    ("generated", GENERATED),
     ("stdin", DEPTH_1),
     ("broken", b""),
 ];
@@ -100,7 +101,7 @@ fn run_line<R: Threads + Wait + Sync>(
 
 #[test]
 fn each_command_writes_its_answer(rt: HostRuntime) -> Result<(), Fail> {
-    let rows: [(&str, &[u8]); 15] = [
+    let rows: [(&str, &[u8]); 18] = [
         ("span stdin 1 2 3 1", b"makespan 9\n"),
         ("span stdin 2 2 1 3", b"makespan 13\n"),
         ("span ./stdin 1 2 1 3", b"makespan 13\n"),
@@ -111,6 +112,21 @@ fn each_command_writes_its_answer(rt: HostRuntime) -> Result<(), Fail> {
         ("neh stdin 2", b"sequence 2 1 3\nmakespan 13\n"),
         ("neh text_both 1", b"sequence 2 3 1\nmakespan 9\n"),
         ("neh text_both 2", b"sequence 2 1 3\nmakespan 13\n"),
+        (
+            "mirror stdin 1",
+            b"number of jobs, number of machines, initial seed, upper bound and lower bound :\n\
+3 2 0 0 0\nprocessing times :\n2 4 2\n3 1 2\n",
+        ),
+        (
+            "mirror text_both 2",
+            b"number of jobs, number of machines, initial seed, upper bound and lower bound :\n\
+3 3 0 0 0\nprocessing times :\n4 0 1\n0 8 2\n4 0 0\n",
+        ),
+        (
+            "mirror generated 1",
+            b"number of jobs, number of machines, initial seed, upper bound and lower bound :\n\
+2 2 1 122 122\nprocessing times :\n75 46\n1 14\n",
+        ),
         ("solve text_three 1", DEPTH_1),
         ("solve text_both 2", DEPTH_1),
         ("solve stdin 2", DEPTH_1),
