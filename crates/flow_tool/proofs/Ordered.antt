@@ -1,7 +1,7 @@
 -- What `check` wrote is what was asked for.
 use Rattle.std.proofs.Common.{◌≤◌, inl, ℕ, Bool, List, length, Option, Ok}
 use Rattle.flow_core.specs.declared.text.block.Block.{Block}
-use Rattle.flow_tool.specs.declared.command_line.Order.{Order}
+use Rattle.flow_words.specs.declared.order.Order.{Order}
 use Rattle.flow_tool.specs.Commands.{AnswersCheck, AnswersFor, Picks}
 use Rattle.flow_tool.specs.internal.Asked.{AnswersOrder, WroteOrdered}
 use Rattle.flow_tool.specs.Limits.{most_certificate, most_text}

@@ -7,7 +7,6 @@ ghost use Rattle.flow_tool.specs.internal.Asked.{AnswersAsked, WroteOrdered};
 ghost use Rattle.flow_tool.specs.Limits.{most_certificate, most_text};
 ghost use Rattle.flow_tool.specs.Runs.{Came, Ends, Wrote, WroteLeast};
 
-use crate::command_line::{OfBlock, Order, make_command, order_of};
 use crate::commands::check::run_check;
 use crate::commands::generate::run_gen;
 use crate::commands::mirror::run_mirror;
@@ -21,6 +20,7 @@ use clap::Error;
 use clap::error::ErrorKind;
 use flow_core::{Sink, Source, put_all};
 use flow_pool::Open;
+use flow_words::{OfBlock, Order, make_command, order_of};
 use std::alloc::Global;
 use std::convert::AsStr;
 use std::sync::Wait;

@@ -2,7 +2,6 @@
 #![tactic(auto)]
 
 mod block;
-mod command_line;
 mod commands;
 mod dispatch;
 mod fault;

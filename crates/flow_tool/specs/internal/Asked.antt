@@ -1,9 +1,9 @@
 -- What is answered for what a command line asks.
 use Rattle.std.specs.Prelude.{ℕ, ◌≤◌, List, length, Option}
-use Rattle.flow_tool.specs.declared.command_line.OfBlock.{OfBlock}
-use Rattle.flow_tool.specs.declared.command_line.OfBlock.TheVariants.{Span, Neh, Mirror, Solve}
-use Rattle.flow_tool.specs.declared.command_line.Order.{Order}
-use Rattle.flow_tool.specs.declared.command_line.Order.TheVariants as order
+use Rattle.flow_words.specs.declared.order.OfBlock.{OfBlock}
+use Rattle.flow_words.specs.declared.order.OfBlock.TheVariants.{Span, Neh, Mirror, Solve}
+use Rattle.flow_words.specs.declared.order.Order.{Order}
+use Rattle.flow_words.specs.declared.order.Order.TheVariants as order
 use Rattle.flow_tool.specs.Commands.{Answer, AnswersCheck, AnswersFor, AnswersGen, AnswersMirror, AnswersNeh}
 use Rattle.flow_tool.specs.Commands.{AnswersSolve, AnswersSpan}
 use Rattle.flow_tool.specs.Limits.{most_certificate, most_text}

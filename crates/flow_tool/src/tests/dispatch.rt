@@ -2,7 +2,6 @@
 
 ghost use Rattle.std.specs.Prelude.{◌≡◌, false};
 
-use crate::command_line::{OfBlock, Order, make_command, order_of};
 use crate::dispatch::run_words;
 use crate::fault::ToolFault;
 use crate::inputs::Inputs;
@@ -10,6 +9,7 @@ use crate::stop::Stop;
 use crate::tests::commands::{DEPTH_0, DEPTH_1, DEPTH_2, GENERATED, ROOM, THREE_MACHINES};
 use clap::error::ErrorKind;
 use flow_core::{MemorySink, MemorySource, WriteFault};
+use flow_words::{OfBlock, Order, make_command, order_of};
 use std::alloc::{AllocError, Global};
 use std::cell::Cell;
 use std::sync::Wait;

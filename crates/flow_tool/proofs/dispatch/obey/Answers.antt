@@ -1,5 +1,5 @@
 use Rattle.std.proofs.lemmas.Result.{on_ok_weaker}
-use Rattle.flow_tool.specs.declared.command_line.Order.TheVariants as order
+use Rattle.flow_words.specs.declared.order.Order.TheVariants as order
 use Rattle.flow_tool.proofs.Ordered.{wrote-ordered}
 use Rattle.flow_tool.proofs.dispatch.obey.Goals as goal
 

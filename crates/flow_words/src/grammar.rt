@@ -1,70 +1,13 @@
-//! The words of the command line, and what they ask for.
+//! The grammar of the command line.
 
-use clap::{Arg, ArgAction, ArgMatches, Command, value_parser};
+use clap::{Arg, ArgAction, Command, value_parser};
 use std::alloc::{AllocError, Global};
 
 /// The version of the program, and those of the certificates that it writes and reads.
 const VERSION: &str = "1.0, certificate versions 1 and 2";
 
-/// What the command line asks for.
-#[derive(Debug, PartialEq, Drop)]
-pub(crate) enum Order<'a> {
-    /// The instance of a seed.
-    Gen {
-        /// The number of jobs.
-        jobs: u32,
-        /// The number of machines.
-        machines: u32,
-        /// The seed of the generator.
-        seed: u32,
-    },
-    /// Something of a block of a text.
-    OfBlock {
-        /// The name of the text's file.
-        file: &'a str,
-        /// The block's number in the text, from 1.
-        index: u32,
-        /// What is asked for of the block.
-        what: OfBlock,
-    },
-    /// The value that a certificate proves least for a block of a text.
-    Check {
-        /// The name of the text's file.
-        file: &'a str,
-        /// The block's number in the text, from 1.
-        index: u32,
-        /// The name of the certificate's file.
-        cert: &'a str,
-    },
-}
-
-/// What is asked for of a block.
-#[derive(Debug, PartialEq, Drop)]
-pub(crate) enum OfBlock {
-    /// The makespan of jobs in this order.
-    Span {
-        /// The numbers of the jobs, from 1, as they were given.
-        jobs: Vec<u16>,
-    },
-    /// The starting sequence and its makespan.
-    Neh,
-    /// The block with its machines in reverse order.
-    Mirror,
-    /// A certificate of the least makespan.
-    Solve {
-        /// The number of workers.
-        workers: u32,
-        /// The number of jobs in a prefix.
-        depth: u32,
-        /// The most bytes of a tree.
-        budget: u32,
-        /// The version of the certificate.
-        version: u32,
-    },
-}
-
 /// The grammar of the command line.
-pub(crate) fn make_command<'a>(alloc: Global) -> Result<Command<'a>, AllocError> {
+pub fn make_command<'a>(alloc: Global) -> Result<Command<'a>, AllocError> {
     Command::new(alloc, "flowshop")
         .about("Least makespans of permutation flow shops, with certificates")
         .version(VERSION)
@@ -212,87 +155,4 @@ fn option<'a>(
         .default_value(default)
         .help(help)
         .value_parser(value_parser!(u32))
-}
-
-/// What the words ask for; none where a value is missing or does not read as its type.
-pub(crate) fn order_of<'a>(
-    alloc: Global,
-    matches: &ArgMatches<'a>,
-) -> Result<Option<Order<'a>>, AllocError> {
-    if let Some(given) = matches.subcommand_matches("gen") {
-        return Ok(gen_order(given));
-    }
-    if let Some(given) = matches.subcommand_matches("span") {
-        return Ok(match jobs_of(alloc, given)? {
-            Some(jobs) => block_order(given, OfBlock::Span { jobs }),
-            None => None,
-        });
-    }
-    if let Some(given) = matches.subcommand_matches("neh") {
-        return Ok(block_order(given, OfBlock::Neh));
-    }
-    if let Some(given) = matches.subcommand_matches("mirror") {
-        return Ok(block_order(given, OfBlock::Mirror));
-    }
-    if let Some(given) = matches.subcommand_matches("solve") {
-        return Ok(solve_order(given));
-    }
-    if let Some(given) = matches.subcommand_matches("check") {
-        return Ok(check_order(given));
-    }
-    Ok(None)
-}
-
-fn gen_order<'a>(given: &ArgMatches<'a>) -> Option<Order<'a>> {
-    Some(Order::Gen {
-        jobs: given.get_one::<u32>("JOBS")?,
-        machines: given.get_one::<u32>("MACHINES")?,
-        seed: given.get_one::<u32>("SEED")?,
-    })
-}
-
-fn block_order<'a>(given: &ArgMatches<'a>, what: OfBlock) -> Option<Order<'a>> {
-    Some(Order::OfBlock {
-        file: given.get_str("FILE")?,
-        index: given.get_one::<u32>("INDEX")?,
-        what,
-    })
-}
-
-fn solve_order<'a>(given: &ArgMatches<'a>) -> Option<Order<'a>> {
-    let workers = given.get_one::<u32>("workers")?;
-    let depth = given.get_one::<u32>("depth")?;
-    let budget = given.get_one::<u32>("budget")?;
-    let version = given.get_one::<u32>("certificate")?;
-    block_order(
-        given,
-        OfBlock::Solve {
-            workers,
-            depth,
-            budget,
-            version,
-        },
-    )
-}
-
-fn check_order<'a>(given: &ArgMatches<'a>) -> Option<Order<'a>> {
-    Some(Order::Check {
-        file: given.get_str("FILE")?,
-        index: given.get_one::<u32>("INDEX")?,
-        cert: given.get_str("CERT")?,
-    })
-}
-
-fn jobs_of(alloc: Global, given: &ArgMatches) -> Result<Option<Vec<u16>>, AllocError> {
-    let Some(words) = given.get_strs("JOB") else {
-        return Ok(None);
-    };
-    let mut jobs = Vec::new(alloc);
-    for word in words {
-        match word.parse::<u16>() {
-            Ok(job) => jobs.push(job)?,
-            Err(_) => return Ok(None),
-        }
-    }
-    Ok(Some(jobs))
 }
