@@ -207,14 +207,7 @@ pub fn prepare<'a>(
 {
     let count = count_of(instance, options)?;
     let (start, start_value) = neh(alloc, instance)?;
-    Ok(plan_from(
-        alloc,
-        instance,
-        options,
-        count,
-        start,
-        start_value,
-    )?)
+    Ok(plan_from(alloc, instance, options, count, start, start_value)?)
 }
 
 /// The plan of an instance and options, from a sequence of the instance; or the first fault; or `Memory`.
@@ -234,12 +227,5 @@ pub fn prepare_from<'a>(
 {
     let count = count_of(instance, options)?;
     let start_value = makespan(instance, &start);
-    Ok(plan_from(
-        alloc,
-        instance,
-        options,
-        count,
-        start,
-        start_value,
-    )?)
+    Ok(plan_from(alloc, instance, options, count, start, start_value)?)
 }
