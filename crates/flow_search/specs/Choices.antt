@@ -41,9 +41,12 @@ options_or_fault workers depth budget =
       | Some fault ↦ Err fault
     ]
 
+-- the same options with a version
+abbrev pub in_version : Choices → ℕ → Choices
+in_version options version =
+    record { workers = options.workers; depth = options.depth; budget = options.budget; version = version }
+
 -- the same options with a version; or the fault that there is no such version
 abbrev pub version_or_fault : Choices → ℕ → Result Choices OptionFault
 version_or_fault options version =
-    cond (is_in_range least_version greatest_version version)
-    (Ok (record { workers = options.workers; depth = options.depth; budget = options.budget; version = version }))
-    (Err Version)
+    cond (is_in_range least_version greatest_version version) (Ok (in_version options version)) (Err Version)

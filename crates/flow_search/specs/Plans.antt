@@ -6,7 +6,6 @@ use Rattle.flow_core.specs.Shop.{Shop, IsWithinLimits}
 use Rattle.flow_core.specs.Paths.{span}
 use Rattle.flow_core.specs.Sequences.{IsSequence, cut}
 use Rattle.flow_core.specs.Bound.{bound_of}
-use Rattle.flow_bound.specs.Neh.{IsNeh}
 use Rattle.flow_search.specs.Choices.{Choices, AreWithinLimits}
 use Rattle.flow_search.specs.Search.{Found, tree, trees, best, verdict}
 use Rattle.flow_search.specs.declared.plan.PlanFault.{PlanFault}
@@ -26,11 +25,10 @@ prefixes_of plan = cut plan.shop.jobs plan.options.depth
 abbrev pub prefix_of : Planned → ℕ → List ℕ
 prefix_of plan number = slice_index_or (prefixes_of plan) number []
 
--- a plan is within the limits, and starts from the sequence of Nawaz, Enscore and Ham
+-- a plan is within the limits, and starts from a sequence with its makespan
 pub record IsPlan (plan : Planned) : Type 0 where
   pub shop_limits : IsWithinLimits plan.shop
   pub option_limits : AreWithinLimits plan.options
-  pub is_neh : IsNeh plan.shop plan.start.sequence
   pub is_sequence : IsSequence plan.shop.jobs plan.start.sequence
   pub is_span : plan.start.value ≡ span plan.shop plan.start.sequence
   pub deep : plan.options.depth ≤ plan.shop.jobs

@@ -1,15 +1,17 @@
 //! Plans: an instance, its starting sequence, the options, and the prefixes into which the search is divided.
 
-ghost use Rattle.std.specs.Prelude.{◌≡◌, ℕ, ◌<◌, ◌≤◌, None, length, IfOk, OnOk, IfErr};
+ghost use Rattle.std.specs.Prelude.{◌≡◌, ℕ, ◌<◌, ◌≤◌, None, Some, length, IfOk, OnOk, IfErr};
 ghost use Rattle.flow_core.specs.Rows.{AreRows};
-ghost use Rattle.flow_core.specs.Sequences.{AreJobs};
+ghost use Rattle.flow_core.specs.Paths.{span};
+ghost use Rattle.flow_core.specs.Sequences.{AreJobs, IsSequence, cut};
+ghost use Rattle.flow_bound.specs.Neh.{IsNeh};
 ghost use Rattle.flow_search.specs.Plans.{IsPlan, prefixes_of, prefix_of, plan_fault, but_memory};
 ghost use Rattle.flow_search.specs.declared.plan.PlanFault.TheVariants.{Memory};
 
 use crate::cut_lists::{extend, prefix_count};
 use crate::options::Options;
 use flow_bound::neh;
-use flow_core::{Instance, Row, Sequence, rows};
+use flow_core::{Instance, Row, Sequence, makespan, rows};
 use std::alloc::{AllocError, AllocFailed, Global};
 use std::marker::Model;
 use thiserror::Error;
@@ -140,30 +142,43 @@ impl<'a> Plan<'a> {
     }
 }
 
-/// The plan of an instance and options; or the first fault; or `Memory`.
-pub fn prepare<'a>(
-    alloc: Global,
-    instance: &'a Instance,
-    options: Options,
-) -> Result<Plan<'a>, PlanFault>
-    ensures shop { IfOk result (λ plan. plan.shop ≡ instance.now) }
-    ensures options { IfOk result (λ plan. plan.options ≡ options) }
-    ensures plan { IfOk result (λ plan. IsPlan plan) }
+/// How many prefixes the plan of an instance and options has; or its first fault.
+fn count_of(instance: &Instance, options: Options) -> Result<u32, PlanFault>
+    ensures count { IfOk result (λ count. count ≡ length (cut instance.now.jobs options.depth)) }
     ensures accepted { OnOk result (plan_fault instance.now options ≡ None) }
-    ensures refused { IfErr result (λ fault. plan_fault instance.now options ≡ but_memory fault) }
+    ensures refused { IfErr result (λ fault. plan_fault instance.now options ≡ Some fault) }
 {
     let jobs = instance.jobs();
     let depth = options.depth();
     if depth > u32::from(jobs) {
         return Err(PlanFault::Depth);
     }
-    let Some(count) = prefix_count(jobs, depth) else {
-        return Err(PlanFault::Prefixes);
-    };
-    let (start, start_value) = neh(alloc, instance)?;
+    prefix_count(jobs, depth).ok_or(PlanFault::Prefixes)
+}
+
+/// The plan of an instance and options that have no fault, from a sequence with its makespan; `count` says how many
+/// prefixes it has.
+fn plan_from<'a>(
+    alloc: Global,
+    instance: &'a Instance,
+    options: Options,
+    count: u32,
+    start: Sequence,
+    start_value: u64,
+) -> Result<Plan<'a>, AllocError>
+    requires accepted { plan_fault instance.now options ≡ None }
+    requires count { count ≡ length (cut instance.now.jobs options.depth) }
+    requires is_sequence { IsSequence instance.now.jobs start }
+    requires is_span { start_value ≡ span instance.now start }
+    ensures shop { IfOk result (λ plan. plan.shop ≡ instance.now) }
+    ensures options { IfOk result (λ plan. plan.options ≡ options) }
+    ensures start { IfOk result (λ plan. plan.start.sequence ≡ start) }
+    ensures plan { IfOk result (λ plan. IsPlan plan) }
+{
+    let depth = options.depth();
     let mut list = Vec::with_capacity(alloc, depth as usize)?;
     let mut lists = Vec::with_capacity(alloc, count as usize * depth as usize)?;
-    extend(jobs, depth, &mut list, &mut lists)?;
+    extend(instance.jobs(), depth, &mut list, &mut lists)?;
     let rows = rows(alloc, instance)?;
     Ok(Plan {
         instance,
@@ -174,4 +189,43 @@ pub fn prepare<'a>(
         lists,
         rows,
     })
+}
+
+/// The plan of an instance and options, from the starting sequence of Nawaz, Enscore and Ham; or the first fault; or
+/// `Memory`.
+pub fn prepare<'a>(
+    alloc: Global,
+    instance: &'a Instance,
+    options: Options,
+) -> Result<Plan<'a>, PlanFault>
+    ensures shop { IfOk result (λ plan. plan.shop ≡ instance.now) }
+    ensures options { IfOk result (λ plan. plan.options ≡ options) }
+    ensures start { IfOk result (λ plan. IsNeh plan.shop plan.start.sequence) }
+    ensures plan { IfOk result (λ plan. IsPlan plan) }
+    ensures accepted { OnOk result (plan_fault instance.now options ≡ None) }
+    ensures refused { IfErr result (λ fault. plan_fault instance.now options ≡ but_memory fault) }
+{
+    let count = count_of(instance, options)?;
+    let (start, start_value) = neh(alloc, instance)?;
+    Ok(plan_from(alloc, instance, options, count, start, start_value)?)
+}
+
+/// The plan of an instance and options, from a sequence of the instance; or the first fault; or `Memory`.
+pub fn prepare_from<'a>(
+    alloc: Global,
+    instance: &'a Instance,
+    start: Sequence,
+    options: Options,
+) -> Result<Plan<'a>, PlanFault>
+    requires { IsSequence instance.now.jobs start }
+    ensures shop { IfOk result (λ plan. plan.shop ≡ instance.now) }
+    ensures options { IfOk result (λ plan. plan.options ≡ options) }
+    ensures start { IfOk result (λ plan. plan.start.sequence ≡ start) }
+    ensures plan { IfOk result (λ plan. IsPlan plan) }
+    ensures accepted { OnOk result (plan_fault instance.now options ≡ None) }
+    ensures refused { IfErr result (λ fault. plan_fault instance.now options ≡ but_memory fault) }
+{
+    let count = count_of(instance, options)?;
+    let start_value = makespan(instance, &start);
+    Ok(plan_from(alloc, instance, options, count, start, start_value)?)
 }
