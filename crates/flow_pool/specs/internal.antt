@@ -1,3 +1,4 @@
 pub mod HubSteps
 pub mod Start
 pub mod Settling
+pub mod Runs

@@ -1,8 +1,10 @@
 -- What holds before the workers are started, and after they have ended.
-use Rattle.std.specs.Prelude.{◌≡◌, ◌≤◌, List, length, map, All}
+use Rattle.std.specs.Prelude.{◌≡◌, ℕ, ◌<◌, ◌≤◌, List, length, map, All}
 use Rattle.flow_search.specs.Limits.{most_workers}
 use Rattle.flow_pool.specs.declared.ends.HubEnds.{HubEnds}
 use Rattle.flow_pool.specs.declared.ends.WorkerEnds.{WorkerEnds}
+use Rattle.flow_pool.specs.declared.threads.Start.{Start}
+use Rattle.flow_pool.specs.declared.threads.Start.TheVariants.{Complete, UsedUp, Refused}
 use Rattle.flow_pool.specs.Work.{IsFresh, worker_lanes, Fit}
 use Rattle.flow_pool.specs.Hub.{hub_lanes}
 use Rattle.flow_pool.specs.internal.Settling.{IsReadyHub, IsCollected}
@@ -24,3 +26,9 @@ pub record HasEnded (gives : WorkerEnds → Type 0) (workers : List WorkerEnds) 
   pub lanes : map hub_lanes hubs ≡ map worker_lanes workers
   pub served : All gives workers
   pub collected : All IsCollected hubs
+
+-- how many of `count` workers were started, where `starts` may be: all; just `starts`, fewer than all; fewer than either
+abbrev pub HasStarted : Start → ℕ → ℕ → ℕ → Type 0
+HasStarted Complete starts count started = (started ≡ count) × (count ≤ starts)
+HasStarted UsedUp starts count started = (started ≡ starts) × (starts < count)
+HasStarted (Refused refusal) starts count started = (started < starts) × (started < count)

@@ -12,5 +12,5 @@ returns g c =
       },
       e.few,
       e.directed,
-      e.limit,
+      e.start,
     )
