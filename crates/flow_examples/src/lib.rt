@@ -14,6 +14,8 @@ mod instances;
 #[cfg(test)]
 mod search;
 #[cfg(test)]
+mod starts;
+#[cfg(test)]
 mod text;
 #[cfg(test)]
 mod values;

@@ -125,11 +125,12 @@ AnswersRun plan (Err fault) =
     (fault ≡ tool.Run Threads)
     ⊎ ((number : ℕ) × (first_over_budget plan ≡ Some number) × (fault ≡ tool.Run (OverBudget number)))
 
--- what it answers for an instance and options: the answer for their plan, or why they have none
+-- what it answers for an instance and options: the answer for their plan from the starting sequence of Nawaz, Enscore
+-- and Ham, or why they have none
 abbrev pub AnswersPlan : Shop → Choices → Answer → Type 0
 AnswersPlan shop options answer =
-    ((plan : Planned) × IsPlan plan × (plan.shop ≡ shop) × (plan.options ≡ options)
-    × (plan_fault shop options ≡ None) × AnswersRun plan answer)
+    ((plan : Planned) × IsPlan plan × IsNeh plan.shop plan.start.sequence × (plan.shop ≡ shop)
+    × (plan.options ≡ options) × (plan_fault shop options ≡ None) × AnswersRun plan answer)
     ⊎ ((fault : PlanFault) × (plan_fault shop options ≡ Some fault) × (answer ≡ Err (tool.Plan fault)))
 
 -- what it answers for an instance, where the options are read

@@ -22,6 +22,7 @@ returns-in_err-write_certificate-clause-ended g c =
     (inl (
       c.in_ok-plan.plan,
       c.in_ok-plan.ensures.plan,
+      c.in_ok-plan.ensures.start,
       c.in_ok-plan.ensures.shop,
       c.in_ok-plan.ensures.options,
       c.in_ok-plan.ensures.accepted,
