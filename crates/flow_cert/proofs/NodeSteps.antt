@@ -3,7 +3,7 @@ use Rattle.std.proofs.Common.{◌≡◌, ◌≢◌, ℕ, zero, suc, ◌+◌, ◌
 use Rattle.std.proofs.Common.{◌∷◌, ◌++◌, length, slice_index, replicate, refl, ap, sym, ◌∙◌, subst, inl, inr, arith}
 use Rattle.std.proofs.Common.{set, length-append}
 use Rattle.std.specs.List.{filter, sum_by}
-use Rattle.std.proofs.lemmas.List.{get_or-set_same, get_or-set_other, length-set}
+use Rattle.std.proofs.lemmas.List.{get_or-set_same, get_or-set_other, get_or-replicate, length-set}
 use Rattle.std.proofs.lemmas.Bool.{cases_lt}
 use Rattle.flow_core.specs.Limits.{most_jobs, most_machines, greatest_time}
 use Rattle.flow_core.specs.Shop.{Shop, numbers, time, time_between, IsWithinLimits}
@@ -52,11 +52,6 @@ none-has (suc n) = omega (
 )
 
 -- before any bound asks for a tail
-pub all-same : (n v i : ℕ) → i < n → slice_index (replicate n v) i ≡ v
-all-same zero v i h = absurd (omega (arith, h))
-all-same (suc n) v zero h = refl
-all-same (suc n) v (suc i) h = all-same n v i (omega (arith, h))
-
 none-known : (shop : Shop) (list least second : List ℕ) →
     ((machine : ℕ) → 1 ≤ machine → machine ≤ shop.machines → slice_index least (machine - 1) ≡ unknown) →
     length least ≡ most_machines → length second ≡ most_machines → AreKnown shop list least second
@@ -125,7 +120,7 @@ root-node shop node limits times work size least second =
       work = work;
       size = size;
       known = none-known shop [] node.least node.second (λ machine from to. ap (λ l. slice_index l (machine - 1)) least
-          ∙ all-same most_machines unknown (machine - 1) (omega (arith, from, to, most))) (ap length least)
+          ∙ get_or-replicate most_machines (machine - 1) unknown 0 (omega (arith, from, to, most))) (ap length least)
           (ap length second);
       count = omega arith;
       some = none-has shop.jobs;
