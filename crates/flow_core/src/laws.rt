@@ -8,7 +8,7 @@ ghost use Rattle.flow_core.specs.Sequences.{IsSequence, IsLeastMakespan};
 ghost use Rattle.flow_core.specs.Mirror.{mirrored};
 ghost use Rattle.flow_core.specs.InstanceFaults.{instance_fault};
 ghost use Rattle.flow_core.specs.SequenceFaults.{sequence_fault};
-ghost use Rattle.flow_core.specs.Bound.{BoundIsAdmissible};
+ghost use Rattle.flow_core.specs.Bound.{BoundIsAdmissible, ReleasedBoundIsAdmissible, ReleasedBoundIsStronger};
 ghost use Rattle.flow_core.specs.Text.{Reads};
 ghost use Rattle.flow_core.specs.TextFaults.{text_fault};
 ghost use Rattle.flow_core.specs.Limits.{most_jobs, most_machines, greatest_time, greatest_number, greatest_depth};
@@ -45,6 +45,16 @@ pub fn completion_by_recurrence()
 /// The makespan of a sequence that extends a list is at least the list's bound on each machine.
 pub fn bound_is_admissible()
     ensures { BoundIsAdmissible }
+{}
+
+/// The makespan of a sequence that extends a list is at least the list's released bound on each machine.
+pub fn released_bound_is_admissible()
+    ensures { ReleasedBoundIsAdmissible }
+{}
+
+/// The released bound of a list is at least its machine bound.
+pub fn released_bound_is_stronger()
+    ensures { ReleasedBoundIsStronger }
 {}
 
 /// An instance has one least makespan.

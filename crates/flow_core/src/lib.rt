@@ -24,7 +24,8 @@ pub use job_set::JobSet;
 pub use laws::{
     bound_is_admissible, completion_by_recurrence, completion_is_greatest, instances_have_no_fault,
     least_makespan_is_one, limits_are_those_stated, mirror_keeps_makespans, mirror_turns_back,
-    sequences_have_no_fault, texts_have_no_fault,
+    released_bound_is_admissible, released_bound_is_stronger, sequences_have_no_fault,
+    texts_have_no_fault,
 };
 pub use limits::{MAX_DEPTH, MAX_JOBS, MAX_MACHINES, MAX_NUMBER, MAX_TIME};
 pub use row::{Row, rows};
