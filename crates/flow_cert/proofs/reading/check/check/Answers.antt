@@ -32,7 +32,7 @@ returns-in_err-end-clause-lawful c =
     lawful-at c.args.instance.now c.args.bytes.now c.from_residual-in_err-end.result c.in_err-end.field-0.0
     c.read_heading.ensures.limits
     (exit c.from_residual-in_err-end.result c.in_err-end.field-0.0 c.from_residual-in_err-end.ensures.1)
-    (trees-fault c.args.instance.now heading.depth heading.value c.args.bytes.now heading.trees.now
+    (trees-fault c.args.instance.now heading.version heading.depth heading.value c.args.bytes.now heading.trees.now
     c.in_err-end.field-0.0 c.in_ok-heading.ensures.found c.in_err-end.ensures)
 
 pub returns-in_err-end-clause-none : goal.returns-in_err-end-clause-none
@@ -41,7 +41,7 @@ returns-in_err-end-clause-none c =
     none-at c.args.instance.now c.args.bytes.now c.from_residual-in_err-end.result c.in_err-end.field-0.0
     c.read_heading.ensures.limits
     (exit c.from_residual-in_err-end.result c.in_err-end.field-0.0 c.from_residual-in_err-end.ensures.1)
-    (trees-fault c.args.instance.now heading.depth heading.value c.args.bytes.now heading.trees.now
+    (trees-fault c.args.instance.now heading.version heading.depth heading.value c.args.bytes.now heading.trees.now
     c.in_err-end.field-0.0 c.in_ok-heading.ensures.found c.in_err-end.ensures)
 
 pub returns-then-not-is_ending-clause-sound : goal.returns-then-not-is_ending-clause-sound
@@ -51,7 +51,7 @@ returns-then-not-is_ending-clause-sound c = certificate_is_sound c.args.instance
 ends : (c : Then-not-is_ending) → certificate_value c.args.instance.now c.args.bytes.now ≡ Err End
 ends c =
     let heading = c.in_ok-heading.heading in
-    checked-end c.args.instance.now heading.depth heading.value c.in_ok-end.end c.args.bytes.now heading.trees.now
+    checked-end c.args.instance.now heading.version heading.depth heading.value c.in_ok-end.end c.args.bytes.now heading.trees.now
     c.is_ending.result c.in_ok-heading.ensures.found c.in_ok-end.ensures c.is_ending.ensures c.if-not-is_ending.true
 
 pub returns-then-not-is_ending-clause-fault : goal.returns-then-not-is_ending-clause-fault
@@ -70,7 +70,7 @@ read : (c : Else-not-is_ending) →
     certificate_value c.args.instance.now c.args.bytes.now ≡ Ok c.in_ok-heading.heading.value
 read c =
     let heading = c.in_ok-heading.heading in
-    checked-value c.args.instance.now heading.depth heading.value c.in_ok-end.end c.args.bytes.now heading.trees.now
+    checked-value c.args.instance.now heading.version heading.depth heading.value c.in_ok-end.end c.args.bytes.now heading.trees.now
     c.is_ending.result c.in_ok-heading.ensures.found c.in_ok-end.ensures c.is_ending.ensures c.if-not-is_ending.false
 
 pub returns-clause-value : goal.returns-clause-value
