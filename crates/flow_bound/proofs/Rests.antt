@@ -231,6 +231,13 @@ written f xs k value last from within is done j low high =
           ∙ ap f (sym e)
     ]
 
+-- and the values of the numbers before it stay
+pub below-stay : (f : ℕ → ℕ) (xs : List ℕ) (k value : ℕ) → 1 ≤ k →
+    ((j : ℕ) → 1 ≤ j → j ≤ k → slice_index xs (j - 1) ≡ f j) → (j : ℕ) → 1 ≤ j → j ≤ k - 1 →
+    slice_index (set xs (k - 1) value) (j - 1) ≡ f j
+below-stay f xs k value from others j low high =
+    let other : j - 1 ≢ k - 1 = omega arith in rw get_or-set_other (others j low (omega arith))
+
 -- the tail before a machine, from that behind it
 pub tail-before : (shop : Shop) (job k tail value m : ℕ) → 1 ≤ k → k ≤ m → tail ≡ time_between shop job (k + 1) m →
     value ≡ time shop job k →

@@ -1,8 +1,8 @@
 //! The rest of a set of jobs: the remaining work of each machine.
 
-ghost use Rattle.std.specs.Prelude.{◌≡◌, ℕ, ◌+◌, ◌-◌, ◌<◌, ◌≤◌, List, Bool, true, false};
+ghost use Rattle.std.specs.Prelude.{◌≡◌, ℕ, ◌+◌, ◌-◌, ◌*◌, ◌<◌, ◌≤◌, min, List, Bool, true, false};
 ghost use Rattle.std.specs.Prelude.{length, slice_index, slice_set, sum_by};
-ghost use Rattle.flow_core.specs.Limits.{greatest_completion};
+ghost use Rattle.flow_core.specs.Limits.{most_jobs, greatest_time, greatest_completion};
 ghost use Rattle.flow_core.specs.Shop.{Shop, time, time_between};
 ghost use Rattle.flow_core.specs.Paths.{span};
 ghost use Rattle.flow_core.specs.Front.{IsFrontOf};
@@ -10,10 +10,8 @@ ghost use Rattle.flow_core.specs.JobSet.{contains, members};
 ghost use Rattle.flow_core.specs.Sequences.{jobs_left, IsSequence, Extends};
 ghost use Rattle.flow_core.specs.Bound.{machine_bound};
 ghost use Rattle.flow_bound.specs.Rest.{IsRestOf, least_tail};
-ghost use Rattle.flow_bound.specs.internal.Times.{AreTimes};
 
-use crate::sums::add_times;
-use flow_core::{Front, Instance, JobSet, MAX_JOBS, MAX_MACHINES};
+use flow_core::{Front, Instance, JobSet, MAX_MACHINES};
 use std::marker::Model;
 
 /// The remaining work of each machine of an instance, where the jobs of a set are left. It stores no set.
@@ -57,22 +55,6 @@ pub(crate) fn sum_of(instance: &Instance, set: &JobSet, machine: u16) -> u32
     sum
 }
 
-/// The least tail of a set of jobs, among the tails of all jobs.
-fn least_of(instance: &Instance, set: &JobSet, tails: &[u32; MAX_JOBS], machine: u16) -> u32
-    requires tails { AreTimes instance.now tails.now (machine + 1) instance.now.machines }
-    requires some { 0 < length (members set.now) }
-    requires jobs { (job : ℕ) → instance.now.jobs < job → contains set.now job ≡ false }
-    ensures { result ≡ least_tail instance.now (members set.now) machine }
-{
-    let mut least = u32::MAX;
-    for job in 1..instance.jobs() + 1 {
-        if set.contains(job) {
-            least = least.min(tails[job as usize - 1]);
-        }
-    }
-    least
-}
-
 /// The tail of a job behind a machine.
 fn tail_of(instance: &Instance, job: u16, machine: u16) -> u32
     requires job_from { 1 ≤ job }
@@ -109,6 +91,35 @@ pub(crate) fn least_above(instance: &Instance, set: &JobSet, machine: u16, floor
     least
 }
 
+/// Takes a job into the sums and the least tails.
+fn take_in(
+    instance: &Instance,
+    job: u16,
+    sums: &mut [u32; MAX_MACHINES],
+    tails: &mut [u32; MAX_MACHINES],
+)
+    requires job_from { 1 ≤ job }
+    requires job_to { job ≤ instance.now.jobs }
+    requires small { (machine : ℕ) → 1 ≤ machine → machine ≤ instance.now.machines →
+        slice_index sums.old (machine - 1) ≤ most_jobs * greatest_time }
+    ensures sums { (machine : ℕ) → 1 ≤ machine → machine ≤ instance.now.machines →
+        slice_index sums.new (machine - 1) ≡ slice_index sums.old (machine - 1) + time instance.now job machine }
+    ensures tails { (machine : ℕ) → 1 ≤ machine → machine ≤ instance.now.machines →
+        slice_index tails.new (machine - 1) ≡ min (slice_index tails.old (machine - 1))
+        (time_between instance.now job (machine + 1) instance.now.machines) }
+{
+    let mut behind = 0;
+    let mut machine = instance.machines();
+    while machine > 0 {
+        let place = machine as usize - 1;
+        let time = instance.time(job, machine);
+        sums[place] += time;
+        tails[place] = tails[place].min(behind);
+        behind += time;
+        machine -= 1;
+    }
+}
+
 impl Rest {
     /// The rest of a set of jobs.
     pub fn of(instance: &Instance, set: &JobSet) -> Rest
@@ -116,20 +127,15 @@ impl Rest {
         requires jobs { (job : ℕ) → instance.now.jobs < job → contains set.now job ≡ false }
         ensures rest { IsRestOf instance.now (members set.now) result }
     {
-        let machines = instance.machines();
         let mut sums = [0; MAX_MACHINES];
-        let mut tails = [0; MAX_MACHINES];
-        let mut behind = [0; MAX_JOBS];
-        let mut machine = machines;
-        while machine > 0 {
-            let place = machine as usize - 1;
-            sums[place] = sum_of(instance, set, machine);
-            tails[place] = least_of(instance, set, &behind, machine);
-            add_times(instance, &mut behind, machine);
-            machine -= 1;
+        let mut tails = [u32::MAX; MAX_MACHINES];
+        for job in 1..instance.jobs() + 1 {
+            if set.contains(job) {
+                take_in(instance, job, &mut sums, &mut tails);
+            }
         }
         Rest {
-            machines,
+            machines: instance.machines(),
             sums,
             tails,
         }

@@ -13,8 +13,9 @@ use Rattle.flow_search.specs.declared.eight.group.LaneRow.{LaneRow}
 use Rattle.flow_search.specs.declared.eight.group.Group.{Group}
 use Rattle.flow_search.specs.declared.eight.group.LaneFrame.{LaneFrame}
 use Rattle.flow_search.specs.internal.Lanes.{IsLaneLeft, IsFrameOf, IsOpened, IsTested, job_of, child, lanes_of}
+use Rattle.flow_search.specs.Search.{Bound}
 use Rattle.flow_search.proofs.Increasing.{without-one, places-gone, size-filter}
-use Rattle.flow_search.proofs.JobsTaken.{left-sum, left-count, has-other, has-more, has-same}
+use Rattle.flow_core.proofs.Taken.{left-sum, left-count, has-other, has-more, has-same}
 
 -- a node that differs in the answers only
 at-same : (shop : Shop) (list : List ℕ) (group : Group) (a b : LaneFrame) → b.front ≡ a.front → b.sum ≡ a.sum →
@@ -145,7 +146,7 @@ child-at shop list group parent made row lane place is here stands lane_is front
       small = at.small;
       from = λ k left. at.from k (back k left);
       to = λ k left. at.to k (back k left);
-      fresh = λ k left. has-other list job (job_of group k) (differ k left) (at.fresh k (back k left));
+      fresh = λ k left. has-other list job (job_of group k) (differ k left) ∙ at.fresh k (back k left);
       rows = λ r k machine left. at.rows r k machine (back k left);
       each = λ j low high fresh.
           let before : has list j ≡ false =
@@ -180,9 +181,9 @@ moved-lane frame next = record {
   next = next;
 }
 
-pub tested-moved : (shop : Shop) (list : List ℕ) (group : Group) (frame : LaneFrame) (next : ℕ) →
-    IsTested shop list group frame → IsTested shop list group (moved-lane frame next)
-tested-moved shop list group frame next is = record {
+pub tested-moved : (shop : Shop) (bound : Bound) (list : List ℕ) (group : Group) (frame : LaneFrame) (next : ℕ) →
+    IsTested shop bound list group frame → IsTested shop bound list group (moved-lane frame next)
+tested-moved shop bound list group frame next is = record {
   opened = opened-same shop list group frame (moved-lane frame next) refl refl refl refl is.opened.at is.opened.free;
   uncut = λ lane other here there.
       is.uncut lane other (record { within = here.within; left = here.left })

@@ -19,9 +19,11 @@ use Rattle.flow_search.specs.declared.eight.group.TheConstants.{GONE}
 use Rattle.flow_search.specs.declared.eight.group.LaneRow.{LaneRow}
 use Rattle.flow_search.specs.declared.eight.group.Group.{Group}
 use Rattle.flow_search.specs.declared.eight.group.LaneFrame.{LaneFrame}
+use Rattle.flow_search.specs.Search.{Bound}
 use Rattle.flow_search.specs.internal.Lanes.{IsLeastOfOthers}
 use Rattle.flow_search.specs.internal.Lanes.{IsLaneLeft, IsFrameOf, IsUncutCount, IsSmallRow, job_of, child}
-use Rattle.flow_search.proofs.JobsTaken.{left-here, left-child, least-is, left-sum, has-other}
+use Rattle.flow_core.proofs.Taken.{left-sum, has-other}
+use Rattle.flow_search.proofs.JobsTaken.{left-here, left-child, least-is}
 
 -- the jobs of two lanes that are left differ
 lanes-differ : (shop : Shop) (list : List ℕ) (group : Group) (frame : LaneFrame) (lane other : ℕ) →
@@ -68,7 +70,7 @@ behind-is shop list group frame row lane other machine value tails at here there
     } in
     let apart = lanes-differ shop list group frame lane best at here still is.one.2 in
     let left = left-here shop.jobs (child list group lane) (job_of group best) (at.from best still) (at.to best still)
-    (has-other list (job_of group lane) (job_of group best) apart (at.fresh best still)) in
+    (has-other list (job_of group lane) (job_of group best) apart ∙ at.fresh best still) in
     least-is f (jobs_left shop.jobs (child list group lane)) (job_of group best) value left (is.one.3
     ∙ tail-of best still)
     (λ job h.
@@ -127,12 +129,12 @@ bound-is shop list group frame row lane other place free start behind tails at h
     omega (arith, leaves, row_is, front, load, sum, tail)
 
 -- the state of a child's uncut after some machines: still open, or cut before
-pub record IsPassed (shop : Shop) (list : List ℕ) (limit machines uncut flag : ℕ) : Type 0 where
-  pub is : IsUncutCount shop list limit machines uncut
+pub record IsPassed (shop : Shop) (bound : Bound) (list : List ℕ) (limit machines uncut flag : ℕ) : Type 0 where
+  pub is : IsUncutCount shop bound list limit machines uncut
   pub state : ((flag ≡ 1) × (uncut ≡ machines)) ⊎ ((flag ≡ 0) × (uncut < machines))
 
-passed-none : (shop : Shop) (list : List ℕ) (limit : ℕ) → IsPassed shop list limit 0 0 1
-passed-none shop list limit = record {
+passed-none : (shop : Shop) (bound : Bound) (list : List ℕ) (limit : ℕ) → IsPassed shop bound list limit 0 0 1
+passed-none shop bound list limit = record {
   is = record {
     within = omega arith;
     above = λ machine from to. absurd (omega (arith, from, to));
@@ -142,13 +144,13 @@ passed-none shop list limit = record {
   state = inl (refl, refl);
 }
 
-pub passed-more : (shop : Shop) (list : List ℕ) (limit place uncut flag next more : ℕ) →
-    IsPassed shop list limit place uncut flag →
-    (bound_at shop list (place + 1) < limit → next ≡ flag) → (limit ≤ bound_at shop list (place + 1) → next ≡ 0) →
+pub passed-more : (shop : Shop) (bound : Bound) (list : List ℕ) (limit place uncut flag next more : ℕ) →
+    IsPassed shop bound list limit place uncut flag →
+    (bound shop list (place + 1) < limit → next ≡ flag) → (limit ≤ bound shop list (place + 1) → next ≡ 0) →
     more ≡ uncut + next →
-    IsPassed shop list limit (place + 1) more next
-passed-more shop list limit place uncut flag next more was kept cut is = elim was.state [
-  | inl still ↦ elim (cases_lt (bound_at shop list (place + 1)) limit) [
+    IsPassed shop bound list limit (place + 1) more next
+passed-more shop bound list limit place uncut flag next more was kept cut is = elim was.state [
+  | inl still ↦ elim (cases_lt (bound shop list (place + 1)) limit) [
     | inl under ↦
         let one : next ≡ 1 = kept under ∙ still.0 in
         let whole : more ≡ place + 1 = omega (arith, is, one, still.1) in
@@ -157,7 +159,7 @@ passed-more shop list limit place uncut flag next more was kept cut is = elim wa
             within = omega (arith, whole);
             above = λ machine from to. elim (cases_lt place machine) [
               | inl last ↦ let e : machine ≡ place + 1 = omega (arith, last, to, whole) in
-                  subst (λ m. bound_at shop list m < limit) (sym e) under
+                  subst (λ m. bound shop list m < limit) (sym e) under
               | inr before ↦ was.is.above machine from (omega (arith, before, still.1))
             ];
             cut = λ h. absurd (omega (arith, h, whole));
@@ -171,13 +173,13 @@ passed-more shop list limit place uncut flag next more was kept cut is = elim wa
           is = record {
             within = omega (arith, same);
             above = λ machine from to. was.is.above machine from (omega (arith, to, same, still.1));
-            cut = λ h. subst (λ m. limit ≤ bound_at shop list (m + 1)) (sym same) over;
+            cut = λ h. subst (λ m. limit ≤ bound shop list (m + 1)) (sym same) over;
           };
           state = inr (none, omega (arith, same));
         }
   ]
   | inr closed ↦
-      let none : next ≡ 0 = elim (cases_lt (bound_at shop list (place + 1)) limit) [
+      let none : next ≡ 0 = elim (cases_lt (bound shop list (place + 1)) limit) [
         | inl under ↦ kept under
             ∙ closed.0
         | inr over ↦ cut over
@@ -187,7 +189,7 @@ passed-more shop list limit place uncut flag next more was kept cut is = elim wa
         is = record {
           within = omega (arith, same, closed.1);
           above = λ machine from to. was.is.above machine from (omega (arith, to, same));
-          cut = λ h. subst (λ m. limit ≤ bound_at shop list (m + 1)) (sym same) (was.is.cut closed.1);
+          cut = λ h. subst (λ m. limit ≤ bound shop list (m + 1)) (sym same) (was.is.cut closed.1);
         };
         state = inr (none, omega (arith, same, closed.1));
       }
@@ -229,11 +231,11 @@ all-same zero v lane h = absurd (omega (arith, h))
 all-same (suc n) v zero h = refl
 all-same (suc n) v (suc lane) h = all-same n v lane (omega (arith, h))
 
-pub passed-start : (shop : Shop) (list : List ℕ) (limit uncut flag : ℕ) → uncut ≡ 0 → flag ≡ 1 →
-    IsPassed shop list limit 0 uncut flag
-passed-start shop list limit uncut flag none whole =
-    subst (λ a. IsPassed shop list limit 0 a flag) (sym none) (subst (λ b. IsPassed shop list limit 0 0 b) (sym whole)
-    (passed-none shop list limit))
+pub passed-start : (shop : Shop) (bound : Bound) (list : List ℕ) (limit uncut flag : ℕ) → uncut ≡ 0 → flag ≡ 1 →
+    IsPassed shop bound list limit 0 uncut flag
+passed-start shop bound list limit uncut flag none whole =
+    subst (λ a. IsPassed shop bound list limit 0 a flag) (sym none) (subst (λ b. IsPassed shop bound list limit 0 0 b) (sym whole)
+    (passed-none shop bound list limit))
 
 pub start-small : (shop : Shop) (list : List ℕ) (group : Group) (frame : LaneFrame) (place free start : ℕ) →
     IsWithinLimits shop → IsFrameOf shop list group frame → place < shop.machines →

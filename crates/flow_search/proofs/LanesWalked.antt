@@ -6,46 +6,46 @@ use Rattle.std.specs.List.{find}
 use Rattle.std.proofs.lemmas.Bool.{eq-eqb, lt-ltb, or_left}
 use Rattle.flow_core.specs.Shop.{Shop, numbers}
 use Rattle.flow_core.specs.Sequences.{has, jobs_left}
-use Rattle.flow_core.specs.JobSet.{members}
-use Rattle.flow_core.specs.Bound.{letter, machine_bound, bound_at}
+use Rattle.flow_core.specs.Bound.{letter}
+use Rattle.flow_search.specs.Search.{Bound}
 use Rattle.flow_search.specs.Walk.{walk, walk_each}
-use Rattle.flow_search.specs.internal.Nodes.{IsAt, Wrote, Entered, Gave, Walked, walked, children_walked, incumbent_of}
+use Rattle.flow_search.specs.internal.Nodes.{Wrote, Entered, Gave, Walked, walked, children_walked, incumbent_of}
 use Rattle.flow_search.specs.internal.Lanes.{IsFrameOf, IsLaneLeft, IsUncutCount, IsTested, job_of, child, lane_walked}
 use Rattle.flow_search.specs.declared.subtree.Search.{Search}
 use Rattle.flow_search.specs.declared.eight.group.Group.{Group}
 use Rattle.flow_search.specs.declared.eight.group.LaneFrame.{LaneFrame}
 use Rattle.flow_search.proofs.Walk.{Incumbent, answer_of}
-use Rattle.flow_search.proofs.Nodes.{find-is}
-use Rattle.flow_search.proofs.JobsTaken.{left-count, left-child}
+use Rattle.flow_core.proofs.Taken.{left-count}
+use Rattle.flow_search.proofs.JobsTaken.{left-child}
 use Rattle.flow_search.proofs.UncutFound.{count-found}
 
 -- The walk at a node.
 
-abbrev children : Shop → ℕ → List ℕ → Incumbent → List ℕ × Incumbent
-children shop left node incumbent =
-    walk_each (λ job. walk shop bound_at left (node ++ job ∷ [])) (jobs_left shop.jobs node) incumbent
+abbrev children : Shop → Bound → ℕ → List ℕ → Incumbent → List ℕ × Incumbent
+children shop bound left node incumbent =
+    walk_each (λ job. walk shop bound left (node ++ job ∷ [])) (jobs_left shop.jobs node) incumbent
 
 -- what a letter says of it
-lettered : (shop : Shop) (count uncut : ℕ) (node : List ℕ) (st : Incumbent) → 0 < count →
-    IsUncutCount shop node st.0 shop.machines uncut →
-    walk shop bound_at count node st
-    ≡ answer_of st (children shop (count - 1) node st) (cond (nat_lt uncut shop.machines) (Some (uncut
+lettered : (shop : Shop) (bound : Bound) (count uncut : ℕ) (node : List ℕ) (st : Incumbent) → 0 < count →
+    IsUncutCount shop bound node st.0 shop.machines uncut →
+    walk shop bound count node st
+    ≡ answer_of st (children shop bound (count - 1) node st) (cond (nat_lt uncut shop.machines) (Some (uncut
     + 1)) None)
-lettered shop count uncut node st some is =
+lettered shop bound count uncut node st some is =
     let e : count ≡ suc (count - 1) = omega (arith, some) in
-    ap (λ c. walk shop bound_at c node st) e
-    ∙ ap (answer_of st (children shop (count - 1) node st)) (count-found shop node st.0 uncut is)
+    ap (λ c. walk shop bound c node st) e
+    ∙ ap (answer_of st (children shop bound (count - 1) node st)) (count-found shop bound node st.0 uncut is)
 
-pub lane-cut : (shop : Shop) (budget count uncut : ℕ) (group : Group) (lane : ℕ) (old new : Search) → 0 < count →
-    IsUncutCount shop (child old.node.items group lane) old.value shop.machines uncut →
+pub lane-cut : (shop : Shop) (bound : Bound) (budget count uncut : ℕ) (group : Group) (lane : ℕ) (old new : Search) → 0 < count →
+    IsUncutCount shop bound (child old.node.items group lane) old.value shop.machines uncut →
     uncut < shop.machines →
-    Wrote budget (65 + uncut) old new → Gave budget (lane_walked shop count group lane old) old new
-lane-cut shop budget count uncut group lane old new some is low wrote =
+    Wrote budget (65 + uncut) old new → Gave budget (lane_walked shop bound count group lane old) old new
+lane-cut shop bound budget count uncut group lane old new some is low wrote =
     let byte : 65 + uncut ≡ letter (uncut + 1) = omega arith in
     let node : List ℕ = child old.node.items group lane in
-    let here : lane_walked shop count group lane old ≡ (letter (uncut + 1) ∷ [], incumbent_of old) =
-    lettered shop count uncut node (incumbent_of old) some is
-    ∙ ap (λ b. answer_of (incumbent_of old) (children shop (count - 1) node (incumbent_of old)) (cond b (Some
+    let here : lane_walked shop bound count group lane old ≡ (letter (uncut + 1) ∷ [], incumbent_of old) =
+    lettered shop bound count uncut node (incumbent_of old) some is
+    ∙ ap (λ b. answer_of (incumbent_of old) (children shop bound (count - 1) node (incumbent_of old)) (cond b (Some
     (uncut + 1)) None)) (lt-ltb uncut shop.machines low) in
     record {
       tree = wrote.tree ∙ ap (λ b. old.tree.items ++ b ∷ []) byte ∙ ap (λ w. old.tree.items ++ w.0) (sym here);
@@ -56,52 +56,50 @@ lane-cut shop budget count uncut group lane old new some is low wrote =
     }
 
 -- no machine cuts: a plus, and the walks of the children
-abbrev pub IsUncut : Shop → ℕ → List ℕ → Incumbent → Type 0
-IsUncut shop count node incumbent =
-    walk shop bound_at count node incumbent
-    ≡ (43 ∷ (children shop (count - 1) node incumbent).0, (children shop (count - 1) node incumbent).1)
+abbrev pub IsUncut : Shop → Bound → ℕ → List ℕ → Incumbent → Type 0
+IsUncut shop bound count node incumbent =
+    walk shop bound count node incumbent
+    ≡ (43 ∷ (children shop bound (count - 1) node incumbent).0, (children shop bound (count - 1) node incumbent).1)
 
 -- nor at a child, before it is entered
-pub uncut-child : (shop : Shop) (count job : ℕ) (old in_child : Search) → 0 < count → Entered job old in_child →
-    find (λ machine. nat_le old.value (bound_at shop (old.node.items ++ job ∷ []) machine)) (numbers 1 shop.machines)
+pub uncut-child : (shop : Shop) (bound : Bound) (count job : ℕ) (old in_child : Search) → 0 < count → Entered job old in_child →
+    find (λ machine. nat_le old.value (bound shop (old.node.items ++ job ∷ []) machine)) (numbers 1 shop.machines)
     ≡ None →
-    IsUncut shop count in_child.node.items (incumbent_of in_child)
-uncut-child shop count job old in_child some entered finds =
+    IsUncut shop bound count in_child.node.items (incumbent_of in_child)
+uncut-child shop bound count job old in_child some entered finds =
     let node : List ℕ = old.node.items ++ job ∷ [] in
     let e : count ≡ suc (count - 1) = omega (arith, some) in
-    let uncut : IsUncut shop count node (incumbent_of old) =
-    ap (λ c. walk shop bound_at c node (incumbent_of old)) e
-    ∙ ap (answer_of (incumbent_of old) (children shop (count - 1) node (incumbent_of old))) finds in
-    subst (λ st. IsUncut shop count in_child.node.items st) (sym entered.incumbent)
-    (subst (λ q. IsUncut shop count q (incumbent_of old)) (sym entered.node) uncut)
+    let uncut : IsUncut shop bound count node (incumbent_of old) =
+    ap (λ c. walk shop bound c node (incumbent_of old)) e
+    ∙ ap (answer_of (incumbent_of old) (children shop bound (count - 1) node (incumbent_of old))) finds in
+    subst (λ st. IsUncut shop bound count in_child.node.items st) (sym entered.incumbent)
+    (subst (λ q. IsUncut shop bound count q (incumbent_of old)) (sym entered.node) uncut)
 
-pub uncut-found : (shop : Shop) (front : List ℕ) (count : ℕ) (search : Search) → 0 < count →
-    IsAt shop search.node.items front search.unscheduled count →
-    None ≡ find (λ machine. nat_le search.value (machine_bound shop front (members search.unscheduled) machine))
-    (numbers 1 shop.machines) →
-    IsUncut shop count search.node.items (incumbent_of search)
-uncut-found shop front count search some at finds =
+pub uncut-found : (shop : Shop) (bound : Bound) (count : ℕ) (search : Search) → 0 < count →
+    None ≡ find (λ machine. nat_le search.value (bound shop search.node.items machine)) (numbers 1 shop.machines) →
+    IsUncut shop bound count search.node.items (incumbent_of search)
+uncut-found shop bound count search some finds =
     let e : count ≡ suc (count - 1) = omega (arith, some) in
-    ap (λ c. walked shop c search) e
-    ∙ ap (answer_of (incumbent_of search) (children shop (count - 1) search.node.items (incumbent_of search)))
-    (sym (finds ∙ find-is shop search.node.items front search.unscheduled count search.value at))
+    ap (λ c. walked shop bound c search) e
+    ∙ ap (answer_of (incumbent_of search) (children shop bound (count - 1) search.node.items (incumbent_of search)))
+    (sym finds)
 
 -- once the plus is written, at the node
-plus-is : (shop : Shop) (count : ℕ) (node : List ℕ) (st : Incumbent) (mid : Search) → IsUncut shop count node st →
+plus-is : (shop : Shop) (bound : Bound) (count : ℕ) (node : List ℕ) (st : Incumbent) (mid : Search) → IsUncut shop bound count node st →
     mid.node.items ≡ node → incumbent_of mid ≡ st →
-    walk shop bound_at count node st
-    ≡ (43 ∷ (children_walked shop (count - 1) mid).0, (children_walked shop (count - 1) mid).1)
-plus-is shop count node st mid uncut at is =
-    let same : children_walked shop (count - 1) mid ≡ children shop (count - 1) node st =
-    ap (λ q. children shop (count - 1) q (incumbent_of mid)) at ∙ ap (children shop (count - 1) node) is in
+    walk shop bound count node st
+    ≡ (43 ∷ (children_walked shop bound (count - 1) mid).0, (children_walked shop bound (count - 1) mid).1)
+plus-is shop bound count node st mid uncut at is =
+    let same : children_walked shop bound (count - 1) mid ≡ children shop bound (count - 1) node st =
+    ap (λ q. children shop bound (count - 1) q (incumbent_of mid)) at ∙ ap (children shop bound (count - 1) node) is in
     uncut ∙ sym (ap (λ w. (43 ∷ w.0, w.1)) same)
 
-pub node-done : (shop : Shop) (budget count : ℕ) (old mid new : Search) →
-    IsUncut shop count old.node.items (incumbent_of old) → Wrote budget 43 old mid →
-    Gave budget (children_walked shop (count - 1) mid) mid new → Walked shop budget count old new
-node-done shop budget count old mid new uncut wrote made =
-    let here = plus-is shop count old.node.items (incumbent_of old) mid uncut wrote.node wrote.incumbent in
-    let below : List ℕ × Incumbent = children_walked shop (count - 1) mid in
+pub node-done : (shop : Shop) (bound : Bound) (budget count : ℕ) (old mid new : Search) →
+    IsUncut shop bound count old.node.items (incumbent_of old) → Wrote budget 43 old mid →
+    Gave budget (children_walked shop bound (count - 1) mid) mid new → Walked shop bound budget count old new
+node-done shop bound budget count old mid new uncut wrote made =
+    let here = plus-is shop bound count old.node.items (incumbent_of old) mid uncut wrote.node wrote.incumbent in
+    let below : List ℕ × Incumbent = children_walked shop bound (count - 1) mid in
     record {
       tree = made.tree ∙ ap (λ xs. xs ++ below.0) wrote.tree ∙ append_assoc old.tree.items (43 ∷ []) below.0
           ∙ ap (λ w. old.tree.items ++ w.0) (sym here);
@@ -111,12 +109,12 @@ node-done shop budget count old mid new uncut wrote made =
       within = made.within;
     }
 
-pub node-over : (shop : Shop) (budget count : ℕ) (old mid : Search) →
-    IsUncut shop count old.node.items (incumbent_of old) → Wrote budget 43 old mid →
-    budget < length mid.tree.items + length (children_walked shop (count - 1) mid).0 →
-    budget < length old.tree.items + length (walked shop count old).0
-node-over shop budget count old mid uncut wrote over =
-    let here = ap (λ w. length w.0) (plus-is shop count old.node.items
+pub node-over : (shop : Shop) (bound : Bound) (budget count : ℕ) (old mid : Search) →
+    IsUncut shop bound count old.node.items (incumbent_of old) → Wrote budget 43 old mid →
+    budget < length mid.tree.items + length (children_walked shop bound (count - 1) mid).0 →
+    budget < length old.tree.items + length (walked shop bound count old).0
+node-over shop bound budget count old mid uncut wrote over =
+    let here = ap (λ w. length w.0) (plus-is shop bound count old.node.items
     (incumbent_of old) mid uncut wrote.node wrote.incumbent) in
     omega (arith, over, here, ap length wrote.tree, length-append old.tree.items (43 ∷ []))
 
@@ -137,9 +135,9 @@ another shop list group frame lane at here two =
     (stands.0, stands.1, λ e. parts.3 (sym stands.2 ∙ ap (job_of group) e))
 
 -- the test of a child that leaves a job
-pub uncut-here : (shop : Shop) (list : List ℕ) (group : Group) (frame : LaneFrame) (lane : ℕ) →
-    IsTested shop list group frame → IsLaneLeft frame lane → length list + 2 ≤ shop.jobs →
-    IsUncutCount shop (child list group lane) frame.value shop.machines (slice_index frame.uncut lane)
-uncut-here shop list group frame lane is here two =
+pub uncut-here : (shop : Shop) (bound : Bound) (list : List ℕ) (group : Group) (frame : LaneFrame) (lane : ℕ) →
+    IsTested shop bound list group frame → IsLaneLeft frame lane → length list + 2 ≤ shop.jobs →
+    IsUncutCount shop bound (child list group lane) frame.value shop.machines (slice_index frame.uncut lane)
+uncut-here shop bound list group frame lane is here two =
     let other = another shop list group frame lane is.opened.at here two in
     is.uncut lane other.0 here other.1 other.2

@@ -1,6 +1,6 @@
 -- What the code of the search does at a node is what the walk does.
 use Rattle.std.proofs.Common.{◌≡◌, ◌≢◌, ℕ, zero, suc, ◌+◌, ◌-◌, ◌<◌, ◌≤◌, Bool, true, false, cond, not, ◌||◌, nat_eq}
-use Rattle.std.proofs.Common.{nat_le, List, [], ◌∷◌, ◌++◌, Option, Some, None, length, map, set, slice_index}
+use Rattle.std.proofs.Common.{nat_le, List, [], ◌∷◌, ◌++◌, Some, None, length, map, set, slice_index}
 use Rattle.std.proofs.Common.{slice_index_or, slice_set, take, refl, ap, sym, ◌∙◌, inl, inr, arith, length-append}
 use Rattle.std.specs.List.{filter, find, range_with_len, sum_by}
 use Rattle.std.proofs.lemmas.Bool.{cond-true, cond-false, eqb-false}
@@ -19,6 +19,7 @@ use Rattle.flow_core.proofs.JobsLeft.{filter-same, kept, kept-more, kept-has, su
 use Rattle.flow_core.proofs.Fronts.{front-within}
 use Rattle.flow_core.proofs.JobSetLemmas.{members-is}
 use Rattle.flow_core.proofs.Admissible.{front_of-is}
+use Rattle.flow_search.specs.Search.{Bound}
 use Rattle.flow_search.specs.internal.Nodes.{IsAt, Wrote, Walked, walked, children_walked, incumbent_of}
 use Rattle.flow_search.specs.declared.subtree.Search.{Search}
 use Rattle.flow_search.proofs.Walk.{Fresh, fresh-push, range-all, answer_of, has-at}
@@ -196,21 +197,13 @@ put-back (flag ∷ flags) (suc place) e = ap (λ ys. flag ∷ ys) (put-back flag
 
 -- What the code does at a node is what the walk does.
 
--- a cut, where one is found
-abbrev pub Finds : Shop → List ℕ → List Bool → ℕ → Option ℕ → Type 0
-Finds shop front unscheduled value o =
-    o ≡ find (λ machine. nat_le value (machine_bound shop front (members unscheduled) machine))
-    (numbers 1 shop.machines)
-
-pub cut-here : (shop : Shop) (front : List ℕ) (budget count left machine : ℕ) (old new : Search) →
-    IsAt shop old.node.items front old.unscheduled count → count ≡ suc left →
-    Finds shop front old.unscheduled old.value (Some machine) →
-    Wrote budget (64 + machine) old new → Walked shop budget count old new
-cut-here shop front budget count left machine old new at e finds wrote =
-    let here : walked shop count old ≡ (letter machine ∷ [], incumbent_of old) =
-    ap (λ c. walked shop c old) e
-    ∙ ap (answer_of (incumbent_of old) (children_walked shop left old)) (sym (finds
-    ∙ find-is shop old.node.items front old.unscheduled count old.value at)) in
+pub cut-here : (shop : Shop) (bound : Bound) (budget count left machine : ℕ) (old new : Search) → count ≡ suc left →
+    Some machine ≡ find (λ k. nat_le old.value (bound shop old.node.items k)) (numbers 1 shop.machines) →
+    Wrote budget (64 + machine) old new → Walked shop bound budget count old new
+cut-here shop bound budget count left machine old new e finds wrote =
+    let here : walked shop bound count old ≡ (letter machine ∷ [], incumbent_of old) =
+    ap (λ c. walked shop bound c old) e
+    ∙ ap (answer_of (incumbent_of old) (children_walked shop bound left old)) (sym finds) in
     record {
       tree = wrote.tree ∙ ap (λ w. old.tree.items ++ w) (sym (ap (λ w. w.0) here));
       incumbent = wrote.incumbent ∙ sym (ap (λ w. w.1) here);

@@ -1,9 +1,9 @@
 -- From the empty list to a prefix, and what the walk from there comes to.
-use Rattle.std.proofs.Common.{◌≡◌, ℕ, zero, suc, ◌+◌, ◌-◌, ◌*◌, ◌<◌, ◌≤◌, true, false, not, ◌||◌, nat_eq, List, [], ◌∷◌}
+use Rattle.std.proofs.Common.{◌≡◌, ℕ, zero, suc, ◌+◌, ◌-◌, ◌*◌, ◌<◌, ◌≤◌, true, false, cond, not, ◌||◌, nat_eq, List, [], ◌∷◌}
 use Rattle.std.proofs.Common.{◌++◌, None, length, Some, take, drop, get_or, slice_index_or, refl, ap, sym, subst, ◌∙◌}
 use Rattle.std.proofs.Common.{inl, inr, arith}
 use Rattle.std.proofs.lemmas.List.{take_more}
-use Rattle.std.proofs.lemmas.Bool.{cond-true, or_left, or_right, eq-eqb, false≢true}
+use Rattle.std.proofs.lemmas.Bool.{cond-true, or_left, or_right, eq-eqb, ne_eqb, false≢true}
 use Rattle.std.proofs.lemmas.Bool.Decides.{eqb_tells}
 use Rattle.std.proofs.lemmas.List.Elements.{All-from_recursion, recursion_from_All}
 use Rattle.flow_core.specs.declared.row.Row.{Row}
@@ -11,10 +11,9 @@ use Rattle.flow_core.specs.Shop.{Shop}
 use Rattle.flow_core.specs.Front.{IsFrontOf}
 use Rattle.flow_core.specs.JobSet.{contains}
 use Rattle.flow_core.specs.Sequences.{has, AreJobs, AreDistinct, IsSequence, cut}
-use Rattle.flow_core.specs.Bound.{bound_at}
-use Rattle.flow_core.proofs.Admissible.{bound_is_admissible}
-use Rattle.flow_search.specs.Search.{Found, tree, best}
-use Rattle.flow_search.specs.Walk.{walk}
+use Rattle.flow_core.specs.Bound.{bound_at, released_bound_at, bound_of}
+use Rattle.flow_search.specs.Search.{Bound, Found, tree, best}
+use Rattle.flow_search.specs.Walk.{walk, IsAdmissible}
 use Rattle.flow_search.specs.Plans.{Planned, IsPlan, prefixes_of, prefix_of, best_of, tree_of}
 use Rattle.flow_search.specs.internal.Stored.{IsStored}
 use Rattle.flow_search.specs.internal.Nodes.{IsAt, Entered, Walked, walked, found_if, incumbent_of}
@@ -105,59 +104,69 @@ arrived : (prefix node : List ℕ) (i : ℕ) → i ≤ length prefix → length 
 arrived prefix node i low high e = let same : i ≡ length prefix = omega arith in e ∙ ap (λ k. take k prefix) same
     ∙ take-all prefix
 
-prefix-walk : (plan : Planned) (prefix front : List ℕ) (i count : ℕ) (search : Search) →
+prefix-walk : (plan : Planned) (bound : Bound) (prefix front : List ℕ) (i count : ℕ) (search : Search) →
     count ≡ plan.shop.jobs - length prefix → i ≤ length prefix → length prefix ≤ i →
     IsOnTheWay plan prefix i front search →
-    walked plan.shop count search
-    ≡ walk plan.shop bound_at (plan.shop.jobs - length prefix) prefix (plan.start.value, None)
-prefix-walk plan prefix front i count search left low high way =
-    ap (λ c. walk plan.shop bound_at c search.node.items (incumbent_of search)) left
-    ∙ ap (λ q. walk plan.shop bound_at (plan.shop.jobs - length prefix) q (incumbent_of search))
+    walked plan.shop bound count search
+    ≡ walk plan.shop bound (plan.shop.jobs - length prefix) prefix (plan.start.value, None)
+prefix-walk plan bound prefix front i count search left low high way =
+    ap (λ c. walk plan.shop bound c search.node.items (incumbent_of search)) left
+    ∙ ap (λ q. walk plan.shop bound (plan.shop.jobs - length prefix) q (incumbent_of search))
     (arrived prefix search.node.items i low high way.node)
-    ∙ ap (walk plan.shop bound_at (plan.shop.jobs - length prefix) prefix) way.incumbent
+    ∙ ap (walk plan.shop bound (plan.shop.jobs - length prefix) prefix) way.incumbent
 
-prefix-done : (plan : Planned) (prefix front : List ℕ) (i budget count : ℕ) (old new : Search) →
+prefix-done : (plan : Planned) (bound : Bound) → IsAdmissible bound →
+    (prefix front : List ℕ) (i budget count : ℕ) (old new : Search) →
     AreJobs plan.shop.jobs prefix → length prefix ≤ plan.shop.jobs →
     count ≡ plan.shop.jobs - length prefix → i ≤ length prefix → length prefix ≤ i →
-    IsOnTheWay plan prefix i front old → Walked plan.shop budget count old new →
+    IsOnTheWay plan prefix i front old → Walked plan.shop bound budget count old new →
     (found_if new ≡ best plan.shop plan.start.value prefix)
-    × (new.tree.items ≡ tree plan.shop bound_at plan.start.value prefix)
-prefix-done plan prefix front i budget count old new are short left low high way w =
-    let walk_is = prefix-walk plan prefix front i count old left low high way in
-    let law = walk_is_tree plan.shop bound_at plan.start.value prefix bound_is_admissible are short in (
+    × (new.tree.items ≡ tree plan.shop bound plan.start.value prefix)
+prefix-done plan bound admissible prefix front i budget count old new are short left low high way w =
+    let walk_is = prefix-walk plan bound prefix front i count old left low high way in
+    let law = walk_is_tree plan.shop bound plan.start.value prefix admissible are short in (
       ap (λ st. st.1) w.incumbent ∙ ap (λ w. w.1.1) walk_is ∙ law.1,
-      w.tree ∙ ap (λ xs. xs ++ (walked plan.shop count old).0) way.tree ∙ ap (λ w. w.0) walk_is ∙ law.0,
+      w.tree ∙ ap (λ xs. xs ++ (walked plan.shop bound count old).0) way.tree ∙ ap (λ w. w.0) walk_is ∙ law.0,
     )
 
+-- the bound of a plan
+pub plan-bound : (plan : Planned) → IsPlan plan → bound_at ≡ bound_of plan.options.version
+plan-bound plan is =
+    sym (ap (λ b. cond b released_bound_at bound_at)
+    (ne_eqb plan.options.version 2 (λ e. omega (arith, e, is.option_limits.last_version))))
+
 -- the best and the tree of a prefix of the plan, once its walk is done; the code knows the instance as `shop`
-pub prefix-answered : (plan : Planned) (shop : Shop) (prefix front : List ℕ) (number i budget jobs : ℕ)
-    (old new : Search) → shop ≡ plan.shop → jobs ≡ shop.jobs → prefix ≡ prefix_of plan number →
+pub prefix-answered : (plan : Planned) (bound : Bound) (shop : Shop) (prefix front : List ℕ)
+    (number i budget jobs : ℕ) (old new : Search) → bound ≡ bound_of plan.options.version → IsAdmissible bound →
+    shop ≡ plan.shop → jobs ≡ shop.jobs → prefix ≡ prefix_of plan number →
     AreJobs plan.shop.jobs prefix → length prefix ≤ plan.shop.jobs → i ≤ length prefix → length prefix ≤ i →
-    IsOnTheWay plan prefix i front old →
-    Walked shop budget (jobs - length prefix) old new → (found_if new ≡ best_of plan number)
-    × (new.tree.items ≡ tree_of plan number)
-prefix-answered plan shop prefix front number i budget jobs old new shop_is jobs_is prefix_is are short low high way w =
+    IsOnTheWay plan prefix i front old → Walked shop bound budget (jobs - length prefix) old new →
+    (found_if new ≡ best_of plan number) × (new.tree.items ≡ tree_of plan number)
+prefix-answered plan bound shop prefix front number i budget jobs old new bound_is admissible shop_is jobs_is prefix_is
+    are short low high way w =
     let count : jobs - length prefix ≡ plan.shop.jobs - length prefix =
     ap (λ n. n - length prefix) (jobs_is ∙ ap (λ s. s.jobs) shop_is) in
-    let walk_done : Walked plan.shop budget (jobs - length prefix) old new =
-    subst (λ s. Walked s budget (jobs - length prefix) old new) shop_is w in
-    let is = prefix-done plan prefix front i budget
+    let walk_done : Walked plan.shop bound budget (jobs - length prefix) old new =
+    subst (λ s. Walked s bound budget (jobs - length prefix) old new) shop_is w in
+    let is = prefix-done plan bound admissible prefix front i budget
     (jobs - length prefix) old new are short count low high way walk_done in (
       is.0 ∙ ap (best plan.shop plan.start.value) prefix_is,
       is.1
-          ∙ ap (tree plan.shop bound_at plan.start.value) prefix_is,
+          ∙ ap (tree plan.shop bound plan.start.value) prefix_is
+          ∙ ap (λ b. tree plan.shop b plan.start.value (prefix_of plan number)) bound_is,
     )
 
-pub prefix-over : (plan : Planned) (prefix front : List ℕ) (i budget count : ℕ) (old : Search) →
+pub prefix-over : (plan : Planned) (bound : Bound) → IsAdmissible bound →
+    (prefix front : List ℕ) (i budget count : ℕ) (old : Search) →
     AreJobs plan.shop.jobs prefix → length prefix ≤ plan.shop.jobs →
     count ≡ plan.shop.jobs - length prefix → i ≤ length prefix → length prefix ≤ i →
     IsOnTheWay plan prefix i front old →
-    budget < length old.tree.items + length (walked plan.shop count old).0 →
-    budget < length (tree plan.shop bound_at plan.start.value prefix)
-prefix-over plan prefix front i budget count old are short left low high way over =
-    let law = walk_is_tree plan.shop bound_at plan.start.value prefix bound_is_admissible are short in
-    let same : length (walked plan.shop count old).0 ≡ length (tree plan.shop bound_at plan.start.value prefix) =
-    ap (λ w. length w.0) (prefix-walk plan prefix front i count old left low high way) ∙ ap length law.0 in
+    budget < length old.tree.items + length (walked plan.shop bound count old).0 →
+    budget < length (tree plan.shop bound plan.start.value prefix)
+prefix-over plan bound admissible prefix front i budget count old are short left low high way over =
+    let law = walk_is_tree plan.shop bound plan.start.value prefix admissible are short in
+    let same : length (walked plan.shop bound count old).0 ≡ length (tree plan.shop bound plan.start.value prefix) =
+    ap (λ w. length w.0) (prefix-walk plan bound prefix front i count old left low high way) ∙ ap length law.0 in
     let nothing : length old.tree.items ≡ 0 = ap length way.tree in
     omega (arith, over, same, nothing)
 

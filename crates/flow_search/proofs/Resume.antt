@@ -11,7 +11,8 @@ use Rattle.flow_core.specs.Shop.{Shop, numbers}
 use Rattle.flow_core.specs.Front.{IsFrontOf}
 use Rattle.flow_core.specs.JobSet.{contains, members}
 use Rattle.flow_core.specs.Sequences.{has, jobs_left, AreJobs}
-use Rattle.flow_core.specs.Bound.{letter, bound_at, front_of}
+use Rattle.flow_core.specs.Bound.{letter, front_of}
+use Rattle.flow_search.specs.Search.{Bound}
 use Rattle.flow_core.proofs.JobsLeft.{bool_cases}
 use Rattle.flow_core.proofs.Admissible.{front_of-is}
 use Rattle.flow_bound.specs.Rest.{IsRestOf}
@@ -122,6 +123,19 @@ left-none shop node front set count from at low high e =
     none-in (contains set) (λ k. not (has node k)) from (shop.jobs
     + 1 - from) (λ k a b. at.left k (omega arith) (omega arith)) e
 
+-- where a part of a text is longer than the budget, the text is
+pub longer-part : (budget : ℕ) (now first rest old whole : List ℕ) → budget < length now + length first →
+    now ++ (first ++ rest) ≡ old ++ whole → budget < length old + length whole
+longer-part budget now first rest old whole over same =
+    omega (
+      arith,
+      over,
+      ap length same,
+      length-append now (first ++ rest),
+      length-append first rest,
+      length-append old whole,
+    )
+
 -- walks one after another
 
 abbrev Walk : Type 0
@@ -131,24 +145,24 @@ pub then-assoc : (a : Walk) (f g : Incumbent → Walk) → then_walk (then_walk 
     (λ st. then_walk (f st) g)
 then-assoc a f g = ap (λ t. (t, (g (f a.1).1).1)) (append_assoc a.0 (f a.1).0 (g (f a.1).1).0)
 
-resume-next : (shop : Shop) (root : List ℕ) (left job : ℕ) (here later : Frame) (fs : List Frame) (st : Incumbent) →
+resume-next : (shop : Shop) (bound : Bound) (root : List ℕ) (left job : ℕ) (here later : Frame) (fs : List Frame) (st : Incumbent) →
     left_from shop.jobs (path root fs) here.next ≡ job ∷ left_from shop.jobs (path root fs) (job + 1) →
     later.next ≡ job + 1 →
-    resume shop root left (here ∷ fs) st
-    ≡ then_walk (walk shop bound_at left (path root fs ++ job ∷ []) st) (resume shop root left (later ∷ fs))
-resume-next shop root left job here later fs st e next =
-    let w : ℕ → Incumbent → Walk = λ k. walk shop bound_at left (path root fs ++ k ∷ []) in
-    let more : Incumbent → Walk = resume shop root (suc left) fs in
+    resume shop bound root left (here ∷ fs) st
+    ≡ then_walk (walk shop bound left (path root fs ++ job ∷ []) st) (resume shop bound root left (later ∷ fs))
+resume-next shop bound root left job here later fs st e next =
+    let w : ℕ → Incumbent → Walk = λ k. walk shop bound left (path root fs ++ k ∷ []) in
+    let more : Incumbent → Walk = resume shop bound root (suc left) fs in
     ap (λ js. then_walk (walk_each w js st) more) e
     ∙ then-assoc (w job st) (walk_each w (left_from shop.jobs (path root fs) (job + 1))) more
-    ∙ ap (λ k. then_walk (w job st) (λ s. then_walk (walk_from shop left (path root fs) k s) more)) (sym next)
+    ∙ ap (λ k. then_walk (w job st) (λ s. then_walk (walk_from shop bound left (path root fs) k s) more)) (sym next)
 
-resume-none : (shop : Shop) (root : List ℕ) (left : ℕ) (here : Frame) (fs : List Frame) (st : Incumbent) →
-    left_from shop.jobs (path root fs) here.next ≡ [] → resume shop root left (here ∷ fs) st
-    ≡ resume shop root (suc left) fs st
-resume-none shop root left here fs st e =
-    ap (λ js. then_walk (walk_each (λ k. walk shop bound_at left (path root fs ++ k
-    ∷ [])) js st) (resume shop root (suc left) fs)) e
+resume-none : (shop : Shop) (bound : Bound) (root : List ℕ) (left : ℕ) (here : Frame) (fs : List Frame) (st : Incumbent) →
+    left_from shop.jobs (path root fs) here.next ≡ [] → resume shop bound root left (here ∷ fs) st
+    ≡ resume shop bound root (suc left) fs st
+resume-none shop bound root left here fs st e =
+    ap (λ js. then_walk (walk_each (λ k. walk shop bound left (path root fs ++ k
+    ∷ [])) js st) (resume shop bound root (suc left) fs)) e
 
 -- a frame whose next child is another
 abbrev pub moved : Frame → ℕ → Frame
@@ -160,12 +174,12 @@ moved-frame shop node left here next is =
     record { times = is.times; rest_is = is.rest_is; second_is = is.second_is; count = is.count; some = is.some }
 
 -- a walk writes something
-pub walk-some : (shop : Shop) (left : ℕ) (node : List ℕ) (st : Incumbent) →
-    1 ≤ length (walk shop bound_at left node st).0
-walk-some shop zero node st = omega arith
-walk-some shop (suc left) node st =
-    some (walk_each (λ k. walk shop bound_at left (node ++ k ∷ [])) (jobs_left shop.jobs node) st)
-    (find (λ machine. nat_le st.0 (bound_at shop node machine)) (numbers 1 shop.machines))
+pub walk-some : (shop : Shop) (bound : Bound) (left : ℕ) (node : List ℕ) (st : Incumbent) →
+    1 ≤ length (walk shop bound left node st).0
+walk-some shop bound zero node st = omega arith
+walk-some shop bound (suc left) node st =
+    some (walk_each (λ k. walk shop bound left (node ++ k ∷ [])) (jobs_left shop.jobs node) st)
+    (find (λ machine. nat_le st.0 (bound shop node machine)) (numbers 1 shop.machines))
   where
     some : (below : Walk) (o : Option ℕ) → 1 ≤ length (answer_of st below o).0
     some below None = omega arith
@@ -196,20 +210,20 @@ frame-of shop node front set left frame at times rest second =
     }
 
 -- a child whose subtree was walked
-child-walk : (shop : Shop) (below job : ℕ) (old in_child : Search) → Entered job old in_child →
-    walked shop below in_child ≡ walk shop bound_at below (old.node.items ++ job ∷ []) (incumbent_of old)
-child-walk shop below job old in_child entered =
-    ap (λ q. walk shop bound_at below q (incumbent_of in_child)) entered.node
-    ∙ ap (walk shop bound_at below (old.node.items ++ job ∷ [])) entered.incumbent
+child-walk : (shop : Shop) (bound : Bound) (below job : ℕ) (old in_child : Search) → Entered job old in_child →
+    walked shop bound below in_child ≡ walk shop bound below (old.node.items ++ job ∷ []) (incumbent_of old)
+child-walk shop bound below job old in_child entered =
+    ap (λ q. walk shop bound below q (incumbent_of in_child)) entered.node
+    ∙ ap (walk shop bound below (old.node.items ++ job ∷ [])) entered.incumbent
 
-pub child-done : (shop : Shop) (budget below job : ℕ) (old in_child after new : Search) → Entered job old in_child →
-    Walked shop budget below in_child after → Left job old.node.items after new → contains old.unscheduled job ≡
+pub child-done : (shop : Shop) (bound : Bound) (budget below job : ℕ) (old in_child after new : Search) → Entered job old in_child →
+    Walked shop bound budget below in_child after → Left job old.node.items after new → contains old.unscheduled job ≡
     true →
-    Gave budget (walk shop bound_at below (old.node.items ++ job ∷ []) (incumbent_of old)) old new
-child-done shop budget below job old in_child after new entered w left there =
-    let same = child-walk shop below job old in_child entered in
+    Gave budget (walk shop bound below (old.node.items ++ job ∷ []) (incumbent_of old)) old new
+child-done shop bound budget below job old in_child after new entered w left there =
+    let same = child-walk shop bound below job old in_child entered in
     record {
-      tree = left.tree ∙ w.tree ∙ ap (λ t. t ++ (walked shop below in_child).0) entered.tree
+      tree = left.tree ∙ w.tree ∙ ap (λ t. t ++ (walked shop bound below in_child).0) entered.tree
           ∙ ap (λ p. old.tree.items ++ p.0) same;
       incumbent = left.incumbent ∙ w.incumbent ∙ ap (λ p. p.1) same;
       node = left.node;
@@ -220,26 +234,26 @@ child-done shop budget below job old in_child after new entered w left there =
       within = subst (λ t. length t ≤ budget) (sym left.tree) w.within;
     }
 
-pub child-over : (shop : Shop) (budget below job : ℕ) (old in_child : Search) → Entered job old in_child →
-    budget < length in_child.tree.items + length (walked shop below in_child).0 →
-    budget < length old.tree.items + length (walk shop bound_at below (old.node.items ++ job ∷ [])
+pub child-over : (shop : Shop) (bound : Bound) (budget below job : ℕ) (old in_child : Search) → Entered job old in_child →
+    budget < length in_child.tree.items + length (walked shop bound below in_child).0 →
+    budget < length old.tree.items + length (walk shop bound below (old.node.items ++ job ∷ [])
     (incumbent_of old)).0
-child-over shop budget below job old in_child entered over =
-    omega (arith, over, ap length entered.tree, ap (λ w. length w.0) (child-walk shop below job old in_child entered))
+child-over shop bound budget below job old in_child entered over =
+    omega (arith, over, ap length entered.tree, ap (λ w. length w.0) (child-walk shop bound below job old in_child entered))
 
 -- a child that a bound cuts
-pub cut-done : (shop : Shop) (budget below job machine : ℕ) (old new : Search) → below ≢ 0 →
-    Some machine ≡ find (λ m. nat_le old.value (bound_at shop (old.node.items ++ job
+pub cut-done : (shop : Shop) (bound : Bound) (budget below job machine : ℕ) (old new : Search) → below ≢ 0 →
+    Some machine ≡ find (λ m. nat_le old.value (bound shop (old.node.items ++ job
     ∷ []) m)) (numbers 1 shop.machines) →
     Wrote budget (64 + machine) old new →
-    Gave budget (walk shop bound_at below (old.node.items ++ job ∷ []) (incumbent_of old)) old new
-cut-done shop budget below job machine old new some found w =
+    Gave budget (walk shop bound below (old.node.items ++ job ∷ []) (incumbent_of old)) old new
+cut-done shop bound budget below job machine old new some found w =
     let node : List ℕ = old.node.items ++ job ∷ [] in
     let st : Incumbent = incumbent_of old in
     let more : below ≡ suc (below - 1) = omega arith in
-    let cut : walk shop bound_at below node st ≡ (letter machine ∷ [], st) =
-    ap (λ n. walk shop bound_at n node st) more
-    ∙ ap (answer_of st (walk_each (λ k. walk shop bound_at (below - 1) (node ++ k
+    let cut : walk shop bound below node st ≡ (letter machine ∷ [], st) =
+    ap (λ n. walk shop bound n node st) more
+    ∙ ap (answer_of st (walk_each (λ k. walk shop bound (below - 1) (node ++ k
     ∷ [])) (jobs_left shop.jobs node) st)) (sym found) in
     record {
       tree = w.tree ∙ ap (λ p. old.tree.items ++ p.0) (sym cut);
@@ -296,9 +310,9 @@ same-set shop node front other_front set other count other_count a b =
       | inr in_range ↦ a.left k low in_range ∙ sym (b.left k low in_range)
     ]
 
-module _ {shop : Shop} {budget : ℕ} {root : List ℕ} {whole : List ℕ
+module _ {shop : Shop} {bound : Bound} {budget : ℕ} {root : List ℕ} {whole : List ℕ
     × Incumbent} {old : Search} {here : Frame} {below : ℕ} {fs : List Frame} {now : Search}
-    (i : IsWalking shop budget root whole old here below fs now) where
+    (i : IsWalking shop bound budget root whole old here below fs now) where
   -- the next child
   pub walking-child : (job : ℕ) → Some job ≡ find (contains now.unscheduled) (numbers here.next shop.jobs) →
       (left_from shop.jobs (path root fs) here.next ≡ job ∷ left_from shop.jobs (path root fs) (job + 1))
@@ -315,20 +329,20 @@ module _ {shop : Shop} {budget : ℕ} {root : List ℕ} {whole : List ℕ
   -- a child's subtree was walked
   pub walking-whole : (job : ℕ) (new : Search) →
       Some job ≡ find (contains now.unscheduled) (numbers here.next shop.jobs) →
-      Gave budget (walk shop bound_at below (now.node.items ++ job ∷ []) (incumbent_of now)) now new →
-      IsWalking shop budget root whole old (moved here (job + 1)) below fs new
+      Gave budget (walk shop bound below (now.node.items ++ job ∷ []) (incumbent_of now)) now new →
+      IsWalking shop bound budget root whole old (moved here (job + 1)) below fs new
   walking-whole job new found gave =
       let kid = walking-child job found in
       let st : Incumbent = incumbent_of now in
       let later : Frame = moved here (job + 1) in
-      let first : Walk = walk shop bound_at below (path root fs ++ job ∷ []) st in
-      let first_is : walk shop bound_at below (now.node.items ++ job ∷ []) st ≡ first =
-      ap (λ q. walk shop bound_at below (q ++ job ∷ []) st) i.node in
-      let all : resume shop root below (here ∷ fs) st ≡ then_walk first (resume shop root below (later ∷ fs)) =
-      resume-next shop root below job here later fs st kid.0 refl in
+      let first : Walk = walk shop bound below (path root fs ++ job ∷ []) st in
+      let first_is : walk shop bound below (now.node.items ++ job ∷ []) st ≡ first =
+      ap (λ q. walk shop bound below (q ++ job ∷ []) st) i.node in
+      let all : resume shop bound root below (here ∷ fs) st ≡ then_walk first (resume shop bound root below (later ∷ fs)) =
+      resume-next shop bound root below job here later fs st kid.0 refl in
       let after : incumbent_of new ≡ first.1 = gave.incumbent ∙ ap (λ w. w.1) first_is in
       let tree : new.tree.items ≡ now.tree.items ++ first.0 = gave.tree ∙ ap (λ w. now.tree.items ++ w.0) first_is in
-      let rest : Incumbent → Walk = resume shop root below (later ∷ fs) in
+      let rest : Incumbent → Walk = resume shop bound root below (later ∷ fs) in
       record {
         at = subst (λ u. IsAt shop new.node.items here.front u (suc below)) (sym gave.unscheduled)
             (subst (λ q. IsAt shop q here.front now.unscheduled (suc below)) (sym gave.node) i.at);
@@ -351,40 +365,31 @@ module _ {shop : Shop} {budget : ℕ} {root : List ℕ} {whole : List ℕ
   -- a child's text is longer than the budget
   pub walking-over : (job : ℕ) → Some job ≡ find (contains now.unscheduled) (numbers here.next shop.jobs) →
       budget < length now.tree.items
-      + length (walk shop bound_at below (now.node.items ++ job ∷ []) (incumbent_of now)).0 →
+      + length (walk shop bound below (now.node.items ++ job ∷ []) (incumbent_of now)).0 →
       budget < length old.tree.items + length whole.0
   walking-over job found over =
       let kid = walking-child job found in
       let st : Incumbent = incumbent_of now in
-      let first : Walk = walk shop bound_at below (path root fs ++ job ∷ []) st in
-      let rest : Walk = resume shop root below (moved here (job + 1) ∷ fs) first.1 in
-      let first_is : length (walk shop bound_at below (now.node.items ++ job ∷ []) st).0 ≡ length first.0 =
-      ap (λ q. length (walk shop bound_at below (q ++ job ∷ []) st).0) i.node in
+      let first : Walk = walk shop bound below (path root fs ++ job ∷ []) st in
+      let rest : Walk = resume shop bound root below (moved here (job + 1) ∷ fs) first.1 in
+      let first_is : walk shop bound below (now.node.items ++ job ∷ []) st ≡ first =
+      ap (λ q. walk shop bound below (q ++ job ∷ []) st) i.node in
       let all : now.tree.items ++ (first.0 ++ rest.0) ≡ old.tree.items ++ whole.0 =
-      ap (λ w. now.tree.items ++ w.0) (sym (resume-next shop root below job here (moved here (job
+      ap (λ w. now.tree.items ++ w.0) (sym (resume-next shop bound root below job here (moved here (job
       + 1)) fs st kid.0 refl)) ∙ i.text in
-      let sizes : length (now.tree.items ++ (first.0 ++ rest.0)) ≡ length
-      (old.tree.items ++ whole.0) = ap length all in
-      omega (
-        arith,
-        over,
-        first_is,
-        sizes,
-        length-append now.tree.items (first.0 ++ rest.0),
-        length-append first.0 rest.0,
-        length-append old.tree.items whole.0,
-      )
+      longer-part budget now.tree.items first.0 rest.0 old.tree.items whole.0
+      (subst (λ w. budget < length now.tree.items + length w.0) first_is over) all
 
   -- the plus of a child is written, and its node entered
   pub walking-down : (job : ℕ) (mid new : Search) (child : Frame) →
       Some job ≡ find (contains now.unscheduled) (numbers here.next shop.jobs) → 9 ≤ below →
-      Opens shop budget job now mid → Entered job mid new →
+      Opens shop bound budget job now mid → Entered job mid new →
       IsFrontOf shop (now.node.items ++ job ∷ []) child.front →
       IsRestOf shop (members new.unscheduled) child.rest →
       ((machine : ℕ) → 1 ≤ machine → machine ≤ shop.machines →
       slice_index_or child.second (machine - 1) 0 ≡ second_tail shop (members new.unscheduled) machine) →
       child.next ≡ 1 →
-      IsWalking shop budget root whole old child (below - 1) (moved here (job + 1) ∷ fs) new
+      IsWalking shop bound budget root whole old child (below - 1) (moved here (job + 1) ∷ fs) new
   walking-down job mid new child found deep opens entered front rest_given second next =
       let kid = walking-child job found in
       let st : Incumbent = incumbent_of now in
@@ -410,28 +415,28 @@ module _ {shop : Shop} {budget : ℕ} {root : List ℕ} {whole : List ℕ
       members-are shop new.node.items child.front new.unscheduled (suc left) at_new in
       let left_is : members new.unscheduled ≡ jobs_left shop.jobs (path root (later ∷ fs)) = members_is
       ∙ ap (jobs_left shop.jobs) (node ∙ sym here_at) in
-      let first : Walk = walk shop bound_at below (path root fs ++ job ∷ []) st in
-      let deeper : Incumbent → Walk = walk_from shop left (path root (later ∷ fs)) 1 in
-      let rest : Incumbent → Walk = resume shop root below (later ∷ fs) in
-      let uncut : find (λ machine. nat_le st.0 (bound_at shop (path root fs ++ job
+      let first : Walk = walk shop bound below (path root fs ++ job ∷ []) st in
+      let deeper : Incumbent → Walk = walk_from shop bound left (path root (later ∷ fs)) 1 in
+      let rest : Incumbent → Walk = resume shop bound root below (later ∷ fs) in
+      let uncut : find (λ machine. nat_le st.0 (bound shop (path root fs ++ job
       ∷ []) machine)) (numbers 1 shop.machines) ≡ None =
-      ap (λ q. find (λ machine. nat_le st.0 (bound_at shop (q ++ job
+      ap (λ q. find (λ machine. nat_le st.0 (bound shop (q ++ job
       ∷ []) machine)) (numbers 1 shop.machines)) (sym i.node) ∙ opens.uncut in
       let first_is : first ≡ (43 ∷ (deeper st).0, (deeper st).1) =
-      ap (λ n. walk shop bound_at n (path root fs ++ job ∷ []) st) more
-      ∙ ap (answer_of st (walk_each (λ k. walk shop bound_at left ((path root fs ++ job ∷ []) ++ k
+      ap (λ n. walk shop bound n (path root fs ++ job ∷ []) st) more
+      ∙ ap (answer_of st (walk_each (λ k. walk shop bound left ((path root fs ++ job ∷ []) ++ k
       ∷ [])) (jobs_left shop.jobs (path root fs ++ job ∷ [])) st)) uncut
-      ∙ ap (λ q. (43 ∷ (walk_from shop left q 1 st).0, (walk_from shop left q 1 st).1)) (ap (λ j. path root fs ++ j
+      ∙ ap (λ q. (43 ∷ (walk_from shop bound left q 1 st).0, (walk_from shop bound left q 1 st).1)) (ap (λ j. path root fs ++ j
       ∷ []) (sym back)) in
-      let all : resume shop root below (here ∷ fs) st ≡ then_walk first rest =
-      resume-next shop root below job here later fs st kid.0 refl in
+      let all : resume shop bound root below (here ∷ fs) st ≡ then_walk first rest =
+      resume-next shop bound root below job here later fs st kid.0 refl in
       let tree : new.tree.items ≡ now.tree.items ++ 43 ∷ [] = entered.tree ∙ opens.wrote.tree in
-      let child_rest : Incumbent → Walk = resume shop root left (child ∷ later ∷ fs) in
+      let child_rest : Incumbent → Walk = resume shop bound root left (child ∷ later ∷ fs) in
       let child_is : (s : Incumbent) → child_rest s ≡ then_walk (deeper s) rest = λ s.
-      ap (λ n. then_walk (walk_from shop left (path root (later ∷ fs)) n s) (resume shop root (suc left) (later
+      ap (λ n. then_walk (walk_from shop bound left (path root (later ∷ fs)) n s) (resume shop bound root (suc left) (later
       ∷ fs))) next
-      ∙ ap (λ n. then_walk (deeper s) (resume shop root n (later ∷ fs))) (sym more) in
-      let whole_is : resume shop root below (here ∷ fs) st ≡ (43 ∷ (child_rest st).0, (child_rest st).1) =
+      ∙ ap (λ n. then_walk (deeper s) (resume shop bound root n (later ∷ fs))) (sym more) in
+      let whole_is : resume shop bound root below (here ∷ fs) st ≡ (43 ∷ (child_rest st).0, (child_rest st).1) =
       all ∙ ap (λ f. then_walk f rest) first_is ∙ ap (λ r. (43 ∷ r.0, r.1)) (sym (child_is st)) in
       record {
         at = at_new;
@@ -467,7 +472,7 @@ module _ {shop : Shop} {budget : ℕ} {root : List ℕ} {whole : List ℕ
   -- the node of a child whose plus is written
   pub walking-entered : (job : ℕ) (mid new : Search) → Some job
       ≡ find (contains now.unscheduled) (numbers here.next shop.jobs) →
-      Opens shop budget job now mid → Entered job mid new →
+      Opens shop bound budget job now mid → Entered job mid new →
       IsAt shop new.node.items (front_of shop (now.node.items ++ job ∷ [])) new.unscheduled below
       × IsRestOf shop (members (slice_set new.unscheduled (job - 1) true)) here.rest
   walking-entered job mid new found opens entered =
@@ -495,7 +500,7 @@ module _ {shop : Shop} {budget : ℕ} {root : List ℕ} {whole : List ℕ
   pub walking-up : (f : Frame) (gs : List Frame) (new : Search) →
       None ≡ find (contains now.unscheduled) (numbers here.next shop.jobs) →
       fs ≡ f ∷ gs → Left (f.next - 1) (path root gs) now new →
-      IsWalking shop budget root whole old f (suc below) gs new
+      IsWalking shop bound budget root whole old f (suc below) gs new
   walking-up f gs new none e left =
       let empty : left_from shop.jobs (path root fs) here.next ≡ [] =
       subst (λ q. left_from shop.jobs q here.next
@@ -505,8 +510,8 @@ module _ {shop : Shop} {budget : ℕ} {root : List ℕ} {whole : List ℕ
       let above = subst (IsStack shop root (suc (suc below))) e i.stack in
       let job : ℕ = f.next - 1 in
       let node : now.node.items ≡ path root gs ++ job ∷ [] = i.node ∙ ap (path root) e in
-      let same : resume shop root below (here ∷ fs) st ≡ resume shop root (suc below) (f ∷ gs) st =
-      resume-none shop root below here fs st empty ∙ ap (λ xs. resume shop root (suc below) xs st) e in
+      let same : resume shop bound root below (here ∷ fs) st ≡ resume shop bound root (suc below) (f ∷ gs) st =
+      resume-none shop bound root below here fs st empty ∙ ap (λ xs. resume shop bound root (suc below) xs st) e in
       let at_now : IsAt shop (path root gs ++ job ∷ []) here.front now.unscheduled (suc below) =
       subst (λ q. IsAt shop q here.front now.unscheduled (suc below)) node i.at in
       record {
@@ -520,11 +525,11 @@ module _ {shop : Shop} {budget : ℕ} {root : List ℕ} {whole : List ℕ
         next = omega (arith, above.1.from);
         past = omega (arith, above.1.to);
         stack = above.3;
-        text = ap (λ s. new.tree.items ++ (resume shop root (suc below) (f ∷ gs) s).0) left.incumbent
-            ∙ ap (λ t. t ++ (resume shop root (suc below) (f ∷ gs) st).0) left.tree
+        text = ap (λ s. new.tree.items ++ (resume shop bound root (suc below) (f ∷ gs) s).0) left.incumbent
+            ∙ ap (λ t. t ++ (resume shop bound root (suc below) (f ∷ gs) st).0) left.tree
             ∙ ap (λ w. now.tree.items ++ w.0) (sym same)
             ∙ i.text;
-        state = ap (λ s. (resume shop root (suc below) (f ∷ gs) s).1) left.incumbent ∙ ap (λ w. w.1) (sym same)
+        state = ap (λ s. (resume shop bound root (suc below) (f ∷ gs) s).1) left.incumbent ∙ ap (λ w. w.1) (sym same)
             ∙ i.state;
         many = omega (arith, i.many);
         within = subst (λ t. length t ≤ budget) (sym left.tree) i.within;
@@ -541,8 +546,8 @@ module _ {shop : Shop} {budget : ℕ} {root : List ℕ} {whole : List ℕ
       (suc below) here.next i.at i.next i.past none) in
       let st : Incumbent = incumbent_of now in
       let node : now.node.items ≡ old.node.items = i.node ∙ ap (path root) e ∙ root_is in
-      let same : resume shop root below (here ∷ fs) st ≡ ([], st) =
-      resume-none shop root below here fs st empty ∙ ap (λ xs. resume shop root (suc below) xs st) e in
+      let same : resume shop bound root below (here ∷ fs) st ≡ ([], st) =
+      resume-none shop bound root below here fs st empty ∙ ap (λ xs. resume shop bound root (suc below) xs st) e in
       record {
         tree = sym (append-nil now.tree.items) ∙ ap (λ w. now.tree.items ++ w.0) (sym same) ∙ i.text;
         incumbent = ap (λ w. w.1) (sym same) ∙ i.state;

@@ -13,7 +13,7 @@ use Rattle.flow_core.specs.Least.{first_least}
 use Rattle.flow_core.specs.Shop.{Shop}
 use Rattle.flow_core.specs.Paths.{span}
 use Rattle.flow_core.specs.Sequences.{IsSequence, IsLeastMakespan}
-use Rattle.flow_core.specs.Bound.{bound_at}
+use Rattle.flow_core.specs.Bound.{bound_of}
 use Rattle.flow_search.specs.Search.{Found, tree, best}
 use Rattle.flow_search.specs.Plans.{Planned, IsPlan, prefixes_of, prefix_of, tree_of, best_of, trees_of, verdict_of}
 use Rattle.flow_search.specs.Outcomes.{IsLawful, AreLawful, IsDone, found_of, first_over_budget}
@@ -133,11 +133,11 @@ take-all [] = refl
 take-all (x ∷ xs) = ap (λ ys. x ∷ ys) (take-all xs)
 
 pub trees-count : (plan : Planned) → length (trees_of plan) ≡ length (prefixes_of plan)
-trees-count plan = length-map (prefixes_of plan) (tree plan.shop bound_at plan.start.value)
+trees-count plan = length-map (prefixes_of plan) (tree plan.shop (bound_of plan.options.version) plan.start.value)
 
 pub tree-at : (plan : Planned) (number : ℕ) → number < length (prefixes_of plan) →
     slice_index_or (trees_of plan) number [] ≡ tree_of plan number
-tree-at plan number h = get_or-map (tree plan.shop bound_at plan.start.value) (prefixes_of plan) number [] [] h
+tree-at plan number h = get_or-map (tree plan.shop (bound_of plan.options.version) plan.start.value) (prefixes_of plan) number [] [] h
 
 pub trees-more : (plan : Planned) (number : ℕ) → number < length (prefixes_of plan) →
     take (number + 1) (trees_of plan) ≡ take number (trees_of plan) ++ tree_of plan number ∷ []

@@ -4,7 +4,7 @@ use Rattle.std.proofs.Common.{Some, None, find, refl, ap, sym, ◌∙◌, inl, i
 use Rattle.std.specs.List.{range_with_len}
 use Rattle.std.proofs.lemmas.Bool.{cases_lt, le-leb, lt-leb, lt-ltb, le-ltb}
 use Rattle.flow_core.specs.Shop.{Shop, numbers}
-use Rattle.flow_core.specs.Bound.{bound_at}
+use Rattle.flow_search.specs.Search.{Bound}
 use Rattle.flow_search.specs.internal.Lanes.{IsUncutCount}
 
 -- the first number of a range that passes
@@ -28,19 +28,19 @@ found-none p from (suc n) none =
     ap (λ b. cond b (Some from) (find p (range_with_len (from + 1) n))) (none from (omega arith) (omega arith))
     ∙ found-none p (from + 1) n (λ i a b. none i (omega (arith, a)) (omega (arith, b)))
 
-pub count-found : (shop : Shop) (list : List ℕ) (limit uncut : ℕ) → IsUncutCount shop list limit shop.machines uncut →
-    find (λ machine. nat_le limit (bound_at shop list machine)) (numbers 1 shop.machines) ≡ cond
+pub count-found : (shop : Shop) (bound : Bound) (list : List ℕ) (limit uncut : ℕ) → IsUncutCount shop bound list limit shop.machines uncut →
+    find (λ machine. nat_le limit (bound shop list machine)) (numbers 1 shop.machines) ≡ cond
     (nat_lt uncut shop.machines) (Some (uncut + 1)) None
-count-found shop list limit uncut is = elim (cases_lt uncut shop.machines) [
+count-found shop bound list limit uncut is = elim (cases_lt uncut shop.machines) [
   | inl cut ↦
       let e : 1 + uncut ≡ uncut + 1 = omega arith in
-      found-at (λ machine. nat_le limit (bound_at shop list machine)) 1 (shop.machines + 1 - 1) uncut
+      found-at (λ machine. nat_le limit (bound shop list machine)) 1 (shop.machines + 1 - 1) uncut
       (omega (arith, cut))
-      (λ i a b. lt-leb limit (bound_at shop list i) (is.above i a (omega (arith, b))))
-      (ap (λ m. nat_le limit (bound_at shop list m)) e ∙ le-leb limit (bound_at shop list (uncut + 1)) (is.cut cut))
+      (λ i a b. lt-leb limit (bound shop list i) (is.above i a (omega (arith, b))))
+      (ap (λ m. nat_le limit (bound shop list m)) e ∙ le-leb limit (bound shop list (uncut + 1)) (is.cut cut))
       ∙ ap Some e ∙ sym (ap (λ b. cond b (Some (uncut + 1)) None) (lt-ltb uncut shop.machines cut))
   | inr whole ↦
-      found-none (λ machine. nat_le limit (bound_at shop list machine)) 1 (shop.machines + 1 - 1)
-      (λ i a b. lt-leb limit (bound_at shop list i) (is.above i a (omega (arith, b, whole))))
+      found-none (λ machine. nat_le limit (bound shop list machine)) 1 (shop.machines + 1 - 1)
+      (λ i a b. lt-leb limit (bound shop list i) (is.above i a (omega (arith, b, whole))))
       ∙ sym (ap (λ b. cond b (Some (uncut + 1)) None) (le-ltb uncut shop.machines whole))
 ]

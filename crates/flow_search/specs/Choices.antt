@@ -1,17 +1,19 @@
 -- The options of a run, and why numbers are no options.
-use Rattle.std.specs.Prelude.{ℕ, ◌≤◌, nat_le, [], ◌∷◌, Option, Some, None, Result, Ok, Err}
+use Rattle.std.specs.Prelude.{ℕ, ◌≤◌, nat_le, [], ◌∷◌, Option, Some, None, Result, Ok, Err, cond}
 use Rattle.std.specs.Int.{is_in_range}
 use Rattle.flow_core.specs.Refusals.{fault_unless, first_fault}
 use Rattle.flow_core.specs.Limits.{greatest_depth}
-use Rattle.flow_search.specs.Limits.{most_workers, greatest_budget}
+use Rattle.flow_search.specs.Limits.{most_workers, greatest_budget, least_version, greatest_version}
 use Rattle.flow_search.specs.declared.options.OptionFault.{OptionFault}
-use Rattle.flow_search.specs.declared.options.OptionFault.TheVariants.{Workers, Depth, Budget}
+use Rattle.flow_search.specs.declared.options.OptionFault.TheVariants.{Workers, Depth, Budget, Version}
 
--- options: how many workers there are, the depth of the cut, and how many bytes a tree may have
+-- options: how many workers there are, the depth of the cut, how many bytes a tree may have, and the version of the
+-- certificate, which says by which bound the search cuts
 pub record Choices : Type 0 where
   pub workers : ℕ
   pub depth : ℕ
   pub budget : ℕ
+  pub version : ℕ
 
 -- options are within the limits
 pub record AreWithinLimits (options : Choices) : Type 0 where
@@ -20,6 +22,8 @@ pub record AreWithinLimits (options : Choices) : Type 0 where
   pub depth : options.depth ≤ greatest_depth
   pub some_byte : 1 ≤ options.budget
   pub budget : options.budget ≤ greatest_budget
+  pub first_version : least_version ≤ options.version
+  pub last_version : options.version ≤ greatest_version
 
 -- why three numbers are no options, if they are none
 abbrev pub option_fault : ℕ → ℕ → ℕ → Option OptionFault
@@ -29,10 +33,20 @@ option_fault workers depth budget = first_fault (
     ∷ fault_unless (is_in_range 1 greatest_budget budget) Budget
     ∷ [])
 
--- the options of three numbers; or the first fault
+-- the options of three numbers, in version 1; or the first fault
 abbrev pub options_or_fault : ℕ → ℕ → ℕ → Result Choices OptionFault
 options_or_fault workers depth budget =
     elim (option_fault workers depth budget) [
-      | None ↦ Ok (record { workers = workers; depth = depth; budget = budget })
+      | None ↦ Ok (record { workers = workers; depth = depth; budget = budget; version = 1 })
       | Some fault ↦ Err fault
     ]
+
+-- the same options with a version
+abbrev pub in_version : Choices → ℕ → Choices
+in_version options version =
+    record { workers = options.workers; depth = options.depth; budget = options.budget; version = version }
+
+-- the same options with a version; or the fault that there is no such version
+abbrev pub version_or_fault : Choices → ℕ → Result Choices OptionFault
+version_or_fault options version =
+    cond (is_in_range least_version greatest_version version) (Ok (in_version options version)) (Err Version)

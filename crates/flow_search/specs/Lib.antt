@@ -5,5 +5,6 @@ pub mod Walk
 pub mod Plans
 pub mod Outcomes
 pub mod Verdicts
+pub mod Versions
 pub mod Cuts
 pub mod internal

@@ -5,7 +5,7 @@ use Rattle.flow_search.specs.Limits.{most_prefixes}
 use Rattle.flow_core.specs.Shop.{Shop, IsWithinLimits}
 use Rattle.flow_core.specs.Paths.{span}
 use Rattle.flow_core.specs.Sequences.{IsSequence, cut}
-use Rattle.flow_core.specs.Bound.{bound_at}
+use Rattle.flow_core.specs.Bound.{bound_of}
 use Rattle.flow_bound.specs.Neh.{IsNeh}
 use Rattle.flow_search.specs.Choices.{Choices, AreWithinLimits}
 use Rattle.flow_search.specs.Search.{Found, tree, trees, best, verdict}
@@ -48,9 +48,9 @@ abbrev pub but_memory : PlanFault → Option PlanFault
 but_memory Memory = None
 but_memory fault = Some fault
 
--- the tree of a prefix
+-- the tree of a prefix, by the bound of the version
 abbrev pub tree_of : Planned → ℕ → List ℕ
-tree_of plan number = tree plan.shop bound_at plan.start.value (prefix_of plan number)
+tree_of plan number = tree plan.shop (bound_of plan.options.version) plan.start.value (prefix_of plan number)
 
 -- the best of a prefix
 abbrev pub best_of : Planned → ℕ → Option Found
@@ -58,7 +58,7 @@ best_of plan number = best plan.shop plan.start.value (prefix_of plan number)
 
 -- the trees of a plan, in the order of their prefixes
 abbrev pub trees_of : Planned → List (List ℕ)
-trees_of plan = trees plan.shop bound_at plan.start.value plan.options.depth
+trees_of plan = trees plan.shop (bound_of plan.options.version) plan.start.value plan.options.depth
 
 -- the verdict of a plan
 abbrev pub verdict_of : Planned → Found

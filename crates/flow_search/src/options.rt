@@ -1,9 +1,9 @@
 //! The options of a run.
 
 ghost use Rattle.std.specs.Prelude.{◌≡◌};
-ghost use Rattle.flow_search.specs.Choices.{AreWithinLimits, options_or_fault};
+ghost use Rattle.flow_search.specs.Choices.{AreWithinLimits, options_or_fault, version_or_fault};
 
-use crate::limits::{MAX_BUDGET, MAX_WORKERS};
+use crate::limits::{MAX_BUDGET, MAX_VERSION, MAX_WORKERS, MIN_VERSION};
 use flow_core::MAX_DEPTH;
 use std::marker::Model;
 use thiserror::Error;
@@ -20,14 +20,18 @@ pub enum OptionFault {
     /// The budget is not in `1..=MAX_BUDGET`.
     #[error("Budget")]
     Budget,
+    /// The version is not in `MIN_VERSION..=MAX_VERSION`.
+    #[error("Version")]
+    Version,
 }
 
-/// How many workers a run has, the depth of its cut, and how many bytes a tree may have.
+/// How many workers a run has, the depth of its cut, how many bytes a tree may have, and the version of the certificate.
 #[derive(Clone, Copy, Debug, PartialEq, Eq)]
 pub struct Options {
     workers: u32,
     depth: u32,
     budget: u32,
+    version: u32,
 }
 
 impl Model for Options {
@@ -35,15 +39,30 @@ impl Model for Options {
 
     ghost Value = { Choices };
 
-    ghost view = { λ o. record { workers = o.workers; depth = o.depth; budget = o.budget } };
+    ghost view = { λ o. record {
+      workers = o.workers;
+      depth = o.depth;
+      budget = o.budget;
+      version = o.version;
+    } };
 
-    ghost invariant = { λ o. AreWithinLimits (record { workers = o.workers; depth = o.depth; budget = o.budget }) };
+    ghost invariant = { λ o. AreWithinLimits (record {
+      workers = o.workers;
+      depth = o.depth;
+      budget = o.budget;
+      version = o.version;
+    }) };
 
-    ghost inverse = { λ c. record { workers = c.workers; depth = c.depth; budget = c.budget } };
+    ghost inverse = { λ c. record {
+      workers = c.workers;
+      depth = c.depth;
+      budget = c.budget;
+      version = c.version;
+    } };
 }
 
 impl Options {
-    /// The options of three numbers; or the first fault.
+    /// The options of three numbers, in version 1; or the first fault.
     pub fn new(workers: u32, depth: u32, budget: u32) -> Result<Options, OptionFault>
         ensures { result ≡ options_or_fault workers depth budget }
     {
@@ -60,7 +79,18 @@ impl Options {
             workers,
             depth,
             budget,
+            version: MIN_VERSION,
         })
+    }
+
+    /// The same options with a version; or the fault that there is no such version.
+    pub fn with_version(self, version: u32) -> Result<Options, OptionFault>
+        ensures { result ≡ version_or_fault self version }
+    {
+        if version < MIN_VERSION || version > MAX_VERSION {
+            return Err(OptionFault::Version);
+        }
+        Ok(Options { version, ..self })
     }
 
     /// How many workers there are.
@@ -85,5 +115,13 @@ impl Options {
         ensures limits { AreWithinLimits self.now }
     {
         self.budget
+    }
+
+    /// The version of the certificate.
+    pub fn version(&self) -> u32
+        ensures value { result ≡ self.now.version }
+        ensures limits { AreWithinLimits self.now }
+    {
+        self.version
     }
 }

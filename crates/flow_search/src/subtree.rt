@@ -211,7 +211,7 @@ fn visit(
         (walk setting.now.instance.now bound_at below (search.old.node.items ++ job ∷ []) (incumbent_of search.old))
         search.old search.new }
     ensures opens { result ≡ Ok true →
-        Opens setting.now.instance.now setting.now.budget job search.old search.new }
+        Opens setting.now.instance.now bound_at setting.now.budget job search.old search.new }
     ensures more { result ≡ Ok true → 9 ≤ below }
     ensures over { result ≡ Err Stop.OverBudget → setting.now.budget < length search.old.tree.items + length
         (walk setting.now.instance.now bound_at below (search.old.node.items ++ job ∷ []) (incumbent_of search.old)).0 }
@@ -245,9 +245,9 @@ fn walk_children(
     requires empty { stack.items ≡ [] }
     requires within { length search.old.tree.items ≤ setting.now.budget }
     ensures done { OnOk result (Gave setting.now.budget
-        (children_walked setting.now.instance.now below search.old) search.old search.new) }
+        (children_walked setting.now.instance.now bound_at below search.old) search.old search.new) }
     ensures over { result ≡ Err Stop.OverBudget → setting.now.budget
-        < length search.old.tree.items + length (children_walked setting.now.instance.now below search.old).0 }
+        < length search.old.tree.items + length (children_walked setting.now.instance.now bound_at below search.old).0 }
 {
     let instance = setting.instance;
     let jobs = instance.jobs();
@@ -287,9 +287,9 @@ pub fn explore(
     requires rows { AreRows setting.now.instance.now setting.now.rows.now }
     requires at { IsAt setting.now.instance.now search.old.node.items front.now search.old.unscheduled count }
     requires empty { stack.items ≡ [] }
-    ensures done { OnOk result (Walked setting.now.instance.now setting.now.budget count search.old search.new) }
+    ensures done { OnOk result (Walked setting.now.instance.now bound_at setting.now.budget count search.old search.new) }
     ensures over { result ≡ Err Stop.OverBudget → setting.now.budget
-        < length search.old.tree.items + length (walked setting.now.instance.now count search.old).0 }
+        < length search.old.tree.items + length (walked setting.now.instance.now bound_at count search.old).0 }
 {
     let instance = setting.instance;
     if count == 0 {

@@ -4,9 +4,8 @@ use Rattle.std.specs.Prelude.{Option}
 use Rattle.flow_core.specs.Shop.{Shop, numbers}
 use Rattle.flow_core.specs.Front.{IsFrontOf}
 use Rattle.flow_core.specs.Sequences.{has, jobs_left, AreJobs}
-use Rattle.flow_core.specs.Bound.{bound_at}
 use Rattle.flow_bound.specs.Rest.{IsRestOf}
-use Rattle.flow_search.specs.Search.{Found}
+use Rattle.flow_search.specs.Search.{Bound, Found}
 use Rattle.flow_search.specs.Walk.{walk, walk_each}
 use Rattle.flow_search.specs.internal.Lows.{second_tail}
 use Rattle.flow_search.specs.internal.Nodes.{IsAt, incumbent_of, then_walk}
@@ -46,27 +45,27 @@ abbrev pub left_from : ℕ → List ℕ → ℕ → List ℕ
 left_from n node from = filter (λ job. not (has node job)) (numbers from n)
 
 -- the walk of a node's children from a job on, each with so many jobs left
-abbrev pub walk_from : Shop → ℕ → List ℕ → ℕ → ℕ × Option Found → List ℕ × (ℕ × Option Found)
-walk_from shop left node from incumbent =
-    walk_each (λ job. walk shop bound_at left (node ++ job ∷ [])) (left_from shop.jobs node from) incumbent
+abbrev pub walk_from : Shop → Bound → ℕ → List ℕ → ℕ → ℕ × Option Found → List ℕ × (ℕ × Option Found)
+walk_from shop bound left node from incumbent =
+    walk_each (λ job. walk shop bound left (node ++ job ∷ [])) (left_from shop.jobs node from) incumbent
 
 -- what is still to be walked of the nodes of a stack, with so many jobs left below the children of the deepest one
-abbrev pub resume : Shop → List ℕ → ℕ → List Frame → ℕ × Option Found → List ℕ × (ℕ × Option Found)
-resume shop root left [] incumbent = ([], incumbent)
-resume shop root left (f ∷ fs) incumbent =
-    then_walk (walk_from shop left (path root fs) f.next incumbent) (resume shop root (suc left) fs)
+abbrev pub resume : Shop → Bound → List ℕ → ℕ → List Frame → ℕ × Option Found → List ℕ × (ℕ × Option Found)
+resume shop bound root left [] incumbent = ([], incumbent)
+resume shop bound root left (f ∷ fs) incumbent =
+    then_walk (walk_from shop bound left (path root fs) f.next incumbent) (resume shop bound root (suc left) fs)
 
 -- the walk of a root's children stands at a node below it, whose frame is `here`: what was written, with what is still
 -- to be walked, is the whole
-pub record IsWalking (shop : Shop) (budget : ℕ) (root : List ℕ) (whole : List ℕ × (ℕ × Option Found)) (old : Search)
-    (here : Frame) (below : ℕ) (frames : List Frame) (now : Search) : Type 0 where
+pub record IsWalking (shop : Shop) (bound : Bound) (budget : ℕ) (root : List ℕ) (whole : List ℕ × (ℕ × Option Found))
+    (old : Search) (here : Frame) (below : ℕ) (frames : List Frame) (now : Search) : Type 0 where
   pub at : IsAt shop now.node.items here.front now.unscheduled (suc below)
   pub node : now.node.items ≡ path root frames
   pub frame : IsFrame shop (path root frames) (suc below) here
   pub next : 1 ≤ here.next
   pub past : here.next ≤ shop.jobs + 1
   pub stack : IsStack shop root (suc (suc below)) frames
-  pub text : now.tree.items ++ (resume shop root below (here ∷ frames) (incumbent_of now)).0 ≡ old.tree.items ++ whole.0
-  pub state : (resume shop root below (here ∷ frames) (incumbent_of now)).1 ≡ whole.1
+  pub text : now.tree.items ++ (resume shop bound root below (here ∷ frames) (incumbent_of now)).0 ≡ old.tree.items ++ whole.0
+  pub state : (resume shop bound root below (here ∷ frames) (incumbent_of now)).1 ≡ whole.1
   pub many : 8 ≤ below
   pub within : length now.tree.items ≤ budget

@@ -7,8 +7,7 @@ use Rattle.flow_core.specs.Shop.{Shop, time, time_between}
 use Rattle.flow_core.specs.Paths.{completion}
 use Rattle.flow_core.specs.Front.{IsFrontOf}
 use Rattle.flow_core.specs.Sequences.{has, jobs_left}
-use Rattle.flow_core.specs.Bound.{bound_at}
-use Rattle.flow_search.specs.Search.{Found}
+use Rattle.flow_search.specs.Search.{Bound, Found}
 use Rattle.flow_search.specs.Walk.{walk, walk_each}
 use Rattle.flow_search.specs.internal.Nodes.{incumbent_of, then_walk}
 use Rattle.flow_search.specs.declared.subtree.Search.{Search}
@@ -90,26 +89,26 @@ pub record IsOpened (shop : Shop) (list : List ℕ) (group : Group) (frame : Lan
       slice_index (slice_index_or frame.free place []) lane ≡ completion shop (child list group lane) (place + 1)
 
 -- so many machines, of the first ones, stand before the first whose bound reaches a limit; all of them where none does
-pub record IsUncutCount (shop : Shop) (list : List ℕ) (limit machines uncut : ℕ) : Type 0 where
+pub record IsUncutCount (shop : Shop) (bound : Bound) (list : List ℕ) (limit machines uncut : ℕ) : Type 0 where
   pub within : uncut ≤ machines
-  pub above : (machine : ℕ) → 1 ≤ machine → machine ≤ uncut → bound_at shop list machine < limit
-  pub cut : uncut < machines → limit ≤ bound_at shop list (uncut + 1)
+  pub above : (machine : ℕ) → 1 ≤ machine → machine ≤ uncut → bound shop list machine < limit
+  pub cut : uncut < machines → limit ≤ bound shop list (uncut + 1)
 
 -- the children are opened, and each that leaves a job was tested against the frame's value
-pub record IsTested (shop : Shop) (list : List ℕ) (group : Group) (frame : LaneFrame) : Type 0 where
+pub record IsTested (shop : Shop) (bound : Bound) (list : List ℕ) (group : Group) (frame : LaneFrame) : Type 0 where
   pub opened : IsOpened shop list group frame
   pub uncut : (lane other : ℕ) → IsLaneLeft frame lane → IsLaneLeft frame other → other ≢ lane →
-      IsUncutCount shop (child list group lane) frame.value shop.machines (slice_index frame.uncut lane)
+      IsUncutCount shop bound (child list group lane) frame.value shop.machines (slice_index frame.uncut lane)
 
 -- the walk of a lane's child, with so many jobs left there
-abbrev pub lane_walked : Shop → ℕ → Group → ℕ → Search → List ℕ × (ℕ × Option Found)
-lane_walked shop left group lane search =
-    walk shop bound_at left (child search.node.items group lane) (incumbent_of search)
+abbrev pub lane_walked : Shop → Bound → ℕ → Group → ℕ → Search → List ℕ × (ℕ × Option Found)
+lane_walked shop bound left group lane search =
+    walk shop bound left (child search.node.items group lane) (incumbent_of search)
 
 -- the walks of the children in some lanes, one after another, each with so many jobs left
-abbrev pub lanes_walked : Shop → ℕ → List ℕ → Group → List ℕ → ℕ × Option Found → List ℕ × (ℕ × Option Found)
-lanes_walked shop left list group lanes incumbent =
-    walk_each (λ lane. walk shop bound_at left (child list group lane)) lanes incumbent
+abbrev pub lanes_walked : Shop → Bound → ℕ → List ℕ → Group → List ℕ → ℕ × Option Found → List ℕ × (ℕ × Option Found)
+lanes_walked shop bound left list group lanes incumbent =
+    walk_each (λ lane. walk shop bound left (child list group lane)) lanes incumbent
 
 -- the node that a stack of frames, the deepest first, leads to: from each frame's node to the child in the lane before
 -- its next
@@ -118,27 +117,27 @@ lane_path root group [] = root
 lane_path root group (f ∷ fs) = child (lane_path root group fs) group (slice_index f.lanes (f.next - 1))
 
 -- each frame is that of its node, with the children tested
-abbrev pub AreTested : Shop → List ℕ → Group → List LaneFrame → Type 0
-AreTested shop root group [] = Unit {0}
-AreTested shop root group (f ∷ fs) = IsTested shop (lane_path root group fs) group f × AreTested shop root group fs
+abbrev pub AreTested : Shop → Bound → List ℕ → Group → List LaneFrame → Type 0
+AreTested shop bound root group [] = Unit {0}
+AreTested shop bound root group (f ∷ fs) = IsTested shop bound (lane_path root group fs) group f × AreTested shop bound root group fs
 
 -- what is still to be walked of the nodes of a stack, with so many jobs left below the children of the deepest one
-abbrev pub lanes_left : Shop → List ℕ → Group → ℕ → List LaneFrame → ℕ × Option Found → List ℕ × (ℕ × Option Found)
-lanes_left shop root group left [] incumbent = ([], incumbent)
-lanes_left shop root group left (f ∷ fs) incumbent =
-    then_walk (lanes_walked shop left (lane_path root group fs) group (drop f.next (lanes_of f)) incumbent)
-    (lanes_left shop root group (suc left) fs)
+abbrev pub lanes_left : Shop → Bound → List ℕ → Group → ℕ → List LaneFrame → ℕ × Option Found → List ℕ × (ℕ × Option Found)
+lanes_left shop bound root group left [] incumbent = ([], incumbent)
+lanes_left shop bound root group left (f ∷ fs) incumbent =
+    then_walk (lanes_walked shop bound left (lane_path root group fs) group (drop f.next (lanes_of f)) incumbent)
+    (lanes_left shop bound root group (suc left) fs)
 
 -- the walk of a root's children stands at a node below it, whose frame is `here`: what was written, with what is still
 -- to be walked, is the whole
-pub record IsInLanes (shop : Shop) (budget : ℕ) (group : Group) (root : List ℕ) (whole : List ℕ × (ℕ × Option Found))
+pub record IsInLanes (shop : Shop) (bound : Bound) (budget : ℕ) (group : Group) (root : List ℕ) (whole : List ℕ × (ℕ × Option Found))
     (old : Search) (here : LaneFrame) (below : ℕ) (frames : List LaneFrame) (now : Search) : Type 0 where
   pub node : now.node.items ≡ lane_path root group frames
   pub count : length (lane_path root group frames) + suc below ≡ shop.jobs
-  pub tested : AreTested shop root group (here ∷ frames)
-  pub text : now.tree.items ++ (lanes_left shop root group below (here ∷ frames) (incumbent_of now)).0
+  pub tested : AreTested shop bound root group (here ∷ frames)
+  pub text : now.tree.items ++ (lanes_left shop bound root group below (here ∷ frames) (incumbent_of now)).0
       ≡ old.tree.items ++ whole.0
-  pub state : (lanes_left shop root group below (here ∷ frames) (incumbent_of now)).1 ≡ whole.1
+  pub state : (lanes_left shop bound root group below (here ∷ frames) (incumbent_of now)).1 ≡ whole.1
   pub unscheduled : now.unscheduled ≡ old.unscheduled
   pub within : length now.tree.items ≤ budget
 

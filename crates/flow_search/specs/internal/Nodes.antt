@@ -6,8 +6,7 @@ use Rattle.flow_core.specs.Shop.{Shop, IsWithinLimits, numbers}
 use Rattle.flow_core.specs.Front.{IsFrontOf}
 use Rattle.flow_core.specs.JobSet.{contains}
 use Rattle.flow_core.specs.Sequences.{has, jobs_left, AreJobs}
-use Rattle.flow_core.specs.Bound.{bound_at}
-use Rattle.flow_search.specs.Search.{Found}
+use Rattle.flow_search.specs.Search.{Bound, Found}
 use Rattle.flow_search.specs.Walk.{walk, walk_each}
 use Rattle.flow_search.specs.declared.subtree.Search.{Search}
 
@@ -70,13 +69,13 @@ pub record Left (job : ℕ) (jobs : List ℕ) (old new : Search) : Type 0 where
   pub tree : new.tree.items ≡ old.tree.items
 
 -- the walk from the node of the search, with so many jobs left
-abbrev pub walked : Shop → ℕ → Search → List ℕ × (ℕ × Option Found)
-walked shop left search = walk shop bound_at left search.node.items (incumbent_of search)
+abbrev pub walked : Shop → Bound → ℕ → Search → List ℕ × (ℕ × Option Found)
+walked shop bound left search = walk shop bound left search.node.items (incumbent_of search)
 
 -- what the walks of the children of the search's node give, one after another, with so many jobs left at each
-abbrev pub children_walked : Shop → ℕ → Search → List ℕ × (ℕ × Option Found)
-children_walked shop left search =
-    walk_each (λ job. walk shop bound_at left (search.node.items ++ job ∷ []))
+abbrev pub children_walked : Shop → Bound → ℕ → Search → List ℕ × (ℕ × Option Found)
+children_walked shop bound left search =
+    walk_each (λ job. walk shop bound left (search.node.items ++ job ∷ []))
     (jobs_left shop.jobs search.node.items) (incumbent_of search)
 
 -- what a walk writes stands behind the tree, within the budget, and its incumbent is there
@@ -88,8 +87,8 @@ pub record Gave (budget : ℕ) (walked : List ℕ × (ℕ × Option Found)) (old
   pub within : length new.tree.items ≤ budget
 
 -- the subtree of the search's node was walked
-abbrev pub Walked : Shop → ℕ → ℕ → Search → Search → Type 0
-Walked shop budget left old new = Gave budget (walked shop left old) old new
+abbrev pub Walked : Shop → Bound → ℕ → ℕ → Search → Search → Type 0
+Walked shop bound budget left old new = Gave budget (walked shop bound left old) old new
 
 -- what one walk writes and then another, which begins with the incumbent after it
 abbrev pub then_walk : List ℕ × (ℕ × Option Found) → (ℕ × Option Found → List ℕ × (ℕ × Option Found)) →
@@ -97,8 +96,8 @@ abbrev pub then_walk : List ℕ × (ℕ × Option Found) → (ℕ × Option Foun
 then_walk first more = (first.0 ++ (more first.1).0, (more first.1).1)
 
 -- the plus of a job's child, which no bound cuts, is written
-pub record Opens (shop : Shop) (budget job : ℕ) (old new : Search) : Type 0 where
+pub record Opens (shop : Shop) (bound : Bound) (budget job : ℕ) (old new : Search) : Type 0 where
   pub wrote : Wrote budget 43 old new
   pub uncut :
-      find (λ machine. nat_le old.value (bound_at shop (old.node.items ++ job ∷ []) machine)) (numbers 1 shop.machines)
+      find (λ machine. nat_le old.value (bound shop (old.node.items ++ job ∷ []) machine)) (numbers 1 shop.machines)
       ≡ None

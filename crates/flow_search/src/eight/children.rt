@@ -1,6 +1,7 @@
 //! The children of a node, side by side: their fronts, and the machines that cut them.
 
 ghost use Rattle.std.specs.Prelude.{◌≡◌, ℕ, ◌+◌, ◌<◌, ◌≤◌, List, length, slice_index};
+ghost use Rattle.flow_core.specs.Bound.{bound_at};
 ghost use Rattle.flow_search.specs.internal.Lanes.{IsFrameOf, IsOpened, IsTested, child, lanes_of};
 
 use crate::eight::group::{GONE, Group, LaneFrame};
@@ -19,7 +20,7 @@ pub fn test_children(instance: &Instance, group: &Group, frame: &mut LaneFrame, 
     ensures next { frame.new.next ≡ frame.old.next }
     ensures value { frame.new.value ≡ value }
     ensures tested { (list : List ℕ) → IsFrameOf instance.now list group.now frame.old →
-        IsTested instance.now list group.now frame.new }
+        IsTested instance.now bound_at list group.now frame.new }
 {
     let machines = instance.machines() as usize;
     // No bound is so great.
@@ -46,13 +47,13 @@ pub fn test_children(instance: &Instance, group: &Group, frame: &mut LaneFrame, 
 /// Tests the children of a node again, where they were tested against another value.
 #[inline(always)]
 pub fn retest_children(instance: &Instance, group: &Group, frame: &mut LaneFrame, value: u64)
-    requires { (list : List ℕ) × IsTested instance.now list group.now frame.old }
+    requires { (list : List ℕ) × IsTested instance.now bound_at list group.now frame.old }
     ensures gone { frame.new.gone ≡ frame.old.gone }
     ensures lanes { frame.new.lanes ≡ frame.old.lanes }
     ensures next { frame.new.next ≡ frame.old.next }
     ensures value { frame.new.value ≡ value }
-    ensures tested { (list : List ℕ) → IsTested instance.now list group.now frame.old →
-        IsTested instance.now list group.now frame.new }
+    ensures tested { (list : List ℕ) → IsTested instance.now bound_at list group.now frame.old →
+        IsTested instance.now bound_at list group.now frame.new }
 {
     if value != frame.value {
         test_children(instance, group, frame, value);

@@ -71,8 +71,8 @@ walk-preserved-in_default c =
     let up = walking-up c.walk.invariant c.in-Some-pop.parent (reverse c.pop.new.self.items) c.leave.new.self
     (sym c.in_default.is ∙ found (goal.at.walk-preserved-in_default c).After-first_of) (above c).0 (above c).1 in
     let more : suc c.walk.below ≡ c.walk.below + 1 = omega arith in
-    subst (λ n. IsWalking shop c.args.setting.now.budget old.node.items
-    (children_walked shop c.args.below old) old c.in-Some-pop.parent n
+    subst (λ n. IsWalking shop bound_at c.args.setting.now.budget old.node.items
+    (children_walked shop bound_at c.args.below old) old c.in-Some-pop.parent n
     (reverse c.pop.new.self.items) c.leave.new.self) more up
 
 -- the child's job
@@ -114,7 +114,7 @@ enter-requires-clause-to c = let k = kid (goal.at.enter-requires-clause-to c).In
 
 -- the plus that was written
 opens : (c : Then-branch) →
-    Opens c.args.setting.now.instance.now c.args.setting.now.budget c.in-Some.job c.walk.search c.visit.new.search
+    Opens c.args.setting.now.instance.now bound_at c.args.setting.now.budget c.in-Some.job c.walk.search c.visit.new.search
     × (9 ≤ c.walk.below)
 opens c =
     let put : Bool → Result Bool Stop = λ b. Ok b in
@@ -198,8 +198,8 @@ walk-preserved-then-branch c =
     let pushed : reverse c.push.new.self.items ≡ moved c.walk.here (c.in-Some.job + 1) ∷ reverse c.walk.stack.items =
     reverse-push c.walk.stack.items c.push.new.self.items (moved c.walk.here (c.in-Some.job
     + 1)) c.in_ok-push.ensures.items in
-    subst (λ xs. IsWalking shop c.args.setting.now.budget old.node.items
-    (children_walked shop c.args.below old) old c.new-here.result (c.walk.below - 1) xs c.enter.new.self)
+    subst (λ xs. IsWalking shop bound_at c.args.setting.now.budget old.node.items
+    (children_walked shop bound_at c.args.below old) old c.new-here.result (c.walk.below - 1) xs c.enter.new.self)
     (sym pushed)
     (walking-down c.walk.invariant c.in-Some.job c.visit.new.search c.enter.new.self c.new-here.result
     (found-job (goal.at.walk-preserved-then-branch c).In-Some) opened.1 opened.0 c.in_ok-enter.ensures
@@ -223,7 +223,7 @@ walk-smaller c =
     let text : List ℕ = (walk shop bound_at c.walk.below (c.walk.search.node.items ++ c.in-Some.job
     ∷ []) (incumbent_of c.walk.search)).0 in
     let some : 1 ≤ length text =
-    walk-some shop c.walk.below (c.walk.search.node.items ++ c.in-Some.job ∷ []) (incumbent_of c.walk.search) in
+    walk-some shop bound_at c.walk.below (c.walk.search.node.items ++ c.in-Some.job ∷ []) (incumbent_of c.walk.search) in
     let tree : length c.visit.new.search.tree.items ≡ length (c.walk.search.tree.items ++ text) = ap length g.tree in
     omega (arith, some, tree, g.within, length-append c.walk.search.tree.items text)
 

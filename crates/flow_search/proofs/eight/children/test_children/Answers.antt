@@ -5,6 +5,7 @@ use Rattle.std.proofs.lemmas.List.{length-set}
 use Rattle.flow_core.specs.Limits.{most_machines}
 use Rattle.flow_core.specs.Shop.{Shop}
 use Rattle.flow_core.specs.Paths.{completion}
+use Rattle.flow_core.specs.Bound.{bound_at}
 use Rattle.flow_search.specs.internal.Lanes.{IsLaneLeft, IsFrameOf, IsUncutCount, child, job_of}
 use Rattle.flow_search.proofs.LanesPassed.{all-same, passed-start, passed-more, free-none, free-is, bound-is}
 use Rattle.flow_search.proofs.LanesPassed.{start-small, behind-small, sum-small, row-small, done-more}
@@ -25,7 +26,7 @@ loop-place-init c = record {
   free = λ list lane at here. all-same 8 0 lane here.within ∙ free-none c.args.instance.now list (job_of
       c.args.group.now lane);
   passed = λ list lane other at here there differ.
-      passed-start c.args.instance.now (child list c.args.group.now lane) c.args.value _ _
+      passed-start c.args.instance.now bound_at (child list c.args.group.now lane) c.args.value _ _
       (all-same 8 0 lane here.within) (all-same 8 1 lane here.within);
   done = λ list place lane at here h. absurd (omega (arith, h));
 }
@@ -147,7 +148,7 @@ loop-place-preserved c =
           c.requires.1 to c.greater.ensures.each (c.others-behind.ensures.each lane here.within) in
           let load = sum-small shop c.requires.0 c.args.group.now c.args.frame.now place
           c.machines-machines.ensures.limits c.requires.1 to in
-          passed-more shop (child list c.args.group.now lane) c.args.value place
+          passed-more shop bound_at (child list c.args.group.now lane) c.args.value place
           (slice_index c.loop-place.uncut lane) (slice_index c.loop-place.flags lane)
           (slice_index c.below-flags.result lane) (slice_index c.sums-uncut.result lane)
           (c.loop-place.invariant.passed list lane other at here there differ)
@@ -187,7 +188,7 @@ returns-clause-tested c list at =
           c.loop-place.invariant.sum c.loop-place.invariant.gone c.loop-place.invariant.lanes at
           (λ place lane left low. c.loop-place.invariant.done list place lane at left (omega (arith, low, e)));
       uncut = λ lane other here there differ.
-          subst (λ m. IsUncutCount c.args.instance.now (child list c.args.group.now lane) c.args.value m
+          subst (λ m. IsUncutCount c.args.instance.now bound_at (child list c.args.group.now lane) c.args.value m
           (slice_index c.loop-place.uncut lane)) e
           (c.loop-place.invariant.passed list lane other at
           (record { within = here.within; left = back lane here.left })

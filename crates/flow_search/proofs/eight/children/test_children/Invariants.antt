@@ -1,6 +1,7 @@
 use Rattle.std.proofs.Common.{◌≡◌, ◌≢◌, ℕ, ◌+◌, ◌*◌, ◌<◌, ◌≤◌, List, [], length, slice_index, slice_index_or}
 use Rattle.flow_core.specs.Limits.{most_machines, greatest_time, greatest_completion}
 use Rattle.flow_core.specs.Paths.{completion}
+use Rattle.flow_core.specs.Bound.{bound_at}
 use Rattle.flow_search.specs.internal.Lanes.{IsFrameOf, IsLaneLeft, child}
 use Rattle.flow_search.proofs.LanesPassed.{IsPassed}
 use Rattle.flow_search.proofs.eight.children.test_children.Given as goal
@@ -21,7 +22,7 @@ invariant-loop-place l = record {
       slice_index l.free lane ≡ completion l.instance (child list l.group lane) l.place;
   passed : (list : List ℕ) (lane other : ℕ) → IsFrameOf l.instance list l.group l.fn.frame → IsLaneLeft l.fn.frame
       lane → IsLaneLeft l.fn.frame other → other ≢ lane →
-      IsPassed l.instance (child list l.group lane) l.value l.place (slice_index l.uncut lane)
+      IsPassed l.instance bound_at (child list l.group lane) l.value l.place (slice_index l.uncut lane)
       (slice_index l.flags lane);
   done : (list : List ℕ) (place lane : ℕ) → IsFrameOf l.instance list l.group l.fn.frame → IsLaneLeft l.fn.frame lane
       → place < l.place →
