@@ -75,19 +75,19 @@ only-memory shop bytes (Low line) value none is = absurd (none value is)
 only-memory shop bytes End value none is = absurd (none value is)
 
 -- the faults of the trees are those of the text
-pub trees-fault : (shop : Shop) (depth value : ℕ) (bytes rest : List ℕ) (fault : CheckFault) →
-    certificate_value shop bytes ≡ cut_value shop depth value rest → TreesGive shop depth value rest (Err fault) →
+pub trees-fault : (shop : Shop) (version depth value : ℕ) (bytes rest : List ℕ) (fault : CheckFault) →
+    certificate_value shop bytes ≡ cut_value shop version depth value rest → TreesGive shop version depth value rest (Err fault) →
     IsFirstFault shop bytes fault
-trees-fault shop depth value bytes rest Memory e h = tt
-trees-fault shop depth value bytes rest Header e h = e ∙ h
-trees-fault shop depth value bytes rest Size e h = e ∙ h
-trees-fault shop depth value bytes rest Value e h = e ∙ h
-trees-fault shop depth value bytes rest Sequence e h = e ∙ h
-trees-fault shop depth value bytes rest NotAttained e h = e ∙ h
-trees-fault shop depth value bytes rest (Tree line) e h = e ∙ h
-trees-fault shop depth value bytes rest (Weak line) e h = e ∙ h
-trees-fault shop depth value bytes rest (Low line) e h = e ∙ h
-trees-fault shop depth value bytes rest End e h = e ∙ h
+trees-fault shop version depth value bytes rest Memory e h = tt
+trees-fault shop version depth value bytes rest Header e h = e ∙ h
+trees-fault shop version depth value bytes rest Size e h = e ∙ h
+trees-fault shop version depth value bytes rest Value e h = e ∙ h
+trees-fault shop version depth value bytes rest Sequence e h = e ∙ h
+trees-fault shop version depth value bytes rest NotAttained e h = e ∙ h
+trees-fault shop version depth value bytes rest (Tree line) e h = e ∙ h
+trees-fault shop version depth value bytes rest (Weak line) e h = e ∙ h
+trees-fault shop version depth value bytes rest (Low line) e h = e ∙ h
+trees-fault shop version depth value bytes rest End e h = e ∙ h
 
 -- what a checker answers with a fault
 
@@ -107,19 +107,19 @@ lawful-at shop bytes answer fault limits is first value of_value =
 
 -- the last line
 
-pub checked-value : (shop : Shop) (depth value end : ℕ) (bytes lines : List ℕ) (same : Bool) →
-    certificate_value shop bytes ≡ cut_value shop depth value lines → TreesGive shop depth value lines (Ok end) →
+pub checked-value : (shop : Shop) (version depth value end : ℕ) (bytes lines : List ℕ) (same : Bool) →
+    certificate_value shop bytes ≡ cut_value shop version depth value lines → TreesGive shop version depth value lines (Ok end) →
     same ≡ bytes_eq (take (length lines - end) (drop end lines)) (line ending) → same ≡ true →
     certificate_value shop bytes ≡ Ok value
-checked-value shop depth value end bytes lines same before trees is holds =
+checked-value shop version depth value end bytes lines same before trees is holds =
     before ∙ trees.0 ∙ ap (λ xs. end_value value xs) (sym (take_rest lines end))
     ∙ ap (λ b. cond b (Ok value) (Err End)) (sym is ∙ holds)
 
-pub checked-end : (shop : Shop) (depth value end : ℕ) (bytes lines : List ℕ) (same : Bool) →
-    certificate_value shop bytes ≡ cut_value shop depth value lines → TreesGive shop depth value lines (Ok end) →
+pub checked-end : (shop : Shop) (version depth value end : ℕ) (bytes lines : List ℕ) (same : Bool) →
+    certificate_value shop bytes ≡ cut_value shop version depth value lines → TreesGive shop version depth value lines (Ok end) →
     same ≡ bytes_eq (take (length lines - end) (drop end lines)) (line ending) → same ≡ false →
     certificate_value shop bytes ≡ Err End
-checked-end shop depth value end bytes lines same before trees is no_end =
+checked-end shop version depth value end bytes lines same before trees is no_end =
     before ∙ trees.0 ∙ ap (λ xs. end_value value xs) (sym (take_rest lines end))
     ∙ ap (λ b. cond b (Ok value) (Err End)) (sym is ∙ no_end)
 

@@ -12,7 +12,7 @@ use Rattle.flow_core.specs.Shop.{Shop, IsWithinLimits, numbers}
 use Rattle.flow_core.specs.Least.{least}
 use Rattle.flow_core.specs.Paths.{span}
 use Rattle.flow_core.specs.Sequences.{jobs_left, cut, IsSequence, IsLeastMakespan}
-use Rattle.flow_core.specs.Bound.{bound_at, letter}
+use Rattle.flow_core.specs.Bound.{bound_of, letter}
 use Rattle.flow_core.proofs.Fronts.{completion-small}
 use Rattle.flow_search.specs.Search.{comes_before, in_force, tree_at, tree, sequences_from}
 use Rattle.flow_search.specs.Plans.{Planned, prefixes_of, trees_of, verdict_of}
@@ -60,33 +60,33 @@ force-above shop v start prefix node low f short h =
     (omega arith))))
 
 -- a tree covers what no sequence is below
-covers-cases : (shop : Shop) (v start left : ℕ) (prefix node : List ℕ) → v ≤ in_force shop start prefix node →
-    AllZip (λ job part. Covers shop bound_at v left (node ++ job
-    ∷ []) part) (jobs_left shop.jobs node) (map (λ job. tree_at shop bound_at start prefix left (node ++ job
+covers-cases : (shop : Shop) (bound : Shop → List ℕ → ℕ → ℕ) (v start left : ℕ) (prefix node : List ℕ) → v ≤ in_force shop start prefix node →
+    AllZip (λ job part. Covers shop bound v left (node ++ job
+    ∷ []) part) (jobs_left shop.jobs node) (map (λ job. tree_at shop bound start prefix left (node ++ job
     ∷ [])) (jobs_left shop.jobs node)) →
-    (o : Option ℕ) → find (λ machine. nat_le (in_force shop start prefix node) (bound_at shop node machine))
+    (o : Option ℕ) → find (λ machine. nat_le (in_force shop start prefix node) (bound shop node machine))
     (numbers 1 shop.machines) ≡ o →
-    Covers shop bound_at v (suc left) node (option_map_or (λ machine. letter machine ∷ []) o (43
-    ∷ flat_map (λ job. tree_at shop bound_at start prefix left (node ++ job ∷ [])) (jobs_left shop.jobs node)))
-covers-cases shop v start left prefix node low zip (Some k) e =
-    let at = find-some (λ machine. nat_le (in_force shop start prefix node) (bound_at shop node machine)) (λ k. (1 ≤ k)
+    Covers shop bound v (suc left) node (option_map_or (λ machine. letter machine ∷ []) o (43
+    ∷ flat_map (λ job. tree_at shop bound start prefix left (node ++ job ∷ [])) (jobs_left shop.jobs node)))
+covers-cases shop bound v start left prefix node low zip (Some k) e =
+    let at = find-some (λ machine. nat_le (in_force shop start prefix node) (bound shop node machine)) (λ k. (1 ≤ k)
     × (k ≤ shop.machines)) (numbers 1 shop.machines) k (range-all shop.machines) e in
-    let reach = leb-true (in_force shop start prefix node) (bound_at shop node k) at.0 in
+    let reach = leb-true (in_force shop start prefix node) (bound shop node k) at.0 in
     inl (k, at.1.0, at.1.1, refl, omega (arith, low, reach))
-covers-cases shop v start left prefix node low zip None e =
+covers-cases shop bound v start left prefix node low zip None e =
     inr (
-      map (λ job. tree_at shop bound_at start prefix left (node ++ job ∷ [])) (jobs_left shop.jobs node),
-      ap (λ xs. 43 ∷ xs) (concat-map (λ job. tree_at shop bound_at start prefix left (node ++ job
+      map (λ job. tree_at shop bound start prefix left (node ++ job ∷ [])) (jobs_left shop.jobs node),
+      ap (λ xs. 43 ∷ xs) (concat-map (λ job. tree_at shop bound start prefix left (node ++ job
           ∷ [])) (jobs_left shop.jobs node)),
       zip,
     )
 
-pub tree-covers : (shop : Shop) (v start left : ℕ) (prefix node : List ℕ) → v ≤ start → Fresh shop.jobs prefix →
+pub tree-covers : (shop : Shop) (bound : Shop → List ℕ → ℕ → ℕ) (v start left : ℕ) (prefix node : List ℕ) → v ≤ start → Fresh shop.jobs prefix →
     length prefix ≤ shop.jobs → ((s : List ℕ) → IsSequence shop.jobs s → v ≤ span shop s) →
     Fresh shop.jobs node → length node + left ≡ shop.jobs →
-    Covers shop bound_at v left node (tree_at shop bound_at start prefix left node)
+    Covers shop bound v left node (tree_at shop bound start prefix left node)
 unfolding tree_at
-tree-covers shop v start zero prefix node low f short h fresh whole = (
+tree-covers shop bound v start zero prefix node low f short h fresh whole = (
   refl,
   h node (record {
     whole = omega (arith, whole);
@@ -97,11 +97,11 @@ tree-covers shop v start zero prefix node low f short h fresh whole = (
     };
   }),
 )
-tree-covers shop v start (suc left) prefix node low f short h fresh whole =
-    covers-cases shop v start left prefix node (force-above shop v start prefix node low f short h)
-    (zip-map (IsLeft shop.jobs node) (λ job part. Covers shop bound_at v left (node ++ job
-    ∷ []) part) (λ job. tree_at shop bound_at start prefix left (node ++ job ∷ [])) (jobs_left shop.jobs node)
-    (λ job l. tree-covers shop v start left prefix (node ++ job
+tree-covers shop bound v start (suc left) prefix node low f short h fresh whole =
+    covers-cases shop bound v start left prefix node (force-above shop v start prefix node low f short h)
+    (zip-map (IsLeft shop.jobs node) (λ job part. Covers shop bound v left (node ++ job
+    ∷ []) part) (λ job. tree_at shop bound start prefix left (node ++ job ∷ [])) (jobs_left shop.jobs node)
+    (λ job l. tree-covers shop bound v start left prefix (node ++ job
     ∷ []) low f short h (fresh-push shop.jobs node job fresh l) (omega (
       arith,
       whole,
@@ -109,7 +109,7 @@ tree-covers shop v start (suc left) prefix node low f short h fresh whole =
           ∷ []),
     )))
     (jobs_left-are shop.jobs node))
-    (find (λ machine. nat_le (in_force shop start prefix node) (bound_at shop node machine))
+    (find (λ machine. nat_le (in_force shop start prefix node) (bound shop node machine))
     (numbers 1 shop.machines)) refl
 
 -- the makespan of a sequence fits a word
@@ -132,23 +132,25 @@ plan_is_certified plan is =
     let v = verdict_is_least shop start depth short (is.is_sequence, sym is.is_span) in
     let low : value ≤ start.value =
     subst (λ n. value ≤ n) (sym is.is_span) (v.1.least start.sequence is.is_sequence) in (
+      1,
       depth,
       (verdict_of plan).sequence,
       trees_of plan,
       record {
+        known = (omega arith, omega arith);
         jobs_enough = short;
         shallow = is.option_limits.depth;
         fits = subst (λ n. n < 2 ^ 64) v.0.1 (span-fits shop (verdict_of plan).sequence is.shop_limits v.0.0);
         whole = v.0.0;
         attained = v.0.1;
         covered = zip-map (λ p. Fresh shop.jobs p
-            × (length p ≡ 0 + depth)) (λ prefix part. Covers shop bound_at value (shop.jobs - depth) prefix part)
-            (tree shop bound_at start.value) (cut shop.jobs depth)
+            × (length p ≡ 0 + depth)) (λ prefix part. Covers shop (bound_of 1) value (shop.jobs - depth) prefix part)
+            (tree shop (bound_of 1) start.value) (cut shop.jobs depth)
             (λ p h.
             let size : length p ≡ depth = omega (arith, h.1) in
-            subst (λ left. Covers shop bound_at value left p (tree shop bound_at start.value p)) (ap
+            subst (λ left. Covers shop (bound_of 1) value left p (tree shop (bound_of 1) start.value p)) (ap
             (λ n. shop.jobs - n) size)
-            (tree-covers shop value start.value (shop.jobs - length p) p p low h.0 (omega (arith, size)) v.1.least h.0
+            (tree-covers shop (bound_of 1) value start.value (shop.jobs - length p) p p low h.0 (omega (arith, size)) v.1.least h.0
             (omega (arith, size))))
             (cut-fresh shop.jobs depth [] (tt, tt));
       },
@@ -159,11 +161,11 @@ plan_is_certified plan is =
 pub text-of-plan : (plan : Planned) (verdict : Verdict) → IsVerdict plan verdict →
     text_with plan verdict ≡ certificate_of plan
 text-of-plan plan verdict of =
-    ap (λ value. certificate_text plan.shop plan.options.depth value verdict.sequence (map
+    ap (λ value. certificate_text plan.shop 1 plan.options.depth value verdict.sequence (map
     (λ tree. tree.items) verdict.trees.items)) of.value
-    ∙ ap (λ sequence. certificate_text plan.shop plan.options.depth (verdict_of plan).value sequence (map
+    ∙ ap (λ sequence. certificate_text plan.shop 1 plan.options.depth (verdict_of plan).value sequence (map
     (λ tree. tree.items) verdict.trees.items)) of.sequence
-    ∙ ap (λ trees. certificate_text plan.shop plan.options.depth (verdict_of plan).value
+    ∙ ap (λ trees. certificate_text plan.shop 1 plan.options.depth (verdict_of plan).value
     (verdict_of plan).sequence trees) of.trees
 
 pub verdict_is_certified : VerdictIsCertified
@@ -171,7 +173,7 @@ verdict_is_certified plan verdict is of =
     let v = verdict_is_least plan.shop plan.start plan.options.depth is.deep (is.is_sequence, sym is.is_span) in
     record {
       each = sym (length-map verdict.trees.items (λ tree. tree.items)) ∙ ap length of.trees
-          ∙ length-map (prefixes_of plan) (tree plan.shop bound_at plan.start.value);
+          ∙ length-map (prefixes_of plan) (tree plan.shop (bound_of 1) plan.start.value);
       text = text-of-plan plan verdict of;
       lawful = subst (IsCertificate plan.shop (certificate_of plan)) (sym of.value) (plan_is_certified plan is);
       least = subst (IsLeastMakespan plan.shop) (sym of.value) v.1;

@@ -1,9 +1,9 @@
 -- The fronts, the work left and the bounds of lists.
-use Rattle.std.proofs.Common.{◌≡◌, ◌≢◌, ℕ, zero, suc, ◌+◌, ◌-◌, ◌*◌, ◌<◌, ◌≤◌, Bool, true, false, cond, not, List, []}
+use Rattle.std.proofs.Common.{◌≡◌, ◌≢◌, ℕ, zero, suc, ◌+◌, ◌-◌, ◌*◌, ◌<◌, ◌≤◌, true, false, not, List, []}
 use Rattle.std.proofs.Common.{◌∷◌, ◌++◌, length, slice_index, replicate, refl, ap, sym, ◌∙◌, subst, inl, inr, arith}
-use Rattle.std.proofs.Common.{set, length-append}
+use Rattle.std.proofs.Common.{set, length-append, map}
 use Rattle.std.specs.List.{filter, sum_by}
-use Rattle.std.proofs.lemmas.List.{get_or-set_same, get_or-set_other, length-set}
+use Rattle.std.proofs.lemmas.List.{get_or-set_same, get_or-set_other, get_or-replicate, length-set}
 use Rattle.std.proofs.lemmas.Bool.{cases_lt}
 use Rattle.flow_core.specs.Limits.{most_jobs, most_machines, greatest_time}
 use Rattle.flow_core.specs.Shop.{Shop, numbers, time, time_between, IsWithinLimits}
@@ -14,7 +14,8 @@ use Rattle.flow_core.specs.Bound.{bound_at, front_of}
 use Rattle.flow_core.proofs.Recurrence.{after, completed, completion-is, completion-after, after-same}
 use Rattle.flow_core.proofs.Fronts.{free_at, front-within, time-small}
 use Rattle.flow_core.proofs.Admissible.{front_of-is}
-use Rattle.flow_core.proofs.JobsLeft.{kept, kept-more, filter-more}
+use Rattle.flow_core.proofs.Extremes.{map-map-append}
+use Rattle.flow_core.proofs.JobsLeft.{kept-small, filter-more}
 use Rattle.std.proofs.lemmas.Bool.Decides.{eqb_tells}
 use Rattle.flow_core.specs.internal.TwoLeast.{tails, least_below, second_below}
 use Rattle.flow_cert.specs.internal.Nodes.{IsNode, AreKnown, AreLows, unknown}
@@ -24,15 +25,6 @@ use Rattle.flow_cert.specs.declared.reading.node.Lows.{Lows}
 use Rattle.flow_core.proofs.Taken.{left-sum, left-count, left-split, left-without, left_under}
 use Rattle.flow_core.proofs.TwoLeast.{Without, without-one, least-below-cap}
 use Rattle.flow_core.proofs.Fronts.{tail-small}
-
-kept-small : (f : ℕ → ℕ) (p : ℕ → Bool) (most n : ℕ) → ((k : ℕ) → f k ≤ most) → kept f p n ≤ n * most
-kept-small f p most zero small = omega arith
-kept-small f p most (suc n) small =
-    omega (arith, kept-more f p n, kept-small f p most n small, one (p (suc n)) (f (suc n)), small (suc n))
-  where
-    one : (b : Bool) (v : ℕ) → cond b v 0 ≤ v
-    one true v = omega arith
-    one false v = omega arith
 
 -- the sum of the times of the jobs left fits
 pub work-small : (shop : Shop) (list : List ℕ) (machine : ℕ) → IsWithinLimits shop →
@@ -52,11 +44,6 @@ none-has (suc n) = omega (
 )
 
 -- before any bound asks for a tail
-pub all-same : (n v i : ℕ) → i < n → slice_index (replicate n v) i ≡ v
-all-same zero v i h = absurd (omega (arith, h))
-all-same (suc n) v zero h = refl
-all-same (suc n) v (suc i) h = all-same n v i (omega (arith, h))
-
 none-known : (shop : Shop) (list least second : List ℕ) →
     ((machine : ℕ) → 1 ≤ machine → machine ≤ shop.machines → slice_index least (machine - 1) ≡ unknown) →
     length least ≡ most_machines → length second ≡ most_machines → AreKnown shop list least second
@@ -125,7 +112,7 @@ root-node shop node limits times work size least second =
       work = work;
       size = size;
       known = none-known shop [] node.least node.second (λ machine from to. ap (λ l. slice_index l (machine - 1)) least
-          ∙ all-same most_machines unknown (machine - 1) (omega (arith, from, to, most))) (ap length least)
+          ∙ get_or-replicate most_machines (machine - 1) unknown 0 (omega (arith, from, to, most))) (ap length least)
           (ap length second);
       count = omega arith;
       some = none-has shop.jobs;
@@ -175,11 +162,29 @@ child-completion shop list front job machine to is =
     (arith, high, to)) ∙ completion-is shop list k)
     ∙ sym (completion-after shop list job machine)
 
-tails-append : (shop : Shop) (machine : ℕ) (us vs : List ℕ) →
-    tails shop machine (us ++ vs) ≡ tails shop machine us ++ tails shop machine vs
-tails-append shop machine [] vs = refl
-tails-append shop machine (u ∷ us) vs =
-    ap (λ xs. time_between shop u (machine + 1) shop.machines ∷ xs) (tails-append shop machine us vs)
+same-without : (y z p q r s m n : ℕ) → y ≡ z → p ≡ q → r ≡ s → Without y p r m → Without z q s n → m ≡ n
+same-without y z p q r s m n yz pq rs a b = elim (eqb_tells y p) [
+  | inl same ↦ omega (arith, a.0 same.1, b.0 (sym yz ∙ same.1 ∙ pq), rs)
+  | inr other ↦ omega (arith, a.1 other.1, b.1 (λ e. other.1 (yz ∙ e ∙ sym pq)), pq)
+]
+
+-- the least over the jobs left once a job is taken, from the two least before
+pub without-left : (f : ℕ → ℕ) (n : ℕ) (list : List ℕ) (job y p q m : ℕ) → 1 ≤ job → job ≤ n → has list job ≡ false →
+    p ≡ least_below unknown (map f (jobs_left n list)) →
+    q ≡ second_below unknown unknown (map f (jobs_left n list)) → y ≡ f job → Without y p q m →
+    m ≡ least_below unknown (map f (jobs_left n (list ++ job ∷ [])))
+without-left f n list job y p q m low high fresh is_p is_q is_y picked =
+    let us : List ℕ = left_under list job in
+    let vs : List ℕ = children n list (job + 1) in
+    let whole : map f (jobs_left n list) ≡ map f us ++ f job ∷ map f vs =
+    ap (map f) (left-split n list job low high fresh) ∙ map-map-append f us (job ∷ vs) in
+    let rest : map f (jobs_left n (list ++ job ∷ [])) ≡ map f us ++ map f vs =
+    ap (map f) (left-without n list job low high) ∙ map-map-append f us vs in
+    same-without y (f job) p (least_below unknown (map f us ++ f job ∷ map f vs)) q
+    (second_below unknown unknown (map f us ++ f job ∷ map f vs)) m (least_below unknown (map f us ++ map f vs)) is_y
+    (is_p ∙ ap (least_below unknown) whole) (is_q ∙ ap (second_below unknown unknown) whole) picked
+    (without-one (f job) unknown unknown (map f us) (map f vs) (omega arith))
+    ∙ sym (ap (least_below unknown) rest)
 
 -- the bound of a list with jobs left
 pub own-bound : (shop : Shop) (list : List ℕ) (node : Node) (left machine : ℕ) (lows : Lows) → IsWithinLimits shop →
@@ -208,29 +213,8 @@ child-bound shop list node left job machine free t tail behind lows limits is fr
     is_tail picked =
     let most : shop.machines ≤ most_machines = limits.machines in
     let f : ℕ → ℕ = λ j. time_between shop j (machine + 1) shop.machines in
-    let us : List ℕ = left_under list job in
-    let vs : List ℕ = children shop.jobs list (job + 1) in
-    let whole : tails shop machine (jobs_left shop.jobs list) ≡ tails shop machine us ++ f job ∷ tails shop machine vs =
-    ap (tails shop machine) (left-split shop.jobs list job low high fresh) ∙ tails-append shop machine us (job ∷ vs) in
-    let rest : tails shop machine (jobs_left shop.jobs (list ++ job ∷ [])) ≡ tails shop machine us
-    ++ tails shop machine vs =
-    ap (tails shop machine) (left-without shop.jobs list job low high) ∙ tails-append shop machine us vs in
-    let one : Without (f job) (least_below unknown (tails shop machine us ++ f job
-    ∷ tails shop machine vs)) (second_below unknown unknown (tails shop machine us ++ f job
-    ∷ tails shop machine vs)) (least_below unknown (tails shop machine us ++ tails shop machine vs)) =
-    without-one (f job) unknown unknown (tails shop machine us) (tails shop machine vs) (omega arith) in
-    let least_is : lows.least ≡ least_below unknown (tails shop machine us ++ f job ∷ tails shop machine vs) = are.0
-    ∙ ap (least_below unknown) whole in
-    let second_is : lows.second
-    ≡ second_below unknown unknown (tails shop machine us ++ f job ∷ tails shop machine vs) = are.1
-    ∙ ap (second_below unknown unknown) whole in
-    let rest_is : least_below unknown (tails shop machine (jobs_left shop.jobs (list ++ job ∷ [])))
-    ≡ least_below unknown (tails shop machine us ++ tails shop machine vs) = ap (least_below unknown) rest in
     let behind_is : behind ≡ least_below unknown (tails shop machine (jobs_left shop.jobs (list ++ job ∷ []))) =
-    same-without tail (f job) lows.least (least_below unknown (tails shop machine us ++ f job
-    ∷ tails shop machine vs)) lows.second (second_below unknown unknown (tails shop machine us ++ f job
-    ∷ tails shop machine vs)) behind (least_below unknown (tails shop machine us
-    ++ tails shop machine vs)) is_tail least_is second_is picked one ∙ sym rest_is in
+    without-left f shop.jobs list job tail lows.least lows.second behind low high fresh are.0 are.1 is_tail picked in
     let count = left-count shop.jobs list job low high fresh in
     let cap = least-below-cap unknown (most_machines * greatest_time) f (jobs_left shop.jobs (list ++ job
     ∷ [])) (omega (arith, is.some, count))
@@ -240,12 +224,6 @@ child-bound shop list node left job machine free t tail behind lows limits is fr
     ∙ sym (front_of-is shop (list ++ job ∷ []) machine from to) in
     let sum = left-sum (λ j. time shop j machine) shop.jobs list job low high fresh in
     (omega (arith, front, is.work machine from to, sum, is_t, behind_is, cap.0), omega (arith, behind_is, cap.0, cap.1))
-  where
-    same-without : (y z p q r s m n : ℕ) → y ≡ z → p ≡ q → r ≡ s → Without y p r m → Without z q s n → m ≡ n
-    same-without y z p q r s m n yz pq rs a b = elim (eqb_tells y p) [
-      | inl same ↦ omega (arith, a.0 same.1, b.0 (sym yz ∙ same.1 ∙ pq), rs)
-      | inr other ↦ omega (arith, a.1 other.1, b.1 (λ e. other.1 (yz ∙ e ∙ sym pq)), pq)
-    ]
 
 -- one more machine of a row
 pub filled-more : (P : ℕ → ℕ → Type 0) (xs : List ℕ) (machine v : ℕ) → 1 ≤ machine → machine - 1 < length xs →

@@ -1,9 +1,20 @@
--- The line of an instance's size and a depth.
+-- The first line, and the line of an instance's size and a depth.
 use Rattle.std.proofs.Common.{◌≡◌, ℕ, ◌≤◌, ◌<◌, ◌^◌, List, [], ◌∷◌, ◌++◌, ap, ◌∙◌, append_assoc, arith}
+use Rattle.std.specs.Prelude.{codes}
 use Rattle.std.specs.Fmt.{decimal}
 use Rattle.flow_core.specs.Limits.{greatest_depth}
-use Rattle.flow_cert.specs.Certificate.{line, spaced}
+use Rattle.flow_cert.specs.Certificate.{IsVersion, line, spaced, title}
 use Rattle.flow_cert.specs.internal.Heading.{BeginsWithNumber, BeginsWithSize}
+
+-- the first line ends in its version
+pub title-parts : (version : ℕ) (rest : List ℕ) →
+    line (title version) ++ rest ≡ codes "flowshop certificate " ++ (decimal version ++ 10 ∷ rest)
+title-parts version rest =
+    append_assoc (title version) (10 ∷ []) rest
+    ∙ append_assoc (codes "flowshop certificate ") (decimal version) (10 ∷ rest)
+
+pub version-fits : (version : ℕ) → IsVersion version → version < 2 ^ 64
+version-fits version is = omega (arith, is.1)
 
 -- its three numbers, each with the byte that ends it
 pub size-parts : (a b d : ℕ) (rest : List ℕ) → line (spaced (a ∷ b ∷ d ∷ [])) ++ rest ≡ decimal a ++ 32

@@ -1,6 +1,6 @@
 -- What one byte of a tree says.
 use Rattle.std.proofs.Common.{◌≡◌, ◌≢◌, ◌&&◌, ℕ, zero, suc, ◌-◌, ◌<◌, ◌≤◌, Bool, true, false, cond, nat_le, List, ◌∷◌}
-use Rattle.std.proofs.Common.{◌++◌, [], Ok, Err, ap, subst, ◌∙◌, arith}
+use Rattle.std.proofs.Common.{◌++◌, [], Ok, Err, ap, sym, subst, ◌∙◌, arith}
 use Rattle.std.proofs.lemmas.Bool.{eq-eqb, ne_eqb, le-leb, lt-leb, lt-ltb, le-ltb}
 use Rattle.flow_core.specs.Shop.{Shop}
 use Rattle.flow_core.specs.Paths.{span}
@@ -41,29 +41,27 @@ cut-past shop reach value place (suc left) node byte e h above past rest =
     ∙ ap (λ b. cut_fault b (nat_le value (reach shop node (byte - 64))) place rest) (known shop byte false above (lt-leb
     (byte - 64) shop.machines past))
 
-pub cut-weak : (shop : Shop) (reach : Shop → List ℕ → ℕ → ℕ) (value place left : ℕ) (node : List ℕ) (byte bound : ℕ) →
-    left ≢ 0 → byte ≢ 43 → 64 < byte → byte - 64 ≤ shop.machines → bound ≡ reach shop node (byte - 64) → bound < value →
+pub cut-weak : (shop : Shop) (reach : Shop → List ℕ → ℕ → ℕ) (value place left : ℕ) (node : List ℕ) (byte : ℕ)
+    (reaches : Bool) → left ≢ 0 → byte ≢ 43 → 64 < byte → byte - 64 ≤ shop.machines →
+    reaches ≡ nat_le value (reach shop node (byte - 64)) → reaches ≡ false →
     (rest : List ℕ) → read_tree shop reach value place left node (byte ∷ rest) ≡ Err (Weak place)
-cut-weak shop reach value place zero node byte bound e h above within is low rest = absurd (omega (arith, e))
-cut-weak shop reach value place (suc left) node byte bound e h above within is low rest =
-    let short : nat_le value (reach shop node (byte - 64)) ≡ false =
-    lt-leb value (reach shop node (byte - 64)) (subst (λ b. b < value) is low) in
+cut-weak shop reach value place zero node byte reaches e h above within is low rest = absurd (omega (arith, e))
+cut-weak shop reach value place (suc left) node byte reaches e h above within is low rest =
     cut-reads shop reach value place left node byte rest h
     ∙ ap (λ b. cut_fault b (nat_le value (reach shop node (byte - 64))) place rest) (known shop byte true above (le-leb
     (byte - 64) shop.machines within))
-    ∙ ap (λ b. cut_fault true b place rest) short
+    ∙ ap (λ b. cut_fault true b place rest) (sym is ∙ low)
 
-pub cut-strong : (shop : Shop) (reach : Shop → List ℕ → ℕ → ℕ) (value place left : ℕ) (node : List ℕ) (byte bound : ℕ) →
-    left ≢ 0 → byte ≢ 43 → 64 < byte → byte - 64 ≤ shop.machines → bound ≡ reach shop node (byte - 64) → value ≤ bound →
+pub cut-strong : (shop : Shop) (reach : Shop → List ℕ → ℕ → ℕ) (value place left : ℕ) (node : List ℕ) (byte : ℕ)
+    (reaches : Bool) → left ≢ 0 → byte ≢ 43 → 64 < byte → byte - 64 ≤ shop.machines →
+    reaches ≡ nat_le value (reach shop node (byte - 64)) → reaches ≡ true →
     (rest : List ℕ) → read_tree shop reach value place left node (byte ∷ rest) ≡ Ok rest
-cut-strong shop reach value place zero node byte bound e h above within is low rest = absurd (omega (arith, e))
-cut-strong shop reach value place (suc left) node byte bound e h above within is low rest =
-    let high : nat_le value (reach shop node (byte - 64)) ≡ true =
-    le-leb value (reach shop node (byte - 64)) (subst (λ b. value ≤ b) is low) in
+cut-strong shop reach value place zero node byte reaches e h above within is high rest = absurd (omega (arith, e))
+cut-strong shop reach value place (suc left) node byte reaches e h above within is high rest =
     cut-reads shop reach value place left node byte rest h
     ∙ ap (λ b. cut_fault b (nat_le value (reach shop node (byte - 64))) place rest) (known shop byte true above (le-leb
     (byte - 64) shop.machines within))
-    ∙ ap (λ b. cut_fault true b place rest) high
+    ∙ ap (λ b. cut_fault true b place rest) (sym is ∙ high)
 
 -- one byte where no job is left
 

@@ -5,7 +5,7 @@ use Rattle.std.proofs.Common.{reverse}
 use Rattle.std.proofs.lemmas.List.{reverse-append}
 use Rattle.std.proofs.Math.Seq.{drop-cons}
 use Rattle.flow_core.specs.Shop.{Shop}
-use Rattle.flow_core.specs.Bound.{bound_at}
+use Rattle.flow_core.specs.Bound.{bound_of}
 use Rattle.flow_core.specs.Sequences.{has, jobs_left}
 use Rattle.flow_cert.specs.CertificateFaults.{read_tree, each_tree, then_read}
 use Rattle.flow_cert.specs.internal.Links.{children, AreLinks}
@@ -24,36 +24,36 @@ then-assoc : (r : Result (List ℕ) CheckFault) (f g : List ℕ → Result (List
 then-assoc (Ok b) f g = refl
 then-assoc (Err e) f g = refl
 
-then-done : (shop : Shop) (value place : ℕ) (root : List ℕ) (left : ℕ) (r : Result (List ℕ) CheckFault) →
-    r ≡ then_read r (resume shop value place root left [])
-then-done shop value place root left (Ok b) = refl
-then-done shop value place root left (Err e) = refl
+then-done : (shop : Shop) (version value place : ℕ) (root : List ℕ) (left : ℕ) (r : Result (List ℕ) CheckFault) →
+    r ≡ then_read r (resume shop version value place root left [])
+then-done shop version value place root left (Ok b) = refl
+then-done shop version value place root left (Err e) = refl
 
-pub no-byte : (shop : Shop) (value place left : ℕ) (list : List ℕ) →
-    read_tree shop bound_at value place left list [] ≡ Err (Tree place)
-no-byte shop value place zero list = refl
-no-byte shop value place (suc left) list = refl
+pub no-byte : (shop : Shop) (version value place left : ℕ) (list : List ℕ) →
+    read_tree shop (bound_of version) value place left list [] ≡ Err (Tree place)
+no-byte shop version value place zero list = refl
+no-byte shop version value place (suc left) list = refl
 
-pub reading-start : (shop : Shop) (value place : ℕ) (root : List ℕ) (node : Node) (links : List ℕ) (below from : ℕ)
+pub reading-start : (shop : Shop) (version value place : ℕ) (root : List ℕ) (node : Node) (links : List ℕ) (below from : ℕ)
     (bytes : List ℕ) → IsAt shop root node links (suc below) →
-    IsReading shop value place root (children_read shop value place below root
+    IsReading shop version value place root (children_read shop version value place below root
     (drop from bytes)) node links below 0 from bytes []
-reading-start shop value place root node links below from bytes at = record {
+reading-start shop version value place root node links below from bytes at = record {
   here = at;
   behind = start-place shop.jobs root;
   stack = tt;
-  answer = then-done shop value place root (suc below) (children_read shop value place below root (drop from bytes));
+  answer = then-done shop version value place root (suc below) (children_read shop version value place below root (drop from bytes));
 }
 
 -- a plus, and the trees of the children
-plus-read : (shop : Shop) (value place : ℕ) (root : List ℕ) (left below from : ℕ) (bytes : List ℕ) (byte : ℕ) →
+plus-read : (shop : Shop) (version value place : ℕ) (root : List ℕ) (left below from : ℕ) (bytes : List ℕ) (byte : ℕ) →
     left ≡ suc below → byte ≡ 43 → drop from bytes ≡ byte ∷ drop (from + 1) bytes →
-    read_tree shop bound_at value place left root (drop from bytes)
-    ≡ children_read shop value place below root (drop (from + 1) bytes)
-plus-read shop value place root left below from bytes byte e plus step =
-    ap (λ l. read_tree shop bound_at value place l root (drop from bytes)) e
-    ∙ ap (read_tree shop bound_at value place (suc below) root) step
-    ∙ ap (λ b. read_tree shop bound_at value place (suc below) root (b ∷ drop (from + 1) bytes)) plus
+    read_tree shop (bound_of version) value place left root (drop from bytes)
+    ≡ children_read shop version value place below root (drop (from + 1) bytes)
+plus-read shop version value place root left below from bytes byte e plus step =
+    ap (λ l. read_tree shop (bound_of version) value place l root (drop from bytes)) e
+    ∙ ap (read_tree shop (bound_of version) value place (suc below) root) step
+    ∙ ap (λ b. read_tree shop (bound_of version) value place (suc below) root (b ∷ drop (from + 1) bytes)) plus
 
 gives-before : (from : ℕ) (bytes : List ℕ) (r : Result ℕ CheckFault) (read all : Result (List ℕ) CheckFault) →
     all ≡ read → TreeGives (from + 1) bytes r read → TreeGives from bytes r all
@@ -69,65 +69,65 @@ gives-before from bytes (Err (Weak p)) read all e h = e ∙ h
 gives-before from bytes (Err (Low p)) read all e h = e ∙ h
 gives-before from bytes (Err End) read all e h = e ∙ h
 
-pub plus-gives : (shop : Shop) (value place : ℕ) (root : List ℕ) (left below from : ℕ) (bytes : List ℕ) (byte : ℕ)
+pub plus-gives : (shop : Shop) (version value place : ℕ) (root : List ℕ) (left below from : ℕ) (bytes : List ℕ) (byte : ℕ)
     (r : Result ℕ CheckFault) → left ≡ suc below → byte ≡ 43 → drop from bytes ≡ byte ∷ drop (from + 1) bytes →
-    TreeGives (from + 1) bytes r (children_read shop value place below root (drop (from + 1) bytes)) →
-    TreeGives from bytes r (read_tree shop bound_at value place left root (drop from bytes))
-plus-gives shop value place root left below from bytes byte r e plus step h =
-    gives-before from bytes r (children_read shop value place below root (drop (from
-    + 1) bytes)) (read_tree shop bound_at value place left root (drop from bytes))
-    (plus-read shop value place root left below from bytes byte e plus step) h
+    TreeGives (from + 1) bytes r (children_read shop version value place below root (drop (from + 1) bytes)) →
+    TreeGives from bytes r (read_tree shop (bound_of version) value place left root (drop from bytes))
+plus-gives shop version value place root left below from bytes byte r e plus step h =
+    gives-before from bytes r (children_read shop version value place below root (drop (from
+    + 1) bytes)) (read_tree shop (bound_of version) value place left root (drop from bytes))
+    (plus-read shop version value place root left below from bytes byte e plus step) h
 
 -- the next child, where there is one
-pub reading-child : {shop : Shop} {value place : ℕ} {root : List ℕ} {whole : Result
+pub reading-child : {shop : Shop} {version value place : ℕ} {root : List ℕ} {whole : Result
     (List ℕ) CheckFault} {node : Node} {links : List ℕ} {below last at : ℕ} {bytes : List ℕ} {frames : List Frame} →
-    IsReading shop value place root whole node links below last at bytes frames → slice_index links last ≢ 0 →
+    IsReading shop version value place root whole node links below last at bytes frames → slice_index links last ≢ 0 →
     (last < slice_index links last) × (1 ≤ slice_index links last) × (slice_index links last ≤ shop.jobs)
     × (has (path root frames) (slice_index links last) ≡ false)
 reading-child {shop} {root} {links} {last} {frames} i some =
     next-some shop.jobs (path root frames) last (slice_index links last) (i.here.are_links.each last i.behind) some
 
 -- the next child is read
-child-read : {shop : Shop} {value place : ℕ} {root : List ℕ} {whole : Result
+child-read : {shop : Shop} {version value place : ℕ} {root : List ℕ} {whole : Result
     (List ℕ) CheckFault} {node : Node} {links : List ℕ} {below last at : ℕ} {bytes : List ℕ} {frames : List Frame}
     (bs : List ℕ) →
-    IsReading shop value place root whole node links below last at bytes frames → slice_index links last ≢ 0 →
+    IsReading shop version value place root whole node links below last at bytes frames → slice_index links last ≢ 0 →
     drop at bytes ≡ bs →
-    whole ≡ then_read (then_read (read_tree shop bound_at value place below (path root frames ++ slice_index links last
-    ∷ []) bs) (each_tree (λ j. read_tree shop bound_at value place below (path root frames ++ j
+    whole ≡ then_read (then_read (read_tree shop (bound_of version) value place below (path root frames ++ slice_index links last
+    ∷ []) bs) (each_tree (λ j. read_tree shop (bound_of version) value place below (path root frames ++ j
     ∷ [])) (children shop.jobs (path root frames) (slice_index links last
-    + 1)))) (resume shop value place root (suc below) frames)
-child-read {shop} {value} {place} {root} {whole} {node} {links} {below} {last} {at} {bytes} {frames} bs i some dropped =
+    + 1)))) (resume shop version value place root (suc below) frames)
+child-read {shop} {version} {value} {place} {root} {whole} {node} {links} {below} {last} {at} {bytes} {frames} bs i some dropped =
     let read : ℕ → List ℕ → Result (List ℕ) CheckFault =
-    λ j. read_tree shop bound_at value place below (path root frames ++ j ∷ []) in
-    let k : List ℕ → Result (List ℕ) CheckFault = resume shop value place root (suc below) frames in
+    λ j. read_tree shop (bound_of version) value place below (path root frames ++ j ∷ []) in
+    let k : List ℕ → Result (List ℕ) CheckFault = resume shop version value place root (suc below) frames in
     i.answer
     ∙ ap (λ js. then_read (each_tree read js (drop at bytes)) k) (children-next shop.jobs (path root frames) last
     (slice_index links last) (i.here.are_links.each last i.behind) some)
     ∙ ap (λ b. then_read (each_tree read (slice_index links last
     ∷ children shop.jobs (path root frames) (slice_index links last + 1)) b) k) dropped
 
-pub reading-fault : {shop : Shop} {value place : ℕ} {root : List ℕ} {whole : Result
+pub reading-fault : {shop : Shop} {version value place : ℕ} {root : List ℕ} {whole : Result
     (List ℕ) CheckFault} {node : Node} {links : List ℕ} {below last at : ℕ} {bytes : List ℕ} {frames : List Frame}
     (bs : List ℕ) (fault : CheckFault) →
-    IsReading shop value place root whole node links below last at bytes frames → slice_index links last ≢ 0 →
+    IsReading shop version value place root whole node links below last at bytes frames → slice_index links last ≢ 0 →
     drop at bytes ≡ bs →
-    read_tree shop bound_at value place below (path root frames ++ slice_index links last ∷ []) bs ≡ Err fault →
+    read_tree shop (bound_of version) value place below (path root frames ++ slice_index links last ∷ []) bs ≡ Err fault →
     whole ≡ Err fault
-reading-fault {shop} {value} {place} {root} {whole} {node} {links} {below} {last} {at} {bytes} {frames} bs fault i some
+reading-fault {shop} {version} {value} {place} {root} {whole} {node} {links} {below} {last} {at} {bytes} {frames} bs fault i some
     dropped bad =
     child-read bs i some dropped
-    ∙ ap (λ r. then_read (then_read r (each_tree (λ j. read_tree shop bound_at value place below (path root frames ++ j
+    ∙ ap (λ r. then_read (then_read r (each_tree (λ j. read_tree shop (bound_of version) value place below (path root frames ++ j
     ∷ [])) (children shop.jobs (path root frames) (slice_index links last
-    + 1)))) (resume shop value place root (suc below) frames)) bad
+    + 1)))) (resume shop version value place root (suc below) frames)) bad
 
-pub reading-leaf : {shop : Shop} {value place : ℕ} {root : List ℕ} {whole : Result
+pub reading-leaf : {shop : Shop} {version value place : ℕ} {root : List ℕ} {whole : Result
     (List ℕ) CheckFault} {node : Node} {links : List ℕ} {below last at : ℕ} {bytes : List ℕ} {frames : List Frame} →
-    IsReading shop value place root whole node links below last at bytes frames → slice_index links last ≢ 0 →
-    read_tree shop bound_at value place below (path root frames ++ slice_index links last ∷ []) (drop at bytes)
+    IsReading shop version value place root whole node links below last at bytes frames → slice_index links last ≢ 0 →
+    read_tree shop (bound_of version) value place below (path root frames ++ slice_index links last ∷ []) (drop at bytes)
     ≡ Ok (drop (at + 1) bytes) →
-    IsReading shop value place root whole node links below (slice_index links last) (at + 1) bytes frames
-reading-leaf {shop} {value} {place} {root} {whole} {node} {links} {below} {last} {at} {bytes} {frames} i some good =
+    IsReading shop version value place root whole node links below (slice_index links last) (at + 1) bytes frames
+reading-leaf {shop} {version} {value} {place} {root} {whole} {node} {links} {below} {last} {at} {bytes} {frames} i some good =
     record {
       here = i.here;
       behind = next-place shop.jobs (path root frames) last (slice_index links last)
@@ -135,21 +135,21 @@ reading-leaf {shop} {value} {place} {root} {whole} {node} {links} {below} {last}
       stack = i.stack;
       answer =
           child-read (drop at bytes) i some refl
-          ∙ ap (λ r. then_read (then_read r (each_tree (λ j. read_tree shop bound_at value place below (path root frames
+          ∙ ap (λ r. then_read (then_read r (each_tree (λ j. read_tree shop (bound_of version) value place below (path root frames
           ++ j ∷ [])) (children shop.jobs (path root frames) (slice_index links last
-          + 1)))) (resume shop value place root (suc below) frames)) good;
+          + 1)))) (resume shop version value place root (suc below) frames)) good;
     }
 
-pub reading-dive : {shop : Shop} {value place : ℕ} {root : List ℕ} {whole : Result
+pub reading-dive : {shop : Shop} {version value place : ℕ} {root : List ℕ} {whole : Result
     (List ℕ) CheckFault} {node : Node} {links : List ℕ} {below last at : ℕ} {bytes : List ℕ} {frames : List Frame}
     (child : Node) (less : List ℕ) (lower byte : ℕ) (deeper : List Frame) →
-    IsReading shop value place root whole node links below last at bytes frames → slice_index links last ≢ 0 →
+    IsReading shop version value place root whole node links below last at bytes frames → slice_index links last ≢ 0 →
     drop at bytes ≡ byte ∷ drop (at + 1) bytes →
     IsNode shop (path root frames ++ slice_index links last ∷ []) child below →
     less ≡ slice_set links last (slice_index links (slice_index links last)) → below ≡ suc lower → byte ≡ 43 →
     deeper ≡ record { node = node; job = slice_index links last; last = last } ∷ frames →
-    IsReading shop value place root whole child less lower 0 (at + 1) bytes deeper
-reading-dive {shop} {value} {place} {root} {whole} {node} {links} {below} {last} {at} {bytes} {frames} child less lower
+    IsReading shop version value place root whole child less lower 0 (at + 1) bytes deeper
+reading-dive {shop} {version} {value} {place} {root} {whole} {node} {links} {below} {last} {at} {bytes} {frames} child less lower
     byte deeper i some dropped is out e plus pushed =
     let job : ℕ = slice_index links last in
     let next = reading-child i some in
@@ -158,7 +158,7 @@ reading-dive {shop} {value} {place} {root} {whole} {node} {links} {below} {last}
     let back : slice_set less last job ≡ links = ap (λ l. slice_set l last job) out
     ∙ links-back links last job (slice_index links job) refl in
     let js : List ℕ = children shop.jobs (path root frames) (job + 1) in
-    let goal : IsReading shop value place root whole child less lower 0 (at
+    let goal : IsReading shop version value place root whole child less lower 0 (at
     + 1) bytes (record { node = node; job = job; last = last } ∷ frames) = record {
       here = record {
         is_node = subst (IsNode shop (path root frames ++ job ∷ []) child) e is;
@@ -178,50 +178,50 @@ reading-dive {shop} {value} {place} {root} {whole} {node} {links} {below} {last}
       );
       answer =
           child-read (byte ∷ drop (at + 1) bytes) i some dropped
-          ∙ ap (λ l. then_read (then_read (read_tree shop bound_at value place l (path root frames ++ job ∷ []) (byte
-          ∷ drop (at + 1) bytes)) (each_tree (λ j. read_tree shop bound_at value place l (path root frames ++ j
-          ∷ [])) js)) (resume shop value place root (suc l) frames)) e
-          ∙ ap (λ b. then_read (then_read (read_tree shop bound_at value place (suc lower) (path root frames ++ job
-          ∷ []) (b ∷ drop (at + 1) bytes)) (each_tree (λ j. read_tree shop bound_at value place (suc lower)
-          (path root frames ++ j ∷ [])) js)) (resume shop value place root (suc (suc lower)) frames)) plus
-          ∙ then-assoc (each_tree (λ j. read_tree shop bound_at value place lower ((path root frames ++ job ∷ []) ++ j
+          ∙ ap (λ l. then_read (then_read (read_tree shop (bound_of version) value place l (path root frames ++ job ∷ []) (byte
+          ∷ drop (at + 1) bytes)) (each_tree (λ j. read_tree shop (bound_of version) value place l (path root frames ++ j
+          ∷ [])) js)) (resume shop version value place root (suc l) frames)) e
+          ∙ ap (λ b. then_read (then_read (read_tree shop (bound_of version) value place (suc lower) (path root frames ++ job
+          ∷ []) (b ∷ drop (at + 1) bytes)) (each_tree (λ j. read_tree shop (bound_of version) value place (suc lower)
+          (path root frames ++ j ∷ [])) js)) (resume shop version value place root (suc (suc lower)) frames)) plus
+          ∙ then-assoc (each_tree (λ j. read_tree shop (bound_of version) value place lower ((path root frames ++ job ∷ []) ++ j
           ∷ [])) (jobs_left shop.jobs (path root frames ++ job ∷ [])) (drop (at
-          + 1) bytes)) (each_tree (λ j. read_tree shop bound_at value place (suc lower) (path root frames ++ j
-          ∷ [])) js) (resume shop value place root (suc (suc lower)) frames);
+          + 1) bytes)) (each_tree (λ j. read_tree shop (bound_of version) value place (suc lower) (path root frames ++ j
+          ∷ [])) js) (resume shop version value place root (suc (suc lower)) frames);
     } in
-    subst (IsReading shop value place root whole child less lower 0 (at + 1) bytes) (sym pushed) goal
+    subst (IsReading shop version value place root whole child less lower 0 (at + 1) bytes) (sym pushed) goal
 
 -- no child is left
-reading-none : {shop : Shop} {value place : ℕ} {root : List ℕ} {whole : Result
+reading-none : {shop : Shop} {version value place : ℕ} {root : List ℕ} {whole : Result
     (List ℕ) CheckFault} {node : Node} {links : List ℕ} {below last at : ℕ} {bytes : List ℕ} {frames : List Frame} →
-    IsReading shop value place root whole node links below last at bytes frames → slice_index links last ≡ 0 →
-    whole ≡ resume shop value place root (suc below) frames (drop at bytes)
-reading-none {shop} {value} {place} {root} {whole} {node} {links} {below} {last} {at} {bytes} {frames} i none =
+    IsReading shop version value place root whole node links below last at bytes frames → slice_index links last ≡ 0 →
+    whole ≡ resume shop version value place root (suc below) frames (drop at bytes)
+reading-none {shop} {version} {value} {place} {root} {whole} {node} {links} {below} {last} {at} {bytes} {frames} i none =
     i.answer
-    ∙ ap (λ js. then_read (each_tree (λ j. read_tree shop bound_at value place below (path root frames ++ j
-    ∷ [])) js (drop at bytes)) (resume shop value place root (suc below) frames)) (children-none shop.jobs
+    ∙ ap (λ js. then_read (each_tree (λ j. read_tree shop (bound_of version) value place below (path root frames ++ j
+    ∷ [])) js (drop at bytes)) (resume shop version value place root (suc below) frames)) (children-none shop.jobs
     (path root frames) last (slice_index links last) (i.here.are_links.each last i.behind) none)
 
-pub reading-done : {shop : Shop} {value place : ℕ} {root : List ℕ} {whole : Result
+pub reading-done : {shop : Shop} {version value place : ℕ} {root : List ℕ} {whole : Result
     (List ℕ) CheckFault} {node : Node} {links : List ℕ} {below last at : ℕ} {bytes : List ℕ} {frames : List Frame} →
-    IsReading shop value place root whole node links below last at bytes frames → slice_index links last ≡ 0 →
+    IsReading shop version value place root whole node links below last at bytes frames → slice_index links last ≡ 0 →
     frames ≡ [] → whole ≡ Ok (drop at bytes)
-reading-done {shop} {value} {place} {root} {whole} {node} {links} {below} {last} {at} {bytes} {frames} i none empty =
-    reading-none i none ∙ ap (λ fs. resume shop value place root (suc below) fs (drop at bytes)) empty
+reading-done {shop} {version} {value} {place} {root} {whole} {node} {links} {below} {last} {at} {bytes} {frames} i none empty =
+    reading-none i none ∙ ap (λ fs. resume shop version value place root (suc below) fs (drop at bytes)) empty
 
-pub reading-up : {shop : Shop} {value place : ℕ} {root : List ℕ} {whole : Result
+pub reading-up : {shop : Shop} {version value place : ℕ} {root : List ℕ} {whole : Result
     (List ℕ) CheckFault} {node : Node} {links : List ℕ} {below last at : ℕ} {bytes : List ℕ} {frames : List Frame}
     (back : List ℕ) (f : Frame) (higher : List Frame) →
-    IsReading shop value place root whole node links below last at bytes frames → slice_index links last ≡ 0 →
+    IsReading shop version value place root whole node links below last at bytes frames → slice_index links last ≡ 0 →
     frames ≡ f ∷ higher → back ≡ slice_set links f.last f.job →
-    IsReading shop value place root whole f.node back (below + 1) f.job at bytes higher
-reading-up {shop} {value} {place} {root} {whole} {node} {links} {below} {last} {at} {bytes} {frames} back f higher i
+    IsReading shop version value place root whole f.node back (below + 1) f.job at bytes higher
+reading-up {shop} {version} {value} {place} {root} {whole} {node} {links} {below} {last} {at} {bytes} {frames} back f higher i
     none popped is =
-    let was : IsReading shop value place root whole node links below last at bytes (f ∷ higher) =
-    subst (IsReading shop value place root whole node links below last at bytes) popped i in
+    let was : IsReading shop version value place root whole node links below last at bytes (f ∷ higher) =
+    subst (IsReading shop version value place root whole node links below last at bytes) popped i in
     let s = was.stack in
     let more : suc below ≡ below + 1 = omega arith in
-    subst (λ l. IsReading shop value place root whole f.node back l f.job at bytes higher) more
+    subst (λ l. IsReading shop version value place root whole f.node back l f.job at bytes higher) more
     (record {
       here = subst (λ l. IsAt shop (path root higher) f.node l (suc (suc below))) (sym is) s.0;
       behind = (s.2, λ low. s.3);
@@ -231,17 +231,17 @@ reading-up {shop} {value} {place} {root} {whole} {node} {links} {below} {last} {
 
 -- what a byte says
 
-pub letter-open : (shop : Shop) (value line left : ℕ) (list : List ℕ) (at : ℕ) (bytes : List ℕ) (b : Bool) →
-    LetterGives shop value line left list at bytes (Ok b) → b ≡ true →
+pub letter-open : (shop : Shop) (version value line left : ℕ) (list : List ℕ) (at : ℕ) (bytes : List ℕ) (b : Bool) →
+    LetterGives shop version value line left list at bytes (Ok b) → b ≡ true →
     (0 < left) × (at < length bytes) × (drop at bytes ≡ 43 ∷ drop (at + 1) bytes)
-letter-open shop value line left list at bytes b g t =
-    subst (λ o. LetterGives shop value line left list at bytes (Ok o)) t g
+letter-open shop version value line left list at bytes b g t =
+    subst (λ o. LetterGives shop version value line left list at bytes (Ok o)) t g
 
-pub letter-whole : (shop : Shop) (value line left : ℕ) (list : List ℕ) (at : ℕ) (bytes : List ℕ) (b : Bool) →
-    LetterGives shop value line left list at bytes (Ok b) → b ≡ false →
-    (at < length bytes) × (read_tree shop bound_at value line left list (drop at bytes) ≡ Ok (drop (at + 1) bytes))
-letter-whole shop value line left list at bytes b g t =
-    subst (λ o. LetterGives shop value line left list at bytes (Ok o)) t g
+pub letter-whole : (shop : Shop) (version value line left : ℕ) (list : List ℕ) (at : ℕ) (bytes : List ℕ) (b : Bool) →
+    LetterGives shop version value line left list at bytes (Ok b) → b ≡ false →
+    (at < length bytes) × (read_tree shop (bound_of version) value line left list (drop at bytes) ≡ Ok (drop (at + 1) bytes))
+letter-whole shop version value line left list at bytes b g t =
+    subst (λ o. LetterGives shop version value line left list at bytes (Ok o)) t g
 
 fails : (from : ℕ) (bytes : List ℕ) (read : Result (List ℕ) CheckFault) (fault : CheckFault) → read ≡ Err fault →
     TreeGives from bytes (Err fault) read

@@ -1,5 +1,5 @@
 -- Certificates: texts that prove a least makespan. A bound is a function from an instance, a list of jobs and a
--- machine to a number.
+-- machine to a number; each version of certificates has its own.
 use Rattle.std.specs.Prelude.{ℕ, zero, suc, ◌≡◌, ◌-◌, ◌^◌, ◌<◌, ◌≤◌, ◌⊎◌, List, [], ◌∷◌, ◌++◌, map, codes}
 use Rattle.std.specs.Fmt.{decimal}
 use Rattle.std.specs.List.{AllZip, concat, flat_map, join_with_byte}
@@ -7,7 +7,7 @@ use Rattle.flow_core.specs.Limits.{greatest_depth}
 use Rattle.flow_core.specs.Shop.{Shop}
 use Rattle.flow_core.specs.Paths.{span}
 use Rattle.flow_core.specs.Sequences.{IsSequence, IsLeastMakespan, jobs_left, cut}
-use Rattle.flow_core.specs.Bound.{bound_at, letter}
+use Rattle.flow_core.specs.Bound.{bound_of, letter}
 
 -- a text is a tree that covers a value below a list with so many jobs left: a point where none is left, the letter of
 -- a machine whose bound reaches the value, or a plus before the trees of the list's children in increasing order
@@ -27,39 +27,46 @@ line text = text ++ 10 ∷ []
 abbrev pub spaced : List ℕ → List ℕ
 spaced ns = join_with_byte 32 (map decimal ns)
 
+-- the versions of certificates
+abbrev pub IsVersion : ℕ → Type 0
+IsVersion version = (1 ≤ version) × (version ≤ 2)
+
 -- the first line
-abbrev pub title : List ℕ
-title = codes "flowshop certificate 1"
+abbrev pub title : ℕ → List ℕ
+title version = codes "flowshop certificate " ++ decimal version
 
 -- the last line
 abbrev pub ending : List ℕ
 ending = codes "end"
 
 -- the text of a certificate, with a tree for each prefix of the cut
-abbrev pub certificate_text : Shop → ℕ → ℕ → List ℕ → List (List ℕ) → List ℕ
-certificate_text shop depth value sequence trees =
-    line title
+abbrev pub certificate_text : Shop → ℕ → ℕ → ℕ → List ℕ → List (List ℕ) → List ℕ
+certificate_text shop version depth value sequence trees =
+    line (title version)
     ++ line (spaced (shop.jobs ∷ shop.machines ∷ depth ∷ []))
     ++ line (decimal value)
     ++ line (spaced sequence)
     ++ flat_map line trees
     ++ line ending
 
--- what a certificate holds: a sequence whose makespan is the value, and a tree that covers it below each prefix
-pub record Certifies (shop : Shop) (value depth : ℕ) (sequence : List ℕ) (trees : List (List ℕ)) : Type 0 where
+-- what a certificate of a version holds: a sequence whose makespan is the value, and a tree that covers it below each
+-- prefix by the version's bound
+pub record Certifies (shop : Shop) (version value depth : ℕ) (sequence : List ℕ) (trees : List (List ℕ)) : Type 0 where
+  pub known : IsVersion version
   pub jobs_enough : depth ≤ shop.jobs
   pub shallow : depth ≤ greatest_depth
   pub fits : value < 2 ^ 64
   pub whole : IsSequence shop.jobs sequence
   pub attained : span shop sequence ≡ value
-  pub covered : AllZip (λ prefix tree. Covers shop bound_at value (shop.jobs - depth) prefix tree)
+  pub covered : AllZip (λ prefix tree. Covers shop (bound_of version) value (shop.jobs - depth) prefix tree)
       (cut shop.jobs depth) trees
 
--- a text is a lawful certificate of a value
+-- a text is a lawful certificate of a value, in one of the versions
 abbrev pub IsCertificate : Shop → List ℕ → ℕ → Type 0
 IsCertificate shop bytes value =
-    (depth : ℕ) × (sequence : List ℕ) × (trees : List (List ℕ))
-    × Certifies shop value depth sequence trees × (bytes ≡ certificate_text shop depth value sequence trees)
+    (version depth : ℕ) × (sequence : List ℕ) × (trees : List (List ℕ))
+    × Certifies shop version value depth sequence trees
+    × (bytes ≡ certificate_text shop version depth value sequence trees)
 
 -- the value of a lawful certificate, whoever made it, is the least makespan
 abbrev pub CertificateIsSound : Type 0

@@ -2,7 +2,7 @@
 use Rattle.std.specs.Prelude.{◌≡◌, ℕ, zero, suc, ◌+◌, ◌-◌, ◌^◌, Bool, false, cond, not, ◌&&◌, nat_eq, nat_lt, nat_le}
 use Rattle.std.specs.Prelude.{List, [], ◌∷◌, ◌++◌, map, Option, Some, None, Result, Ok, Err}
 use Rattle.std.specs.Option.{option_map, option_map_or}
-use Rattle.std.specs.List.{list_all, slice_split}
+use Rattle.std.specs.List.{find, list_all, slice_split}
 use Rattle.std.specs.Str.{bytes_eq}
 use Rattle.std.specs.Str.Parse.{digits_value}
 use Rattle.flow_core.specs.Limits.{greatest_depth}
@@ -11,7 +11,7 @@ use Rattle.flow_core.specs.Shop.{Shop, IsWithinLimits}
 use Rattle.flow_core.specs.Paths.{span}
 use Rattle.flow_core.specs.Sequences.{jobs_left, cut}
 use Rattle.flow_core.specs.SequenceFaults.{sequence_fault}
-use Rattle.flow_core.specs.Bound.{bound_at}
+use Rattle.flow_core.specs.Bound.{bound_of}
 use Rattle.flow_cert.specs.Certificate.{line, title, ending, IsCertificate}
 use Rattle.flow_cert.specs.declared.fault.CheckFault.{CheckFault}
 use Rattle.flow_cert.specs.declared.fault.CheckFault.TheVariants.{Header, Size, Value, Sequence, NotAttained, Tree}
@@ -91,36 +91,42 @@ trees_value shop bound value left (prefix ∷ prefixes) place bytes =
     (read_tree shop bound value place left prefix bytes)
 
 -- the lines from the first tree on
-abbrev pub cut_value : Shop → ℕ → ℕ → List ℕ → Result ℕ CheckFault
-cut_value shop depth value bytes = trees_value shop bound_at value (shop.jobs - depth) (cut shop.jobs depth) 5 bytes
+abbrev pub cut_value : Shop → ℕ → ℕ → ℕ → List ℕ → Result ℕ CheckFault
+cut_value shop version depth value bytes =
+    trees_value shop (bound_of version) value (shop.jobs - depth) (cut shop.jobs depth) 5 bytes
 
 -- the numbers of the sequence's line, and the lines behind it
-abbrev pub sequence_value : Shop → ℕ → ℕ → List ℕ → Option (List ℕ) → Result ℕ CheckFault
-sequence_value shop depth value rest None = Err Sequence
-sequence_value shop depth value rest (Some jobs) =
+abbrev pub sequence_value : Shop → ℕ → ℕ → ℕ → List ℕ → Option (List ℕ) → Result ℕ CheckFault
+sequence_value shop version depth value rest None = Err Sequence
+sequence_value shop version depth value rest (Some jobs) =
     option_map_or (λ fault. Err Sequence) (sequence_fault shop.jobs jobs)
-    (cond (nat_eq (span shop jobs) value) (cut_value shop depth value rest) (Err NotAttained))
+    (cond (nat_eq (span shop jobs) value) (cut_value shop version depth value rest) (Err NotAttained))
 
 -- the numbers of the value's line, and the lines behind it
-abbrev pub value_value : Shop → ℕ → List ℕ → Option (List ℕ) → Result ℕ CheckFault
-value_value shop depth rest (Some (value ∷ [])) =
+abbrev pub value_value : Shop → ℕ → ℕ → List ℕ → Option (List ℕ) → Result ℕ CheckFault
+value_value shop version depth rest (Some (value ∷ [])) =
     cond (nat_lt value (2 ^ 64))
-    (on_line Sequence (λ text more. sequence_value shop depth value more (numbers_in text)) rest) (Err Value)
-value_value shop depth rest other = Err Value
+    (on_line Sequence (λ text more. sequence_value shop version depth value more (numbers_in text)) rest) (Err Value)
+value_value shop version depth rest other = Err Value
 
 -- the numbers of the size's line, and the lines behind it
-abbrev pub size_value : Shop → List ℕ → Option (List ℕ) → Result ℕ CheckFault
-size_value shop rest (Some (jobs ∷ machines ∷ depth ∷ [])) =
+abbrev pub size_value : Shop → ℕ → List ℕ → Option (List ℕ) → Result ℕ CheckFault
+size_value shop version rest (Some (jobs ∷ machines ∷ depth ∷ [])) =
     cond
     (nat_eq jobs shop.jobs && nat_eq machines shop.machines && nat_le depth shop.jobs && nat_le depth greatest_depth)
-    (on_line Value (λ text more. value_value shop depth more (numbers_in text)) rest)
+    (on_line Value (λ text more. value_value shop version depth more (numbers_in text)) rest)
     (Err Size)
-size_value shop rest other = Err Size
+size_value shop version rest other = Err Size
+
+-- the version whose first line a text is
+abbrev pub version_of : List ℕ → Option ℕ
+version_of text = find (λ version. bytes_eq text (title version)) (1 ∷ 2 ∷ [])
 
 -- the first line, and the lines behind it
 abbrev pub header_value : Shop → List ℕ → List ℕ → Result ℕ CheckFault
 header_value shop text rest =
-    cond (bytes_eq text title) (on_line Size (λ text more. size_value shop more (numbers_in text)) rest) (Err Header)
+    option_map_or (λ version. on_line Size (λ text more. size_value shop version more (numbers_in text)) rest)
+    (version_of text) (Err Header)
 
 -- the value that a text proves, or its first fault
 unfoldable pub certificate_value : Shop → List ℕ → Result ℕ CheckFault

@@ -8,5 +8,6 @@ mod lines;
 mod node;
 mod number;
 mod reader;
+mod release;
 mod tree;
 mod trees;

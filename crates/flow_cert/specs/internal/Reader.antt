@@ -3,7 +3,7 @@ use Rattle.std.specs.Prelude.{ℕ, zero, suc, ◌≡◌, ◌+◌, ◌-◌, ◌�
 use Rattle.std.specs.Prelude.{drop, slice_index, slice_index_or, slice_set, Result, Ok, Err}
 use Rattle.std.specs.List.{flat_map}
 use Rattle.flow_core.specs.Shop.{Shop}
-use Rattle.flow_core.specs.Bound.{bound_at}
+use Rattle.flow_core.specs.Bound.{bound_of}
 use Rattle.flow_core.specs.Sequences.{has, jobs_left, extensions}
 use Rattle.flow_cert.specs.CertificateFaults.{read_tree, each_tree, then_read, after_tree, trees_value}
 use Rattle.flow_cert.specs.internal.Links.{children, IsPlace}
@@ -59,13 +59,13 @@ pub record Closed (frame : Frame) (old new : TreeReader) : Type 0 where
   pub frames : new.frames.items ≡ old.frames.items
 
 -- what the byte at a place says: that the trees of the children follow, or that the tree is whole, or its fault
-abbrev pub LetterGives : Shop → ℕ → ℕ → ℕ → List ℕ → ℕ → List ℕ → Result Bool CheckFault → Type 0
-LetterGives shop value line left list at bytes (Ok true) =
+abbrev pub LetterGives : Shop → ℕ → ℕ → ℕ → ℕ → List ℕ → ℕ → List ℕ → Result Bool CheckFault → Type 0
+LetterGives shop version value line left list at bytes (Ok true) =
     (0 < left) × (at < length bytes) × (drop at bytes ≡ 43 ∷ drop (at + 1) bytes)
-LetterGives shop value line left list at bytes (Ok false) =
-    (at < length bytes) × (read_tree shop bound_at value line left list (drop at bytes) ≡ Ok (drop (at + 1) bytes))
-LetterGives shop value line left list at bytes (Err fault) =
-    read_tree shop bound_at value line left list (drop at bytes) ≡ Err fault
+LetterGives shop version value line left list at bytes (Ok false) =
+    (at < length bytes) × (read_tree shop (bound_of version) value line left list (drop at bytes) ≡ Ok (drop (at + 1) bytes))
+LetterGives shop version value line left list at bytes (Err fault) =
+    read_tree shop (bound_of version) value line left list (drop at bytes) ≡ Err fault
 
 -- the place after what was read from a place on, or its fault
 abbrev pub TreeGives : ℕ → List ℕ → Result ℕ CheckFault → Result (List ℕ) CheckFault → Type 0
@@ -74,13 +74,13 @@ TreeGives from bytes (Err Memory) read = Unit {0}
 TreeGives from bytes (Err fault) read = read ≡ Err fault
 
 -- what the trees of some prefixes give, whatever prefixes follow them
-abbrev pub LinesGive : Shop → ℕ → ℕ → List (List ℕ) → ℕ → ℕ → List ℕ → Result Spot CheckFault → Type 0
-LinesGive shop value left prefixes line from bytes (Ok spot) =
-    (rest : List (List ℕ)) → trees_value shop bound_at value left (prefixes ++ rest) line (drop from bytes)
-    ≡ trees_value shop bound_at value left rest spot.line (drop spot.at bytes)
-LinesGive shop value left prefixes line from bytes (Err Memory) = Unit {0}
-LinesGive shop value left prefixes line from bytes (Err fault) =
-    (rest : List (List ℕ)) → trees_value shop bound_at value left (prefixes ++ rest) line (drop from bytes) ≡ Err fault
+abbrev pub LinesGive : Shop → ℕ → ℕ → ℕ → List (List ℕ) → ℕ → ℕ → List ℕ → Result Spot CheckFault → Type 0
+LinesGive shop version value left prefixes line from bytes (Ok spot) =
+    (rest : List (List ℕ)) → trees_value shop (bound_of version) value left (prefixes ++ rest) line (drop from bytes)
+    ≡ trees_value shop (bound_of version) value left rest spot.line (drop spot.at bytes)
+LinesGive shop version value left prefixes line from bytes (Err Memory) = Unit {0}
+LinesGive shop version value left prefixes line from bytes (Err fault) =
+    (rest : List (List ℕ)) → trees_value shop (bound_of version) value left (prefixes ++ rest) line (drop from bytes) ≡ Err fault
 
 -- what the byte after a tree says: that the line ends, or its fault
 abbrev pub LineEnds : Spot → List ℕ → Result Spot CheckFault → Type 0
@@ -102,20 +102,20 @@ put_back links [] = links
 put_back links (f ∷ fs) = put_back (slice_set links f.last f.job) fs
 
 -- the text after the trees of some children of a list, with so many jobs left at each; or the first fault
-abbrev pub trees_read : Shop → ℕ → ℕ → ℕ → List ℕ → List ℕ → List ℕ → Result (List ℕ) CheckFault
-trees_read shop value line below list jobs bytes =
-    each_tree (λ job. read_tree shop bound_at value line below (list ++ job ∷ [])) jobs bytes
+abbrev pub trees_read : Shop → ℕ → ℕ → ℕ → ℕ → List ℕ → List ℕ → List ℕ → Result (List ℕ) CheckFault
+trees_read shop version value line below list jobs bytes =
+    each_tree (λ job. read_tree shop (bound_of version) value line below (list ++ job ∷ [])) jobs bytes
 
 -- the text after the trees of all children of a list, with so many jobs left at each; or the first fault
-abbrev pub children_read : Shop → ℕ → ℕ → ℕ → List ℕ → List ℕ → Result (List ℕ) CheckFault
-children_read shop value line below list bytes = trees_read shop value line below list (jobs_left shop.jobs list) bytes
+abbrev pub children_read : Shop → ℕ → ℕ → ℕ → ℕ → List ℕ → List ℕ → Result (List ℕ) CheckFault
+children_read shop version value line below list bytes = trees_read shop version value line below list (jobs_left shop.jobs list) bytes
 
 -- what is still to be read once the tree of a stack's list is whole
-abbrev pub resume : Shop → ℕ → ℕ → List ℕ → ℕ → List Frame → List ℕ → Result (List ℕ) CheckFault
-resume shop value line root left [] bytes = Ok bytes
-resume shop value line root left (f ∷ fs) bytes =
-    then_read (trees_read shop value line left (path root fs) (children shop.jobs (path root fs) (f.job + 1)) bytes)
-    (resume shop value line root (suc left) fs)
+abbrev pub resume : Shop → ℕ → ℕ → ℕ → List ℕ → ℕ → List Frame → List ℕ → Result (List ℕ) CheckFault
+resume shop version value line root left [] bytes = Ok bytes
+resume shop version value line root left (f ∷ fs) bytes =
+    then_read (trees_read shop version value line left (path root fs) (children shop.jobs (path root fs) (f.job + 1)) bytes)
+    (resume shop version value line root (suc left) fs)
 
 -- each frame's list is reached, once its job and those above are put back, and does not have the job
 abbrev pub IsStack : Shop → List ℕ → List ℕ → ℕ → List Frame → Type 0
@@ -127,15 +127,15 @@ IsStack shop root links left (f ∷ fs) =
 
 -- the children of a list are being read, from the one after a job on
 pub record IsReading
-    (shop : Shop) (value line : ℕ) (root : List ℕ) (whole : Result (List ℕ) CheckFault)
+    (shop : Shop) (version value line : ℕ) (root : List ℕ) (whole : Result (List ℕ) CheckFault)
     (node : Node) (links : List ℕ) (below last at : ℕ) (bytes : List ℕ) (frames : List Frame) : Type 0 where
   pub here : IsAt shop (path root frames) node links (suc below)
   pub behind : IsPlace shop.jobs (path root frames) last
   pub stack : IsStack shop root links (suc (suc below)) frames
   pub answer : whole ≡ then_read
-      (trees_read shop value line below (path root frames) (children shop.jobs (path root frames) (last + 1))
+      (trees_read shop version value line below (path root frames) (children shop.jobs (path root frames) (last + 1))
       (drop at bytes))
-      (resume shop value line root (suc below) frames)
+      (resume shop version value line root (suc below) frames)
 
 -- the prefixes that are still to be read below a list, from one child on
 abbrev pub awaited : ℕ → ℕ → List ℕ → ℕ → List (List ℕ)

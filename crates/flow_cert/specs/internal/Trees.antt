@@ -6,8 +6,8 @@ use Rattle.flow_cert.specs.declared.fault.CheckFault.{CheckFault}
 use Rattle.flow_cert.specs.declared.fault.CheckFault.TheVariants.{Memory}
 
 -- where the last line begins, behind the trees of the cut; or the first fault of the trees
-abbrev pub TreesGive : Shop → ℕ → ℕ → List ℕ → Result ℕ CheckFault → Type 0
-TreesGive shop depth value bytes (Ok end) =
-    (cut_value shop depth value bytes ≡ end_value value (drop end bytes)) × (end ≤ length bytes)
-TreesGive shop depth value bytes (Err Memory) = Unit {0}
-TreesGive shop depth value bytes (Err fault) = cut_value shop depth value bytes ≡ Err fault
+abbrev pub TreesGive : Shop → ℕ → ℕ → ℕ → List ℕ → Result ℕ CheckFault → Type 0
+TreesGive shop version depth value bytes (Ok end) =
+    (cut_value shop version depth value bytes ≡ end_value value (drop end bytes)) × (end ≤ length bytes)
+TreesGive shop version depth value bytes (Err Memory) = Unit {0}
+TreesGive shop version depth value bytes (Err fault) = cut_value shop version depth value bytes ≡ Err fault

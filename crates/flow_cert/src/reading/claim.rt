@@ -10,6 +10,8 @@ pub(crate) struct Claim<'a> {
     pub(crate) instance: &'a Instance,
     /// The times of the instance, a row for each job from 1 on.
     pub(crate) rows: &'a [Row],
+    /// The version of the certificate: 1 or 2. Each has its own bound.
+    pub(crate) version: u32,
     /// The value. A bound or a makespan in the trees that is below it is a fault.
     pub(crate) value: u64,
     /// The text, from the first tree to its end.

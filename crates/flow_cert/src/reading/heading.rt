@@ -4,7 +4,7 @@ ghost use Rattle.std.specs.Prelude.{◌≡◌, ℕ, ◌+◌, ◌-◌, ◌<◌, �
 ghost use Rattle.std.specs.Option.{IsSomeAnd};
 ghost use Rattle.flow_core.specs.Shop.{IsWithinLimits};
 ghost use Rattle.flow_core.specs.Paths.{span};
-ghost use Rattle.flow_cert.specs.Certificate.{line, title};
+ghost use Rattle.flow_cert.specs.Certificate.{IsVersion, line, title};
 ghost use Rattle.flow_cert.specs.CertificateFaults.{certificate_value, cut_value};
 ghost use Rattle.flow_cert.specs.internal.Heading.{BeginsWithJob, BeginsWithSize, BeginsWithSequence, end_of};
 
@@ -12,13 +12,18 @@ use crate::fault::CheckFault;
 use crate::reading::number::read_number;
 use flow_core::{Front, Instance, JobSet, MAX_DEPTH, front_push};
 
-/// The first line, with its end.
-const TITLE: &[u8] = b"flowshop certificate 1\n";
+/// The first line, up to the version.
+const TITLE: &[u8] = b"flowshop certificate ";
+
+/// The newest version of certificates.
+const NEWEST: u64 = 2;
 
 /// What the four lines before the trees say, where they have no fault. The sequence is not kept, since its makespan is
 /// the value.
 #[derive(Clone, Copy)]
 pub(crate) struct Heading<'a> {
+    /// The version of the certificate: 1 or 2. Each has its own bound.
+    pub(crate) version: u32,
     /// The depth of the cut: how many jobs each prefix has. There is one tree for each prefix.
     pub(crate) depth: u16,
     /// The value.
@@ -27,12 +32,18 @@ pub(crate) struct Heading<'a> {
     pub(crate) trees: &'a [u8],
 }
 
-/// The text after the first line, where it begins with that line.
-fn read_title(text: &[u8]) -> Option<&[u8]>
-    ensures found { IfSome result (λ rest. text.now ≡ line title ++ rest.now) }
-    ensures only { (rest : List ℕ) → text.now ≡ line title ++ rest → IsSomeAnd result (λ r. r.now ≡ rest) }
+/// The version that the first line names, where a text begins with that line, and the text after it.
+fn read_title(text: &[u8]) -> Option<(u32, &[u8])>
+    ensures found { IfSome result (λ r. IsVersion r.0 × (text.now ≡ line (title r.0) ++ r.1.now)) }
+    ensures only { (version : ℕ) (rest : List ℕ) → IsVersion version → text.now ≡ line (title version) ++ rest →
+        IsSomeAnd result (λ r. (r.0 ≡ version) × (r.1.now ≡ rest)) }
 {
-    text.strip_prefix(TITLE)
+    let number = text.strip_prefix(TITLE)?;
+    let (version, rest) = read_number(number, b'\n')?;
+    if version < 1 || version > NEWEST {
+        return None;
+    }
+    Some((version as u32, rest))
 }
 
 /// The depth in the line of the sizes, with which a text begins, and the text after that line. `None` where the text
@@ -110,12 +121,12 @@ pub(crate) fn read_heading<'a>(
     ensures depth { IfOk result (λ heading. heading.depth ≤ instance.now.jobs) }
     ensures found { IfOk result
         (λ heading. certificate_value instance.now text.now
-        ≡ cut_value instance.now heading.depth heading.value heading.trees.now) }
+        ≡ cut_value instance.now heading.version heading.depth heading.value heading.trees.now) }
     ensures fault { IfErr result (λ fault. certificate_value instance.now text.now ≡ Err fault) }
 {
     let jobs = instance.jobs();
     let machines = instance.machines();
-    let Some(size_text) = read_title(text) else {
+    let Some((version, size_text)) = read_title(text) else {
         return Err(CheckFault::Header);
     };
     let Some((depth, value_text)) = read_size(jobs, machines, size_text) else {
@@ -131,6 +142,7 @@ pub(crate) fn read_heading<'a>(
         return Err(CheckFault::NotAttained);
     }
     Ok(Heading {
+        version,
         depth,
         value,
         trees,

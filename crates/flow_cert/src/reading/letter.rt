@@ -7,8 +7,9 @@ ghost use Rattle.flow_cert.specs.internal.Reader.{Stands, IsBack, LetterGives};
 
 use crate::fault::CheckFault;
 use crate::reading::claim::Claim;
-use crate::reading::node::{bound, makespan_at};
+use crate::reading::node::makespan_at;
 use crate::reading::reader::{Spot, TreeReader};
+use crate::reading::release::reaches;
 
 /// How many jobs are left at a list, or at a child of it, where `below` jobs are left at each child.
 fn left_here(child: Option<u16>, below: usize) -> usize
@@ -36,7 +37,7 @@ impl TreeReader {
         ensures back { IsBack claim.now.instance.now self.old self.new }
         ensures gives { (list : List ℕ) → Stands claim.now.instance.now list self.old →
             IsChild claim.now.instance.now.jobs list child →
-            LetterGives claim.now.instance.now claim.now.value spot.line (left_here child self.old.below)
+            LetterGives claim.now.instance.now claim.now.version claim.now.value spot.line (left_here child self.old.below)
             (grown list child) spot.at claim.now.bytes.now result }
         ensures next { IfOk result (λ _. spot.at + 1 < 2 ^ 64) }
     {
@@ -64,7 +65,7 @@ impl TreeReader {
         if machine > claim.instance.machines() {
             return Err(CheckFault::Tree(spot.line));
         }
-        if bound(claim, node, &self.links, child, machine) < claim.value {
+        if !reaches(claim, node, &self.links, child, machine) {
             return Err(CheckFault::Weak(spot.line));
         }
         Ok(false)

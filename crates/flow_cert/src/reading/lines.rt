@@ -34,7 +34,7 @@ impl TreeReader {
         requires line { spot.line ≤ spot.at + 5 }
         ensures within { IfOk result (λ next. (next.at ≤ length claim.now.bytes.now) × (next.line ≤ next.at + 5)) }
         ensures lines { (list : List ℕ) → Stands claim.now.instance.now list self.old →
-            LinesGive claim.now.instance.now claim.now.value (suc self.old.below) (list ∷ []) spot.line spot.at
+            LinesGive claim.now.instance.now claim.now.version claim.now.value (suc self.old.below) (list ∷ []) spot.line spot.at
             claim.now.bytes.now result }
     {
         let at = self.read_own(claim, spot)?;
@@ -59,7 +59,7 @@ impl TreeReader {
         ensures back { IfOk result (λ _. IsBack claim.now.instance.now self.old self.new) }
         ensures lines { (list : List ℕ) → Stands claim.now.instance.now list self.old →
             IsPlace claim.now.instance.now.jobs list last →
-            LinesGive claim.now.instance.now claim.now.value self.old.below
+            LinesGive claim.now.instance.now claim.now.version claim.now.value self.old.below
             ((list ++ slice_index self.old.links.items last ∷ []) ∷ []) spot.line spot.at claim.now.bytes.now result }
     {
         let at = self.read_child(claim, spot, last)?;
@@ -89,7 +89,7 @@ impl TreeReader {
         ensures within { IfOk result (λ next. (next.at ≤ length claim.now.bytes.now) × (next.line ≤ next.at + 5)) }
         ensures back { IfOk result (λ _. IsBack claim.now.instance.now self.old self.new) }
         ensures lines { (list : List ℕ) → Stands claim.now.instance.now list self.old →
-            LinesGive claim.now.instance.now claim.now.value (suc self.old.below - more)
+            LinesGive claim.now.instance.now claim.now.version claim.now.value (suc self.old.below - more)
             (extensions claim.now.instance.now.jobs more list) spot.line spot.at claim.now.bytes.now result }
     {
         let mut place = spot;

@@ -20,7 +20,7 @@ use flow_core::{Instance, MAX_MACHINES};
 #[derive(Clone, Copy)]
 pub(crate) struct Node {
     /// The completion time of the list on each machine.
-    front: [u64; MAX_MACHINES],
+    pub(crate) front: [u64; MAX_MACHINES],
     /// For each machine the sum of the times of the jobs left.
     work: [u64; MAX_MACHINES],
     /// The least tail of the jobs left behind each machine. The greatest number means that it is not found yet.

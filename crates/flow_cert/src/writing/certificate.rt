@@ -6,7 +6,7 @@ ghost use Rattle.std.specs.Io.KnownBytes.{Appends};
 ghost use Rattle.flow_core.specs.Bytes.{AddsProperPrefix};
 ghost use Rattle.flow_search.specs.Plans.{prefixes_of};
 ghost use Rattle.flow_search.specs.Verdicts.{IsVerdict};
-ghost use Rattle.flow_cert.specs.Certificate.{line};
+ghost use Rattle.flow_cert.specs.Certificate.{line, title};
 ghost use Rattle.flow_cert.specs.internal.Gathered.{HandsOn};
 ghost use Rattle.flow_cert.specs.PlanCertificates.{certificate_of, text_with};
 ghost use Rattle.flow_cert.specs.internal.HeadingText.{size_line, heading_with};
@@ -14,6 +14,20 @@ ghost use Rattle.flow_cert.specs.internal.HeadingText.{size_line, heading_with};
 use crate::writing::gathered::Gathered;
 use flow_core::{Sink, WriteFault};
 use flow_search::{Plan, Verdict};
+
+/// Adds the first line.
+fn add_title<S: Sink>(gathered: &mut Gathered, out: &mut S, version: u64) -> Result<(), WriteFault>
+    requires { S.has_failed out.old ≡ false }
+    ensures failed { S.has_failed out.new ≡ is_err result }
+    ensures ok { OnOk result
+        (HandsOn (S.taken out.old) (S.taken out.new) gathered.old (line (title version)) gathered.new) }
+    ensures err { OnErr result
+        (AddsProperPrefix (S.taken out.old) (S.taken out.new) (gathered.old ++ line (title version))) }
+{
+    gathered.add(out, b"flowshop certificate ")?;
+    gathered.add_number(out, version)?;
+    gathered.add(out, b"\n")
+}
 
 /// Adds the line of the sizes.
 fn add_sizes<S: Sink>(gathered: &mut Gathered, out: &mut S, plan: &Plan) -> Result<(), WriteFault>
@@ -57,7 +71,7 @@ fn add_heading<S: Sink>(
     ensures err { OnErr result
         (AddsProperPrefix (S.taken out.old) (S.taken out.new) (gathered.old ++ heading_with plan.now verdict.now)) }
 {
-    gathered.add(out, b"flowshop certificate 1\n")?;
+    add_title(gathered, out, 1)?;
     add_sizes(gathered, out, plan)?;
     add_value(gathered, out, verdict.value)?;
     gathered.add_numbers(out, verdict.sequence.jobs())

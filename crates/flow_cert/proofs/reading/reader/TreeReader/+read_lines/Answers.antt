@@ -1,7 +1,7 @@
 use Rattle.std.proofs.Common.{◌≡◌, ◌≢◌, ℕ, suc, ◌+◌, ◌-◌, ◌<◌, List, [], ◌∷◌, ◌++◌, length, drop, slice_index, sym, ap}
 use Rattle.std.proofs.Common.{subst, ◌∙◌, arith}
 use Rattle.std.proofs.lemmas.Grind.{get_or_default_zero}
-use Rattle.flow_core.specs.Bound.{bound_at}
+use Rattle.flow_core.specs.Bound.{bound_of}
 use Rattle.flow_core.specs.Sequences.{extensions}
 use Rattle.flow_cert.specs.CertificateFaults.{trees_value}
 use Rattle.flow_cert.specs.internal.Links.{IsNext, IsPlace}
@@ -20,7 +20,7 @@ children-init t c = record {
   back = back-none c.args.claim.now.instance.now c.args.self.now;
   behind = λ list stands. start-place c.args.claim.now.instance.now.jobs list;
   fault = λ list stands rest.
-      ap (λ ps. trees_value c.args.claim.now.instance.now bound_at c.args.claim.now.value
+      ap (λ ps. trees_value c.args.claim.now.instance.now (bound_of c.args.claim.now.version) c.args.claim.now.value
       (suc c.args.self.now.below - c.args.more) (ps
       ++ rest) c.args.spot.line (drop c.args.spot.at c.args.claim.now.bytes.now))
       (awaited-start c.args.claim.now.instance.now.jobs c.args.more list c.requires.some);
@@ -48,7 +48,7 @@ pub returns-then-job-eq0-clause-lines : goal.returns-then-job-eq0-clause-lines
 returns-then-job-eq0-clause-lines t c list stands rest =
     let at = (goal.at.returns-then-job-eq0-clause-lines t c).After-index-job in
     c.children.invariant.fault list stands rest
-    ∙ ap (λ ps. trees_value c.args.claim.now.instance.now bound_at c.args.claim.now.value
+    ∙ ap (λ ps. trees_value c.args.claim.now.instance.now (bound_of c.args.claim.now.version) c.args.claim.now.value
     (suc c.args.self.now.below - c.args.more) (ps
     ++ rest) c.children.place.line (drop c.children.place.at c.args.claim.now.bytes.now))
     (awaited-none c.args.claim.now.instance.now.jobs c.args.more list c.children.last
@@ -62,7 +62,7 @@ returns-in_err-place-clause-lines t c list stands =
     let back = c.children.invariant.back in
     let place = c.children.invariant.behind list stands in
     let some : job ≢ 0 = λ e. c.if-job-eq0.false (leads t at ∙ e) in
-    lines-err c.args.claim.now.instance.now c.args.claim.now.value
+    lines-err c.args.claim.now.instance.now c.args.claim.now.version c.args.claim.now.value
     (suc c.args.self.now.below - c.args.more) c.children.self.below
     (extensions c.args.claim.now.instance.now.jobs c.args.more list) ((list ++ job ∷ [])
     ∷ []) c.args.spot.line c.children.place.line c.args.spot.at c.children.place.at c.args.claim.now.bytes.now
@@ -70,7 +70,7 @@ returns-in_err-place-clause-lines t c list stands =
     (exit c.from_residual.result c.in_err-place.field-0.0 c.from_residual.ensures.1)
     (λ bad rest.
     c.children.invariant.fault list stands rest
-    ∙ awaited-line c.args.claim.now.instance.now c.args.claim.now.value
+    ∙ awaited-line c.args.claim.now.instance.now c.args.claim.now.version c.args.claim.now.value
     (suc c.args.self.now.below) c.children.self.below c.args.more list c.children.last job c.children.place.line
     (drop c.children.place.at c.args.claim.now.bytes.now) rest (next t at list stands) some c.if-more-eq1.true
     (ap suc (sym back.below))
@@ -103,16 +103,16 @@ children-preserved-then-more-eq1 t c =
           let left : c.children.self.below ≡ suc c.args.self.now.below - c.args.more =
           omega (arith, back.below, c.if-more-eq1.true) in
           c.children.invariant.fault list stands rest
-          ∙ awaited-line c.args.claim.now.instance.now c.args.claim.now.value
+          ∙ awaited-line c.args.claim.now.instance.now c.args.claim.now.version c.args.claim.now.value
           (suc c.args.self.now.below) c.children.self.below c.args.more list c.children.last job
           c.children.place.line (drop c.children.place.at c.args.claim.now.bytes.now) rest
           (next t at list stands) some c.if-more-eq1.true (ap suc (sym back.below))
           ∙ c.in_ok-place.ensures.lines list (back.kept list stands) (c.children.invariant.behind list stands)
           (awaited c.args.claim.now.instance.now.jobs c.args.more list (job + 1) ++ rest)
-          ∙ ap (λ l. trees_value c.args.claim.now.instance.now bound_at c.args.claim.now.value l
+          ∙ ap (λ l. trees_value c.args.claim.now.instance.now (bound_of c.args.claim.now.version) c.args.claim.now.value l
           (awaited c.args.claim.now.instance.now.jobs c.args.more list (job + 1)
           ++ rest) c.in_ok-place.place.line (drop c.in_ok-place.place.at c.args.claim.now.bytes.now)) left
-          ∙ ap (λ j. trees_value c.args.claim.now.instance.now bound_at c.args.claim.now.value
+          ∙ ap (λ j. trees_value c.args.claim.now.instance.now (bound_of c.args.claim.now.version) c.args.claim.now.value
           (suc c.args.self.now.below - c.args.more) (awaited c.args.claim.now.instance.now.jobs c.args.more list (j
           + 1) ++ rest) c.in_ok-place.place.line (drop c.in_ok-place.place.at c.args.claim.now.bytes.now)) (sym
           (leads t at));
@@ -169,7 +169,7 @@ returns-in_err-place-2-clause-lines t c list stands =
     let some : job ≢ 0 = λ e. c.if-job-eq0.false (leads t at.After-index-job ∙ e) in
     let left : suc c.args.self.now.below - 1 - (c.args.more - 1) ≡ suc c.open.new.self.below - (c.args.more - 1) =
     omega (arith, c.open.ensures.below, back.below) in
-    lines-err c.args.claim.now.instance.now c.args.claim.now.value (suc c.args.self.now.below - c.args.more)
+    lines-err c.args.claim.now.instance.now c.args.claim.now.version c.args.claim.now.value (suc c.args.self.now.below - c.args.more)
     (suc c.open.new.self.below - (c.args.more - 1)) (extensions c.args.claim.now.instance.now.jobs c.args.more list)
     (extensions c.args.claim.now.instance.now.jobs (c.args.more - 1) (list ++ job
     ∷ [])) c.args.spot.line c.children.place.line c.args.spot.at c.children.place.at c.args.claim.now.bytes.now
@@ -177,11 +177,11 @@ returns-in_err-place-2-clause-lines t c list stands =
     (exit c.from_residual-in_err-place-2.result c.in_err-place-2.field-0.0 c.from_residual-in_err-place-2.ensures.1)
     (λ bad rest.
     c.children.invariant.fault list stands rest
-    ∙ awaited-lines c.args.claim.now.instance.now c.args.claim.now.value
+    ∙ awaited-lines c.args.claim.now.instance.now c.args.claim.now.version c.args.claim.now.value
     (suc c.args.self.now.below) c.args.more list c.children.last job c.children.place.line
     (drop c.children.place.at c.args.claim.now.bytes.now) rest
     (next t at.After-index-job list stands) some c.requires.some c.requires.more
-    ∙ ap (λ l. trees_value c.args.claim.now.instance.now bound_at c.args.claim.now.value l
+    ∙ ap (λ l. trees_value c.args.claim.now.instance.now (bound_of c.args.claim.now.version) c.args.claim.now.value l
     (extensions c.args.claim.now.instance.now.jobs (c.args.more - 1) (list ++ job ∷ [])
     ++ (awaited c.args.claim.now.instance.now.jobs c.args.more list (job + 1)
     ++ rest)) c.children.place.line (drop c.children.place.at c.args.claim.now.bytes.now)) left
@@ -232,18 +232,18 @@ children-preserved t c =
           let same : suc c.open.new.self.below - (c.args.more - 1) ≡ suc c.args.self.now.below - c.args.more =
           omega (arith, c.open.ensures.below, back.below, c.requires.some, c.requires.more) in
           c.children.invariant.fault list stands rest
-          ∙ awaited-lines c.args.claim.now.instance.now c.args.claim.now.value
+          ∙ awaited-lines c.args.claim.now.instance.now c.args.claim.now.version c.args.claim.now.value
           (suc c.args.self.now.below) c.args.more list c.children.last job c.children.place.line
           (drop c.children.place.at c.args.claim.now.bytes.now) rest
           (next t at.After-index-job list stands) some c.requires.some c.requires.more
-          ∙ ap (λ l. trees_value c.args.claim.now.instance.now bound_at c.args.claim.now.value l
+          ∙ ap (λ l. trees_value c.args.claim.now.instance.now (bound_of c.args.claim.now.version) c.args.claim.now.value l
           (extensions c.args.claim.now.instance.now.jobs (c.args.more - 1) (list ++ job ∷ [])
           ++ after) c.children.place.line (drop c.children.place.at c.args.claim.now.bytes.now)) left
           ∙ c.in_ok-place-2.ensures.lines (list ++ job
           ∷ []) (there t at.After-open (leads t at.After-index-job) c.if-job-eq0.false list stands) after
-          ∙ ap (λ l. trees_value c.args.claim.now.instance.now bound_at c.args.claim.now.value l after
+          ∙ ap (λ l. trees_value c.args.claim.now.instance.now (bound_of c.args.claim.now.version) c.args.claim.now.value l after
           c.in_ok-place-2.place.line (drop c.in_ok-place-2.place.at c.args.claim.now.bytes.now)) same
-          ∙ ap (λ j. trees_value c.args.claim.now.instance.now bound_at c.args.claim.now.value
+          ∙ ap (λ j. trees_value c.args.claim.now.instance.now (bound_of c.args.claim.now.version) c.args.claim.now.value
           (suc c.args.self.now.below - c.args.more) (awaited c.args.claim.now.instance.now.jobs c.args.more list (j
           + 1) ++ rest) c.in_ok-place-2.place.line (drop c.in_ok-place-2.place.at c.args.claim.now.bytes.now))
           (sym last);

@@ -1,5 +1,5 @@
 use Rattle.std.proofs.Common.{◌≡◌, ℕ, suc, ◌≤◌, ◌+◌, ◌-◌, ◌++◌, length, drop, List}
-use Rattle.flow_core.specs.Bound.{bound_at}
+use Rattle.flow_core.specs.Bound.{bound_of}
 use Rattle.flow_core.specs.Sequences.{extensions}
 use Rattle.flow_cert.specs.CertificateFaults.{trees_value}
 use Rattle.flow_cert.specs.internal.Links.{IsPlace}
@@ -13,10 +13,10 @@ invariant-children l = record {
   back : IsBack l.claim.instance.now l.fn.self l.self;
   behind : (list : List ℕ) → Stands l.claim.instance.now list l.fn.self → IsPlace l.claim.instance.now.jobs list l.last;
   fault : (list : List ℕ) → Stands l.claim.instance.now list l.fn.self → (rest : List (List ℕ)) →
-      trees_value l.claim.instance.now bound_at l.claim.value (suc l.fn.self.below - l.more)
+      trees_value l.claim.instance.now (bound_of l.claim.version) l.claim.value (suc l.fn.self.below - l.more)
       (extensions l.claim.instance.now.jobs l.more list
       ++ rest) l.fn.spot.line (drop l.fn.spot.at l.claim.bytes.now)
-      ≡ trees_value l.claim.instance.now bound_at l.claim.value (suc l.fn.self.below - l.more)
+      ≡ trees_value l.claim.instance.now (bound_of l.claim.version) l.claim.value (suc l.fn.self.below - l.more)
       (awaited l.claim.instance.now.jobs l.more list (l.last + 1)
       ++ rest) l.place.line (drop l.place.at l.claim.bytes.now);
 }

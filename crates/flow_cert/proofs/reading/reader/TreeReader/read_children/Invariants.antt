@@ -14,8 +14,8 @@ invariant-children l = record {
   back : put_back l.self.links.items (above l.self.frames.items l.self.below (l.base - l.self.below))
       ≡ l.fn.self.links.items;
   reading : (root : List ℕ) → Stands l.claim.instance.now root l.fn.self →
-      Reads l.claim.instance.now l.claim.value l.line root
-      (children_read l.claim.instance.now l.claim.value l.line l.fn.self.below root
+      Reads l.claim.instance.now l.claim.version l.claim.value l.line root
+      (children_read l.claim.instance.now l.claim.version l.claim.value l.line l.fn.self.below root
       (drop l.fn.spot.at l.claim.bytes.now)) l.base l.self l.last l.at l.claim.bytes.now;
 }
 

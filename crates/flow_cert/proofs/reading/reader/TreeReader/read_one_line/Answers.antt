@@ -4,7 +4,7 @@ use Rattle.flow_cert.proofs.reading.reader.TreeReader.read_one_line.Goals as goa
 
 pub returns-clause-lines : goal.returns-clause-lines
 returns-clause-lines c list stands =
-    line-gives c.args.claim.now.instance.now c.args.claim.now.value
+    line-gives c.args.claim.now.instance.now c.args.claim.now.version c.args.claim.now.value
     (suc c.args.self.now.below) list c.args.spot.line c.args.spot.at c.in_ok-at.at c.args.claim.now.bytes.now
     c.line_end.result
     (c.in_ok-at.ensures list stands).0 c.line_end.ensures

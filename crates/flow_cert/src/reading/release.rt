@@ -1,0 +1,202 @@
+//! How much the bound of a version is above the machine bound. In version 2 a machine counts from its release: no job
+//! left starts there before it, whichever comes first.
+
+ghost use Rattle.std.specs.Prelude.{◌≡◌, ℕ, suc, ◌+◌, ◌-◌, ◌≤◌, List, ◌++◌, ◌∷◌, [], nat_le, slice_index, Some};
+ghost use Rattle.flow_core.specs.Limits.{most_machines};
+ghost use Rattle.flow_core.specs.Shop.{time_between};
+ghost use Rattle.flow_core.specs.Sequences.{jobs_left};
+ghost use Rattle.flow_core.specs.Bound.{bound_at, bound_of, front_of, release};
+ghost use Rattle.flow_core.specs.Rows.{AreRows};
+ghost use Rattle.flow_core.proofs.TwoLeast.{Without};
+ghost use Rattle.flow_cert.specs.internal.Links.{AreLinks};
+ghost use Rattle.flow_cert.specs.internal.Nodes.{IsNode, IsAt, IsChild, grown, left_before};
+ghost use Rattle.flow_cert.specs.internal.Heads.{AreHeads, TakesIn};
+
+use crate::reading::claim::Claim;
+use crate::reading::node::{Node, bound};
+use flow_core::MAX_MACHINES;
+
+/// The two least heads of the jobs left before one machine, from each machine up to it. A job's head from a machine is
+/// its time on the machines from there to the one before. Where two jobs have the least head, both are the same. The
+/// greatest number stands for a head where there is no such job.
+#[derive(Clone, Copy)]
+pub(crate) struct Heads {
+    /// The least, from machine 1 on.
+    least: [u32; MAX_MACHINES],
+    /// The second least. The child that takes the job with the least head needs it.
+    second: [u32; MAX_MACHINES],
+}
+
+/// A job's head before a machine, from a machine up to it.
+fn head(claim: &Claim, job: u16, from: u16, machine: u16) -> u32
+    requires rows { AreRows claim.now.instance.now claim.now.rows.now }
+    requires job_from { 1 ≤ job }
+    requires job_to { job ≤ claim.now.instance.now.jobs }
+    requires from { 1 ≤ from }
+    requires up { from ≤ machine }
+    requires to { machine ≤ claim.now.instance.now.machines }
+    ensures { result ≡ time_between claim.now.instance.now job from (machine - 1) }
+{
+    let row = &claim.rows[job as usize - 1];
+    let first = from as usize - 1;
+    let last = machine as usize - 1;
+    row.times[first] + row.tails[first] - (row.times[last] + row.tails[last])
+}
+
+impl Heads {
+    /// Takes in the heads of one more job.
+    fn take_in(&mut self, claim: &Claim, job: u16, machine: u16)
+        requires rows { AreRows claim.now.instance.now claim.now.rows.now }
+        requires job_from { 1 ≤ job }
+        requires job_to { job ≤ claim.now.instance.now.jobs }
+        requires to { machine ≤ claim.now.instance.now.machines }
+        ensures { TakesIn claim.now.instance.now job machine self.old self.new }
+    {
+        for from in 1..machine + 1 {
+            let place = from as usize - 1;
+            let head = head(claim, job, from, machine);
+            self.second[place] = self.second[place].min(self.least[place].max(head));
+            self.least[place] = self.least[place].min(head);
+        }
+    }
+
+    /// The least head from a machine, once a job with this head from there is taken.
+    fn without(&self, from: u16, head: u32) -> u32
+        requires from { 1 ≤ from }
+        requires to { from ≤ most_machines }
+        ensures { Without head (slice_index self.now.least (from - 1)) (slice_index self.now.second (from - 1)) result }
+    {
+        let place = from as usize - 1;
+        if head == self.least[place] {
+            self.second[place]
+        } else {
+            self.least[place]
+        }
+    }
+}
+
+/// Finds the two least heads of the jobs left before a machine.
+fn heads_before(claim: &Claim, links: &[u16], machine: u16) -> Heads
+    requires rows { AreRows claim.now.instance.now claim.now.rows.now }
+    requires links { (list : List ℕ) × AreLinks claim.now.instance.now.jobs list links.now }
+    requires to { machine ≤ claim.now.instance.now.machines }
+    ensures { (list : List ℕ) → AreLinks claim.now.instance.now.jobs list links.now →
+        AreHeads claim.now.instance.now list machine result }
+{
+    let mut heads = Heads {
+        least: [u32::MAX; MAX_MACHINES],
+        second: [u32::MAX; MAX_MACHINES],
+    };
+    let mut last = 0;
+    'jobs: loop {
+        let job = links[last as usize];
+        if job == 0 {
+            return heads;
+        }
+        heads.take_in(claim, job, machine);
+        last = job;
+    }
+}
+
+/// How much later than its front a machine is released for the jobs left of a list.
+fn own_gain(claim: &Claim, node: &Node, heads: &Heads, machine: u16) -> u64
+    requires rows { AreRows claim.now.instance.now claim.now.rows.now }
+    requires at { (list : List ℕ) × (left : ℕ) × IsNode claim.now.instance.now list node.now (suc left)
+        × AreHeads claim.now.instance.now list machine heads.now }
+    requires from { 1 ≤ machine }
+    requires to { machine ≤ claim.now.instance.now.machines }
+    ensures { (list : List ℕ) (left : ℕ) → IsNode claim.now.instance.now list node.now (suc left) →
+        AreHeads claim.now.instance.now list machine heads.now →
+        slice_index (front_of claim.now.instance.now list) (machine - 1) + result
+        ≡ release claim.now.instance.now (front_of claim.now.instance.now list)
+        (jobs_left claim.now.instance.now.jobs list) machine }
+{
+    let mut release: u64 = 0;
+    for from in 1..machine + 1 {
+        let place = from as usize - 1;
+        release = release.max(node.front[place] + u64::from(heads.least[place]));
+    }
+    release - node.front[machine as usize - 1]
+}
+
+/// How much later than its front a machine is released for the jobs left of a list's child that has this job at its
+/// end.
+fn child_gain(claim: &Claim, node: &Node, heads: &Heads, job: u16, machine: u16) -> u64
+    requires rows { AreRows claim.now.instance.now claim.now.rows.now }
+    requires at { (list : List ℕ) × (left : ℕ) × IsNode claim.now.instance.now list node.now (suc (suc left))
+        × AreHeads claim.now.instance.now list machine heads.now
+        × IsChild claim.now.instance.now.jobs list (Some job) }
+    requires from { 1 ≤ machine }
+    requires to { machine ≤ claim.now.instance.now.machines }
+    ensures { (list : List ℕ) (left : ℕ) → IsNode claim.now.instance.now list node.now (suc (suc left)) →
+        AreHeads claim.now.instance.now list machine heads.now →
+        IsChild claim.now.instance.now.jobs list (Some job) →
+        slice_index (front_of claim.now.instance.now (list ++ job ∷ [])) (machine - 1) + result
+        ≡ release claim.now.instance.now (front_of claim.now.instance.now (list ++ job ∷ []))
+        (jobs_left claim.now.instance.now.jobs (list ++ job ∷ [])) machine }
+{
+    let row = &claim.rows[job as usize - 1];
+    let mut free = 0;
+    let mut release: u64 = 0;
+    for from in 1..machine + 1 {
+        let place = from as usize - 1;
+        free = node.front[place].max(free) + u64::from(row.times[place]);
+        let head = heads.without(from, head(claim, job, from, machine));
+        release = release.max(free + u64::from(head));
+    }
+    release - free
+}
+
+/// How much the bound of the version is above the machine bound of a list, or of a child of it, where jobs are left.
+fn gain(claim: &Claim, node: &Node, links: &[u16], child: Option<u16>, machine: u16) -> u64
+    requires rows { AreRows claim.now.instance.now claim.now.rows.now }
+    requires at { (list : List ℕ) × (left : ℕ)
+        × IsAt claim.now.instance.now list node.now links.now (left_before child (suc left))
+        × IsChild claim.now.instance.now.jobs list child }
+    requires from { 1 ≤ machine }
+    requires to { machine ≤ claim.now.instance.now.machines }
+    ensures { (list : List ℕ) (left : ℕ) →
+        IsAt claim.now.instance.now list node.now links.now (left_before child (suc left)) →
+        IsChild claim.now.instance.now.jobs list child →
+        bound_at claim.now.instance.now (grown list child) machine + result
+        ≡ bound_of claim.now.version claim.now.instance.now (grown list child) machine }
+{
+    if claim.version != 2 {
+        return 0;
+    }
+    let heads = heads_before(claim, links, machine);
+    match child {
+        None => own_gain(claim, node, &heads, machine),
+        Some(job) => child_gain(claim, node, &heads, job, machine),
+    }
+}
+
+/// Whether the bound of the version on a machine reaches the value, for a list, or for a child of it, where jobs are
+/// left. The machine bound alone is often enough.
+pub(crate) fn reaches(
+    claim: &Claim,
+    node: &mut Node,
+    links: &[u16],
+    child: Option<u16>,
+    machine: u16,
+) -> bool
+    requires rows { AreRows claim.now.instance.now claim.now.rows.now }
+    requires at { (list : List ℕ) × (left : ℕ)
+        × IsAt claim.now.instance.now list node.old links.now (left_before child (suc left))
+        × IsChild claim.now.instance.now.jobs list child }
+    requires from { 1 ≤ machine }
+    requires to { machine ≤ claim.now.instance.now.machines }
+    ensures kept { (list : List ℕ) (left : ℕ) → IsAt claim.now.instance.now list node.old links.now left →
+        IsAt claim.now.instance.now list node.new links.now left }
+    ensures value { (list : List ℕ) (left : ℕ) →
+        IsAt claim.now.instance.now list node.old links.now (left_before child (suc left)) →
+        IsChild claim.now.instance.now.jobs list child →
+        result ≡ nat_le claim.now.value
+        (bound_of claim.now.version claim.now.instance.now (grown list child) machine) }
+{
+    let plain = bound(claim, node, links, child, machine);
+    if plain >= claim.value {
+        return true;
+    }
+    claim.value - plain <= gain(claim, node, links, child, machine)
+}
