@@ -76,7 +76,8 @@ only-memory shop bytes End value none is = absurd (none value is)
 
 -- the faults of the trees are those of the text
 pub trees-fault : (shop : Shop) (version depth value : ℕ) (bytes rest : List ℕ) (fault : CheckFault) →
-    certificate_value shop bytes ≡ cut_value shop version depth value rest → TreesGive shop version depth value rest (Err fault) →
+    certificate_value shop bytes ≡ cut_value shop version depth value rest → TreesGive shop version depth value rest
+    (Err fault) →
     IsFirstFault shop bytes fault
 trees-fault shop version depth value bytes rest Memory e h = tt
 trees-fault shop version depth value bytes rest Header e h = e ∙ h
@@ -108,7 +109,8 @@ lawful-at shop bytes answer fault limits is first value of_value =
 -- the last line
 
 pub checked-value : (shop : Shop) (version depth value end : ℕ) (bytes lines : List ℕ) (same : Bool) →
-    certificate_value shop bytes ≡ cut_value shop version depth value lines → TreesGive shop version depth value lines (Ok end) →
+    certificate_value shop bytes ≡ cut_value shop version depth value lines → TreesGive shop version depth value lines
+    (Ok end) →
     same ≡ bytes_eq (take (length lines - end) (drop end lines)) (line ending) → same ≡ true →
     certificate_value shop bytes ≡ Ok value
 checked-value shop version depth value end bytes lines same before trees is holds =
@@ -116,7 +118,8 @@ checked-value shop version depth value end bytes lines same before trees is hold
     ∙ ap (λ b. cond b (Ok value) (Err End)) (sym is ∙ holds)
 
 pub checked-end : (shop : Shop) (version depth value end : ℕ) (bytes lines : List ℕ) (same : Bool) →
-    certificate_value shop bytes ≡ cut_value shop version depth value lines → TreesGive shop version depth value lines (Ok end) →
+    certificate_value shop bytes ≡ cut_value shop version depth value lines → TreesGive shop version depth value lines
+    (Ok end) →
     same ≡ bytes_eq (take (length lines - end) (drop end lines)) (line ending) → same ≡ false →
     certificate_value shop bytes ≡ Err End
 checked-end shop version depth value end bytes lines same before trees is no_end =

@@ -78,7 +78,8 @@ pub size-read : (shop : Shop) (version : ℕ) (bytes : List ℕ) (depth : ℕ) (
 size-read shop version bytes depth rest limits h =
     let fits : Fit (shop.jobs ∷ shop.machines ∷ depth ∷ []) = size-fit shop depth limits h.1 in
     let text : List ℕ = spaced (shop.jobs ∷ shop.machines ∷ depth ∷ []) in
-    line-read Size (after_header shop version) bytes text rest h.2 (on-line-complete Size (after_header shop version) text rest
+    line-read Size (after_header shop version) bytes text rest h.2
+    (on-line-complete Size (after_header shop version) text rest
     (spaced-plain (shop.jobs ∷ shop.machines ∷ depth ∷ []) fits))
     ∙ ap (size_value shop version rest) (numbers-complete shop.jobs (shop.machines ∷ depth ∷ []) fits)
     ∙ ap (λ b. cond b (on_line Value (after_size shop version depth) rest) (Err Size)) (size-true shop depth h.0 h.1)
@@ -123,7 +124,8 @@ value-read shop version bytes depth value rest h =
     ap (on_line Value (after_size shop version depth)) h.1
     ∙ on-line-complete Value (after_size shop version depth) (decimal value) rest (spaced-plain (value ∷ []) (h.0, tt))
     ∙ ap (value_value shop version depth rest) (numbers-complete value [] (h.0, tt))
-    ∙ ap (λ b. cond b (on_line Sequence (after_value shop version depth value) rest) (Err Value)) (lt-ltb value (2 ^ 64) h.0)
+    ∙ ap (λ b. cond b (on_line Sequence (after_value shop version depth value) rest) (Err Value))
+    (lt-ltb value (2 ^ 64) h.0)
 
 value-other : (shop : Shop) (version : ℕ) (depth : ℕ) (rest : List ℕ) (o : Option (List ℕ)) →
     ((value : ℕ) → value < 2 ^ 64 → o ≡ Some (value ∷ []) → ⊥) → value_value shop version depth rest o ≡ Err Value
@@ -145,7 +147,8 @@ value-refused shop version bytes depth none = line-refused Value (after_size sho
 
 -- the line of the sequence
 
-pub sequence-read : (shop : Shop) (version : ℕ) (bytes : List ℕ) (depth value : ℕ) (jobs rest : List ℕ) → IsWithinLimits shop →
+pub sequence-read : (shop : Shop) (version : ℕ) (bytes : List ℕ) (depth value : ℕ) (jobs rest : List ℕ) →
+    IsWithinLimits shop →
     BeginsWithSequence shop.jobs bytes jobs rest →
     on_line Sequence (after_value shop version depth value) bytes
     ≡ cond (nat_eq (span shop jobs) value) (cut_value shop version depth value rest) (Err NotAttained)
@@ -169,7 +172,8 @@ sequence-other : (shop : Shop) (version : ℕ) (depth value : ℕ) (rest : List 
     sequence_value shop version depth value rest o ≡ Err Sequence
 sequence-other shop version depth value rest None none = refl
 sequence-other shop version depth value rest (Some jobs) none =
-    no-sequence shop jobs (cond (nat_eq (span shop jobs) value) (cut_value shop version depth value rest) (Err NotAttained))
+    no-sequence shop jobs (cond (nat_eq (span shop jobs) value) (cut_value shop version depth value rest)
+    (Err NotAttained))
     (sequence_fault shop.jobs jobs)
     (λ fine. none jobs (sequence-fault-none-is shop.jobs jobs fine) refl)
 

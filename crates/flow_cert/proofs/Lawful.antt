@@ -18,6 +18,7 @@ use Rattle.flow_search.specs.Search.{comes_before, in_force, tree_at, tree, sequ
 use Rattle.flow_search.specs.Plans.{Planned, prefixes_of, trees_of, verdict_of}
 use Rattle.flow_search.specs.Verdicts.{IsVerdict}
 use Rattle.flow_search.specs.declared.verdict.Verdict.{Verdict}
+use Rattle.flow_search.specs.Limits.{greatest_version}
 use Rattle.flow_search.proofs.Lists.{all-weaken, find-some}
 use Rattle.flow_search.proofs.Walk.{Fresh, IsLeft, fresh-push, jobs_left-are, extensions-are, range-all}
 use Rattle.flow_search.proofs.LeastVerdict.{cut-fresh, verdict_is_least}
@@ -60,7 +61,8 @@ force-above shop v start prefix node low f short h =
     (omega arith))))
 
 -- a tree covers what no sequence is below
-covers-cases : (shop : Shop) (bound : Shop → List ℕ → ℕ → ℕ) (v start left : ℕ) (prefix node : List ℕ) → v ≤ in_force shop start prefix node →
+covers-cases : (shop : Shop) (bound : Shop → List ℕ → ℕ → ℕ) (v start left : ℕ) (prefix node : List ℕ) →
+    v ≤ in_force shop start prefix node →
     AllZip (λ job part. Covers shop bound v left (node ++ job
     ∷ []) part) (jobs_left shop.jobs node) (map (λ job. tree_at shop bound start prefix left (node ++ job
     ∷ [])) (jobs_left shop.jobs node)) →
@@ -81,7 +83,8 @@ covers-cases shop bound v start left prefix node low zip None e =
       zip,
     )
 
-pub tree-covers : (shop : Shop) (bound : Shop → List ℕ → ℕ → ℕ) (v start left : ℕ) (prefix node : List ℕ) → v ≤ start → Fresh shop.jobs prefix →
+pub tree-covers : (shop : Shop) (bound : Shop → List ℕ → ℕ → ℕ) (v start left : ℕ) (prefix node : List ℕ) → v ≤ start →
+    Fresh shop.jobs prefix →
     length prefix ≤ shop.jobs → ((s : List ℕ) → IsSequence shop.jobs s → v ≤ span shop s) →
     Fresh shop.jobs node → length node + left ≡ shop.jobs →
     Covers shop bound v left node (tree_at shop bound start prefix left node)
@@ -128,29 +131,34 @@ plan_is_certified plan is =
     let start = plan.start in
     let depth = plan.options.depth in
     let value = (verdict_of plan).value in
+    let first : 1 ≤ plan.options.version = is.option_limits.first_version in
+    let last : plan.options.version ≤ greatest_version = is.option_limits.last_version in
     let short : depth ≤ shop.jobs = is.deep in
     let v = verdict_is_least shop start depth short (is.is_sequence, sym is.is_span) in
     let low : value ≤ start.value =
     subst (λ n. value ≤ n) (sym is.is_span) (v.1.least start.sequence is.is_sequence) in (
-      1,
+      plan.options.version,
       depth,
       (verdict_of plan).sequence,
       trees_of plan,
       record {
-        known = (omega arith, omega arith);
+        known = (first, omega (arith, last));
         jobs_enough = short;
         shallow = is.option_limits.depth;
         fits = subst (λ n. n < 2 ^ 64) v.0.1 (span-fits shop (verdict_of plan).sequence is.shop_limits v.0.0);
         whole = v.0.0;
         attained = v.0.1;
         covered = zip-map (λ p. Fresh shop.jobs p
-            × (length p ≡ 0 + depth)) (λ prefix part. Covers shop (bound_of 1) value (shop.jobs - depth) prefix part)
-            (tree shop (bound_of 1) start.value) (cut shop.jobs depth)
+            × (length p ≡ 0 + depth)) (λ prefix part. Covers shop (bound_of plan.options.version) value
+            (shop.jobs - depth) prefix part)
+            (tree shop (bound_of plan.options.version) start.value) (cut shop.jobs depth)
             (λ p h.
             let size : length p ≡ depth = omega (arith, h.1) in
-            subst (λ left. Covers shop (bound_of 1) value left p (tree shop (bound_of 1) start.value p)) (ap
+            subst (λ left. Covers shop (bound_of plan.options.version) value left p
+            (tree shop (bound_of plan.options.version) start.value p)) (ap
             (λ n. shop.jobs - n) size)
-            (tree-covers shop (bound_of 1) value start.value (shop.jobs - length p) p p low h.0 (omega (arith, size)) v.1.least h.0
+            (tree-covers shop (bound_of plan.options.version) value start.value (shop.jobs - length p) p p low h.0
+            (omega (arith, size)) v.1.least h.0
             (omega (arith, size))))
             (cut-fresh shop.jobs depth [] (tt, tt));
       },
@@ -161,11 +169,12 @@ plan_is_certified plan is =
 pub text-of-plan : (plan : Planned) (verdict : Verdict) → IsVerdict plan verdict →
     text_with plan verdict ≡ certificate_of plan
 text-of-plan plan verdict of =
-    ap (λ value. certificate_text plan.shop 1 plan.options.depth value verdict.sequence (map
+    ap (λ value. certificate_text plan.shop plan.options.version plan.options.depth value verdict.sequence (map
     (λ tree. tree.items) verdict.trees.items)) of.value
-    ∙ ap (λ sequence. certificate_text plan.shop 1 plan.options.depth (verdict_of plan).value sequence (map
+    ∙ ap (λ sequence. certificate_text plan.shop plan.options.version plan.options.depth (verdict_of plan).value
+    sequence (map
     (λ tree. tree.items) verdict.trees.items)) of.sequence
-    ∙ ap (λ trees. certificate_text plan.shop 1 plan.options.depth (verdict_of plan).value
+    ∙ ap (λ trees. certificate_text plan.shop plan.options.version plan.options.depth (verdict_of plan).value
     (verdict_of plan).sequence trees) of.trees
 
 pub verdict_is_certified : VerdictIsCertified
@@ -173,7 +182,7 @@ verdict_is_certified plan verdict is of =
     let v = verdict_is_least plan.shop plan.start plan.options.depth is.deep (is.is_sequence, sym is.is_span) in
     record {
       each = sym (length-map verdict.trees.items (λ tree. tree.items)) ∙ ap length of.trees
-          ∙ length-map (prefixes_of plan) (tree plan.shop (bound_of 1) plan.start.value);
+          ∙ length-map (prefixes_of plan) (tree plan.shop (bound_of plan.options.version) plan.start.value);
       text = text-of-plan plan verdict of;
       lawful = subst (IsCertificate plan.shop (certificate_of plan)) (sym of.value) (plan_is_certified plan is);
       least = subst (IsLeastMakespan plan.shop) (sym of.value) v.1;

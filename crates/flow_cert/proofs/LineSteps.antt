@@ -37,7 +37,8 @@ awaited-next n more list last job rest is some =
 pub awaited-lines : (shop : Shop) (version value left more : ℕ) (list : List ℕ) (last job place : ℕ) (bytes : List ℕ)
     (rest : List (List ℕ)) → IsNext shop.jobs list last job → job ≢ 0 → more ≢ 0 → more ≤ left →
     trees_value shop (bound_of version) value (left - more) (awaited shop.jobs more list (last + 1) ++ rest) place bytes
-    ≡ trees_value shop (bound_of version) value (left - 1 - (more - 1)) (extensions shop.jobs (more - 1) (list ++ job ∷ [])
+    ≡ trees_value shop (bound_of version) value (left - 1 - (more - 1))
+    (extensions shop.jobs (more - 1) (list ++ job ∷ [])
     ++ (awaited shop.jobs more list (job + 1) ++ rest)) place bytes
 awaited-lines shop version value left more list last job place bytes rest is some deep within =
     let same : left - more ≡ left - 1 - (more - 1) = omega (arith, deep, within) in
@@ -47,7 +48,8 @@ awaited-lines shop version value left more list last job place bytes rest is som
     ++ (awaited shop.jobs more list (job + 1) ++ rest)) place bytes) same
 
 -- the line of the next child comes first
-pub awaited-line : (shop : Shop) (version value left below more : ℕ) (list : List ℕ) (last job line : ℕ) (bytes : List ℕ)
+pub awaited-line : (shop : Shop) (version value left below more : ℕ) (list : List ℕ) (last job line : ℕ)
+    (bytes : List ℕ)
     (rest : List (List ℕ)) → IsNext shop.jobs list last job → job ≢ 0 → more ≡ 1 → left ≡ suc below →
     trees_value shop (bound_of version) value (left - more) (awaited shop.jobs more list (last + 1) ++ rest) line bytes
     ≡ trees_value shop (bound_of version) value below ((list ++ job ∷ [])
@@ -69,7 +71,8 @@ Bad shop version value left prefixes line from bytes fault = (rest : List (List 
 lines-fail : (shop : Shop) (version value l m : ℕ) (ps qs : List (List ℕ)) (line place from at : ℕ) (bytes : List ℕ)
     (fault : CheckFault) →
     (Bad shop version value m qs place at bytes fault → Bad shop version value l ps line from bytes fault) →
-    LinesGive shop version value m qs place at bytes (Err fault) → LinesGive shop version value l ps line from bytes (Err fault)
+    LinesGive shop version value m qs place at bytes (Err fault) → LinesGive shop version value l ps line from bytes
+    (Err fault)
 lines-fail shop version value l m ps qs line place from at bytes Memory pass h = tt
 lines-fail shop version value l m ps qs line place from at bytes Header pass h = pass h
 lines-fail shop version value l m ps qs line place from at bytes Size pass h = pass h
@@ -84,14 +87,16 @@ lines-fail shop version value l m ps qs line place from at bytes End pass h = pa
 pub lines-err : (shop : Shop) (version value l m : ℕ) (ps qs : List (List ℕ)) (line place from at : ℕ) (bytes : List ℕ)
     (answer : Result Spot CheckFault) (fault : CheckFault) → answer ≡ Err fault →
     (Bad shop version value m qs place at bytes fault → Bad shop version value l ps line from bytes fault) →
-    LinesGive shop version value m qs place at bytes (Err fault) → LinesGive shop version value l ps line from bytes answer
+    LinesGive shop version value m qs place at bytes (Err fault) → LinesGive shop version value l ps line from bytes
+    answer
 lines-err shop version value l m ps qs line place from at bytes answer fault is pass h =
     subst (LinesGive shop version value l ps line from bytes) (sym is)
     (lines-fail shop version value l m ps qs line place from at bytes fault pass h)
 
 -- one line
 
-line-fails : (shop : Shop) (version value left : ℕ) (list : List ℕ) (line from : ℕ) (bytes : List ℕ) (fault : CheckFault) →
+line-fails : (shop : Shop) (version value left : ℕ) (list : List ℕ) (line from : ℕ) (bytes : List ℕ)
+    (fault : CheckFault) →
     TreeGives from bytes (Err fault) (read_tree shop (bound_of version) value line left list (drop from bytes)) →
     LinesGive shop version value left (list ∷ []) line from bytes (Err fault)
 line-fails shop version value left list line from bytes Memory h = tt

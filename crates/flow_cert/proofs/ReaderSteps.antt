@@ -15,7 +15,8 @@ use Rattle.flow_cert.proofs.TreeReading.{reading-start, reading-child, reading-d
 -- a reader reads the children of a list, at whose children so many jobs are left
 abbrev pub Reads : Shop → ℕ → ℕ → ℕ → List ℕ → Result (List ℕ) CheckFault → ℕ → TreeReader → ℕ → ℕ → List ℕ → Type 0
 Reads shop version value line root whole base r last at bytes =
-    IsReading shop version value line root whole (here r) r.links.items r.below last at bytes (above r.frames.items r.below
+    IsReading shop version value line root whole (here r) r.links.items r.below last at bytes
+    (above r.frames.items r.below
     (base - r.below))
 
 -- the list that it reached
@@ -27,7 +28,8 @@ none-above frames place count e = ap (above frames place) e
 
 pub reads-start : (shop : Shop) (version value line : ℕ) (root : List ℕ) (r : TreeReader) (at : ℕ) (bytes : List ℕ) →
     Stands shop root r →
-    Reads shop version value line root (children_read shop version value line r.below root (drop at bytes)) r.below r 0 at bytes
+    Reads shop version value line root (children_read shop version value line r.below root (drop at bytes)) r.below r 0
+    at bytes
 reads-start shop version value line root r at bytes stands =
     let none : r.below - r.below ≡ 0 = omega arith in
     subst (IsReading shop version value line root (children_read shop version value line r.below root (drop at bytes))
@@ -54,7 +56,8 @@ reads-back shop version value line root whole base r s last at bytes i room back
     subst (IsReading shop version value line root whole (here s) s.links.items s.below last at bytes) (sym same)
     (subst (λ b. IsReading shop version value line root whole (here s) s.links.items b last at bytes
     (above r.frames.items r.below (base - r.below))) (sym back.below)
-    (subst (λ l. IsReading shop version value line root whole (here s) l r.below last at bytes (above r.frames.items r.below
+    (subst (λ l. IsReading shop version value line root whole (here s) l r.below last at bytes
+    (above r.frames.items r.below
     (base - r.below))) (sym back.links) was))
 
 -- a child is opened

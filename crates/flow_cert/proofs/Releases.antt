@@ -1,5 +1,6 @@
 -- Heads of jobs, and the release of a machine.
-use Rattle.std.proofs.Common.{◌≡◌, ◌≢◌, cond, nat_eq, nat_le, Bool, true, inl, inr, ℕ, zero, suc, ◌+◌, ◌-◌, ◌*◌, ◌<◌, ◌≤◌, max, List, [], ◌∷◌, ◌++◌, length, map, false, refl}
+use Rattle.std.proofs.Common.{◌≡◌, ◌≢◌, cond, nat_eq, nat_le, Bool, true, inl, inr, ℕ, zero, suc, ◌+◌, ◌-◌, ◌*◌, ◌<◌}
+use Rattle.std.proofs.Common.{◌≤◌, max, List, [], ◌∷◌, ◌++◌, length, map, false, refl}
 use Rattle.std.proofs.Common.{slice_index, slice_index_or, ap, ap₂, sym, ◌∙◌, arith}
 use Rattle.std.proofs.lemmas.Bool.{cases_Bool, eq-eqb, ne_eqb, le-leb, lt-leb, leb-true, leb-false}
 use Rattle.flow_core.specs.Limits.{most_machines, greatest_time}

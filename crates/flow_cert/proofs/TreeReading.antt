@@ -34,7 +34,8 @@ pub no-byte : (shop : Shop) (version value place left : ℕ) (list : List ℕ) �
 no-byte shop version value place zero list = refl
 no-byte shop version value place (suc left) list = refl
 
-pub reading-start : (shop : Shop) (version value place : ℕ) (root : List ℕ) (node : Node) (links : List ℕ) (below from : ℕ)
+pub reading-start : (shop : Shop) (version value place : ℕ) (root : List ℕ) (node : Node) (links : List ℕ)
+    (below from : ℕ)
     (bytes : List ℕ) → IsAt shop root node links (suc below) →
     IsReading shop version value place root (children_read shop version value place below root
     (drop from bytes)) node links below 0 from bytes []
@@ -42,7 +43,8 @@ reading-start shop version value place root node links below from bytes at = rec
   here = at;
   behind = start-place shop.jobs root;
   stack = tt;
-  answer = then-done shop version value place root (suc below) (children_read shop version value place below root (drop from bytes));
+  answer = then-done shop version value place root (suc below)
+      (children_read shop version value place below root (drop from bytes));
 }
 
 -- a plus, and the trees of the children
@@ -69,7 +71,8 @@ gives-before from bytes (Err (Weak p)) read all e h = e ∙ h
 gives-before from bytes (Err (Low p)) read all e h = e ∙ h
 gives-before from bytes (Err End) read all e h = e ∙ h
 
-pub plus-gives : (shop : Shop) (version value place : ℕ) (root : List ℕ) (left below from : ℕ) (bytes : List ℕ) (byte : ℕ)
+pub plus-gives : (shop : Shop) (version value place : ℕ) (root : List ℕ) (left below from : ℕ) (bytes : List ℕ)
+    (byte : ℕ)
     (r : Result ℕ CheckFault) → left ≡ suc below → byte ≡ 43 → drop from bytes ≡ byte ∷ drop (from + 1) bytes →
     TreeGives (from + 1) bytes r (children_read shop version value place below root (drop (from + 1) bytes)) →
     TreeGives from bytes r (read_tree shop (bound_of version) value place left root (drop from bytes))
@@ -93,11 +96,13 @@ child-read : {shop : Shop} {version value place : ℕ} {root : List ℕ} {whole 
     (bs : List ℕ) →
     IsReading shop version value place root whole node links below last at bytes frames → slice_index links last ≢ 0 →
     drop at bytes ≡ bs →
-    whole ≡ then_read (then_read (read_tree shop (bound_of version) value place below (path root frames ++ slice_index links last
+    whole ≡ then_read (then_read (read_tree shop (bound_of version) value place below
+    (path root frames ++ slice_index links last
     ∷ []) bs) (each_tree (λ j. read_tree shop (bound_of version) value place below (path root frames ++ j
     ∷ [])) (children shop.jobs (path root frames) (slice_index links last
     + 1)))) (resume shop version value place root (suc below) frames)
-child-read {shop} {version} {value} {place} {root} {whole} {node} {links} {below} {last} {at} {bytes} {frames} bs i some dropped =
+child-read {shop} {version} {value} {place} {root} {whole} {node} {links} {below} {last} {at} {bytes} {frames} bs i some
+    dropped =
     let read : ℕ → List ℕ → Result (List ℕ) CheckFault =
     λ j. read_tree shop (bound_of version) value place below (path root frames ++ j ∷ []) in
     let k : List ℕ → Result (List ℕ) CheckFault = resume shop version value place root (suc below) frames in
@@ -112,22 +117,27 @@ pub reading-fault : {shop : Shop} {version value place : ℕ} {root : List ℕ} 
     (bs : List ℕ) (fault : CheckFault) →
     IsReading shop version value place root whole node links below last at bytes frames → slice_index links last ≢ 0 →
     drop at bytes ≡ bs →
-    read_tree shop (bound_of version) value place below (path root frames ++ slice_index links last ∷ []) bs ≡ Err fault →
+    read_tree shop (bound_of version) value place below (path root frames ++ slice_index links last ∷ []) bs
+    ≡ Err fault →
     whole ≡ Err fault
-reading-fault {shop} {version} {value} {place} {root} {whole} {node} {links} {below} {last} {at} {bytes} {frames} bs fault i some
+reading-fault {shop} {version} {value} {place} {root} {whole} {node} {links} {below} {last} {at} {bytes} {frames} bs
+    fault i some
     dropped bad =
     child-read bs i some dropped
-    ∙ ap (λ r. then_read (then_read r (each_tree (λ j. read_tree shop (bound_of version) value place below (path root frames ++ j
+    ∙ ap (λ r. then_read (then_read r (each_tree (λ j. read_tree shop (bound_of version) value place below
+    (path root frames ++ j
     ∷ [])) (children shop.jobs (path root frames) (slice_index links last
     + 1)))) (resume shop version value place root (suc below) frames)) bad
 
 pub reading-leaf : {shop : Shop} {version value place : ℕ} {root : List ℕ} {whole : Result
     (List ℕ) CheckFault} {node : Node} {links : List ℕ} {below last at : ℕ} {bytes : List ℕ} {frames : List Frame} →
     IsReading shop version value place root whole node links below last at bytes frames → slice_index links last ≢ 0 →
-    read_tree shop (bound_of version) value place below (path root frames ++ slice_index links last ∷ []) (drop at bytes)
+    read_tree shop (bound_of version) value place below (path root frames ++ slice_index links last ∷ [])
+    (drop at bytes)
     ≡ Ok (drop (at + 1) bytes) →
     IsReading shop version value place root whole node links below (slice_index links last) (at + 1) bytes frames
-reading-leaf {shop} {version} {value} {place} {root} {whole} {node} {links} {below} {last} {at} {bytes} {frames} i some good =
+reading-leaf {shop} {version} {value} {place} {root} {whole} {node} {links} {below} {last} {at} {bytes} {frames} i some
+    good =
     record {
       here = i.here;
       behind = next-place shop.jobs (path root frames) last (slice_index links last)
@@ -135,7 +145,8 @@ reading-leaf {shop} {version} {value} {place} {root} {whole} {node} {links} {bel
       stack = i.stack;
       answer =
           child-read (drop at bytes) i some refl
-          ∙ ap (λ r. then_read (then_read r (each_tree (λ j. read_tree shop (bound_of version) value place below (path root frames
+          ∙ ap (λ r. then_read (then_read r (each_tree (λ j. read_tree shop (bound_of version) value place below
+          (path root frames
           ++ j ∷ [])) (children shop.jobs (path root frames) (slice_index links last
           + 1)))) (resume shop version value place root (suc below) frames)) good;
     }
@@ -149,7 +160,8 @@ pub reading-dive : {shop : Shop} {version value place : ℕ} {root : List ℕ} {
     less ≡ slice_set links last (slice_index links (slice_index links last)) → below ≡ suc lower → byte ≡ 43 →
     deeper ≡ record { node = node; job = slice_index links last; last = last } ∷ frames →
     IsReading shop version value place root whole child less lower 0 (at + 1) bytes deeper
-reading-dive {shop} {version} {value} {place} {root} {whole} {node} {links} {below} {last} {at} {bytes} {frames} child less lower
+reading-dive {shop} {version} {value} {place} {root} {whole} {node} {links} {below} {last} {at} {bytes} {frames} child
+    less lower
     byte deeper i some dropped is out e plus pushed =
     let job : ℕ = slice_index links last in
     let next = reading-child i some in
@@ -178,13 +190,17 @@ reading-dive {shop} {version} {value} {place} {root} {whole} {node} {links} {bel
       );
       answer =
           child-read (byte ∷ drop (at + 1) bytes) i some dropped
-          ∙ ap (λ l. then_read (then_read (read_tree shop (bound_of version) value place l (path root frames ++ job ∷ []) (byte
-          ∷ drop (at + 1) bytes)) (each_tree (λ j. read_tree shop (bound_of version) value place l (path root frames ++ j
+          ∙ ap (λ l. then_read (then_read (read_tree shop (bound_of version) value place l
+          (path root frames ++ job ∷ []) (byte
+          ∷ drop (at + 1) bytes)) (each_tree (λ j. read_tree shop (bound_of version) value place l
+          (path root frames ++ j
           ∷ [])) js)) (resume shop version value place root (suc l) frames)) e
-          ∙ ap (λ b. then_read (then_read (read_tree shop (bound_of version) value place (suc lower) (path root frames ++ job
+          ∙ ap (λ b. then_read (then_read (read_tree shop (bound_of version) value place (suc lower)
+          (path root frames ++ job
           ∷ []) (b ∷ drop (at + 1) bytes)) (each_tree (λ j. read_tree shop (bound_of version) value place (suc lower)
           (path root frames ++ j ∷ [])) js)) (resume shop version value place root (suc (suc lower)) frames)) plus
-          ∙ then-assoc (each_tree (λ j. read_tree shop (bound_of version) value place lower ((path root frames ++ job ∷ []) ++ j
+          ∙ then-assoc (each_tree (λ j. read_tree shop (bound_of version) value place lower
+          ((path root frames ++ job ∷ []) ++ j
           ∷ [])) (jobs_left shop.jobs (path root frames ++ job ∷ [])) (drop (at
           + 1) bytes)) (each_tree (λ j. read_tree shop (bound_of version) value place (suc lower) (path root frames ++ j
           ∷ [])) js) (resume shop version value place root (suc (suc lower)) frames);
@@ -196,7 +212,8 @@ reading-none : {shop : Shop} {version value place : ℕ} {root : List ℕ} {whol
     (List ℕ) CheckFault} {node : Node} {links : List ℕ} {below last at : ℕ} {bytes : List ℕ} {frames : List Frame} →
     IsReading shop version value place root whole node links below last at bytes frames → slice_index links last ≡ 0 →
     whole ≡ resume shop version value place root (suc below) frames (drop at bytes)
-reading-none {shop} {version} {value} {place} {root} {whole} {node} {links} {below} {last} {at} {bytes} {frames} i none =
+reading-none {shop} {version} {value} {place} {root} {whole} {node} {links} {below} {last} {at} {bytes} {frames} i none
+    =
     i.answer
     ∙ ap (λ js. then_read (each_tree (λ j. read_tree shop (bound_of version) value place below (path root frames ++ j
     ∷ [])) js (drop at bytes)) (resume shop version value place root (suc below) frames)) (children-none shop.jobs
@@ -206,7 +223,8 @@ pub reading-done : {shop : Shop} {version value place : ℕ} {root : List ℕ} {
     (List ℕ) CheckFault} {node : Node} {links : List ℕ} {below last at : ℕ} {bytes : List ℕ} {frames : List Frame} →
     IsReading shop version value place root whole node links below last at bytes frames → slice_index links last ≡ 0 →
     frames ≡ [] → whole ≡ Ok (drop at bytes)
-reading-done {shop} {version} {value} {place} {root} {whole} {node} {links} {below} {last} {at} {bytes} {frames} i none empty =
+reading-done {shop} {version} {value} {place} {root} {whole} {node} {links} {below} {last} {at} {bytes} {frames} i none
+    empty =
     reading-none i none ∙ ap (λ fs. resume shop version value place root (suc below) fs (drop at bytes)) empty
 
 pub reading-up : {shop : Shop} {version value place : ℕ} {root : List ℕ} {whole : Result
@@ -215,7 +233,8 @@ pub reading-up : {shop : Shop} {version value place : ℕ} {root : List ℕ} {wh
     IsReading shop version value place root whole node links below last at bytes frames → slice_index links last ≡ 0 →
     frames ≡ f ∷ higher → back ≡ slice_set links f.last f.job →
     IsReading shop version value place root whole f.node back (below + 1) f.job at bytes higher
-reading-up {shop} {version} {value} {place} {root} {whole} {node} {links} {below} {last} {at} {bytes} {frames} back f higher i
+reading-up {shop} {version} {value} {place} {root} {whole} {node} {links} {below} {last} {at} {bytes} {frames} back f
+    higher i
     none popped is =
     let was : IsReading shop version value place root whole node links below last at bytes (f ∷ higher) =
     subst (IsReading shop version value place root whole node links below last at bytes) popped i in
@@ -239,7 +258,8 @@ letter-open shop version value line left list at bytes b g t =
 
 pub letter-whole : (shop : Shop) (version value line left : ℕ) (list : List ℕ) (at : ℕ) (bytes : List ℕ) (b : Bool) →
     LetterGives shop version value line left list at bytes (Ok b) → b ≡ false →
-    (at < length bytes) × (read_tree shop (bound_of version) value line left list (drop at bytes) ≡ Ok (drop (at + 1) bytes))
+    (at < length bytes) × (read_tree shop (bound_of version) value line left list (drop at bytes)
+    ≡ Ok (drop (at + 1) bytes))
 letter-whole shop version value line left list at bytes b g t =
     subst (λ o. LetterGives shop version value line left list at bytes (Ok o)) t g
 

@@ -16,7 +16,8 @@ use Rattle.flow_cert.specs.declared.reading.reader.Spot.{Spot}
 whole : (shop : Shop) (version depth value : ℕ) (bytes : List ℕ) → cut_value shop version depth value bytes
     ≡ trees_value shop (bound_of version) value (shop.jobs - depth) (cut shop.jobs depth ++ []) 5 bytes
 whole shop version depth value bytes =
-    ap (λ ps. trees_value shop (bound_of version) value (shop.jobs - depth) ps 5 bytes) (sym (append-nil (cut shop.jobs depth)))
+    ap (λ ps. trees_value shop (bound_of version) value (shop.jobs - depth) ps 5 bytes)
+    (sym (append-nil (cut shop.jobs depth)))
 
 pub trees-ok : (shop : Shop) (version depth value : ℕ) (bytes : List ℕ) (spot : Spot) → spot.at ≤ length bytes →
     LinesGive shop version value (shop.jobs - depth) (cut shop.jobs depth) 5 0 bytes (Ok spot) →
@@ -38,7 +39,8 @@ trees-err shop version depth value bytes (Low p) give = whole shop version depth
 trees-err shop version depth value bytes End give = whole shop version depth value bytes ∙ give []
 
 -- the answer is that fault
-pub trees-fail : (shop : Shop) (version depth value : ℕ) (bytes : List ℕ) (answer : Result ℕ CheckFault) (fault : CheckFault) →
+pub trees-fail : (shop : Shop) (version depth value : ℕ) (bytes : List ℕ) (answer : Result ℕ CheckFault)
+    (fault : CheckFault) →
     answer ≡ Err fault →
     LinesGive shop version value (shop.jobs - depth) (cut shop.jobs depth) 5 0 bytes (Err fault) →
     TreesGive shop version depth value bytes answer

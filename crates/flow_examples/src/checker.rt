@@ -6,8 +6,11 @@ use flow_core::Instance;
 use std::alloc::Global;
 use std::test::Fail;
 
-/// The first line of each certificate.
+/// The first line of version 1.
 const TITLE: &[u8] = b"flowshop certificate 1\n";
+
+/// The first line of version 2.
+const TITLE_2: &[u8] = b"flowshop certificate 2\n";
 
 /// The certificate of the instance with three machines at depth 0.
 const AT_DEPTH_0: [u8; 50] = *b"flowshop certificate 1\n3 3 0\n12\n3 1 2\n+BC++.B\nend\n";
@@ -21,15 +24,25 @@ fn joined(alloc: Global, parts: &[&[u8]]) -> Result<Vec<u8>, Fail> {
     Ok(text)
 }
 
-/// What the checker answers for an instance, where these parts stand behind the title.
+/// What the checker answers for an instance, where these parts stand behind a first line.
+fn checked_behind(
+    alloc: Global,
+    instance: &Instance,
+    title: &[u8],
+    rest: &[u8],
+) -> Result<Result<u64, CheckFault>, Fail> {
+    let text = joined(alloc, &[title, rest])?;
+    Ok(check(alloc, instance, text.as_slice()))
+}
+
+/// What the checker answers for an instance, where these parts stand behind the first line of version 1.
 fn checked(
     alloc: Global,
     instance: &Instance,
     parts: &[&[u8]],
 ) -> Result<Result<u64, CheckFault>, Fail> {
     let rest = joined(alloc, parts)?;
-    let text = joined(alloc, &[TITLE, rest.as_slice()])?;
-    Ok(check(alloc, instance, text.as_slice()))
+    checked_behind(alloc, instance, TITLE, rest.as_slice())
 }
 
 #[test]
@@ -53,6 +66,52 @@ fn checker_accepts_lawful_certificates(rt: HostRuntime) -> Result<(), Fail> {
     );
     let one = Instance::new(alloc, 1, 1, &[0])?;
     assert_eq!(rt; checked(alloc, &one, &[b"1 1 0\n0\n1\nA\nend\n"])?, Ok(0));
+    Ok(())
+}
+
+#[test]
+fn checker_tests_letters_by_the_bound_of_the_version(rt: HostRuntime) -> Result<(), Fail> {
+    let alloc = rt.alloc();
+    let two = two_machines(alloc)?;
+    // At the empty list machine 2 has the bound 8, and once it is released by machine 1 the bound 9.
+    let short = b"3 2 0\n9\n2 3 1\nB\nend\n";
+    assert_eq!(rt; checked_behind(alloc, &two, TITLE_2, short)?, Ok(9));
+    let found = checked_behind(alloc, &two, TITLE, short)?;
+    assert_eq!(rt; found, Err(CheckFault::Weak(5)));
+    let long = b"3 2 0\n9\n2 3 1\n+BBB\nend\n";
+    assert_eq!(rt; checked_behind(alloc, &two, TITLE_2, long)?, Ok(9));
+    let found = checked_behind(alloc, &two, b"flowshop certificate 3\n", long)?;
+    assert_eq!(rt; found, Err(CheckFault::Header));
+    Ok(())
+}
+
+#[test]
+fn checker_reads_certificates_of_three_machines_in_version_2(rt: HostRuntime) -> Result<(), Fail> {
+    let alloc = rt.alloc();
+    let three = three_machines(alloc)?;
+    let lawful: [&[u8]; 2] = [
+        b"3 3 0\n12\n3 1 2\n+BC++.B\nend\n",
+        b"3 3 1\n12\n3 1 2\nB\nC\n++.B\nend\n",
+    ];
+    for rest in lawful {
+        assert_eq!(rt; checked_behind(alloc, &three, TITLE_2, rest)?, Ok(12));
+    }
+    // The released bounds are 7, 10 and 7 at the empty list, 8, 10 and 8 at 3, and 12, 12 and 12 at 3 1.
+    let rows: [(&[u8], Result<u64, CheckFault>); 7] = [
+        (b"3 3 0\n12\n3 1 2\nA\nend\n", Err(CheckFault::Weak(5))),
+        (b"3 3 0\n12\n3 1 2\nB\nend\n", Err(CheckFault::Weak(5))),
+        (b"3 3 0\n12\n3 1 2\nC\nend\n", Err(CheckFault::Weak(5))),
+        (
+            b"3 3 1\n12\n3 1 2\nB\nC\nB\nend\n",
+            Err(CheckFault::Weak(7)),
+        ),
+        (b"3 3 0\n12\n3 1 2\n+BC+AB\nend\n", Ok(12)),
+        (b"3 3 0\n12\n3 1 2\n+BC+BB\nend\n", Ok(12)),
+        (b"3 3 0\n12\n3 1 2\n+BC+CB\nend\n", Ok(12)),
+    ];
+    for (rest, answer) in rows {
+        assert_eq!(rt; checked_behind(alloc, &three, TITLE_2, rest)?, answer);
+    }
     Ok(())
 }
 
@@ -159,7 +218,10 @@ const CHANGED_LINES: [(usize, CheckFault, &[&[u8]]); 9] = [
         CheckFault::Header,
         &[
             b"",
-            b"flowshop certificate 2",
+            b"flowshop certificate 3",
+            b"flowshop certificate 0",
+            b"flowshop certificate 01",
+            b"flowshop certificate",
             b"Flowshop certificate 1",
             b"flowshop certificate 1 ",
             b"flowshop certificate 1\r",
@@ -298,21 +360,27 @@ fn checker_names_first_fault_of_each_prefix(rt: HostRuntime) -> Result<(), Fail>
 }
 
 #[test]
-fn checker_accepts_one_of_all_changed_bytes(rt: HostRuntime) -> Result<(), Fail> {
+fn checker_accepts_two_of_all_changed_bytes(rt: HostRuntime) -> Result<(), Fail> {
     let alloc = rt.alloc();
     let instance = three_machines(alloc)?;
-    let mut accepted: u64 = 0;
+    // Machine 3 has the bound 14 at the list 3 2, and version 2 the same bounds or greater ones.
+    let mut letters: u64 = 0;
+    let mut versions: u64 = 0;
     for place in 0..50 {
         for change in 1..=255u8 {
             let mut text = AT_DEPTH_0;
             text[place] ^= change;
             if let Ok(value) = check(alloc, &instance, &text) {
-                accepted = accepted.saturating_add(1);
                 assert_eq!(rt; value, 12);
-                assert_eq!(rt; &text[38..46], b"+BC++.C\n".as_slice());
+                if &text[..23] == TITLE_2 {
+                    versions = versions.saturating_add(1);
+                } else {
+                    letters = letters.saturating_add(1);
+                    assert_eq!(rt; &text[38..46], b"+BC++.C\n".as_slice());
+                }
             }
         }
     }
-    assert_eq!(rt; accepted, 1);
+    assert_eq!(rt; (letters, versions), (1, 1));
     Ok(())
 }

@@ -11,4 +11,5 @@ size_line plan = line (spaced (plan.shop.jobs ∷ plan.shop.machines ∷ plan.op
 -- the lines before the trees, of a plan with a verdict
 abbrev pub heading_with : Planned → Verdict → List ℕ
 heading_with plan verdict =
-    line (title 1) ++ size_line plan ++ line (decimal verdict.value) ++ line (spaced verdict.sequence)
+    line (title plan.options.version) ++ size_line plan ++ line (decimal verdict.value) ++ line
+    (spaced verdict.sequence)

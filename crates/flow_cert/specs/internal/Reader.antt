@@ -63,7 +63,8 @@ abbrev pub LetterGives : Shop → ℕ → ℕ → ℕ → ℕ → List ℕ → �
 LetterGives shop version value line left list at bytes (Ok true) =
     (0 < left) × (at < length bytes) × (drop at bytes ≡ 43 ∷ drop (at + 1) bytes)
 LetterGives shop version value line left list at bytes (Ok false) =
-    (at < length bytes) × (read_tree shop (bound_of version) value line left list (drop at bytes) ≡ Ok (drop (at + 1) bytes))
+    (at < length bytes) × (read_tree shop (bound_of version) value line left list (drop at bytes)
+    ≡ Ok (drop (at + 1) bytes))
 LetterGives shop version value line left list at bytes (Err fault) =
     read_tree shop (bound_of version) value line left list (drop at bytes) ≡ Err fault
 
@@ -80,7 +81,8 @@ LinesGive shop version value left prefixes line from bytes (Ok spot) =
     ≡ trees_value shop (bound_of version) value left rest spot.line (drop spot.at bytes)
 LinesGive shop version value left prefixes line from bytes (Err Memory) = Unit {0}
 LinesGive shop version value left prefixes line from bytes (Err fault) =
-    (rest : List (List ℕ)) → trees_value shop (bound_of version) value left (prefixes ++ rest) line (drop from bytes) ≡ Err fault
+    (rest : List (List ℕ)) → trees_value shop (bound_of version) value left (prefixes ++ rest) line (drop from bytes)
+    ≡ Err fault
 
 -- what the byte after a tree says: that the line ends, or its fault
 abbrev pub LineEnds : Spot → List ℕ → Result Spot CheckFault → Type 0
@@ -108,13 +110,15 @@ trees_read shop version value line below list jobs bytes =
 
 -- the text after the trees of all children of a list, with so many jobs left at each; or the first fault
 abbrev pub children_read : Shop → ℕ → ℕ → ℕ → ℕ → List ℕ → List ℕ → Result (List ℕ) CheckFault
-children_read shop version value line below list bytes = trees_read shop version value line below list (jobs_left shop.jobs list) bytes
+children_read shop version value line below list bytes = trees_read shop version value line below list
+    (jobs_left shop.jobs list) bytes
 
 -- what is still to be read once the tree of a stack's list is whole
 abbrev pub resume : Shop → ℕ → ℕ → ℕ → List ℕ → ℕ → List Frame → List ℕ → Result (List ℕ) CheckFault
 resume shop version value line root left [] bytes = Ok bytes
 resume shop version value line root left (f ∷ fs) bytes =
-    then_read (trees_read shop version value line left (path root fs) (children shop.jobs (path root fs) (f.job + 1)) bytes)
+    then_read (trees_read shop version value line left (path root fs) (children shop.jobs (path root fs) (f.job + 1))
+    bytes)
     (resume shop version value line root (suc left) fs)
 
 -- each frame's list is reached, once its job and those above are put back, and does not have the job

@@ -37,7 +37,8 @@ impl TreeReader {
         ensures back { IsBack claim.now.instance.now self.old self.new }
         ensures gives { (list : List ℕ) → Stands claim.now.instance.now list self.old →
             IsChild claim.now.instance.now.jobs list child →
-            LetterGives claim.now.instance.now claim.now.version claim.now.value spot.line (left_here child self.old.below)
+            LetterGives claim.now.instance.now claim.now.version claim.now.value spot.line
+            (left_here child self.old.below)
             (grown list child) spot.at claim.now.bytes.now result }
         ensures next { IfOk result (λ _. spot.at + 1 < 2 ^ 64) }
     {

@@ -34,7 +34,8 @@ impl TreeReader {
         requires line { spot.line ≤ spot.at + 5 }
         ensures within { IfOk result (λ next. (next.at ≤ length claim.now.bytes.now) × (next.line ≤ next.at + 5)) }
         ensures lines { (list : List ℕ) → Stands claim.now.instance.now list self.old →
-            LinesGive claim.now.instance.now claim.now.version claim.now.value (suc self.old.below) (list ∷ []) spot.line spot.at
+            LinesGive claim.now.instance.now claim.now.version claim.now.value (suc self.old.below) (list ∷ [])
+            spot.line spot.at
             claim.now.bytes.now result }
     {
         let at = self.read_own(claim, spot)?;

@@ -19,7 +19,8 @@ impl TreeReader {
         requires within { spot.at ≤ length claim.now.bytes.now }
         ensures back { IfOk result (λ _. IsBack claim.now.instance.now self.old self.new) }
         ensures trees { (list : List ℕ) → Stands claim.now.instance.now list self.old →
-            TreeGives spot.at claim.now.bytes.now result (children_read claim.now.instance.now claim.now.version claim.now.value
+            TreeGives spot.at claim.now.bytes.now result (children_read claim.now.instance.now claim.now.version
+            claim.now.value
             spot.line self.old.below list (drop spot.at claim.now.bytes.now)) }
     {
         let base = self.below;
@@ -51,7 +52,8 @@ impl TreeReader {
         requires rows { AreRows claim.now.instance.now claim.now.rows.now }
         requires at { (list : List ℕ) × Stands claim.now.instance.now list self.old }
         ensures { (list : List ℕ) → Stands claim.now.instance.now list self.old →
-            TreeGives spot.at claim.now.bytes.now result (read_tree claim.now.instance.now (bound_of claim.now.version) claim.now.value
+            TreeGives spot.at claim.now.bytes.now result (read_tree claim.now.instance.now (bound_of claim.now.version)
+            claim.now.value
             spot.line (suc self.old.below) list (drop spot.at claim.now.bytes.now)) }
     {
         let open = self.read_letter(claim, spot, None)?;
@@ -79,7 +81,8 @@ impl TreeReader {
         ensures back { IfOk result (λ _. IsBack claim.now.instance.now self.old self.new) }
         ensures tree { (list : List ℕ) → Stands claim.now.instance.now list self.old →
             IsPlace claim.now.instance.now.jobs list last →
-            TreeGives spot.at claim.now.bytes.now result (read_tree claim.now.instance.now (bound_of claim.now.version) claim.now.value
+            TreeGives spot.at claim.now.bytes.now result (read_tree claim.now.instance.now (bound_of claim.now.version)
+            claim.now.value
             spot.line self.old.below (list ++ slice_index self.old.links.items last ∷ [])
             (drop spot.at claim.now.bytes.now)) }
     {

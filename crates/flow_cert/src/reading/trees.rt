@@ -20,7 +20,8 @@ pub(crate) fn trees_end(
     heading: &Heading,
 ) -> Result<usize, CheckFault>
     requires { heading.now.depth ≤ instance.now.jobs }
-    ensures { TreesGive instance.now heading.now.version heading.now.depth heading.now.value heading.now.trees.now result }
+    ensures { TreesGive instance.now heading.now.version heading.now.depth heading.now.value heading.now.trees.now
+        result }
 {
     let rows = rows(alloc, instance)?;
     let mut reader = TreeReader::new(alloc, instance)?;

@@ -15,17 +15,19 @@ use crate::writing::gathered::Gathered;
 use flow_core::{Sink, WriteFault};
 use flow_search::{Plan, Verdict};
 
-/// Adds the first line.
-fn add_title<S: Sink>(gathered: &mut Gathered, out: &mut S, version: u64) -> Result<(), WriteFault>
+/// Adds the first line, with the version of the plan.
+fn add_title<S: Sink>(gathered: &mut Gathered, out: &mut S, plan: &Plan) -> Result<(), WriteFault>
     requires { S.has_failed out.old ≡ false }
     ensures failed { S.has_failed out.new ≡ is_err result }
     ensures ok { OnOk result
-        (HandsOn (S.taken out.old) (S.taken out.new) gathered.old (line (title version)) gathered.new) }
+        (HandsOn (S.taken out.old) (S.taken out.new) gathered.old (line (title plan.now.options.version))
+        gathered.new) }
     ensures err { OnErr result
-        (AddsProperPrefix (S.taken out.old) (S.taken out.new) (gathered.old ++ line (title version))) }
+        (AddsProperPrefix (S.taken out.old) (S.taken out.new)
+        (gathered.old ++ line (title plan.now.options.version))) }
 {
     gathered.add(out, b"flowshop certificate ")?;
-    gathered.add_number(out, version)?;
+    gathered.add_number(out, u64::from(plan.options().version()))?;
     gathered.add(out, b"\n")
 }
 
@@ -71,7 +73,7 @@ fn add_heading<S: Sink>(
     ensures err { OnErr result
         (AddsProperPrefix (S.taken out.old) (S.taken out.new) (gathered.old ++ heading_with plan.now verdict.now)) }
 {
-    add_title(gathered, out, 1)?;
+    add_title(gathered, out, plan)?;
     add_sizes(gathered, out, plan)?;
     add_value(gathered, out, verdict.value)?;
     gathered.add_numbers(out, verdict.sequence.jobs())

@@ -51,7 +51,8 @@ returns-then-not-is_ending-clause-sound c = certificate_is_sound c.args.instance
 ends : (c : Then-not-is_ending) → certificate_value c.args.instance.now c.args.bytes.now ≡ Err End
 ends c =
     let heading = c.in_ok-heading.heading in
-    checked-end c.args.instance.now heading.version heading.depth heading.value c.in_ok-end.end c.args.bytes.now heading.trees.now
+    checked-end c.args.instance.now heading.version heading.depth heading.value c.in_ok-end.end c.args.bytes.now
+    heading.trees.now
     c.is_ending.result c.in_ok-heading.ensures.found c.in_ok-end.ensures c.is_ending.ensures c.if-not-is_ending.true
 
 pub returns-then-not-is_ending-clause-fault : goal.returns-then-not-is_ending-clause-fault
@@ -70,7 +71,8 @@ read : (c : Else-not-is_ending) →
     certificate_value c.args.instance.now c.args.bytes.now ≡ Ok c.in_ok-heading.heading.value
 read c =
     let heading = c.in_ok-heading.heading in
-    checked-value c.args.instance.now heading.version heading.depth heading.value c.in_ok-end.end c.args.bytes.now heading.trees.now
+    checked-value c.args.instance.now heading.version heading.depth heading.value c.in_ok-end.end c.args.bytes.now
+    heading.trees.now
     c.is_ending.result c.in_ok-heading.ensures.found c.in_ok-end.ensures c.is_ending.ensures c.if-not-is_ending.false
 
 pub returns-clause-value : goal.returns-clause-value

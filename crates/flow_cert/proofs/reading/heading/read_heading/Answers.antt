@@ -26,11 +26,13 @@ returns-in_default-read_size-clause-fault c =
 
 -- what the first two lines make of the value
 sized : (c : In-Some-read_size) → on_line Header (header_value c.args.instance.now) c.args.text.now
-    ≡ on_line Value (after_size c.args.instance.now c.in-Some.version c.in-Some-read_size.depth) c.in-Some-read_size.value_text.now
+    ≡ on_line Value (after_size c.args.instance.now c.in-Some.version c.in-Some-read_size.depth)
+    c.in-Some-read_size.value_text.now
 sized c =
     title-read c.args.instance.now c.in-Some.version c.args.text.now c.in-Some.size_text.now c.in-Some.ensures.found.0
     c.in-Some.ensures.found.1
-    ∙ size-read c.args.instance.now c.in-Some.version c.in-Some.size_text.now c.in-Some-read_size.depth c.in-Some-read_size.value_text.now
+    ∙ size-read c.args.instance.now c.in-Some.version c.in-Some.size_text.now c.in-Some-read_size.depth
+    c.in-Some-read_size.value_text.now
     c.jobs-jobs.ensures.limits
     (size-is c.args.instance.now c.jobs-jobs.result c.machines-machines.result c.in-Some.size_text.now
     c.in-Some-read_size.depth c.in-Some-read_size.value_text.now c.jobs-jobs.ensures.value
@@ -38,8 +40,10 @@ sized c =
 
 -- what the line of the value makes of it
 valued : (c : In-Some-read_number) →
-    on_line Value (after_size c.args.instance.now c.in-Some.version c.in-Some-read_size.depth) c.in-Some-read_size.value_text.now
-    ≡ on_line Sequence (after_value c.args.instance.now c.in-Some.version c.in-Some-read_size.depth c.in-Some-read_number.value)
+    on_line Value (after_size c.args.instance.now c.in-Some.version c.in-Some-read_size.depth)
+    c.in-Some-read_size.value_text.now
+    ≡ on_line Sequence (after_value c.args.instance.now c.in-Some.version c.in-Some-read_size.depth
+    c.in-Some-read_number.value)
     c.in-Some-read_number.sequence_text.now
 valued c = value-read c.args.instance.now c.in-Some.version c.in-Some-read_size.value_text.now c.in-Some-read_size.depth
     c.in-Some-read_number.value c.in-Some-read_number.sequence_text.now c.in-Some-read_number.ensures.found
@@ -47,15 +51,18 @@ valued c = value-read c.args.instance.now c.in-Some.version c.in-Some-read_size.
 -- what the line of the sequence makes of it
 sequenced : (c : In-Some-read_sequence) (same : Bool) →
     nat_eq (span c.args.instance.now c.in-Some-read_sequence.ensures.found.0) c.in-Some-read_number.value ≡ same →
-    on_line Sequence (after_value c.args.instance.now c.in-Some.version c.in-Some-read_size.depth c.in-Some-read_number.value)
+    on_line Sequence (after_value c.args.instance.now c.in-Some.version c.in-Some-read_size.depth
+    c.in-Some-read_number.value)
     c.in-Some-read_number.sequence_text.now
     ≡ cond same (cut_value c.args.instance.now c.in-Some.version c.in-Some-read_size.depth c.in-Some-read_number.value
     c.in-Some-read_sequence.trees.now) (Err NotAttained)
 sequenced c same is =
-    sequence-read c.args.instance.now c.in-Some.version c.in-Some-read_number.sequence_text.now c.in-Some-read_size.depth
+    sequence-read c.args.instance.now c.in-Some.version c.in-Some-read_number.sequence_text.now
+    c.in-Some-read_size.depth
     c.in-Some-read_number.value _ c.in-Some-read_sequence.trees.now c.jobs-jobs.ensures.limits
     c.in-Some-read_sequence.ensures.found.1
-    ∙ ap (λ b. cond b (cut_value c.args.instance.now c.in-Some.version c.in-Some-read_size.depth c.in-Some-read_number.value
+    ∙ ap (λ b. cond b (cut_value c.args.instance.now c.in-Some.version c.in-Some-read_size.depth
+    c.in-Some-read_number.value
     c.in-Some-read_sequence.trees.now) (Err NotAttained)) is
 
 pub returns-in_default-read_number-clause-fault : goal.returns-in_default-read_number-clause-fault
@@ -70,7 +77,8 @@ unfolding certificate_value
 returns-in_default-read_sequence-clause-fault c =
     let at = goal.at.returns-in_default-read_sequence-clause-fault c in
     sized at.In-Some-read_size ∙ valued at.In-Some-read_number
-    ∙ sequence-refused c.args.instance.now c.in-Some.version c.in-Some-read_number.sequence_text.now c.in-Some-read_size.depth
+    ∙ sequence-refused c.args.instance.now c.in-Some.version c.in-Some-read_number.sequence_text.now
+    c.in-Some-read_size.depth
     c.in-Some-read_number.value c.jobs-jobs.ensures.limits c.in_default-read_sequence.ensures.only
 
 pub returns-then-makespan-value-clause-fault : goal.returns-then-makespan-value-clause-fault

@@ -27,7 +27,8 @@ gain-requires-clause-at c = (
 pub returns-clause-value : goal.returns-clause-value
 returns-clause-value c list left at kid =
     let plain = c.bound-plain.ensures.value list left at kid in
-    let gains = c.gain.ensures list left (c.bound-plain.ensures.kept list (left_before c.args.child (suc left)) at) kid in
+    let gains = c.gain.ensures list left (c.bound-plain.ensures.kept list (left_before c.args.child (suc left)) at) kid
+    in
     gain-reaches c.args.claim.now.value c.bound-plain.result c.gain.result (bound_of c.args.claim.now.version
     c.args.claim.now.instance.now (grown list c.args.child) c.args.machine) (omega (arith, c.if-plain-claim.false))
     (omega (arith, plain, gains))

@@ -11,7 +11,7 @@ use Rattle.flow_cert.proofs.writing.certificate.add_heading.Goals.{In_ok-add_val
 
 -- the lines up to the sizes, and up to the value
 abbrev to_sizes : Planned → List ℕ
-to_sizes plan = line (title 1) ++ size_line plan
+to_sizes plan = line (title plan.options.version) ++ size_line plan
 
 abbrev to_value : Planned → Verdict → List ℕ
 to_value plan verdict = to_sizes plan ++ line (decimal verdict.value)
@@ -25,7 +25,8 @@ returns-in_err-add_title-clause-err g c =
     let plan : Planned = c.args.plan.now in
     let verdict : Verdict = c.args.verdict.now in
     on-err c.from_residual.result
-    (stops-early _ _ c.args.gathered.now (line (title 1)) (size_line plan ∷ behind_sizes verdict) c.in_err-add_title.ensures.err)
+    (stops-early _ _ c.args.gathered.now (line (title plan.options.version)) (size_line plan ∷ behind_sizes verdict)
+    c.in_err-add_title.ensures.err)
 
 pub returns-in_err-add_sizes-clause-err : goal.returns-in_err-add_sizes-clause-err
 returns-in_err-add_sizes-clause-err g c =
@@ -46,7 +47,8 @@ returns-in_err-add_value-clause-err g c =
 value : (g : _) (c : In_ok-add_value g) →
     HandsOn (g.S.Sink.taken c.args.out.now) (g.S.Sink.taken c.add_value.new.out) c.args.gathered.now
     (to_value c.args.plan.now c.args.verdict.now) c.add_value.new.gathered
-value g c = then-hands (then-hands c.in_ok-add_title.ensures.ok c.in_ok-add_sizes.ensures.ok) c.in_ok-add_value.ensures.ok
+value g c = then-hands (then-hands c.in_ok-add_title.ensures.ok c.in_ok-add_sizes.ensures.ok)
+    c.in_ok-add_value.ensures.ok
 
 pub returns-clause-ok : goal.returns-clause-ok
 returns-clause-ok g c =

@@ -109,10 +109,12 @@ children-preserved-then-more-eq1 t c =
           (next t at list stands) some c.if-more-eq1.true (ap suc (sym back.below))
           ∙ c.in_ok-place.ensures.lines list (back.kept list stands) (c.children.invariant.behind list stands)
           (awaited c.args.claim.now.instance.now.jobs c.args.more list (job + 1) ++ rest)
-          ∙ ap (λ l. trees_value c.args.claim.now.instance.now (bound_of c.args.claim.now.version) c.args.claim.now.value l
+          ∙ ap (λ l. trees_value c.args.claim.now.instance.now (bound_of c.args.claim.now.version)
+          c.args.claim.now.value l
           (awaited c.args.claim.now.instance.now.jobs c.args.more list (job + 1)
           ++ rest) c.in_ok-place.place.line (drop c.in_ok-place.place.at c.args.claim.now.bytes.now)) left
-          ∙ ap (λ j. trees_value c.args.claim.now.instance.now (bound_of c.args.claim.now.version) c.args.claim.now.value
+          ∙ ap (λ j. trees_value c.args.claim.now.instance.now (bound_of c.args.claim.now.version)
+          c.args.claim.now.value
           (suc c.args.self.now.below - c.args.more) (awaited c.args.claim.now.instance.now.jobs c.args.more list (j
           + 1) ++ rest) c.in_ok-place.place.line (drop c.in_ok-place.place.at c.args.claim.now.bytes.now)) (sym
           (leads t at));
@@ -169,7 +171,8 @@ returns-in_err-place-2-clause-lines t c list stands =
     let some : job ≢ 0 = λ e. c.if-job-eq0.false (leads t at.After-index-job ∙ e) in
     let left : suc c.args.self.now.below - 1 - (c.args.more - 1) ≡ suc c.open.new.self.below - (c.args.more - 1) =
     omega (arith, c.open.ensures.below, back.below) in
-    lines-err c.args.claim.now.instance.now c.args.claim.now.version c.args.claim.now.value (suc c.args.self.now.below - c.args.more)
+    lines-err c.args.claim.now.instance.now c.args.claim.now.version c.args.claim.now.value
+    (suc c.args.self.now.below - c.args.more)
     (suc c.open.new.self.below - (c.args.more - 1)) (extensions c.args.claim.now.instance.now.jobs c.args.more list)
     (extensions c.args.claim.now.instance.now.jobs (c.args.more - 1) (list ++ job
     ∷ [])) c.args.spot.line c.children.place.line c.args.spot.at c.children.place.at c.args.claim.now.bytes.now
@@ -236,14 +239,17 @@ children-preserved t c =
           (suc c.args.self.now.below) c.args.more list c.children.last job c.children.place.line
           (drop c.children.place.at c.args.claim.now.bytes.now) rest
           (next t at.After-index-job list stands) some c.requires.some c.requires.more
-          ∙ ap (λ l. trees_value c.args.claim.now.instance.now (bound_of c.args.claim.now.version) c.args.claim.now.value l
+          ∙ ap (λ l. trees_value c.args.claim.now.instance.now (bound_of c.args.claim.now.version)
+          c.args.claim.now.value l
           (extensions c.args.claim.now.instance.now.jobs (c.args.more - 1) (list ++ job ∷ [])
           ++ after) c.children.place.line (drop c.children.place.at c.args.claim.now.bytes.now)) left
           ∙ c.in_ok-place-2.ensures.lines (list ++ job
           ∷ []) (there t at.After-open (leads t at.After-index-job) c.if-job-eq0.false list stands) after
-          ∙ ap (λ l. trees_value c.args.claim.now.instance.now (bound_of c.args.claim.now.version) c.args.claim.now.value l after
+          ∙ ap (λ l. trees_value c.args.claim.now.instance.now (bound_of c.args.claim.now.version)
+          c.args.claim.now.value l after
           c.in_ok-place-2.place.line (drop c.in_ok-place-2.place.at c.args.claim.now.bytes.now)) same
-          ∙ ap (λ j. trees_value c.args.claim.now.instance.now (bound_of c.args.claim.now.version) c.args.claim.now.value
+          ∙ ap (λ j. trees_value c.args.claim.now.instance.now (bound_of c.args.claim.now.version)
+          c.args.claim.now.value
           (suc c.args.self.now.below - c.args.more) (awaited c.args.claim.now.instance.now.jobs c.args.more list (j
           + 1) ++ rest) c.in_ok-place-2.place.line (drop c.in_ok-place-2.place.at c.args.claim.now.bytes.now))
           (sym last);

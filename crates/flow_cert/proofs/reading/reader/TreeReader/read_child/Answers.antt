@@ -43,11 +43,13 @@ pub returns-in_err-open-clause-tree : goal.returns-in_err-open-clause-tree
 returns-in_err-open-clause-tree c list stands place =
     let at = (goal.at.returns-in_err-open-clause-tree c).After-index-job in
     tree-fails c.args.spot.at c.args.claim.now.bytes.now
-    (read_tree c.args.claim.now.instance.now (bound_of c.args.claim.now.version) c.args.claim.now.value c.args.spot.line c.args.self.now.below
+    (read_tree c.args.claim.now.instance.now (bound_of c.args.claim.now.version) c.args.claim.now.value c.args.spot.line
+    c.args.self.now.below
     (list ++ slice_index c.args.self.now.links.items c.args.last
     ∷ []) (drop c.args.spot.at c.args.claim.now.bytes.now)) c.from_residual.result c.in_err-open.field-0.0
     (exit c.from_residual.result c.in_err-open.field-0.0 c.from_residual.ensures.1)
-    (subst (λ j. read_tree c.args.claim.now.instance.now (bound_of c.args.claim.now.version) c.args.claim.now.value c.args.spot.line
+    (subst (λ j. read_tree c.args.claim.now.instance.now (bound_of c.args.claim.now.version) c.args.claim.now.value
+    c.args.spot.line
     c.args.self.now.below (list ++ j ∷ []) (drop c.args.spot.at c.args.claim.now.bytes.now)
     ≡ Err c.in_err-open.field-0.0) (leads at) (c.in_err-open.ensures.gives list stands
     (given at list stands place)))
@@ -55,11 +57,13 @@ returns-in_err-open-clause-tree c list stands place =
 pub returns-then-not-open-clause-tree : goal.returns-then-not-open-clause-tree
 returns-then-not-open-clause-tree c list stands place =
     let at = (goal.at.returns-then-not-open-clause-tree c).After-index-job in
-    let is = letter-whole c.args.claim.now.instance.now c.args.claim.now.version c.args.claim.now.value c.args.spot.line c.args.self.now.below
+    let is = letter-whole c.args.claim.now.instance.now c.args.claim.now.version c.args.claim.now.value c.args.spot.line
+    c.args.self.now.below
     (list ++ c.index-job.result.now
     ∷ []) c.args.spot.at c.args.claim.now.bytes.now c.in_ok-open.open (c.in_ok-open.ensures.gives list stands
     (given at list stands place)) c.if-not-open.true in (
-      ap (λ j. read_tree c.args.claim.now.instance.now (bound_of c.args.claim.now.version) c.args.claim.now.value c.args.spot.line
+      ap (λ j. read_tree c.args.claim.now.instance.now (bound_of c.args.claim.now.version) c.args.claim.now.value
+          c.args.spot.line
           c.args.self.now.below (list ++ j ∷ []) (drop c.args.spot.at c.args.claim.now.bytes.now)) (sym (leads at))
           ∙ is.1,
       omega arith,
@@ -68,12 +72,14 @@ returns-then-not-open-clause-tree c list stands place =
 
 -- a plus was read
 plus : (c : After-index-job) (b : Bool) → b ≡ true → (list : List ℕ) →
-    LetterGives c.args.claim.now.instance.now c.args.claim.now.version c.args.claim.now.value c.args.spot.line c.args.self.now.below (list
+    LetterGives c.args.claim.now.instance.now c.args.claim.now.version c.args.claim.now.value c.args.spot.line
+    c.args.self.now.below (list
     ++ c.index-job.result.now ∷ []) c.args.spot.at c.args.claim.now.bytes.now (Ok b) →
     (0 < c.args.self.now.below) × (c.args.spot.at < length c.args.claim.now.bytes.now)
     × (drop c.args.spot.at c.args.claim.now.bytes.now ≡ 43 ∷ drop (c.args.spot.at + 1) c.args.claim.now.bytes.now)
 plus c b is list gives =
-    letter-open c.args.claim.now.instance.now c.args.claim.now.version c.args.claim.now.value c.args.spot.line c.args.self.now.below (list
+    letter-open c.args.claim.now.instance.now c.args.claim.now.version c.args.claim.now.value c.args.spot.line
+    c.args.self.now.below (list
     ++ c.index-job.result.now ∷ []) c.args.spot.at c.args.claim.now.bytes.now b gives is
 
 pub open-requires-clause-more : goal.open-requires-clause-more
@@ -127,7 +133,8 @@ returns-in_err-end-clause-tree c list stands place =
     let is = plus at.After-index-job c.in_ok-open.open c.if-not-open.false list (c.in_ok-open.ensures.gives list stands
     (given at.After-index-job list stands place)) in
     subst (λ (r : Result ℕ CheckFault). TreeGives c.args.spot.at c.args.claim.now.bytes.now r
-    (read_tree c.args.claim.now.instance.now (bound_of c.args.claim.now.version) c.args.claim.now.value c.args.spot.line c.args.self.now.below
+    (read_tree c.args.claim.now.instance.now (bound_of c.args.claim.now.version) c.args.claim.now.value c.args.spot.line
+    c.args.self.now.below
     (list ++ slice_index c.args.self.now.links.items c.args.last
     ∷ []) (drop c.args.spot.at c.args.claim.now.bytes.now)))
     (sym (exit c.from_residual-in_err-end.result c.in_err-end.field-0.0 c.from_residual-in_err-end.ensures.1))

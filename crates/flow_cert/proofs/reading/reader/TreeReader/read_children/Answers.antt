@@ -27,7 +27,8 @@ children-init c =
       others = λ place over. refl;
       back = ap (put_back c.args.self.now.links.items) (none-above c.args.self.now.frames.items c.args.self.now.below
           (c.args.self.now.below - c.args.self.now.below) none);
-      reading = λ root stands. reads-start c.args.claim.now.instance.now c.args.claim.now.version c.args.claim.now.value c.args.spot.line root
+      reading = λ root stands. reads-start c.args.claim.now.instance.now c.args.claim.now.version c.args.claim.now.value
+          c.args.spot.line root
           c.args.self.now c.args.spot.at c.args.claim.now.bytes.now stands;
     }
 
@@ -93,12 +94,16 @@ children-preserved-then-job-eq0 c =
       others = λ place over. ap (λ fs. frame_at fs place) is.frames ∙ c.children.invariant.others place over;
       back = back-close c.args.self.now.below c.children.self c.close-last.new.self deep is ∙ c.children.invariant.back;
       reading = λ root stands.
-          subst (λ k. Reads c.args.claim.now.instance.now c.args.claim.now.version c.args.claim.now.value c.args.spot.line root
-          (children_read c.args.claim.now.instance.now c.args.claim.now.version c.args.claim.now.value c.args.spot.line c.args.self.now.below
+          subst (λ k. Reads c.args.claim.now.instance.now c.args.claim.now.version c.args.claim.now.value
+          c.args.spot.line root
+          (children_read c.args.claim.now.instance.now c.args.claim.now.version c.args.claim.now.value c.args.spot.line
+          c.args.self.now.below
           root (drop c.args.spot.at c.args.claim.now.bytes.now)) c.args.self.now.below c.close-last.new.self k
           c.children.at c.args.claim.now.bytes.now) (sym c.close-last.ensures.job)
-          (reads-close c.args.claim.now.instance.now c.args.claim.now.version c.args.claim.now.value c.args.spot.line root
-          (children_read c.args.claim.now.instance.now c.args.claim.now.version c.args.claim.now.value c.args.spot.line c.args.self.now.below
+          (reads-close c.args.claim.now.instance.now c.args.claim.now.version c.args.claim.now.value c.args.spot.line
+          root
+          (children_read c.args.claim.now.instance.now c.args.claim.now.version c.args.claim.now.value c.args.spot.line
+          c.args.self.now.below
           root (drop c.args.spot.at c.args.claim.now.bytes.now)) c.args.self.now.below c.children.self
           c.close-last.new.self c.children.last c.children.at c.args.claim.now.bytes.now
           (c.children.invariant.reading root stands) none deep is);
@@ -135,12 +140,14 @@ returns-in_err-open-clause-trees c root stands =
     let next = child at c.if-job-eq0.false root stands in
     let bad = c.in_err-open.ensures.gives (reached root c.args.self.now.below c.children.self) next.0 next.1 in
     tree-fails c.args.spot.at c.args.claim.now.bytes.now
-    (children_read c.args.claim.now.instance.now c.args.claim.now.version c.args.claim.now.value c.args.spot.line c.args.self.now.below root
+    (children_read c.args.claim.now.instance.now c.args.claim.now.version c.args.claim.now.value c.args.spot.line
+    c.args.self.now.below root
     (drop c.args.spot.at c.args.claim.now.bytes.now)) c.from_residual.result c.in_err-open.field-0.0
     (exit c.from_residual.result c.in_err-open.field-0.0 c.from_residual.ensures.1)
     (reading-fault (drop c.children.at c.args.claim.now.bytes.now) c.in_err-open.field-0.0 i (λ e. c.if-job-eq0.false
     (leads at ∙ e)) refl
-    (subst (λ j. read_tree c.args.claim.now.instance.now (bound_of c.args.claim.now.version) c.args.claim.now.value c.args.spot.line
+    (subst (λ j. read_tree c.args.claim.now.instance.now (bound_of c.args.claim.now.version) c.args.claim.now.value
+    c.args.spot.line
     c.children.self.below (reached root c.args.self.now.below c.children.self ++ j
     ∷ []) (drop c.children.at c.args.claim.now.bytes.now) ≡ Err c.in_err-open.field-0.0) (leads at) bad))
 
@@ -148,12 +155,14 @@ returns-in_err-open-clause-trees c root stands =
 letter : (c : After-branch-open) → c.index-job.result.now ≢ 0 → (root : List ℕ) →
     Stands c.args.claim.now.instance.now root c.args.self.now →
     Reads c.args.claim.now.instance.now c.args.claim.now.version c.args.claim.now.value c.args.spot.line root
-    (children_read c.args.claim.now.instance.now c.args.claim.now.version c.args.claim.now.value c.args.spot.line c.args.self.now.below root
+    (children_read c.args.claim.now.instance.now c.args.claim.now.version c.args.claim.now.value c.args.spot.line
+    c.args.self.now.below root
     (drop c.args.spot.at c.args.claim.now.bytes.now)) c.args.self.now.below c.read_letter.new.self c.children.last
     c.children.at c.args.claim.now.bytes.now
 letter c some root stands =
     reads-back c.args.claim.now.instance.now c.args.claim.now.version c.args.claim.now.value c.args.spot.line root
-    (children_read c.args.claim.now.instance.now c.args.claim.now.version c.args.claim.now.value c.args.spot.line c.args.self.now.below root
+    (children_read c.args.claim.now.instance.now c.args.claim.now.version c.args.claim.now.value c.args.spot.line
+    c.args.self.now.below root
     (drop c.args.spot.at c.args.claim.now.bytes.now)) c.args.self.now.below c.children.self c.read_letter.new.self
     c.children.last c.children.at c.args.claim.now.bytes.now
     (c.children.invariant.reading root stands) (c.children.invariant.size ∙ stands.room) c.read_letter.ensures.back
@@ -173,7 +182,8 @@ open-requires-clause-at c =
 plus : (c : After-index-job) (b : Bool) → b ≡ true →
     ((list : List ℕ) → Stands c.args.claim.now.instance.now list c.children.self →
     IsChild c.args.claim.now.instance.now.jobs list (Some c.index-job.result.now) →
-    LetterGives c.args.claim.now.instance.now c.args.claim.now.version c.args.claim.now.value c.args.spot.line c.children.self.below (list
+    LetterGives c.args.claim.now.instance.now c.args.claim.now.version c.args.claim.now.value c.args.spot.line
+    c.children.self.below (list
     ++ c.index-job.result.now ∷ []) c.children.at c.args.claim.now.bytes.now (Ok b)) → (root : List ℕ) →
     Stands c.args.claim.now.instance.now (reached root c.args.self.now.below c.children.self) c.children.self
     × IsChild c.args.claim.now.instance.now.jobs (reached root c.args.self.now.below c.children.self)
@@ -181,7 +191,8 @@ plus : (c : After-index-job) (b : Bool) → b ≡ true →
     (0 < c.children.self.below) × (c.children.at < length c.args.claim.now.bytes.now)
     × (drop c.children.at c.args.claim.now.bytes.now ≡ 43 ∷ drop (c.children.at + 1) c.args.claim.now.bytes.now)
 plus c b is gives root next =
-    letter-open c.args.claim.now.instance.now c.args.claim.now.version c.args.claim.now.value c.args.spot.line c.children.self.below
+    letter-open c.args.claim.now.instance.now c.args.claim.now.version c.args.claim.now.value c.args.spot.line
+    c.children.self.below
     (reached root c.args.self.now.below c.children.self ++ c.index-job.result.now
     ∷ []) c.children.at c.args.claim.now.bytes.now b (gives
     (reached root c.args.self.now.below c.children.self) next.0 next.1) is
@@ -238,7 +249,8 @@ children-preserved-then-open c =
           let there = plus at.After-index-job c.in_ok-open.open c.if-open.true c.in_ok-open.ensures.gives root
           (child at.After-index-job c.if-job-eq0.false root stands) in
           reads-open c.args.claim.now.instance.now c.args.claim.now.version c.args.claim.now.value c.args.spot.line root
-          (children_read c.args.claim.now.instance.now c.args.claim.now.version c.args.claim.now.value c.args.spot.line c.args.self.now.below
+          (children_read c.args.claim.now.instance.now c.args.claim.now.version c.args.claim.now.value c.args.spot.line
+          c.args.self.now.below
           root (drop c.args.spot.at c.args.claim.now.bytes.now)) c.args.self.now.below c.read_letter.new.self
           c.open.new.self c.children.last c.children.at c.args.claim.now.bytes.now
           (letter at.After-branch-open c.if-job-eq0.false root stands) some there.2 deep is;
@@ -248,18 +260,21 @@ children-preserved-then-open c =
 whole : (c : After-index-job) (b : Bool) → b ≡ false →
     ((list : List ℕ) → Stands c.args.claim.now.instance.now list c.children.self →
     IsChild c.args.claim.now.instance.now.jobs list (Some c.index-job.result.now) →
-    LetterGives c.args.claim.now.instance.now c.args.claim.now.version c.args.claim.now.value c.args.spot.line c.children.self.below (list
+    LetterGives c.args.claim.now.instance.now c.args.claim.now.version c.args.claim.now.value c.args.spot.line
+    c.children.self.below (list
     ++ c.index-job.result.now ∷ []) c.children.at c.args.claim.now.bytes.now (Ok b)) → (root : List ℕ) →
     Stands c.args.claim.now.instance.now (reached root c.args.self.now.below c.children.self) c.children.self
     × IsChild c.args.claim.now.instance.now.jobs (reached root c.args.self.now.below c.children.self)
     (Some c.index-job.result.now) →
     (c.children.at < length c.args.claim.now.bytes.now)
-    × (read_tree c.args.claim.now.instance.now (bound_of c.args.claim.now.version) c.args.claim.now.value c.args.spot.line c.children.self.below
+    × (read_tree c.args.claim.now.instance.now (bound_of c.args.claim.now.version) c.args.claim.now.value
+    c.args.spot.line c.children.self.below
     (reached root c.args.self.now.below c.children.self ++ c.index-job.result.now
     ∷ []) (drop c.children.at c.args.claim.now.bytes.now)
     ≡ Ok (drop (c.children.at + 1) c.args.claim.now.bytes.now))
 whole c b is gives root next =
-    letter-whole c.args.claim.now.instance.now c.args.claim.now.version c.args.claim.now.value c.args.spot.line c.children.self.below
+    letter-whole c.args.claim.now.instance.now c.args.claim.now.version c.args.claim.now.value c.args.spot.line
+    c.children.self.below
     (reached root c.args.self.now.below c.children.self ++ c.index-job.result.now
     ∷ []) c.children.at c.args.claim.now.bytes.now b (gives
     (reached root c.args.self.now.below c.children.self) next.0 next.1) is
@@ -291,17 +306,22 @@ children-preserved c =
       reading = λ root stands.
           let there = whole at.After-index-job c.in_ok-open.open c.if-open.false c.in_ok-open.ensures.gives root
           (child at.After-index-job c.if-job-eq0.false root stands) in
-          let tree = subst (λ j. read_tree c.args.claim.now.instance.now (bound_of c.args.claim.now.version) c.args.claim.now.value
+          let tree = subst (λ j. read_tree c.args.claim.now.instance.now (bound_of c.args.claim.now.version)
+          c.args.claim.now.value
           c.args.spot.line c.children.self.below (reached root c.args.self.now.below c.children.self ++ j
           ∷ []) (drop c.children.at c.args.claim.now.bytes.now)
           ≡ Ok (drop (c.children.at + 1) c.args.claim.now.bytes.now)) job there.1 in
           let read = reading-leaf (c.children.invariant.reading root stands) some tree in
-          subst (λ j. Reads c.args.claim.now.instance.now c.args.claim.now.version c.args.claim.now.value c.args.spot.line root
-          (children_read c.args.claim.now.instance.now c.args.claim.now.version c.args.claim.now.value c.args.spot.line c.args.self.now.below
+          subst (λ j. Reads c.args.claim.now.instance.now c.args.claim.now.version c.args.claim.now.value
+          c.args.spot.line root
+          (children_read c.args.claim.now.instance.now c.args.claim.now.version c.args.claim.now.value c.args.spot.line
+          c.args.self.now.below
           root (drop c.args.spot.at c.args.claim.now.bytes.now)) c.args.self.now.below c.read_letter.new.self j
           (c.children.at + 1) c.args.claim.now.bytes.now) (sym job)
-          (reads-back c.args.claim.now.instance.now c.args.claim.now.version c.args.claim.now.value c.args.spot.line root
-          (children_read c.args.claim.now.instance.now c.args.claim.now.version c.args.claim.now.value c.args.spot.line c.args.self.now.below
+          (reads-back c.args.claim.now.instance.now c.args.claim.now.version c.args.claim.now.value c.args.spot.line
+          root
+          (children_read c.args.claim.now.instance.now c.args.claim.now.version c.args.claim.now.value c.args.spot.line
+          c.args.self.now.below
           root (drop c.args.spot.at c.args.claim.now.bytes.now)) c.args.self.now.below c.children.self
           c.read_letter.new.self (slice_index c.children.self.links.items c.children.last) (c.children.at
           + 1) c.args.claim.now.bytes.now

@@ -1,4 +1,5 @@
-use Rattle.std.proofs.Common.{◌≡◌, ◌≢◌, ℕ, suc, ◌+◌, ◌-◌, ◌<◌, ◌≤◌, List, ◌∷◌, length, drop, get_or, nat_le, Result, refl, ap}
+use Rattle.std.proofs.Common.{◌≡◌, ◌≢◌, ℕ, suc, ◌+◌, ◌-◌, ◌<◌, ◌≤◌, List, ◌∷◌, length, drop, get_or, nat_le, Result}
+use Rattle.std.proofs.Common.{refl, ap}
 use Rattle.std.proofs.Common.{sym, ◌∙◌, arith}
 use Rattle.flow_core.specs.Bound.{bound_of}
 use Rattle.flow_cert.specs.CertificateFaults.{read_tree}
@@ -26,17 +27,20 @@ reached c list stands =
 
 -- what the byte gives, the text gives
 read : (c : After-left_here) (list : List ℕ) (r : Result (List ℕ) CheckFault) →
-    read_tree c.args.claim.now.instance.now (bound_of c.args.claim.now.version) c.args.claim.now.value c.args.spot.line c.left_here.result
+    read_tree c.args.claim.now.instance.now (bound_of c.args.claim.now.version) c.args.claim.now.value c.args.spot.line
+    c.left_here.result
     (grown list c.args.child) (get_or c.args.claim.now.bytes.now c.args.spot.at 0
     ∷ drop (c.args.spot.at + 1) c.args.claim.now.bytes.now) ≡ r →
     read_tree c.args.claim.now.instance.now (bound_of c.args.claim.now.version) c.args.claim.now.value c.args.spot.line
     (left_here c.args.child c.args.self.now.below) (grown list c.args.child)
     (drop c.args.spot.at c.args.claim.now.bytes.now) ≡ r
 read c list r is =
-    ap (read_tree c.args.claim.now.instance.now (bound_of c.args.claim.now.version) c.args.claim.now.value c.args.spot.line
+    ap (read_tree c.args.claim.now.instance.now (bound_of c.args.claim.now.version) c.args.claim.now.value
+    c.args.spot.line
     (left_here c.args.child c.args.self.now.below) (grown list c.args.child))
     (drop-step c.args.claim.now.bytes.now c.args.spot.at c.if-spot-claim.false)
-    ∙ ap (λ l. read_tree c.args.claim.now.instance.now (bound_of c.args.claim.now.version) c.args.claim.now.value c.args.spot.line l
+    ∙ ap (λ l. read_tree c.args.claim.now.instance.now (bound_of c.args.claim.now.version) c.args.claim.now.value
+    c.args.spot.line l
     (grown list c.args.child) (get_or c.args.claim.now.bytes.now c.args.spot.at 0
     ∷ drop (c.args.spot.at + 1) c.args.claim.now.bytes.now)) (sym c.left_here.ensures)
     ∙ is
@@ -45,7 +49,8 @@ pub returns-then-makespan_at-claim-clause-gives : goal.returns-then-makespan_at-
 returns-then-makespan_at-claim-clause-gives c list stands kid =
     let before = (goal.at.returns-then-makespan_at-claim-clause-gives c).After-left_here in
     let at = reached before list stands in
-    read before list _ (leaf-low c.args.claim.now.instance.now (bound_of c.args.claim.now.version) c.args.claim.now.value c.args.spot.line
+    read before list _ (leaf-low c.args.claim.now.instance.now (bound_of c.args.claim.now.version)
+    c.args.claim.now.value c.args.spot.line
     c.left_here.result (grown list c.args.child)
     (get_or c.args.claim.now.bytes.now c.args.spot.at 0) c.makespan_at.result c.if-left_here-eq0.true
     c.if-byte-ne46.false (c.makespan_at.ensures list
@@ -58,7 +63,8 @@ returns-then-left_here-eq0-clause-gives c list stands kid =
     let at = reached before list stands in (
       c.if-spot-claim.false,
       read before list _
-          (leaf-high c.args.claim.now.instance.now (bound_of c.args.claim.now.version) c.args.claim.now.value c.args.spot.line c.left_here.result
+          (leaf-high c.args.claim.now.instance.now (bound_of c.args.claim.now.version) c.args.claim.now.value
+          c.args.spot.line c.left_here.result
           (grown list c.args.child)
           (get_or c.args.claim.now.bytes.now c.args.spot.at 0) c.makespan_at.result c.if-left_here-eq0.true
           c.if-byte-ne46.false (c.makespan_at.ensures list
@@ -69,7 +75,8 @@ returns-then-left_here-eq0-clause-gives c list stands kid =
 pub returns-then-byte-lt65-clause-gives : goal.returns-then-byte-lt65-clause-gives
 returns-then-byte-lt65-clause-gives c list stands kid =
     read (goal.at.returns-then-byte-lt65-clause-gives c).After-left_here list _
-    (cut-before c.args.claim.now.instance.now (bound_of c.args.claim.now.version) c.args.claim.now.value c.args.spot.line c.left_here.result
+    (cut-before c.args.claim.now.instance.now (bound_of c.args.claim.now.version) c.args.claim.now.value
+    c.args.spot.line c.left_here.result
     (grown list c.args.child)
     (get_or c.args.claim.now.bytes.now c.args.spot.at 0) c.if-left_here-eq0.false c.if-byte-eq43.false (omega
     (arith, c.if-byte-lt65.true)) (drop (c.args.spot.at + 1) c.args.claim.now.bytes.now))
@@ -77,7 +84,8 @@ returns-then-byte-lt65-clause-gives c list stands kid =
 pub returns-then-machine-machines-clause-gives : goal.returns-then-machine-machines-clause-gives
 returns-then-machine-machines-clause-gives c list stands kid =
     read (goal.at.returns-then-machine-machines-clause-gives c).After-left_here list _
-    (cut-past c.args.claim.now.instance.now (bound_of c.args.claim.now.version) c.args.claim.now.value c.args.spot.line c.left_here.result
+    (cut-past c.args.claim.now.instance.now (bound_of c.args.claim.now.version) c.args.claim.now.value c.args.spot.line
+    c.left_here.result
     (grown list c.args.child)
     (get_or c.args.claim.now.bytes.now c.args.spot.at 0) c.if-left_here-eq0.false c.if-byte-eq43.false (omega
     (arith, c.if-byte-lt65.false))
@@ -172,7 +180,8 @@ returns-then-not-reaches-clause-gives c list stands kid =
     let is = bounded before.After-reaches list (asked before.After-deref list
     (reached before.After-left_here list stands) c.if-left_here-eq0.false) kid in
     read before.After-left_here list _
-    (cut-weak c.args.claim.now.instance.now (bound_of c.args.claim.now.version) c.args.claim.now.value c.args.spot.line c.left_here.result
+    (cut-weak c.args.claim.now.instance.now (bound_of c.args.claim.now.version) c.args.claim.now.value c.args.spot.line
+    c.left_here.result
     (grown list c.args.child)
     (get_or c.args.claim.now.bytes.now c.args.spot.at 0) c.reaches.result c.if-left_here-eq0.false
     c.if-byte-eq43.false is.0 is.1 is.2 c.if-not-reaches.true (drop (c.args.spot.at
@@ -185,7 +194,8 @@ returns-clause-gives c list stands kid =
     (reached before.After-left_here list stands) c.if-left_here-eq0.false) kid in (
       c.if-spot-claim.false,
       read before.After-left_here list _
-          (cut-strong c.args.claim.now.instance.now (bound_of c.args.claim.now.version) c.args.claim.now.value c.args.spot.line c.left_here.result
+          (cut-strong c.args.claim.now.instance.now (bound_of c.args.claim.now.version) c.args.claim.now.value
+          c.args.spot.line c.left_here.result
           (grown list c.args.child)
           (get_or c.args.claim.now.bytes.now c.args.spot.at 0) c.reaches.result c.if-left_here-eq0.false
           c.if-byte-eq43.false is.0 is.1 is.2 c.if-not-reaches.false (drop (c.args.spot.at

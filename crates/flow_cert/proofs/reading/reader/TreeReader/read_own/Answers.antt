@@ -43,5 +43,6 @@ returns c list stands =
     c.read_children.result refl refl is.2
     (subst (λ b. TreeGives (c.args.spot.at
     + 1) c.args.claim.now.bytes.now c.read_children.result
-    (children_read c.args.claim.now.instance.now c.args.claim.now.version c.args.claim.now.value c.args.spot.line b list (drop
+    (children_read c.args.claim.now.instance.now c.args.claim.now.version c.args.claim.now.value c.args.spot.line b list
+    (drop
     (c.args.spot.at + 1) c.args.claim.now.bytes.now))) c.read_letter.ensures.back.below children)
