@@ -4,7 +4,7 @@ use Rattle.flow_core.specs.Shop.{Shop}
 use Rattle.flow_core.specs.declared.text.block.Block.{Block}
 use Rattle.flow_search.specs.Choices.{Choices, options_or_fault}
 use Rattle.flow_search.specs.declared.options.OptionFault.{OptionFault}
-use Rattle.flow_tool.specs.Commands.{Answer, AnswersOptions, AnswersPlan, AnswersSolve, Picks}
+use Rattle.flow_tool.specs.Commands.{Answer, AnswersOptions, AnswersPlan, AnswersSolve, Picks, mirrored_if}
 use Rattle.flow_tool.specs.Runs.{Came, Ends, EndsAlone, Wrote}
 use Rattle.flow_tool.specs.declared.fault.ToolFault.{ToolFault}
 use Rattle.flow_tool.specs.Limits.{most_text}
@@ -13,12 +13,12 @@ options-answer : (shop : Shop) (read : Result Choices OptionFault) (options : Ch
     Ok options ≡ read → AnswersPlan shop options answer → AnswersOptions shop read answer
 options-answer shop read options answer is answers = subst (λ r. AnswersOptions shop r answer) is answers
 
-pub solve-written : (index workers depth budget : ℕ) (block : Block) (options : Choices) (given gives : Option (List ℕ))
+pub solve-written : (index workers depth budget : ℕ) (mirror : Bool) (block : Block) (options : Choices) (given gives : Option (List ℕ))
     (ended : Bool) (taken takes : Option (List ℕ)) → Ok options ≡ options_or_fault workers depth budget →
     Came most_text (λ text. Picks text index (Ok block)) given gives ended →
-    Wrote (AnswersPlan block.instance options) taken takes →
-    Came most_text (λ text. Wrote (AnswersSolve index workers depth budget text) taken takes) given gives ended
-solve-written index workers depth budget block options given gives ended taken takes is came wrote = (
+    Wrote (AnswersPlan (mirrored_if mirror block.instance) options) taken takes →
+    Came most_text (λ text. Wrote (AnswersSolve index workers depth budget mirror text) taken takes) given gives ended
+solve-written index workers depth budget mirror block options given gives ended taken takes is came wrote = (
   came.0,
   came.1,
   came.2,
@@ -26,20 +26,20 @@ solve-written index workers depth budget block options given gives ended taken t
   (
     wrote.0,
     inl
-        (block, came.4, options-answer block.instance _ options _ is wrote.1),
+        (block, came.4, options-answer (mirrored_if mirror block.instance) _ options _ is wrote.1),
     wrote.2,
   ),
 )
 
-pub solve-ended : (Untouched : Type 0) (index workers depth budget : ℕ) (block : Block) (options : Choices)
+pub solve-ended : (Untouched : Type 0) (index workers depth budget : ℕ) (mirror : Bool) (block : Block) (options : Choices)
     (given gives : Option (List ℕ)) (ended : Bool) (taken takes : Option (List ℕ)) (fault : ToolFault) →
     Ok options ≡ options_or_fault workers depth budget →
     Came most_text (λ text. Picks text index (Ok block)) given gives ended →
-    EndsAlone Untouched (AnswersPlan block.instance options) taken takes fault →
-    Ends Untouched most_text (AnswersSolve index workers depth budget) given gives ended taken takes fault
-solve-ended Untouched index workers depth budget block options given gives ended taken takes fault is came (inl
+    EndsAlone Untouched (AnswersPlan (mirrored_if mirror block.instance) options) taken takes fault →
+    Ends Untouched most_text (AnswersSolve index workers depth budget mirror) given gives ended taken takes fault
+solve-ended Untouched index workers depth budget mirror block options given gives ended taken takes fault is came (inl
     (untouched, inl memory)) = inl (untouched, inl (memory, (came.0, came.1, came.2)))
-solve-ended Untouched index workers depth budget block options given gives ended taken takes fault is came (inl
+solve-ended Untouched index workers depth budget mirror block options given gives ended taken takes fault is came (inl
     (untouched, inr answers)) =
     inl (
       untouched,
@@ -49,10 +49,10 @@ solve-ended Untouched index workers depth budget block options given gives ended
         came.2,
         came.3,
         inl
-            (block, came.4, options-answer block.instance _ options _ is answers),
+            (block, came.4, options-answer (mirrored_if mirror block.instance) _ options _ is answers),
       ))),
     )
-solve-ended Untouched index workers depth budget block options given gives ended taken takes fault is came (inr
+solve-ended Untouched index workers depth budget mirror block options given gives ended taken takes fault is came (inr
     (writing, part)) =
     inr (
       writing,
@@ -64,7 +64,7 @@ solve-ended Untouched index workers depth budget block options given gives ended
         (
           part.0,
           inl
-              (block, came.4, options-answer block.instance _ options _ is part.1),
+              (block, came.4, options-answer (mirrored_if mirror block.instance) _ options _ is part.1),
           part.2,
         ),
       ),

@@ -1,9 +1,10 @@
 -- What each command answers for the bytes and numbers that it is given: the text that it writes, or its first fault.
 -- That memory runs out and that a device fails is said in Runs.
 use Rattle.std.specs.Prelude.{◌≡◌, ℕ, ◌-◌, ◌≤◌, ◌<◌, ◌⊎◌, ◌++◌, List, [], ◌∷◌, length, codes, decimal, Some, None}
-use Rattle.std.specs.Prelude.{Result, Ok, Err, slice_get}
+use Rattle.std.specs.Prelude.{Bool, true, cond, Result, Ok, Err, slice_get}
 use Rattle.std.specs.List.{flat_map}
 use Rattle.flow_core.specs.Shop.{Shop}
+use Rattle.flow_core.specs.Mirror.{mirrored}
 use Rattle.flow_core.specs.Paths.{span}
 use Rattle.flow_core.specs.SequenceFaults.{sequence_fault}
 use Rattle.flow_core.specs.TextFaults.{text_fault}
@@ -96,12 +97,19 @@ AnswersGen jobs machines seed (Err fault) =
 abbrev pub optimal_line : ℕ → List ℕ
 optimal_line value = codes "optimal " ++ decimal value ++ codes "\n"
 
--- what `check` answers for the bytes of a certificate: the value for which they are lawful, or their first fault
-abbrev pub AnswersCheck : Shop → List ℕ → Answer → Type 0
-AnswersCheck shop bytes (Ok text) =
-    (value : ℕ) × IsCertificate shop bytes value × (text ≡ optimal_line value)
-AnswersCheck shop bytes (Err fault) =
+-- the bytes are a lawful certificate of the shop; or, where either is asked for, of the mirrored shop
+abbrev pub IsAccepted : Bool → Shop → List ℕ → ℕ → Type 0
+IsAccepted either shop bytes value =
+    IsCertificate shop bytes value ⊎ ((either ≡ true) × IsCertificate (mirrored shop) bytes value)
+
+-- what `check` answers for the bytes of a certificate: the value for which they are accepted; or, where they are
+-- accepted for none, their first fault as a certificate of the shop
+abbrev pub AnswersCheck : Bool → Shop → List ℕ → Answer → Type 0
+AnswersCheck either shop bytes (Ok text) =
+    (value : ℕ) × IsAccepted either shop bytes value × (text ≡ optimal_line value)
+AnswersCheck either shop bytes (Err fault) =
     (first : CheckFault) × (certificate_value shop bytes ≡ Err first) × (fault ≡ tool.Certificate first)
+    × ((value : ℕ) → ¬ IsAccepted either shop bytes value)
 
 -- what `solve` answers for a plan: its certificate, where each tree is within the budget; or the first prefix whose
 -- tree is not; or that a worker could not be started
@@ -118,12 +126,17 @@ AnswersPlan shop options answer =
     × (plan_fault shop options ≡ None) × AnswersRun plan answer)
     ⊎ ((fault : PlanFault) × (plan_fault shop options ≡ Some fault) × (answer ≡ Err (tool.Plan fault)))
 
+-- the shop, or the mirrored one where that is asked for
+abbrev pub mirrored_if : Bool → Shop → Shop
+mirrored_if asked shop = cond asked (mirrored shop) shop
+
 -- what it answers for an instance, where the options are read
 abbrev pub AnswersOptions : Shop → Result Choices OptionFault → Answer → Type 0
 AnswersOptions shop (Ok options) answer = AnswersPlan shop options answer
 AnswersOptions shop (Err fault) answer = answer ≡ Err (tool.Choice fault)
 
 -- what `solve` answers for a text
-abbrev pub AnswersSolve : ℕ → ℕ → ℕ → ℕ → List ℕ → Answer → Type 0
-AnswersSolve index workers depth budget =
-    AnswersFor index (λ block. AnswersOptions block.instance (options_or_fault workers depth budget))
+abbrev pub AnswersSolve : ℕ → ℕ → ℕ → ℕ → Bool → List ℕ → Answer → Type 0
+AnswersSolve index workers depth budget mirror =
+    AnswersFor index
+    (λ block. AnswersOptions (mirrored_if mirror block.instance) (options_or_fault workers depth budget))

@@ -32,6 +32,8 @@ pub(crate) enum Order<'a> {
         index: u32,
         /// The name of the certificate's file.
         cert: &'a str,
+        /// Whether a certificate of the mirrored instance is accepted too.
+        either: bool,
     },
 }
 
@@ -53,6 +55,8 @@ pub(crate) enum OfBlock {
         depth: u32,
         /// The most bytes of a tree.
         budget: u32,
+        /// Whether the mirrored instance is solved.
+        mirror: bool,
     },
 }
 
@@ -113,7 +117,12 @@ fn solve_command<'a>(alloc: Global) -> Result<Command<'a>, AllocError> {
         .arg(number(alloc, "INDEX"))?
         .arg(workers)?
         .arg(depth)?
-        .arg(budget)
+        .arg(budget)?
+        .arg(flag(
+            alloc,
+            "mirrored",
+            "Solves the instance with its machines in reverse order",
+        ))
 }
 
 fn check_command<'a>(alloc: Global) -> Result<Command<'a>, AllocError> {
@@ -121,7 +130,12 @@ fn check_command<'a>(alloc: Global) -> Result<Command<'a>, AllocError> {
         .about("Checks a certificate, and prints the value that it proves least")
         .arg(word(alloc, "FILE"))?
         .arg(number(alloc, "INDEX"))?
-        .arg(word(alloc, "CERT"))
+        .arg(word(alloc, "CERT"))?
+        .arg(flag(
+            alloc,
+            "either",
+            "Accepts a certificate of the mirrored instance too",
+        ))
 }
 
 /// A required word.
@@ -159,6 +173,14 @@ fn option<'a>(
         .default_value(default)
         .help(help)
         .value_parser(value_parser!(u32))
+}
+
+/// A choice with a long name, which is left out or not.
+fn flag<'a>(alloc: Global, name: &'a str, help: &'a str) -> Arg<'a> {
+    Arg::new(alloc, name)
+        .long(name)
+        .action(ArgAction::SetTrue)
+        .help(help)
 }
 
 /// What the words ask for; none where a value is missing or does not read as its type.
@@ -213,6 +235,7 @@ fn solve_order<'a>(given: &ArgMatches<'a>) -> Option<Order<'a>> {
             workers,
             depth,
             budget,
+            mirror: given.get_flag("mirrored"),
         },
     )
 }
@@ -222,6 +245,7 @@ fn check_order<'a>(given: &ArgMatches<'a>) -> Option<Order<'a>> {
         file: given.get_str("FILE")?,
         index: given.get_one::<u32>("INDEX")?,
         cert: given.get_str("CERT")?,
+        either: given.get_flag("either"),
     })
 }
 
