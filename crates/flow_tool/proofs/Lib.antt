@@ -2,4 +2,5 @@ mod Certified
 mod Endings
 mod Ordered
 mod Small
+mod Refused
 mod Solved

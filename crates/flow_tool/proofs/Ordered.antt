@@ -8,15 +8,15 @@ use Rattle.flow_tool.specs.Limits.{most_certificate, most_text}
 use Rattle.flow_tool.specs.Runs.{Came, Wrote}
 
 -- the certificate is the one that was read
-pub wrote-for-certificate : (index : ℕ) (given gives : Option (List ℕ)) (ended : Bool)
+pub wrote-for-certificate : (index : ℕ) (either : Bool) (given gives : Option (List ℕ)) (ended : Bool)
     (cert_given cert_gives : Option (List ℕ)) (cert_ended : Bool) (taken takes : Option (List ℕ)) →
     Came most_text (λ text. (block : Block) × Picks text index (Ok block)
-    × Came most_certificate (λ bytes. Wrote (AnswersCheck block.instance bytes) taken takes)
+    × Came most_certificate (λ bytes. Wrote (AnswersCheck either block.instance bytes) taken takes)
     cert_given cert_gives cert_ended) given gives ended →
     Came most_text (λ text. (certificate : List ℕ) × (length certificate ≤ most_certificate)
-    × Wrote (AnswersFor index (λ block. AnswersCheck block.instance certificate) text) taken takes)
+    × Wrote (AnswersFor index (λ block. AnswersCheck either block.instance certificate) text) taken takes)
     given gives ended
-wrote-for-certificate index given gives ended cert_given cert_gives cert_ended taken takes
+wrote-for-certificate index either given gives ended cert_given cert_gives cert_ended taken takes
     (text, short, came, whole, (block, picks, (bytes, within, cert_came, cert_whole, (line, answers, adds)))) =
     (text, short, came, whole, (bytes, within, (line, inl (block, picks, answers), adds)))
 

@@ -5,6 +5,7 @@ use Rattle.flow_core.specs.declared.text.block.Block.{Block}
 use Rattle.flow_search.specs.Choices.{Choices}
 use Rattle.flow_search.specs.declared.options.OptionFault.{OptionFault}
 use Rattle.flow_tool.specs.Commands.{Answer, AnswersOptions, AnswersPlan, AnswersSolve, Picks, asked_options}
+use Rattle.flow_tool.specs.Commands.{mirrored_if}
 use Rattle.flow_tool.specs.Runs.{Came, Ends, EndsAlone, Wrote}
 use Rattle.flow_tool.specs.declared.fault.ToolFault.{ToolFault}
 use Rattle.flow_tool.specs.Limits.{most_text}
@@ -13,13 +14,13 @@ options-answer : (shop : Shop) (read : Result Choices OptionFault) (options : Ch
     Ok options ≡ read → AnswersPlan shop options answer → AnswersOptions shop read answer
 options-answer shop read options answer is answers = subst (λ r. AnswersOptions shop r answer) is answers
 
-pub solve-written : (index workers depth budget version : ℕ) (block : Block) (options : Choices)
+pub solve-written : (index workers depth budget version : ℕ) (mirror : Bool) (block : Block) (options : Choices)
     (given gives : Option (List ℕ)) (ended : Bool) (taken takes : Option (List ℕ)) →
     Ok options ≡ asked_options workers depth budget version →
     Came most_text (λ text. Picks text index (Ok block)) given gives ended →
-    Wrote (AnswersPlan block.instance options) taken takes →
-    Came most_text (λ text. Wrote (AnswersSolve index workers depth budget version text) taken takes) given gives ended
-solve-written index workers depth budget version block options given gives ended taken takes is came wrote = (
+    Wrote (AnswersPlan (mirrored_if mirror block.instance) options) taken takes →
+    Came most_text (λ text. Wrote (AnswersSolve index workers depth budget version mirror text) taken takes) given gives ended
+solve-written index workers depth budget version mirror block options given gives ended taken takes is came wrote = (
   came.0,
   came.1,
   came.2,
@@ -27,20 +28,20 @@ solve-written index workers depth budget version block options given gives ended
   (
     wrote.0,
     inl
-        (block, came.4, options-answer block.instance _ options _ is wrote.1),
+        (block, came.4, options-answer (mirrored_if mirror block.instance) _ options _ is wrote.1),
     wrote.2,
   ),
 )
 
-pub solve-ended : (Untouched : Type 0) (index workers depth budget version : ℕ) (block : Block) (options : Choices)
+pub solve-ended : (Untouched : Type 0) (index workers depth budget version : ℕ) (mirror : Bool) (block : Block) (options : Choices)
     (given gives : Option (List ℕ)) (ended : Bool) (taken takes : Option (List ℕ)) (fault : ToolFault) →
     Ok options ≡ asked_options workers depth budget version →
     Came most_text (λ text. Picks text index (Ok block)) given gives ended →
-    EndsAlone Untouched (AnswersPlan block.instance options) taken takes fault →
-    Ends Untouched most_text (AnswersSolve index workers depth budget version) given gives ended taken takes fault
-solve-ended Untouched index workers depth budget version block options given gives ended taken takes fault is came (inl
+    EndsAlone Untouched (AnswersPlan (mirrored_if mirror block.instance) options) taken takes fault →
+    Ends Untouched most_text (AnswersSolve index workers depth budget version mirror) given gives ended taken takes fault
+solve-ended Untouched index workers depth budget version mirror block options given gives ended taken takes fault is came (inl
     (untouched, inl memory)) = inl (untouched, inl (memory, (came.0, came.1, came.2)))
-solve-ended Untouched index workers depth budget version block options given gives ended taken takes fault is came (inl
+solve-ended Untouched index workers depth budget version mirror block options given gives ended taken takes fault is came (inl
     (untouched, inr answers)) =
     inl (
       untouched,
@@ -50,10 +51,10 @@ solve-ended Untouched index workers depth budget version block options given giv
         came.2,
         came.3,
         inl
-            (block, came.4, options-answer block.instance _ options _ is answers),
+            (block, came.4, options-answer (mirrored_if mirror block.instance) _ options _ is answers),
       ))),
     )
-solve-ended Untouched index workers depth budget version block options given gives ended taken takes fault is came (inr
+solve-ended Untouched index workers depth budget version mirror block options given gives ended taken takes fault is came (inr
     (writing, part)) =
     inr (
       writing,
@@ -65,7 +66,7 @@ solve-ended Untouched index workers depth budget version block options given giv
         (
           part.0,
           inl
-              (block, came.4, options-answer block.instance _ options _ is part.1),
+              (block, came.4, options-answer (mirrored_if mirror block.instance) _ options _ is part.1),
           part.2,
         ),
       ),

@@ -1,7 +1,7 @@
 -- What each command answers for the bytes and numbers that it is given: the text that it writes, or its first fault.
 -- That memory runs out and that a device fails is said in Runs.
 use Rattle.std.specs.Prelude.{◌≡◌, ℕ, ◌-◌, ◌≤◌, ◌<◌, ◌⊎◌, ◌++◌, List, [], ◌∷◌, length, codes, decimal, Some, None}
-use Rattle.std.specs.Prelude.{Result, Ok, Err, slice_get}
+use Rattle.std.specs.Prelude.{Bool, true, cond, Result, Ok, Err, slice_get}
 use Rattle.std.specs.List.{flat_map}
 use Rattle.flow_core.specs.Shop.{Shop}
 use Rattle.flow_core.specs.Paths.{span}
@@ -110,12 +110,19 @@ AnswersGen jobs machines seed (Err fault) =
 abbrev pub optimal_line : ℕ → List ℕ
 optimal_line value = codes "optimal " ++ decimal value ++ codes "\n"
 
--- what `check` answers for the bytes of a certificate: the value for which they are lawful, or their first fault
-abbrev pub AnswersCheck : Shop → List ℕ → Answer → Type 0
-AnswersCheck shop bytes (Ok text) =
-    (value : ℕ) × IsCertificate shop bytes value × (text ≡ optimal_line value)
-AnswersCheck shop bytes (Err fault) =
+-- the bytes are a lawful certificate of the shop; or, where either is asked for, of the mirrored shop
+abbrev pub IsAccepted : Bool → Shop → List ℕ → ℕ → Type 0
+IsAccepted either shop bytes value =
+    IsCertificate shop bytes value ⊎ ((either ≡ true) × IsCertificate (mirrored shop) bytes value)
+
+-- what `check` answers for the bytes of a certificate: the value for which they are accepted; or, where they are
+-- accepted for none, their first fault as a certificate of the shop
+abbrev pub AnswersCheck : Bool → Shop → List ℕ → Answer → Type 0
+AnswersCheck either shop bytes (Ok text) =
+    (value : ℕ) × IsAccepted either shop bytes value × (text ≡ optimal_line value)
+AnswersCheck either shop bytes (Err fault) =
     (first : CheckFault) × (certificate_value shop bytes ≡ Err first) × (fault ≡ tool.Certificate first)
+    × ((value : ℕ) → ¬ IsAccepted either shop bytes value)
 
 -- what `solve` answers for a plan: its certificate, where each tree is within the budget; or the first prefix whose
 -- tree is not; or that a worker could not be started
@@ -133,6 +140,10 @@ AnswersPlan shop options answer =
     × (plan.options ≡ options) × (plan_fault shop options ≡ None) × AnswersRun plan answer)
     ⊎ ((fault : PlanFault) × (plan_fault shop options ≡ Some fault) × (answer ≡ Err (tool.Plan fault)))
 
+-- the shop, or the mirrored one where that is asked for
+abbrev pub mirrored_if : Bool → Shop → Shop
+mirrored_if asked shop = cond asked (mirrored shop) shop
+
 -- what it answers for an instance, where the options are read
 abbrev pub AnswersOptions : Shop → Result Choices OptionFault → Answer → Type 0
 AnswersOptions shop (Ok options) answer = AnswersPlan shop options answer
@@ -145,6 +156,7 @@ asked_options workers depth budget version =
     [ Ok options ↦ version_or_fault options version | Err fault ↦ Err fault ]
 
 -- what `solve` answers for a text
-abbrev pub AnswersSolve : ℕ → ℕ → ℕ → ℕ → ℕ → List ℕ → Answer → Type 0
-AnswersSolve index workers depth budget version =
-    AnswersFor index (λ block. AnswersOptions block.instance (asked_options workers depth budget version))
+abbrev pub AnswersSolve : ℕ → ℕ → ℕ → ℕ → ℕ → Bool → List ℕ → Answer → Type 0
+AnswersSolve index workers depth budget version mirror =
+    AnswersFor index
+    (λ block. AnswersOptions (mirrored_if mirror block.instance) (asked_options workers depth budget version))

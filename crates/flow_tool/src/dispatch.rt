@@ -89,13 +89,18 @@ fn obey<R: Threads + Wait + Sync, I: Inputs, K: Sink>(
             let mut text = inputs.open(*file).ok_or(Stop::Open)?;
             Ok(obey_for_block(rt, alloc, &mut text, *index, what, out)?)
         }
-        Order::Check { file, index, cert } => {
+        Order::Check {
+            file,
+            index,
+            cert,
+            either,
+        } => {
             if *file == STANDARD {
                 let mut text = inputs.standard();
-                return check_named(alloc, inputs, &mut text, *index, *cert, out);
+                return check_named(alloc, inputs, &mut text, *index, *cert, *either, out);
             }
             let mut text = inputs.open(*file).ok_or(Stop::Open)?;
-            check_named(alloc, inputs, &mut text, *index, *cert, out)
+            check_named(alloc, inputs, &mut text, *index, *cert, *either, out)
         }
     }
 }
@@ -126,8 +131,9 @@ fn obey_for_block<R: Threads + Wait + Sync, S: Source, K: Sink>(
             depth,
             budget,
             version,
+            mirror,
         } => run_solve(
-            rt, alloc, text, index, *workers, *depth, *budget, *version, &Open, out,
+            rt, alloc, text, index, *workers, *depth, *budget, *version, *mirror, &Open, out,
         ),
     }
 }
@@ -139,13 +145,14 @@ fn check_named<I: Inputs, S: Source, K: Sink>(
     text: &mut S,
     index: u32,
     cert: &str,
+    either: bool,
     out: &mut K,
 ) -> Result<(), Stop>
     requires text_works { S.has_failed text.old ≡ false }
     requires out_works { K.has_failed out.old ≡ false }
     ensures written { OnOk result (Came most_text (λ bytes. (certificate : List ℕ)
         × (length certificate ≤ most_certificate)
-        × Wrote (AnswersFor index (λ block. AnswersCheck block.instance certificate) bytes)
+        × Wrote (AnswersFor index (λ block. AnswersCheck either block.instance certificate) bytes)
         (K.taken out.old) (K.taken out.new))
         (S.given text.old) (S.given text.new) (S.has_ended text.new)) }
     ensures least { OnOk result (Came most_text (λ bytes. (block : Block) × Picks bytes index (Ok block)
@@ -153,5 +160,5 @@ fn check_named<I: Inputs, S: Source, K: Sink>(
         (S.given text.old) (S.given text.new) (S.has_ended text.new)) }
 {
     let mut cert = inputs.open(cert).ok_or(Stop::Open)?;
-    Ok(run_check(alloc, text, index, &mut cert, out)?)
+    Ok(run_check(alloc, text, index, &mut cert, either, out)?)
 }

@@ -90,7 +90,12 @@ fn solve_command<'a>(alloc: Global) -> Result<Command<'a>, AllocError> {
         .arg(workers)?
         .arg(depth)?
         .arg(budget)?
-        .arg(version)
+        .arg(version)?
+        .arg(flag(
+            alloc,
+            "mirrored",
+            "Solves the instance with its machines in reverse order",
+        ))
 }
 
 fn check_command<'a>(alloc: Global) -> Result<Command<'a>, AllocError> {
@@ -98,7 +103,12 @@ fn check_command<'a>(alloc: Global) -> Result<Command<'a>, AllocError> {
         .about("Checks a certificate, and prints the value that it proves least")
         .arg(file(alloc))?
         .arg(index(alloc))?
-        .arg(word(alloc, "CERT", "The file of the certificate"))
+        .arg(word(alloc, "CERT", "The file of the certificate"))?
+        .arg(flag(
+            alloc,
+            "either",
+            "Accepts a certificate of the mirrored instance too",
+        ))
 }
 
 /// The file of a benchmark text.
@@ -155,4 +165,12 @@ fn option<'a>(
         .default_value(default)
         .help(help)
         .value_parser(value_parser!(u32))
+}
+
+/// A choice with a long name, which is taken or left out.
+fn flag<'a>(alloc: Global, name: &'a str, help: &'a str) -> Arg<'a> {
+    Arg::new(alloc, name)
+        .long(name)
+        .action(ArgAction::SetTrue)
+        .help(help)
 }

@@ -32,6 +32,8 @@ pub enum Order<'a> {
         index: u32,
         /// The name of the certificate's file.
         cert: &'a str,
+        /// Whether a certificate of the mirrored instance is accepted too.
+        either: bool,
     },
 }
 
@@ -57,6 +59,8 @@ pub enum OfBlock {
         budget: u32,
         /// The version of the certificate.
         version: u32,
+        /// Whether the mirrored instance is solved.
+        mirror: bool,
     },
 }
 
@@ -110,6 +114,7 @@ fn solve_order<'a>(given: &ArgMatches<'a>) -> Option<Order<'a>> {
     let depth = given.get_one::<u32>("depth")?;
     let budget = given.get_one::<u32>("budget")?;
     let version = given.get_one::<u32>("certificate")?;
+    let mirror = given.get_flag("mirrored");
     block_order(
         given,
         OfBlock::Solve {
@@ -117,6 +122,7 @@ fn solve_order<'a>(given: &ArgMatches<'a>) -> Option<Order<'a>> {
             depth,
             budget,
             version,
+            mirror,
         },
     )
 }
@@ -126,6 +132,7 @@ fn check_order<'a>(given: &ArgMatches<'a>) -> Option<Order<'a>> {
         file: given.get_str("FILE")?,
         index: given.get_one::<u32>("INDEX")?,
         cert: given.get_str("CERT")?,
+        either: given.get_flag("either"),
     })
 }
 

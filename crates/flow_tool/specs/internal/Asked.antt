@@ -14,14 +14,15 @@ abbrev pub AnswersAsked : ℕ → OfBlock → List ℕ → Answer → Type 0
 AnswersAsked index (Span jobs) = AnswersSpan index jobs.items
 AnswersAsked index Neh = AnswersNeh index
 AnswersAsked index Mirror = AnswersMirror index
-AnswersAsked index (Solve workers depth budget version) = AnswersSolve index workers depth budget version
+AnswersAsked index (Solve workers depth budget version mirror) =
+    AnswersSolve index workers depth budget version mirror
 
 -- what is answered for an order, by the bytes of the text and of the certificate that it names
 abbrev pub AnswersOrder : Order → List ℕ → List ℕ → Answer → Type 0
 AnswersOrder (order.Gen jobs machines seed) text certificate = AnswersGen jobs machines seed
 AnswersOrder (order.OfBlock file index what) text certificate = AnswersAsked index what text
-AnswersOrder (order.Check file index name) text certificate =
-    AnswersFor index (λ block. AnswersCheck block.instance certificate) text
+AnswersOrder (order.Check file index name either) text certificate =
+    AnswersFor index (λ block. AnswersCheck either block.instance certificate) text
 
 -- a sink took the whole answer for an order, for some text and some certificate within their limits
 abbrev pub WroteOrdered : Order → Option (List ℕ) → Option (List ℕ) → Type 0

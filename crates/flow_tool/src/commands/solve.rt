@@ -5,7 +5,7 @@ ghost use Rattle.flow_core.specs.Bytes.{Grows};
 ghost use Rattle.flow_core.specs.declared.bytes.fault.ReadFault.TheVariants as read;
 ghost use Rattle.flow_core.specs.declared.bytes.fault.WriteFault.TheVariants as write;
 ghost use Rattle.flow_core.specs.declared.text.block.Block.{Block};
-ghost use Rattle.flow_tool.specs.Commands.{AnswersPlan, AnswersSolve, Picks, asked_options};
+ghost use Rattle.flow_tool.specs.Commands.{AnswersPlan, AnswersSolve, Picks, asked_options, mirrored_if};
 ghost use Rattle.flow_tool.specs.Runs.{Came, Ends, EndsAlone, Wrote, WroteCertificate};
 ghost use Rattle.flow_tool.specs.Limits.{most_text};
 
@@ -15,7 +15,7 @@ use flow_cert::write_certificate;
 use flow_core::{Instance, Sink, Source};
 use flow_pool::{Gate, solve};
 use flow_search::{OptionFault, Options, prepare};
-use std::alloc::Global;
+use std::alloc::{AllocError, Global};
 use std::sync::Wait;
 use std::thread::Threads;
 
@@ -49,7 +49,18 @@ fn options_of(workers: u32, depth: u32, budget: u32, version: u32) -> Result<Opt
     options.with_version(version)
 }
 
-/// Solves the block that an index names with so many workers, and writes the certificate of its plan, in a version.
+/// The instance, or the mirrored one where that is asked for.
+fn turned(alloc: Global, instance: Instance, mirror: bool) -> Result<Instance, AllocError>
+    ensures { IfOk result (λ turned. turned ≡ mirrored_if mirror instance) }
+{
+    if mirror {
+        return instance.mirrored(alloc);
+    }
+    Ok(instance)
+}
+
+/// Solves the block that an index names with so many workers, and writes the certificate of its plan, in a
+/// version; with `mirror` that of the mirrored instance.
 pub(crate) fn run_solve<R: Threads + Wait + Sync, S: Source, G: Gate + Sync, K: Sink>(
     rt: &R,
     alloc: Global,
@@ -59,19 +70,20 @@ pub(crate) fn run_solve<R: Threads + Wait + Sync, S: Source, G: Gate + Sync, K: 
     depth: u32,
     budget: u32,
     version: u32,
+    mirror: bool,
     gate: &G,
     out: &mut K,
 ) -> Result<(), ToolFault>
     requires file_works { S.has_failed file.old ≡ false }
     requires out_works { K.has_failed out.old ≡ false }
     ensures written { OnOk result (Came most_text
-        (λ text. Wrote (AnswersSolve index workers depth budget version text) (K.taken out.old) (K.taken out.new))
+        (λ text. Wrote (AnswersSolve index workers depth budget version mirror text) (K.taken out.old) (K.taken out.new))
         (S.given file.old) (S.given file.new) (S.has_ended file.new)) }
     ensures lawful { OnOk result (Came most_text (λ text.
         (block : Block) × Picks text index (Ok block)
-        × WroteCertificate block.instance (K.taken out.old) (K.taken out.new))
+        × WroteCertificate (mirrored_if mirror block.instance) (K.taken out.old) (K.taken out.new))
         (S.given file.old) (S.given file.new) (S.has_ended file.new)) }
-    ensures ended { IfErr result (Ends (out.new ≡ out.old) most_text (AnswersSolve index workers depth budget version)
+    ensures ended { IfErr result (Ends (out.new ≡ out.old) most_text (AnswersSolve index workers depth budget version mirror)
         (S.given file.old) (S.given file.new) (S.has_ended file.new) (K.taken out.old) (K.taken out.new)) }
     ensures read_device { IsErrOf result (ToolFault.Read read.Device) ↔ (S.has_failed file.new ≡ true) }
     ensures write_device { IsErrOf result (ToolFault.Write write.Device) ↔ (K.has_failed out.new ≡ true) }
@@ -79,5 +91,6 @@ pub(crate) fn run_solve<R: Threads + Wait + Sync, S: Source, G: Gate + Sync, K: 
 {
     let block = read_block(alloc, file, index)?;
     let options = options_of(workers, depth, budget, version)?;
-    solve_instance(rt, alloc, &block.instance, options, gate, out)
+    let instance = turned(alloc, block.instance, mirror)?;
+    solve_instance(rt, alloc, &instance, options, gate, out)
 }

@@ -93,6 +93,7 @@ fn solved<T: Threads + Wait + Sync>(
         depth,
         budget,
         1,
+        false,
         &Open,
         &mut out,
     )?;
@@ -102,7 +103,7 @@ fn solved<T: Threads + Wait + Sync>(
 fn checked(alloc: Global, text: &[u8], certificate: &[u8]) -> Ran {
     let mut out = MemorySink::new(alloc, ROOM);
     let mut cert = MemorySource::new(certificate, 9, None);
-    run_check(alloc, &mut all_of(text), 1, &mut cert, &mut out)?;
+    run_check(alloc, &mut all_of(text), 1, &mut cert, false, &mut out)?;
     Ok(out)
 }
 
@@ -311,6 +312,7 @@ fn solve_fills_a_sink_up_to_its_limit(rt: HostRuntime) -> Result<(), Fail> {
             0,
             AMPLE,
             1,
+            false,
             &Open,
             &mut out,
         );
@@ -330,7 +332,9 @@ fn solve_and_check_write_nothing_after_a_failed_read(rt: HostRuntime) -> Result<
     for most in 0..THREE_MACHINES.len() + 2 {
         let mut out = MemorySink::new(alloc, ROOM);
         let mut file = MemorySource::new(THREE_MACHINES, 7, Some(most));
-        let ran = run_solve(&rt, alloc, &mut file, 1, 1, 0, AMPLE, 1, &Open, &mut out);
+        let ran = run_solve(
+            &rt, alloc, &mut file, 1, 1, 0, AMPLE, 1, false, &Open, &mut out,
+        );
         if most > THREE_MACHINES.len() {
             assert_eq!(rt; ran, Ok(()));
             assert!(rt; out.bytes() == DEPTH_0);
@@ -342,7 +346,14 @@ fn solve_and_check_write_nothing_after_a_failed_read(rt: HostRuntime) -> Result<
     for most in 0..DEPTH_0.len() + 2 {
         let mut out = MemorySink::new(alloc, ROOM);
         let mut cert = MemorySource::new(DEPTH_0, 7, Some(most));
-        let ran = run_check(alloc, &mut all_of(THREE_MACHINES), 1, &mut cert, &mut out);
+        let ran = run_check(
+            alloc,
+            &mut all_of(THREE_MACHINES),
+            1,
+            &mut cert,
+            false,
+            &mut out,
+        );
         if most > DEPTH_0.len() {
             assert_eq!(rt; ran, Ok(()));
             assert!(rt; out.bytes() == b"optimal 12\n".as_slice());

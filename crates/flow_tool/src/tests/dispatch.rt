@@ -22,8 +22,11 @@ const BOTH: &[u8] = b"a\n3 2 0 0 0\nb\n3 1 2\n2 4 2\na\n3 3 0 0 0\nb\n4 0 0\n0 8
 /// The certificate of the instance with two machines at depth 0.
 const OF_TWO_MACHINES: &[u8] = b"flowshop certificate 1\n3 2 0\n9\n2 3 1\n+BBB\nend\n";
 
+/// The certificate of the mirrored instance of three machines at depth 0, by the program in plain Rust.
+const OF_MIRROR: &[u8] = b"flowshop certificate 1\n3 3 0\n12\n2 1 3\n+BC+AB\nend\n";
+
 /// What each file holds. One that is broken refuses each call.
-const FILES: [(&str, &[u8]); 9] = [
+const FILES: [(&str, &[u8]); 10] = [
     ("text_three", THREE_MACHINES),
     ("text_both", BOTH),
     ("./stdin", THREE_MACHINES),
@@ -31,6 +34,7 @@ const FILES: [(&str, &[u8]); 9] = [
     ("of_three", DEPTH_0),
     ("of_two", OF_TWO_MACHINES),
     ("generated", GENERATED),
+    ("of_mirror", OF_MIRROR),
     ("stdin", DEPTH_1),
     ("broken", b""),
 ];
@@ -219,6 +223,37 @@ fn each_version_has_its_certificate(rt: HostRuntime) -> Result<(), Fail> {
 }
 
 #[test]
+fn the_mirrored_instance_has_its_certificate(rt: HostRuntime) -> Result<(), Fail> {
+    let rows: [(&str, &[u8], &str); 7] = [
+        ("solve text_three 1 --depth 0 --mirrored", OF_MIRROR, ""),
+        ("solve text_both 2 --mirrored --depth 0", OF_MIRROR, ""),
+        (
+            "check text_three 1 of_mirror",
+            b"",
+            "refused certificate NotAttained",
+        ),
+        ("check text_three 1 of_mirror --either", b"optimal 12\n", ""),
+        ("check text_three 1 of_three --either", b"optimal 12\n", ""),
+        (
+            "check text_both 1 of_mirror --either",
+            b"",
+            "refused certificate Size",
+        ),
+        (
+            "check text_three 1 generated --either",
+            b"",
+            "refused certificate Header",
+        ),
+    ];
+    for (line, bytes, refusal) in rows {
+        let (out, said) = run_line(&rt, rt.alloc(), line)?;
+        assert_eq!(rt; said.as_str(), refusal, "after {line}");
+        assert!(rt; out.bytes() == bytes, "after {line}");
+    }
+    Ok(())
+}
+
+#[test]
 fn check_takes_each_file_by_its_name(rt: HostRuntime) -> Result<(), Fail> {
     let rows: [(&str, &[u8], &str); 25] = [
         ("check text_three 1 of_three", b"optimal 12\n", ""),
@@ -289,6 +324,7 @@ fn words_are_read_as_orders(rt: HostRuntime) -> Result<(), Fail> {
             depth: 2,
             budget: 1_000_000,
             version: 1,
+            mirror: false,
         },
     };
     assert_eq!(rt; ordered(alloc, words.as_slice()), Ok(Some(wanted)));

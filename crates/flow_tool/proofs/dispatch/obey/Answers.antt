@@ -8,7 +8,7 @@ returns-then-eq-2 g c =
     record {
       written = rw c.in-Check.is
           (on_ok_weaker c.check_named.result
-          (wrote-ordered (order.Check c.in-Check.file c.in-Check.index c.in-Check.cert) _ _ _ _ _)
+          (wrote-ordered (order.Check c.in-Check.file c.in-Check.index c.in-Check.cert c.in-Check.either) _ _ _ _ _)
           c.check_named.ensures.written);
     }
 
@@ -17,6 +17,6 @@ returns-in_ok-text-in-Check g c =
     record {
       written = rw c.in-Check.is
           (on_ok_weaker c.check_named-in-Check.result
-          (wrote-ordered (order.Check c.in-Check.file c.in-Check.index c.in-Check.cert) _ _ _ _ _)
+          (wrote-ordered (order.Check c.in-Check.file c.in-Check.index c.in-Check.cert c.in-Check.either) _ _ _ _ _)
           c.check_named-in-Check.ensures.written);
     }
