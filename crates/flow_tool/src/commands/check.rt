@@ -39,13 +39,13 @@ fn checked_value(
     ensures least { IfOk result (λ value. IsLeastMakespan instance.now value) }
     ensures refused { IfErr result (λ fault. IsRefused either instance.now bytes.now fault) }
 {
-    let fault = match check(alloc, instance, bytes) {
+    let own = match check(alloc, instance, bytes) {
         Ok(value) => return Ok(value),
         Err(CheckFault::Memory) => return Err(CheckFault::Memory),
         Err(fault) => fault,
     };
     if !either {
-        return Err(fault);
+        return Err(own);
     }
     let mirror = instance.mirrored(alloc)?;
     let other = match check(alloc, &mirror, bytes) {
@@ -55,7 +55,7 @@ fn checked_value(
     if ran_out(other) {
         return Err(CheckFault::Memory);
     }
-    Err(fault)
+    Err(own)
 }
 
 /// The line of the value that a certificate proves least.
