@@ -9,7 +9,7 @@ ghost use Rattle.flow_bound.specs.internal.Times.{AreTimes};
 use flow_core::{Instance, JobSet, MAX_JOBS};
 
 /// Adds each job's time on a machine to its sum.
-pub(crate) fn add_times(instance: &Instance, sums: &mut [u32; MAX_JOBS], machine: u16)
+fn add_times(instance: &Instance, sums: &mut [u32; MAX_JOBS], machine: u16)
     requires from { 1 ≤ machine }
     requires to { machine ≤ instance.now.machines }
     requires small { (job : ℕ) → 1 ≤ job → job ≤ instance.now.jobs →
