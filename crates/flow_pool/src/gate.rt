@@ -17,7 +17,8 @@ impl Gate for Open {
     fn reached(&self, _lane: u32, _number: u32) {}
 }
 
-/// The gate that a run hands to its workers: it unparks the hub, and then tells the caller's gate.
+/// The gate that a run hands to its workers: it unparks the hub, and then tells the caller's gate. Not the other way
+/// round: the caller's gate may hold a worker until another prefix is reached, which the hub has still to send.
 #[derive(Drop)]
 pub(crate) struct HubGate<'a, G> {
     gate: &'a G,

@@ -12,7 +12,8 @@ use Rattle.flow_pool.specs.declared.whole_run.Run.{Run}
 use Rattle.flow_pool.specs.declared.whole_run.Run.TheVariants.{Whole, UsedUp, Refused}
 use Rattle.flow_pool.specs.Report.{AreWholeWork}
 
--- the report of a whole run: its lanes carried the whole work, no tree is longer than the budget, and it has the verdict
+-- the report of a whole run: its lanes carried the whole work, no tree is longer than the budget, and the verdict is
+-- that of the plan
 pub record IsReport (plan : Planned) (report : Report) : Type 0 where
   pub lanes : AreWholeWork plan report.lanes.items
   pub within : first_over_budget plan ≡ None

@@ -27,7 +27,7 @@ pub record HasEnded (gives : WorkerEnds → Type 0) (workers : List WorkerEnds) 
   pub served : All gives workers
   pub collected : All IsCollected hubs
 
--- how many of `count` workers were started, where `starts` may be: all; just `starts`, fewer than all; fewer than either
+-- how many of `count` workers were started, where `starts` may be: all; just `starts`, which are fewer; fewer than both
 abbrev pub HasStarted : Start → ℕ → ℕ → ℕ → Type 0
 HasStarted Complete starts count started = (started ≡ count) × (count ≤ starts)
 HasStarted UsedUp starts count started = (started ≡ starts) × (starts < count)
