@@ -1,5 +1,5 @@
 -- The steps of a reader that reads the children of a list.
-use Rattle.std.proofs.Common.{◌≡◌, ◌≢◌, ℕ, suc, ◌+◌, ◌-◌, ◌<◌, ◌≤◌, List, [], ◌∷◌, ◌++◌, length, drop, slice_index}
+use Rattle.std.proofs.Common.{◌≡◌, ◌≢◌, ℕ, suc, ◌+◌, ◌-◌, ◌<◌, ◌≤◌, List, [], ◌∷◌, ◌++◌, drop, slice_index}
 use Rattle.std.proofs.Common.{slice_set, Result, refl, ap, sym, subst, ◌∙◌, arith}
 use Rattle.flow_core.specs.Shop.{Shop}
 use Rattle.flow_cert.specs.internal.Nodes.{IsNode, IsAt}
@@ -37,16 +37,25 @@ reads-start shop version value line root r at bytes stands =
     (reading-start shop version value line root (here r) r.links.items r.below at bytes stands.at)
 
 -- the list's node knows more
+back-above : (shop : Shop) (base : ℕ) (r s : TreeReader) → IsBack shop r s →
+    above s.frames.items s.below (base - s.below) ≡ above r.frames.items r.below (base - r.below)
+back-above shop base r s back =
+    ap (λ b. above s.frames.items b (base - b)) back.below
+    ∙ same-above s.frames.items r.frames.items r.below (base - r.below) back.others
+
+-- the list that it reached is the same
+pub reached-back : (shop : Shop) (root : List ℕ) (base : ℕ) (r s : TreeReader) → IsBack shop r s →
+    reached root base s ≡ reached root base r
+reached-back shop root base r s back = ap (path root) (back-above shop base r s back)
+
 pub reads-back : (shop : Shop) (version value line : ℕ) (root : List ℕ) (whole : Result (List ℕ) CheckFault) (base : ℕ)
     (r s : TreeReader) (last at : ℕ) (bytes : List ℕ) → Reads shop version value line root whole base r last at bytes →
-    length r.frames.items ≡ shop.jobs → IsBack shop r s →
+    Stands shop (reached root base r) r → IsBack shop r s →
     Reads shop version value line root whole base s last at bytes
-reads-back shop version value line root whole base r s last at bytes i room back =
-    let same : above s.frames.items s.below (base - s.below) ≡ above r.frames.items r.below (base - r.below) =
-    ap (λ b. above s.frames.items b (base - b)) back.below
-    ∙ same-above s.frames.items r.frames.items r.below (base - r.below) back.others in
+reads-back shop version value line root whole base r s last at bytes i was_there back =
+    let same = back-above shop base r s back in
     let stands : Stands shop (reached root base r) s =
-    back.kept (reached root base r) (record { at = i.here; room = room }) in
+    back.kept (reached root base r) was_there in
     let here_again : IsAt shop (reached root base r) (here s) r.links.items (suc r.below) = at-same shop
     (reached root base r) (here s) (here s) r.links.items s.links.items (suc r.below) (suc s.below) refl
     (sym back.links) (ap suc (sym back.below)) stands.at in

@@ -1,6 +1,7 @@
 -- The two least heads of the jobs left before a machine. A job's head from a machine is its time on the machines from
 -- there to the one before.
-use Rattle.std.specs.Prelude.{ℕ, ◌≡◌, ◌-◌, ◌≤◌, List, map, min, max, slice_index}
+use Rattle.std.specs.Prelude.{ℕ, ◌≡◌, ◌-◌, ◌<◌, ◌≤◌, List, length, map, min, max, slice_index}
+use Rattle.std.specs.Prelude.{slice_index_or, Option, None, IfSome}
 use Rattle.flow_core.specs.Shop.{Shop, time_between}
 use Rattle.flow_core.specs.Sequences.{jobs_left}
 use Rattle.flow_core.specs.internal.TwoLeast.{least_below, second_below}
@@ -28,3 +29,13 @@ TakesIn shop job machine old new =
     × (slice_index new.second (from - 1)
     ≡ min (slice_index old.second (from - 1))
     (max (slice_index old.least (from - 1)) (time_between shop job from (machine - 1))))
+
+-- no heads are known
+abbrev pub AreUnknown : List (Option Heads) → Type 0
+AreUnknown kept = (place : ℕ) → place < length kept → slice_index_or kept place None ≡ None
+
+-- the two least heads before each machine that has a place, where they are known
+abbrev pub AreKept : Shop → List ℕ → List (Option Heads) → Type 0
+AreKept shop list kept =
+    (machine : ℕ) → 1 ≤ machine → machine ≤ length kept →
+    IfSome (slice_index_or kept (machine - 1) None) (λ two. AreHeads shop list machine two)

@@ -2,6 +2,7 @@
 //! left starts there before it, whichever comes first.
 
 ghost use Rattle.std.specs.Prelude.{◌≡◌, ℕ, suc, ◌+◌, ◌-◌, ◌≤◌, List, ◌++◌, ◌∷◌, [], nat_le, slice_index, Some};
+ghost use Rattle.std.specs.Prelude.{length, ◌<◌, IfOk};
 ghost use Rattle.flow_core.specs.Limits.{most_machines};
 ghost use Rattle.flow_core.specs.Shop.{time_between};
 ghost use Rattle.flow_core.specs.Sequences.{jobs_left};
@@ -10,11 +11,12 @@ ghost use Rattle.flow_core.specs.Rows.{AreRows};
 ghost use Rattle.flow_core.proofs.TwoLeast.{Without};
 ghost use Rattle.flow_cert.specs.internal.Links.{AreLinks};
 ghost use Rattle.flow_cert.specs.internal.Nodes.{IsNode, IsAt, IsChild, grown, left_before};
-ghost use Rattle.flow_cert.specs.internal.Heads.{AreHeads, TakesIn};
+ghost use Rattle.flow_cert.specs.internal.Heads.{AreHeads, AreKept, AreUnknown, TakesIn};
 
 use crate::reading::claim::Claim;
 use crate::reading::node::{Node, bound};
 use flow_core::MAX_MACHINES;
+use std::alloc::{AllocError, Global};
 
 /// The two least heads of the jobs left before one machine, from each machine up to it. A job's head from a machine is
 /// its time on the machines from there to the one before. Where two jobs have the least head, both are the same. The
@@ -25,6 +27,27 @@ pub(crate) struct Heads {
     least: [u32; MAX_MACHINES],
     /// The second least. The child that takes the job with the least head needs it.
     second: [u32; MAX_MACHINES],
+}
+
+/// So many places for heads, none of them known.
+pub(crate) fn unknown_heads(alloc: Global, count: u16) -> Result<Vec<Option<Heads>>, AllocError>
+    ensures { IfOk result (λ heads. AreUnknown heads.items) }
+{
+    let mut heads = Vec::with_capacity(alloc, count as usize)?;
+    'heads: while heads.len() < count as usize {
+        heads.push(None)?;
+    }
+    Ok(heads)
+}
+
+/// Forgets all heads that are known.
+pub(crate) fn forget(heads: &mut [Option<Heads>])
+    ensures size { length heads.new ≡ length heads.old }
+    ensures none { AreUnknown heads.new }
+{
+    for place in 0..heads.len() {
+        heads[place] = None;
+    }
 }
 
 /// A job's head before a machine, from a machine up to it.
@@ -98,6 +121,32 @@ fn heads_before(claim: &Claim, links: &[u16], machine: u16) -> Heads
     }
 }
 
+/// The two least heads of the jobs left before a machine: those that are kept, or else they are found, and kept where
+/// there is a place for them.
+fn heads_of(claim: &Claim, kept: &mut [Option<Heads>], links: &[u16], machine: u16) -> Heads
+    requires rows { AreRows claim.now.instance.now claim.now.rows.now }
+    requires at { (list : List ℕ) × AreLinks claim.now.instance.now.jobs list links.now
+        × AreKept claim.now.instance.now list kept.old }
+    requires from { 1 ≤ machine }
+    requires to { machine ≤ claim.now.instance.now.machines }
+    ensures size { length kept.new ≡ length kept.old }
+    ensures heads { (list : List ℕ) → AreLinks claim.now.instance.now.jobs list links.now →
+        AreKept claim.now.instance.now list kept.old → AreHeads claim.now.instance.now list machine result }
+    ensures kept { (list : List ℕ) → AreLinks claim.now.instance.now.jobs list links.now →
+        AreKept claim.now.instance.now list kept.old → AreKept claim.now.instance.now list kept.new }
+{
+    let place = machine as usize - 1;
+    if place >= kept.len() {
+        return heads_before(claim, links, machine);
+    }
+    if let Some(known) = kept[place] {
+        return known;
+    }
+    let heads = heads_before(claim, links, machine);
+    kept[place] = Some(heads);
+    heads
+}
+
 /// How much later than its front a machine is released for the jobs left of a list.
 fn own_gain(claim: &Claim, node: &Node, heads: &Heads, machine: u16) -> u64
     requires rows { AreRows claim.now.instance.now claim.now.rows.now }
@@ -148,15 +197,27 @@ fn child_gain(claim: &Claim, node: &Node, heads: &Heads, job: u16, machine: u16)
 }
 
 /// How much the bound of the version is above the machine bound of a list, or of a child of it, where jobs are left.
-fn gain(claim: &Claim, node: &Node, links: &[u16], child: Option<u16>, machine: u16) -> u64
+fn gain(
+    claim: &Claim,
+    node: &Node,
+    kept: &mut [Option<Heads>],
+    links: &[u16],
+    child: Option<u16>,
+    machine: u16,
+) -> u64
     requires rows { AreRows claim.now.instance.now claim.now.rows.now }
     requires at { (list : List ℕ) × (left : ℕ)
         × IsAt claim.now.instance.now list node.now links.now (left_before child (suc left))
+        × AreKept claim.now.instance.now list kept.old
         × IsChild claim.now.instance.now.jobs list child }
     requires from { 1 ≤ machine }
     requires to { machine ≤ claim.now.instance.now.machines }
-    ensures { (list : List ℕ) (left : ℕ) →
+    ensures size { length kept.new ≡ length kept.old }
+    ensures kept { (list : List ℕ) → AreLinks claim.now.instance.now.jobs list links.now →
+        AreKept claim.now.instance.now list kept.old → AreKept claim.now.instance.now list kept.new }
+    ensures value { (list : List ℕ) (left : ℕ) →
         IsAt claim.now.instance.now list node.now links.now (left_before child (suc left)) →
+        AreKept claim.now.instance.now list kept.old →
         IsChild claim.now.instance.now.jobs list child →
         bound_at claim.now.instance.now (grown list child) machine + result
         ≡ bound_of claim.now.version claim.now.instance.now (grown list child) machine }
@@ -164,7 +225,7 @@ fn gain(claim: &Claim, node: &Node, links: &[u16], child: Option<u16>, machine: 
     if claim.version != 2 {
         return 0;
     }
-    let heads = heads_before(claim, links, machine);
+    let heads = heads_of(claim, kept, links, machine);
     match child {
         None => own_gain(claim, node, &heads, machine),
         Some(job) => child_gain(claim, node, &heads, job, machine),
@@ -176,6 +237,7 @@ fn gain(claim: &Claim, node: &Node, links: &[u16], child: Option<u16>, machine: 
 pub(crate) fn reaches(
     claim: &Claim,
     node: &mut Node,
+    kept: &mut [Option<Heads>],
     links: &[u16],
     child: Option<u16>,
     machine: u16,
@@ -183,13 +245,18 @@ pub(crate) fn reaches(
     requires rows { AreRows claim.now.instance.now claim.now.rows.now }
     requires at { (list : List ℕ) × (left : ℕ)
         × IsAt claim.now.instance.now list node.old links.now (left_before child (suc left))
+        × AreKept claim.now.instance.now list kept.old
         × IsChild claim.now.instance.now.jobs list child }
     requires from { 1 ≤ machine }
     requires to { machine ≤ claim.now.instance.now.machines }
-    ensures kept { (list : List ℕ) (left : ℕ) → IsAt claim.now.instance.now list node.old links.now left →
+    ensures node { (list : List ℕ) (left : ℕ) → IsAt claim.now.instance.now list node.old links.now left →
         IsAt claim.now.instance.now list node.new links.now left }
+    ensures size { length kept.new ≡ length kept.old }
+    ensures kept { (list : List ℕ) → AreLinks claim.now.instance.now.jobs list links.now →
+        AreKept claim.now.instance.now list kept.old → AreKept claim.now.instance.now list kept.new }
     ensures value { (list : List ℕ) (left : ℕ) →
         IsAt claim.now.instance.now list node.old links.now (left_before child (suc left)) →
+        AreKept claim.now.instance.now list kept.old →
         IsChild claim.now.instance.now.jobs list child →
         result ≡ nat_le claim.now.value
         (bound_of claim.now.version claim.now.instance.now (grown list child) machine) }
@@ -198,5 +265,5 @@ pub(crate) fn reaches(
     if plain >= claim.value {
         return true;
     }
-    claim.value - plain <= gain(claim, node, links, child, machine)
+    claim.value - plain <= gain(claim, node, kept, links, child, machine)
 }

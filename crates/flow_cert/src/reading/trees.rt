@@ -24,7 +24,7 @@ pub(crate) fn trees_end(
         result }
 {
     let rows = rows(alloc, instance)?;
-    let mut reader = TreeReader::new(alloc, instance)?;
+    let mut reader = TreeReader::new(alloc, instance, heading.version)?;
     let claim = Claim {
         instance,
         rows: rows.as_slice(),

@@ -5,50 +5,48 @@ use Rattle.flow_cert.proofs.Releases.{release-gains, plain-gains}
 use Rattle.flow_cert.specs.internal.Nodes.{IsAt, IsChild, grown, left_before}
 use Rattle.flow_cert.proofs.reading.release.gain.Goals as goal
 
-pub returns-then-claim-ne2 : goal.returns-then-claim-ne2
-returns-then-claim-ne2 c list left at kid =
+pub returns-then-claim-ne2-clause-value : goal.returns-then-claim-ne2-clause-value
+returns-then-claim-ne2-clause-value c list left at kept kid =
     plain-gains c.args.claim.now.instance.now (grown list c.args.child) c.args.machine c.args.claim.now.version
     c.if-claim-ne2.true
 
-pub heads_before-heads-requires-clause-links : goal.heads_before-heads-requires-clause-links
-heads_before-heads-requires-clause-links c = (c.requires.at.0, c.requires.at.2.are_links)
+pub heads_of-heads-requires-clause-at : goal.heads_of-heads-requires-clause-at
+heads_of-heads-requires-clause-at c = (c.requires.at.0, c.requires.at.2.are_links, c.requires.at.3)
 
 pub own_gain-requires-clause-at : goal.own_gain-requires-clause-at
 own_gain-requires-clause-at c =
-    let at = subst (λ o. IsAt c.args.claim.now.instance.now c.requires.at.0 c.args.node.now c.args.links.now
-    (left_before o (suc c.requires.at.1))) c.in-None.is c.requires.at.2 in
-    (c.requires.at.0, c.requires.at.1, at.is_node, c.heads_before-heads.ensures c.requires.at.0 at.are_links)
+    let shop = c.args.claim.now.instance.now in
+    let list : List ℕ = c.requires.at.0 in
+    let at = subst (λ o. IsAt shop list c.args.node.now c.args.links.now (left_before o (suc c.requires.at.1)))
+    c.in-None.is c.requires.at.2 in
+    (list, c.requires.at.1, at.is_node, c.heads_of-heads.ensures.heads list at.are_links c.requires.at.3)
 
 pub child_gain-requires-clause-at : goal.child_gain-requires-clause-at
 child_gain-requires-clause-at c =
     let shop = c.args.claim.now.instance.now in
     let list : List ℕ = c.requires.at.0 in
     let at = subst (λ o. IsAt shop list c.args.node.now c.args.links.now (left_before o (suc c.requires.at.1)))
-    c.in-Some.is c.requires.at.2 in (
-      list,
-      c.requires.at.1,
-      at.is_node,
-      c.heads_before-heads.ensures list at.are_links,
-      subst
-          (IsChild shop.jobs list) c.in-Some.is c.requires.at.3,
-    )
+    c.in-Some.is c.requires.at.2 in
+    let two = c.heads_of-heads.ensures.heads list at.are_links c.requires.at.3 in
+    (list, c.requires.at.1, at.is_node, two, subst (IsChild shop.jobs list) c.in-Some.is c.requires.at.4)
 
-pub returns-in-None : goal.returns-in-None
-returns-in-None c list left at kid =
+pub returns-in-None-clause-value : goal.returns-in-None-clause-value
+returns-in-None-clause-value c list left at kept kid =
     let shop = c.args.claim.now.instance.now in
     let was = subst (λ o. IsAt shop list c.args.node.now c.args.links.now (left_before o (suc left))) c.in-None.is at in
-    let gains = c.own_gain.ensures list left was.is_node (c.heads_before-heads.ensures list was.are_links) in
+    let gains = c.own_gain.ensures list left was.is_node (c.heads_of-heads.ensures.heads list was.are_links kept) in
     release-gains shop (grown list c.args.child) c.args.machine c.own_gain.result c.args.claim.now.version
     c.if-claim-ne2.false
     (subst (λ o. slice_index (front_of shop (grown list o)) (c.args.machine - 1) + c.own_gain.result
     ≡ release shop (front_of shop (grown list o)) (jobs_left shop.jobs (grown list o)) c.args.machine) (sym
     c.in-None.is) gains)
 
-pub returns-in-Some : goal.returns-in-Some
-returns-in-Some c list left at kid =
+pub returns-in-Some-clause-value : goal.returns-in-Some-clause-value
+returns-in-Some-clause-value c list left at kept kid =
     let shop = c.args.claim.now.instance.now in
     let was = subst (λ o. IsAt shop list c.args.node.now c.args.links.now (left_before o (suc left))) c.in-Some.is at in
-    let gains = c.child_gain.ensures list left was.is_node (c.heads_before-heads.ensures list was.are_links) (subst
+    let gains = c.child_gain.ensures list left was.is_node (c.heads_of-heads.ensures.heads list was.are_links kept)
+    (subst
     (IsChild shop.jobs list) c.in-Some.is kid) in
     release-gains shop (grown list c.args.child) c.args.machine c.child_gain.result c.args.claim.now.version
     c.if-claim-ne2.false

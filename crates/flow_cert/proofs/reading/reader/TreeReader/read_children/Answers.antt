@@ -1,15 +1,16 @@
 use Rattle.std.proofs.Common.{◌≡◌, ◌≢◌, ℕ, suc, ◌+◌, ◌-◌, ◌<◌, ◌≤◌, List, [], ◌∷◌, ◌++◌, length, drop, slice_index}
 use Rattle.std.proofs.Common.{Bool, Some, Ok, Err, true, false, refl, sym, ap, subst, ◌∙◌, arith}
 use Rattle.std.proofs.lemmas.Grind.{get_or_default_zero}
+use Rattle.flow_cert.specs.internal.Heads.{AreKept}
 use Rattle.flow_cert.specs.internal.Nodes.{IsAt, IsChild}
 use Rattle.flow_cert.specs.internal.Reader.{children_read, put_back, path, frame_at, here, Stands, IsStack, Opened}
 use Rattle.flow_cert.specs.internal.Reader.{LetterGives}
 use Rattle.flow_core.specs.Bound.{bound_of}
 use Rattle.flow_cert.specs.CertificateFaults.{read_tree}
-use Rattle.flow_cert.proofs.Readers.{above-more}
+use Rattle.flow_cert.proofs.Readers.{above-more, none-kept}
 use Rattle.flow_cert.proofs.Exits.{exit}
 use Rattle.flow_cert.proofs.ReaderSteps.{Reads, reached, none-above, reads-start, reads-back, reads-open, reads-close}
-use Rattle.flow_cert.proofs.ReaderSteps.{back-open, back-close, back-same}
+use Rattle.flow_cert.proofs.ReaderSteps.{back-open, back-close, back-same, reached-back}
 use Rattle.flow_cert.proofs.TreeReading.{reading-child, reading-fault, reading-leaf, reading-done, letter-open}
 use Rattle.flow_cert.proofs.TreeReading.{letter-whole, tree-fails}
 use Rattle.flow_cert.proofs.reading.reader.TreeReader.read_children.Goals as goal
@@ -30,6 +31,9 @@ children-init c =
       reading = λ root stands. reads-start c.args.claim.now.instance.now c.args.claim.now.version c.args.claim.now.value
           c.args.spot.line root
           c.args.self.now c.args.spot.at c.args.claim.now.bytes.now stands;
+      heads = λ root stands. subst (λ fs. AreKept c.args.claim.now.instance.now (path root fs)
+          c.args.self.now.heads.items) (sym (none-above c.args.self.now.frames.items c.args.self.now.below
+          (c.args.self.now.below - c.args.self.now.below) none)) stands.heads;
     }
 
 -- the job that is read is where the link leads
@@ -55,6 +59,8 @@ returns-then-self-base-clause-back c =
             (here c.children.self) c.children.self.links.items (suc c.children.self.below)) empty
             (c.children.invariant.reading list stands).here;
         room = c.children.invariant.size ∙ stands.room;
+        heads = subst (λ fs. AreKept c.args.claim.now.instance.now (path list fs) c.children.self.heads.items) empty
+            (c.children.invariant.heads list stands);
       };
     }
 
@@ -107,6 +113,8 @@ children-preserved-then-job-eq0 c =
           root (drop c.args.spot.at c.args.claim.now.bytes.now)) c.args.self.now.below c.children.self
           c.close-last.new.self c.children.last c.children.at c.args.claim.now.bytes.now
           (c.children.invariant.reading root stands) none deep is);
+      heads = λ root stands. none-kept c.args.claim.now.instance.now (reached root c.args.self.now.below
+          c.close-last.new.self) c.close-last.new.self.heads.items is.heads;
     }
 
 -- the list is reached, and the job that is read is its next child's
@@ -122,6 +130,7 @@ child c some root stands =
         at = i.here;
         room = c.children.invariant.size
             ∙ stands.room;
+        heads = c.children.invariant.heads root stands;
       },
       subst (λ j. IsChild c.args.claim.now.instance.now.jobs
           (reached root c.args.self.now.below c.children.self) (Some j)) (sym (leads c)) (next.1, next.2, next.3),
@@ -165,7 +174,11 @@ letter c some root stands =
     c.args.self.now.below root
     (drop c.args.spot.at c.args.claim.now.bytes.now)) c.args.self.now.below c.children.self c.read_letter.new.self
     c.children.last c.children.at c.args.claim.now.bytes.now
-    (c.children.invariant.reading root stands) (c.children.invariant.size ∙ stands.room) c.read_letter.ensures.back
+    (c.children.invariant.reading root stands) (record {
+      at = (c.children.invariant.reading root stands).here;
+      room = c.children.invariant.size ∙ stands.room;
+      heads = c.children.invariant.heads root stands;
+    }) c.read_letter.ensures.back
 
 pub open-requires-clause-at : goal.open-requires-clause-at
 open-requires-clause-at c =
@@ -254,6 +267,8 @@ children-preserved-then-open c =
           root (drop c.args.spot.at c.args.claim.now.bytes.now)) c.args.self.now.below c.read_letter.new.self
           c.open.new.self c.children.last c.children.at c.args.claim.now.bytes.now
           (letter at.After-branch-open c.if-job-eq0.false root stands) some there.2 deep is;
+      heads = λ root stands. none-kept c.args.claim.now.instance.now (reached root c.args.self.now.below
+          c.open.new.self) c.open.new.self.heads.items is.heads;
     }
 
 -- a letter or a point was read
@@ -325,5 +340,10 @@ children-preserved c =
           root (drop c.args.spot.at c.args.claim.now.bytes.now)) c.args.self.now.below c.children.self
           c.read_letter.new.self (slice_index c.children.self.links.items c.children.last) (c.children.at
           + 1) c.args.claim.now.bytes.now
-          read (c.children.invariant.size ∙ stands.room) back);
+          read (child at.After-index-job c.if-job-eq0.false root stands).0 back);
+      heads = λ root stands.
+          let was = child at.After-index-job c.if-job-eq0.false root stands in
+          subst (λ list. AreKept c.args.claim.now.instance.now list c.read_letter.new.self.heads.items) (sym
+          (reached-back c.args.claim.now.instance.now root c.args.self.now.below c.children.self
+          c.read_letter.new.self back)) (back.kept (reached root c.args.self.now.below c.children.self) was.0).heads;
     }

@@ -1,8 +1,11 @@
 use Rattle.std.proofs.Common.{◌≡◌, ◌≢◌, ℕ, suc, ◌+◌, ◌-◌, ◌<◌, ◌≤◌, List, ◌∷◌, length, drop, get_or, nat_le, Result}
-use Rattle.std.proofs.Common.{refl, ap}
-use Rattle.std.proofs.Common.{sym, ◌∙◌, arith}
+use Rattle.std.proofs.Common.{refl, ap, sym, subst, ◌∙◌, arith}
+use Rattle.std.specs.Vec.{with_items}
+use Rattle.std.proofs.lemmas.List.{with_items_is}
 use Rattle.flow_core.specs.Bound.{bound_of}
 use Rattle.flow_cert.specs.CertificateFaults.{read_tree}
+use Rattle.flow_cert.specs.internal.Heads.{AreKept}
+use Rattle.flow_cert.specs.internal.Links.{AreLinks}
 use Rattle.flow_cert.specs.internal.Nodes.{IsAt, IsChild, grown, left_before, left_here}
 use Rattle.flow_cert.specs.internal.Reader.{here, Stands}
 use Rattle.flow_cert.specs.declared.fault.CheckFault.{CheckFault}
@@ -105,6 +108,12 @@ asked c list at some =
     (suc c.args.self.now.below) refl c.deref.ensures.value
     (before-here c.args.child c.args.self.now.below (c.left_here.result - 1) (sym c.left_here.ensures ∙ more)) at
 
+-- the heads that are kept are the list's
+lent : (c : After-deref) (list : List ℕ) → Stands c.args.claim.now.instance.now list c.args.self.now →
+    AreKept c.args.claim.now.instance.now list c.deref_mut.result.now
+lent c list stands =
+    subst (AreKept c.args.claim.now.instance.now list) (sym c.deref_mut.ensures.value) stands.heads
+
 pub reaches-requires-clause-at : goal.reaches-requires-clause-at
 reaches-requires-clause-at c = (
   c.requires.at.0,
@@ -112,6 +121,7 @@ reaches-requires-clause-at c = (
   asked (goal.at.reaches-requires-clause-at c).After-deref c.requires.at.0
       (reached (goal.at.reaches-requires-clause-at c).After-left_here c.requires.at.0 c.requires.at.1)
       c.if-left_here-eq0.false,
+  lent (goal.at.reaches-requires-clause-at c).After-deref c.requires.at.0 c.requires.at.1,
   c.requires.at.2,
 )
 
@@ -126,7 +136,17 @@ known c list at =
     (suc c.args.self.now.below) refl c.deref.ensures.value refl at in
     at-same c.args.claim.now.instance.now list c.reaches.new.node c.reaches.new.node c.args.self.now.links.items
     c.deref.result.now (suc c.args.self.now.below) (suc c.args.self.now.below) refl (sym c.deref.ensures.value) refl
-    (c.reaches.ensures.kept list (suc c.args.self.now.below) was)
+    (c.reaches.ensures.node list (suc c.args.self.now.below) was)
+
+-- and so are those that are kept then
+left : (c : After-reaches) (list : List ℕ) → Stands c.args.claim.now.instance.now list c.args.self.now →
+    AreKept c.args.claim.now.instance.now list c.deref_mut.result.now →
+    AreKept c.args.claim.now.instance.now list (with_items c.args.self.now.heads c.reaches.new.kept).items
+left c list stands kept =
+    let links : AreLinks c.args.claim.now.instance.now.jobs list c.deref.result.now =
+    subst (AreLinks c.args.claim.now.instance.now.jobs list) (sym c.deref.ensures.value) stands.at.are_links in
+    subst (AreKept c.args.claim.now.instance.now list) (sym (with_items_is c.args.self.now.heads c.reaches.new.kept
+    (c.reaches.ensures.size ∙ c.deref_mut.ensures.len))) (c.reaches.ensures.kept list links kept)
 
 pub returns-then-not-reaches-clause-back : goal.returns-then-not-reaches-clause-back
 returns-then-not-reaches-clause-back c =
@@ -140,7 +160,8 @@ returns-then-not-reaches-clause-back c =
       last =
           c.index_mut.result.now.last;
     }) refl refl refl within (λ list stands. known before.After-reaches list
-    (reached before.After-left_here list stands))
+    (reached before.After-left_here list stands)) (λ list stands. left before.After-reaches list stands
+    (lent before.After-deref list stands))
 
 pub returns-clause-back : goal.returns-clause-back
 returns-clause-back c =
@@ -154,22 +175,24 @@ returns-clause-back c =
       last =
           c.index_mut.result.now.last;
     }) refl refl refl within (λ list stands. known before.After-reaches list
-    (reached before.After-left_here list stands))
+    (reached before.After-left_here list stands)) (λ list stands. left before.After-reaches list stands
+    (lent before.After-deref list stands))
 
 -- the byte is a machine's letter, and that machine's bound is tested
 bounded : (c : After-reaches) (list : List ℕ) →
     IsAt c.args.claim.now.instance.now list c.index_mut.result.now.node c.deref.result.now (left_before c.args.child
-    (suc (c.left_here.result - 1))) → IsChild c.args.claim.now.instance.now.jobs list c.args.child →
+    (suc (c.left_here.result - 1))) → AreKept c.args.claim.now.instance.now list c.deref_mut.result.now →
+    IsChild c.args.claim.now.instance.now.jobs list c.args.child →
     (64 < get_or c.args.claim.now.bytes.now c.args.spot.at 0)
     × (get_or c.args.claim.now.bytes.now c.args.spot.at 0 - 64 ≤ c.args.claim.now.instance.now.machines)
     × (c.reaches.result ≡ nat_le c.args.claim.now.value (bound_of c.args.claim.now.version
     c.args.claim.now.instance.now (grown list c.args.child) (get_or c.args.claim.now.bytes.now c.args.spot.at 0 - 64)))
-bounded c list at kid =
+bounded c list at kept kid =
     let letter : c.from-machine.result + 1 ≡ get_or c.args.claim.now.bytes.now c.args.spot.at 0 - 64 =
     omega (arith, c.from-machine.ensures, c.if-byte-lt65.false) in (
       omega (arith, c.if-byte-lt65.false),
       omega (arith, c.if-machine-machines.false, letter, c.machines.ensures.value),
-      c.reaches.ensures.value list (c.left_here.result - 1) at kid
+      c.reaches.ensures.value list (c.left_here.result - 1) at kept kid
           ∙ ap (λ machine. nat_le c.args.claim.now.value (bound_of c.args.claim.now.version
           c.args.claim.now.instance.now (grown list c.args.child) machine)) letter,
     )
@@ -178,7 +201,7 @@ pub returns-then-not-reaches-clause-gives : goal.returns-then-not-reaches-clause
 returns-then-not-reaches-clause-gives c list stands kid =
     let before = goal.at.returns-then-not-reaches-clause-gives c in
     let is = bounded before.After-reaches list (asked before.After-deref list
-    (reached before.After-left_here list stands) c.if-left_here-eq0.false) kid in
+    (reached before.After-left_here list stands) c.if-left_here-eq0.false) (lent before.After-deref list stands) kid in
     read before.After-left_here list _
     (cut-weak c.args.claim.now.instance.now (bound_of c.args.claim.now.version) c.args.claim.now.value c.args.spot.line
     c.left_here.result
@@ -191,7 +214,7 @@ pub returns-clause-gives : goal.returns-clause-gives
 returns-clause-gives c list stands kid =
     let before = goal.at.returns-clause-gives c in
     let is = bounded before.After-reaches list (asked before.After-deref list
-    (reached before.After-left_here list stands) c.if-left_here-eq0.false) kid in (
+    (reached before.After-left_here list stands) c.if-left_here-eq0.false) (lent before.After-deref list stands) kid in (
       c.if-spot-claim.false,
       read before.After-left_here list _
           (cut-strong c.args.claim.now.instance.now (bound_of c.args.claim.now.version) c.args.claim.now.value
