@@ -1,8 +1,8 @@
 -- The jobs of a node with at most eight jobs left, side by side in eight lanes.
-use Rattle.std.specs.Prelude.{ℕ, suc, ◌≡◌, ◌≢◌, ◌⊎◌, ◌+◌, ◌-◌, ◌<◌, ◌≤◌, false, List, [], ◌∷◌, ◌++◌, slice_index}
+use Rattle.std.specs.Prelude.{ℕ, suc, ◌≡◌, ◌≢◌, ◌⊎◌, ◌+◌, ◌-◌, ◌*◌, ◌<◌, ◌≤◌, false, List, [], ◌∷◌, ◌++◌, slice_index}
 use Rattle.std.specs.Prelude.{slice_index_or, sum_by, length, drop, filter, nat_eq, Option}
 use Rattle.std.specs.List.{range_with_len}
-use Rattle.flow_core.specs.Limits.{greatest_time}
+use Rattle.flow_core.specs.Limits.{most_machines, greatest_time, greatest_completion}
 use Rattle.flow_core.specs.Shop.{Shop, time, time_between}
 use Rattle.flow_core.specs.Paths.{completion}
 use Rattle.flow_core.specs.Front.{IsFrontOf}
@@ -87,6 +87,12 @@ pub record IsOpened (shop : Shop) (list : List ℕ) (group : Group) (frame : Lan
   pub at : IsFrameOf shop list group frame
   pub free : (place lane : ℕ) → IsLaneLeft frame lane → place < shop.machines →
       slice_index (slice_index_or frame.free place []) lane ≡ completion shop (child list group lane) (place + 1)
+
+-- no time at which a child leaves a machine is great, nor what stands for it in a lane that is not left
+abbrev pub AreSmallFrees : Shop → LaneFrame → Type 0
+AreSmallFrees shop frame =
+    (place lane : ℕ) → place < shop.machines → lane < 8 →
+    slice_index (slice_index_or frame.free place []) lane ≤ greatest_completion + most_machines * greatest_time
 
 -- so many machines, of the first ones, stand before the first whose bound reaches a limit; all of them where none does
 pub record IsUncutCount (shop : Shop) (bound : Bound) (list : List ℕ) (limit machines uncut : ℕ) : Type 0 where

@@ -6,7 +6,7 @@ use Rattle.flow_core.specs.Limits.{most_jobs}
 use Rattle.flow_core.specs.Shop.{numbers}
 use Rattle.flow_core.specs.Front.{IsFrontOf}
 use Rattle.flow_core.specs.JobSet.{contains, members}
-use Rattle.flow_core.specs.Bound.{bound_at, front_of}
+use Rattle.flow_core.specs.Bound.{bound_of, front_of}
 use Rattle.flow_search.specs.Walk.{walk}
 use Rattle.flow_bound.specs.Rest.{IsRestOf}
 use Rattle.flow_search.specs.internal.Nodes.{IsAt, Left, Gave, Opens, children_walked, incumbent_of}
@@ -71,8 +71,8 @@ walk-preserved-in_default c =
     let up = walking-up c.walk.invariant c.in-Some-pop.parent (reverse c.pop.new.self.items) c.leave.new.self
     (sym c.in_default.is ∙ found (goal.at.walk-preserved-in_default c).After-first_of) (above c).0 (above c).1 in
     let more : suc c.walk.below ≡ c.walk.below + 1 = omega arith in
-    subst (λ n. IsWalking shop bound_at c.args.setting.now.budget old.node.items
-    (children_walked shop bound_at c.args.below old) old c.in-Some-pop.parent n
+    subst (λ n. IsWalking shop (bound_of c.args.setting.now.version) c.args.setting.now.budget old.node.items
+    (children_walked shop (bound_of c.args.setting.now.version) c.args.below old) old c.in-Some-pop.parent n
     (reverse c.pop.new.self.items) c.leave.new.self) more up
 
 -- the child's job
@@ -114,7 +114,7 @@ enter-requires-clause-to c = let k = kid (goal.at.enter-requires-clause-to c).In
 
 -- the plus that was written
 opens : (c : Then-branch) →
-    Opens c.args.setting.now.instance.now bound_at c.args.setting.now.budget c.in-Some.job c.walk.search c.visit.new.search
+    Opens c.args.setting.now.instance.now (bound_of c.args.setting.now.version) c.args.setting.now.budget c.in-Some.job c.walk.search c.visit.new.search
     × (9 ≤ c.walk.below)
 opens c =
     let put : Bool → Result Bool Stop = λ b. Ok b in
@@ -198,8 +198,8 @@ walk-preserved-then-branch c =
     let pushed : reverse c.push.new.self.items ≡ moved c.walk.here (c.in-Some.job + 1) ∷ reverse c.walk.stack.items =
     reverse-push c.walk.stack.items c.push.new.self.items (moved c.walk.here (c.in-Some.job
     + 1)) c.in_ok-push.ensures.items in
-    subst (λ xs. IsWalking shop bound_at c.args.setting.now.budget old.node.items
-    (children_walked shop bound_at c.args.below old) old c.new-here.result (c.walk.below - 1) xs c.enter.new.self)
+    subst (λ xs. IsWalking shop (bound_of c.args.setting.now.version) c.args.setting.now.budget old.node.items
+    (children_walked shop (bound_of c.args.setting.now.version) c.args.below old) old c.new-here.result (c.walk.below - 1) xs c.enter.new.self)
     (sym pushed)
     (walking-down c.walk.invariant c.in-Some.job c.visit.new.search c.enter.new.self c.new-here.result
     (found-job (goal.at.walk-preserved-then-branch c).In-Some) opened.1 opened.0 c.in_ok-enter.ensures
@@ -212,7 +212,7 @@ walk-preserved-then-branch c =
 
 -- the child's subtree that was walked
 whole : (c : goal.Else-branch) → Gave c.args.setting.now.budget
-    (walk c.args.setting.now.instance.now bound_at c.walk.below (c.walk.search.node.items ++ c.in-Some.job
+    (walk c.args.setting.now.instance.now (bound_of c.args.setting.now.version) c.walk.below (c.walk.search.node.items ++ c.in-Some.job
     ∷ []) (incumbent_of c.walk.search)) c.walk.search c.visit.new.search
 whole c = let put : Bool → Result Bool Stop = λ b. Ok b in c.in_ok-visit.ensures.whole (ap put c.if-branch.false)
 
@@ -220,10 +220,10 @@ pub walk-smaller : goal.walk-smaller
 walk-smaller c =
     let shop = c.args.setting.now.instance.now in
     let g = whole c in
-    let text : List ℕ = (walk shop bound_at c.walk.below (c.walk.search.node.items ++ c.in-Some.job
+    let text : List ℕ = (walk shop (bound_of c.args.setting.now.version) c.walk.below (c.walk.search.node.items ++ c.in-Some.job
     ∷ []) (incumbent_of c.walk.search)).0 in
     let some : 1 ≤ length text =
-    walk-some shop bound_at c.walk.below (c.walk.search.node.items ++ c.in-Some.job ∷ []) (incumbent_of c.walk.search) in
+    walk-some shop (bound_of c.args.setting.now.version) c.walk.below (c.walk.search.node.items ++ c.in-Some.job ∷ []) (incumbent_of c.walk.search) in
     let tree : length c.visit.new.search.tree.items ≡ length (c.walk.search.tree.items ++ text) = ap length g.tree in
     omega (arith, some, tree, g.within, length-append c.walk.search.tree.items text)
 
