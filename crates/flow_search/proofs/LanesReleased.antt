@@ -1,12 +1,11 @@
 -- The release of a machine at a child in a lane.
-use Rattle.std.proofs.Common.{◌≡◌, ◌≢◌, ℕ, zero, suc, ◌+◌, ◌-◌, ◌*◌, ◌<◌, ◌≤◌, max, List, [], ◌∷◌, ◌++◌, length, map}
-use Rattle.std.proofs.Common.{slice_index, slice_index_or, refl, ap, sym, ◌∙◌, arith, inl, inr}
+use Rattle.std.proofs.Common.{◌≡◌, ◌≢◌, ℕ, ◌+◌, ◌-◌, ◌<◌, ◌≤◌, max, List, [], ◌∷◌, map}
+use Rattle.std.proofs.Common.{slice_index, slice_index_or, refl, ap, sym, ◌∙◌, arith}
 use Rattle.std.specs.List.{range_with_len, sum_by}
 use Rattle.std.proofs.lemmas.List.Sums.{sum_by-append}
-use Rattle.flow_core.specs.Limits.{most_machines, greatest_time}
+use Rattle.flow_core.specs.Limits.{most_machines}
 use Rattle.flow_core.specs.Shop.{Shop, numbers, time, time_between, IsWithinLimits}
 use Rattle.flow_core.specs.Least.{least, greatest}
-use Rattle.flow_core.specs.Paths.{completion}
 use Rattle.flow_core.specs.Sequences.{jobs_left}
 use Rattle.flow_core.specs.Bound.{release, released_bound_at, front_of}
 use Rattle.flow_core.proofs.Recurrence.{completion-push, time_between-first, time_between-none}
@@ -19,7 +18,7 @@ use Rattle.flow_search.specs.declared.eight.group.LaneRow.{LaneRow}
 use Rattle.flow_search.specs.declared.eight.group.Group.{Group}
 use Rattle.flow_search.specs.declared.eight.group.LaneFrame.{LaneFrame}
 use Rattle.flow_search.specs.internal.Lanes.{IsLeastOfOthers, IsLaneLeft, IsFrameOf, IsOpened, job_of, child}
-use Rattle.flow_search.proofs.LanesPassed.{least-left, behind-is, row-small}
+use Rattle.flow_search.proofs.LanesPassed.{least-left, behind-is}
 
 -- a job's time on some machines, parted behind one of them
 pub between-split : (shop : Shop) (job from here last : ℕ) → from ≤ here + 1 → here ≤ last →

@@ -1,5 +1,5 @@
 -- What a job needs between two machines, from its row.
-use Rattle.std.proofs.Common.{◌≡◌, ℕ, suc, ◌+◌, ◌-◌, ◌*◌, ◌<◌, ◌≤◌, List, length, map, slice_index, ap, sym, ◌∙◌, arith}
+use Rattle.std.proofs.Common.{◌≡◌, ℕ, ◌+◌, ◌-◌, ◌*◌, ◌<◌, ◌≤◌, List, length, map, slice_index, ap, arith}
 use Rattle.flow_core.specs.Limits.{most_machines, greatest_time}
 use Rattle.flow_core.specs.Shop.{Shop, time_between, IsWithinLimits}
 use Rattle.flow_core.specs.Least.{least}

@@ -1,5 +1,5 @@
 -- The two least numbers of some jobs.
-use Rattle.std.specs.Prelude.{ℕ, ◌≡◌, ◌+◌, ◌-◌, ◌<◌, ◌≤◌, List, map, slice_index}
+use Rattle.std.specs.Prelude.{ℕ, ◌≡◌, ◌+◌, ◌-◌, ◌<◌, List, map, slice_index}
 use Rattle.flow_core.specs.Shop.{Shop, time_between}
 use Rattle.flow_core.specs.internal.TwoLeast.{tails, least_below, second_below}
 use Rattle.flow_search.specs.declared.lows.Lows.{Lows}

@@ -1,7 +1,7 @@
-use Rattle.std.proofs.Common.{◌≡◌, ℕ, ◌+◌, ◌-◌, true, false, [], slice_index, slice_index_or, sym, ap, subst, ◌∙◌, arith}
+use Rattle.std.proofs.Common.{◌≡◌, ℕ, ◌+◌, ◌-◌, true, false, [], sym, ap, subst, ◌∙◌, arith}
 use Rattle.std.specs.List.{filter}
 use Rattle.flow_core.specs.Shop.{numbers}
-use Rattle.flow_core.specs.JobSet.{contains, members}
+use Rattle.flow_core.specs.JobSet.{contains}
 use Rattle.flow_core.proofs.JobSetLemmas.{members-is}
 use Rattle.flow_search.specs.internal.Lows.{AreLows, time_to}
 use Rattle.flow_search.proofs.Children.{filter-take, filter-leave}

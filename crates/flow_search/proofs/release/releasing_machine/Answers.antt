@@ -1,4 +1,4 @@
-use Rattle.std.proofs.Common.{◌≡◌, ℕ, ◌+◌, ◌<◌, ◌≤◌, Bool, false, true, nat_le, List, ap, sym, ◌∙◌, arith}
+use Rattle.std.proofs.Common.{◌≡◌, ℕ, ◌+◌, ◌≤◌, Bool, false, true, nat_le, List, ap, sym, ◌∙◌, arith}
 use Rattle.std.proofs.lemmas.Bool.{le-leb, lt-leb}
 use Rattle.flow_core.specs.Shop.{Shop}
 use Rattle.flow_core.specs.JobSet.{members}

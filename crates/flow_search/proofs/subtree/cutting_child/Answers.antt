@@ -1,8 +1,7 @@
-use Rattle.std.proofs.Common.{◌≡◌, ℕ, ◌-◌, suc, true, false, refl, nat_le, List, [], ◌∷◌, ◌++◌, slice_set, ap, sym, subst}
+use Rattle.std.proofs.Common.{◌≡◌, ℕ, ◌-◌, suc, true, refl, nat_le, List, [], ◌∷◌, ◌++◌, slice_set, ap, sym, subst}
 use Rattle.std.proofs.Common.{◌∙◌, arith}
 use Rattle.std.specs.List.{find}
 use Rattle.flow_core.specs.Shop.{numbers}
-use Rattle.flow_core.specs.Front.{IsFrontOf}
 use Rattle.flow_core.specs.JobSet.{members}
 use Rattle.flow_bound.specs.Rest.{IsRestOf}
 use Rattle.flow_search.specs.internal.Nodes.{IsAt}
@@ -34,8 +33,8 @@ step-rest-requires-clause-some c =
     omega (
       arith,
       left-count c.args.setting.now.instance.now (c.args.search.now.node.items ++ c.args.job ∷ [])
-      c.front_push.new.front c.remove.new.self (suc c.requires.at.0)
-      (child-at (goal.at.step-rest-requires-clause-some c).After-front_push),
+          c.front_push.new.front c.remove.new.self (suc c.requires.at.0)
+          (child-at (goal.at.step-rest-requires-clause-some c).After-front_push),
     )
 
 pub step-rest-requires-clause-rest : goal.step-rest-requires-clause-rest
@@ -53,8 +52,8 @@ releasing_machine-requires-clause-some c =
     omega (
       arith,
       left-count c.args.setting.now.instance.now (c.args.search.now.node.items ++ c.args.job ∷ [])
-      c.front_push.new.front c.remove.new.self (suc c.requires.at.0)
-      (child-at (goal.at.releasing_machine-requires-clause-some c).After-front_push),
+          c.front_push.new.front c.remove.new.self (suc c.requires.at.0)
+          (child-at (goal.at.releasing_machine-requires-clause-some c).After-front_push),
     )
 
 pub releasing_machine-requires-clause-within : goal.releasing_machine-requires-clause-within

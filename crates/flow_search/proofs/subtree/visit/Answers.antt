@@ -1,6 +1,4 @@
-use Rattle.std.proofs.Common.{◌≡◌, ℕ, suc, ◌-◌, Bool, nat_le, [], ◌∷◌, ◌++◌, sym, subst, ◌∙◌, arith}
-use Rattle.std.specs.List.{find}
-use Rattle.flow_core.specs.Shop.{numbers}
+use Rattle.std.proofs.Common.{◌≡◌, suc, ◌-◌, sym, subst, ◌∙◌, arith}
 use Rattle.flow_core.specs.Bound.{bound_of}
 use Rattle.flow_search.specs.internal.Frames.{IsFrame}
 use Rattle.flow_search.specs.internal.Nodes.{IsAt}

@@ -1,4 +1,4 @@
-use Rattle.std.proofs.Common.{◌≡◌, ℕ, ◌+◌, ◌-◌, ◌*◌, ◌<◌, ◌≤◌, max, List, [], map, slice_index, slice_index_or, refl, ap, sym}
+use Rattle.std.proofs.Common.{◌≡◌, ℕ, ◌+◌, ◌-◌, ◌*◌, ◌<◌, ◌≤◌, max, List, [], map, slice_index, slice_index_or, ap, sym}
 use Rattle.std.proofs.Common.{◌∙◌, inl, inr, arith}
 use Rattle.flow_core.specs.Limits.{most_machines, greatest_time, greatest_completion}
 use Rattle.flow_core.specs.Shop.{Shop, numbers}
