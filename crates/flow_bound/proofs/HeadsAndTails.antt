@@ -16,7 +16,7 @@ use Rattle.flow_core.proofs.Admissible.{completed-append, after-later}
 use Rattle.flow_core.proofs.Fronts.{free_at, completion-small, zeros}
 use Rattle.flow_bound.specs.Insertion.{tail, SpanIsOfHeadsAndTails}
 use Rattle.flow_bound.specs.internal.Tails.{AreTails}
-use Rattle.flow_bound.proofs.Loads.{completed-grows}
+use Rattle.flow_bound.proofs.MachineLoads.{completed-grows}
 
 -- no path is heavier than the tail
 weight-le-tail : (shop : Shop) (jobs machines : List ℕ) (machine : ℕ) → length machines ≡ length jobs →

@@ -112,17 +112,19 @@ head-step shop job (suc k) low =
     let e : k ≡ suc k - 1 = omega arith in
     time_between-more shop job 1 k (omega arith) ∙ ap (λ n. time_between shop job 1 n + time shop job (suc k)) e
 
+pub times-small : (shop : Shop) (job first last : ℕ) → 1 ≤ first → last ≤ shop.machines → IsWithinLimits shop →
+    time_between shop job first last ≤ most_machines * greatest_time
+times-small shop job first last low within limits =
+    let most : shop.machines ≤ most_machines = limits.machines in
+    omega (arith, time_between-small shop job first last low limits, most)
+
 pub head-small : (shop : Shop) (job machine : ℕ) → IsWithinLimits shop → machine ≤ shop.machines →
     time_between shop job 1 machine ≤ most_machines * greatest_time
-head-small shop job machine limits within =
-    let most : shop.machines ≤ most_machines = limits.machines in
-    omega (arith, time_between-small shop job 1 machine (omega arith) limits, most)
+head-small shop job machine limits within = times-small shop job 1 machine (omega arith) within limits
 
 pub tail-small : (shop : Shop) (job machine : ℕ) → IsWithinLimits shop →
     time_between shop job (machine + 1) shop.machines ≤ most_machines * greatest_time
-tail-small shop job machine limits =
-    let most : shop.machines ≤ most_machines = limits.machines in
-    omega (arith, time_between-small shop job (machine + 1) shop.machines (omega arith) limits, most)
+tail-small shop job machine limits = times-small shop job (machine + 1) shop.machines (omega arith) (omega arith) limits
 
 -- before the first machine
 pub times-none : (shop : Shop) (n job first : ℕ) → 1 ≤ first →

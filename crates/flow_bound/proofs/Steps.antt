@@ -12,8 +12,8 @@ use Rattle.flow_core.proofs.Fronts.{time-small}
 use Rattle.flow_core.specs.Paths.{span}
 use Rattle.flow_core.specs.Front.{IsFrontOf}
 use Rattle.flow_core.specs.Sequences.{jobs_left, IsSequence, Extends}
-use Rattle.flow_core.specs.Bound.{machine_bound}
-use Rattle.flow_core.proofs.Admissible.{admissible-front}
+use Rattle.flow_core.specs.Bound.{machine_bound, released_bound}
+use Rattle.flow_core.proofs.Admissible.{admissible-front, released-front}
 
 -- the least of a list and a cap
 abbrev pub capped : ℕ → List ℕ → ℕ
@@ -77,19 +77,37 @@ time_between-step shop job a (suc n) from low =
     ap (time_between shop job a) e ∙ time_between-more shop job a n low
     ∙ ap (λ m. time_between shop job a m + time shop job (suc n)) d
 
+-- where a list leaves some jobs, a sequence that extends it has jobs behind it
+module _ (shop : Shop) (scheduled sequence set : List ℕ) (is : IsSequence shop.jobs sequence)
+    (extends : Extends sequence scheduled) (some : 0 < length set) (left : set ≡ jobs_left shop.jobs scheduled) where
+  whole : IsSequence shop.jobs (scheduled ++ extends.0)
+  whole = subst (IsSequence shop.jobs) extends.1 is
+
+  more : 0 < length extends.0
+  more =
+      let ones = sum_by-jobs_left (λ _. 1) shop.jobs scheduled extends.0 whole in
+      omega (arith, ones, sum_by-ones (jobs_left shop.jobs scheduled), sum_by-ones extends.0, ap length left, some)
+
 -- what equals the bound of the jobs that are left is admissible
 pub admissible-members : (shop : Shop) (scheduled sequence front set : List ℕ) (machine bound : ℕ) → 1 ≤ machine →
     machine ≤ shop.machines →
     IsSequence shop.jobs sequence → Extends sequence scheduled → 0 < length set → set ≡ jobs_left shop.jobs scheduled →
     IsFrontOf shop scheduled front → bound ≡ machine_bound shop front set machine → bound ≤ span shop sequence
 admissible-members shop scheduled sequence front set machine bound low high is extends some left is_front value =
-    let rest : List ℕ = extends.0 in
-    let whole : IsSequence shop.jobs (scheduled ++ rest) = subst (IsSequence shop.jobs) extends.1 is in
-    let ones = sum_by-jobs_left (λ _. 1) shop.jobs scheduled rest whole in
-    let more : 0 < length rest =
-    omega (arith, ones, sum_by-ones (jobs_left shop.jobs scheduled), sum_by-ones rest, ap length left) in
-    let here = admissible-front shop scheduled rest front machine low high whole more is_front in
-    let same : bound ≡ machine_bound shop front (jobs_left shop.jobs scheduled) machine = value
-    ∙ ap (λ jobs. machine_bound shop front jobs machine) left in
-    let whole_span : span shop sequence ≡ span shop (scheduled ++ rest) = ap (span shop) extends.1 in
-    omega (arith, same, here, whole_span)
+    let here = admissible-front shop scheduled extends.0 front machine low high
+    (whole shop scheduled sequence set is extends some left) (more shop scheduled sequence set is extends some left)
+    is_front in
+    let same = value ∙ ap (λ jobs. machine_bound shop front jobs machine) left in
+    omega (arith, same, here, ap (span shop) extends.1)
+
+-- and so is what equals their released bound
+pub released-members : (shop : Shop) (scheduled sequence front set : List ℕ) (machine bound : ℕ) → 1 ≤ machine →
+    machine ≤ shop.machines →
+    IsSequence shop.jobs sequence → Extends sequence scheduled → 0 < length set → set ≡ jobs_left shop.jobs scheduled →
+    IsFrontOf shop scheduled front → bound ≡ released_bound shop front set machine → bound ≤ span shop sequence
+released-members shop scheduled sequence front set machine bound low high is extends some left is_front value =
+    let here = released-front shop scheduled extends.0 front machine low high
+    (whole shop scheduled sequence set is extends some left) (more shop scheduled sequence set is extends some left)
+    is_front in
+    let same = value ∙ ap (λ jobs. released_bound shop front jobs machine) left in
+    omega (arith, same, here, ap (span shop) extends.1)

@@ -2,5 +2,6 @@ pub mod Totals
 pub mod Neh
 pub mod Insertion
 pub mod Taillard
+pub mod Loads
 pub mod Rest
 pub mod internal

@@ -1,22 +1,16 @@
--- The rest of some jobs: the remaining work of each machine.
-use Rattle.std.specs.Prelude.{ℕ, ◌≡◌, ◌+◌, ◌-◌, ◌≤◌, List, map, slice_index, sum_by}
-use Rattle.flow_core.specs.Shop.{Shop, time, time_between}
-use Rattle.flow_core.specs.Least.{least}
+-- The rest of some jobs: the loads of the machines, and the legs to each of them.
+use Rattle.std.specs.Prelude.{ℕ, ◌≡◌, ◌-◌, ◌<◌, ◌≤◌, List, [], slice_index, slice_index_or}
+use Rattle.flow_core.specs.Shop.{Shop}
+use Rattle.flow_bound.specs.Loads.{least_between, AreLoadsOf}
+use Rattle.flow_bound.specs.declared.rest.Rest.{Rest}
 
--- the remaining work: how many machines there are, and for each the time of the jobs left and their least tail
-pub record Remaining : Type 0 where
-  pub machines : ℕ
-  pub sums : List ℕ
-  pub tails : List ℕ
+-- the legs of some jobs to a machine: for each machine before it, the least time that a job needs from there to it
+abbrev pub AreLegs : Shop → List ℕ → ℕ → List ℕ → Type 0
+AreLegs shop jobs machine legs =
+    (from : ℕ) → 1 ≤ from → from < machine → slice_index legs (from - 1) ≡ least_between shop jobs from (machine - 1)
 
--- the least time that one of some jobs needs behind a machine
-abbrev pub least_tail : Shop → List ℕ → ℕ → ℕ
-least_tail shop jobs machine = least (map (λ job. time_between shop job (machine + 1) shop.machines) jobs)
-
--- a rest has, for each machine, the time of the jobs on it, and their least tail
-pub record IsRestOf (shop : Shop) (jobs : List ℕ) (rest : Remaining) : Type 0 where
-  pub machines_are : rest.machines ≡ shop.machines
-  pub sums_are : (machine : ℕ) → 1 ≤ machine → machine ≤ shop.machines →
-      slice_index rest.sums (machine - 1) ≡ sum_by (λ job. time shop job machine) jobs
-  pub tails_are : (machine : ℕ) → 1 ≤ machine → machine ≤ shop.machines →
-      slice_index rest.tails (machine - 1) ≡ least_tail shop jobs machine
+-- the rest of some jobs has their loads, and for each machine their legs to it
+pub record IsRestOf (shop : Shop) (jobs : List ℕ) (rest : Rest) : Type 0 where
+  pub loads_are : AreLoadsOf shop jobs rest.loads
+  pub legs_are : (machine : ℕ) → 1 ≤ machine → machine ≤ shop.machines →
+      AreLegs shop jobs machine (slice_index_or rest.legs (machine - 1) [])

@@ -7,7 +7,8 @@ ghost use Rattle.flow_core.specs.JobSet.{contains, members};
 ghost use Rattle.flow_core.specs.Sequences.{jobs_left, IsSequence, Extends};
 ghost use Rattle.flow_core.specs.Bound.{machine_bound};
 
-use crate::rest::{least_above, sum_of};
+use crate::least::least_between;
+use crate::sums::sum_of;
 use flow_core::{Front, Instance, JobSet};
 
 /// The machine bound: when a machine is free, its time for the jobs of a set, and the least time that one of them needs
@@ -24,8 +25,9 @@ pub fn bound(instance: &Instance, front: &Front, unscheduled: &JobSet, machine: 
         members unscheduled.now ≡ jobs_left instance.now.jobs scheduled → IsSequence instance.now.jobs sequence →
         Extends sequence scheduled → result ≤ span instance.now sequence }
 {
-    prove!(machine <= instance.machines());
+    let machines = instance.machines();
+    prove!(machine <= machines);
     let sum = sum_of(instance, unscheduled, machine);
-    let least_tail = least_above(instance, unscheduled, machine, 0);
+    let least_tail = least_between(instance, unscheduled, machine + 1, machines, 0);
     front.at(machine) + u64::from(sum) + u64::from(least_tail)
 }

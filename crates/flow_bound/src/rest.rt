@@ -1,123 +1,117 @@
-//! The rest of a set of jobs: the remaining work of each machine.
+//! The rest of a set of jobs: the loads of the machines, and the legs to each of them.
 
-ghost use Rattle.std.specs.Prelude.{◌≡◌, ℕ, ◌+◌, ◌-◌, ◌*◌, ◌<◌, ◌≤◌, min, List, Bool, true, false};
-ghost use Rattle.std.specs.Prelude.{length, slice_index, slice_set, sum_by};
-ghost use Rattle.flow_core.specs.Limits.{most_jobs, greatest_time, greatest_completion};
-ghost use Rattle.flow_core.specs.Shop.{Shop, time, time_between};
+ghost use Rattle.std.specs.Prelude.{◌≡◌, ℕ, ◌+◌, ◌-◌, ◌^◌, ◌<◌, ◌≤◌, min, List, Bool, true, false};
+ghost use Rattle.std.specs.Prelude.{length, slice_index, slice_set};
+ghost use Rattle.flow_core.specs.Limits.{most_machines, greatest_completion};
+ghost use Rattle.flow_core.specs.Shop.{Shop, time_between};
 ghost use Rattle.flow_core.specs.Paths.{span};
 ghost use Rattle.flow_core.specs.Front.{IsFrontOf};
 ghost use Rattle.flow_core.specs.JobSet.{contains, members};
 ghost use Rattle.flow_core.specs.Sequences.{jobs_left, IsSequence, Extends};
-ghost use Rattle.flow_core.specs.Bound.{machine_bound};
-ghost use Rattle.flow_bound.specs.Rest.{IsRestOf, least_tail};
+ghost use Rattle.flow_core.specs.Bound.{machine_bound, release, released_bound};
+ghost use Rattle.flow_bound.specs.Rest.{AreLegs, IsRestOf};
 
+use crate::least::least_between;
+use crate::loads::Loads;
 use flow_core::{Front, Instance, JobSet, MAX_MACHINES};
-use std::marker::Model;
 
-/// The remaining work of each machine of an instance, where the jobs of a set are left. It stores no set.
+/// The legs of a set of jobs to a machine: for each machine before it, the least time that a job of the set needs from
+/// there to it.
+type Legs = [u32; MAX_MACHINES];
+
+/// The rest of a set of jobs: the remaining work of each machine, and the legs to it. It stores no set.
 #[derive(Clone, Copy, Debug, PartialEq, Eq)]
 pub struct Rest {
-    /// The number of machines.
-    machines: u16,
-    /// For each machine, the time of all jobs of the set on it.
-    sums: [u32; MAX_MACHINES],
-    /// For each machine, the least tail of a job of the set: its time on all later machines.
-    tails: [u32; MAX_MACHINES],
+    /// The remaining work of each machine.
+    loads: Loads,
+    /// For each machine, the legs to it.
+    legs: [Legs; MAX_MACHINES],
 }
 
-impl Model for Rest {
-    ghost use Rattle.std.specs.Prelude.{◌≤◌};
-    ghost use Rattle.flow_core.specs.Limits.{most_machines};
-    ghost use Rattle.flow_bound.specs.Rest.{Remaining};
-
-    ghost Value = { Remaining };
-
-    ghost view = { λ r. record { machines = r.machines; sums = r.sums; tails = r.tails } };
-
-    ghost inverse = { λ o. record { machines = o.machines; sums = o.sums; tails = o.tails } };
-
-    ghost invariant = { λ r. r.machines ≤ most_machines };
-}
-
-/// The time of all jobs of a set on a machine.
-pub(crate) fn sum_of(instance: &Instance, set: &JobSet, machine: u16) -> u32
-    requires from { 1 ≤ machine }
-    requires to { machine ≤ instance.now.machines }
-    requires jobs { (job : ℕ) → instance.now.jobs < job → contains set.now job ≡ false }
-    ensures { result ≡ sum_by (λ job. time instance.now job machine) (members set.now) }
-{
-    let mut sum = 0;
-    for job in 1..instance.jobs() + 1 {
-        if set.contains(job) {
-            sum += instance.time(job, machine);
-        }
-    }
-    sum
-}
-
-/// The tail of a job behind a machine.
-fn tail_of(instance: &Instance, job: u16, machine: u16) -> u32
+/// Takes a job into the legs to a machine.
+fn take_legs(instance: &Instance, job: u16, machine: u16, legs: &mut Legs)
     requires job_from { 1 ≤ job }
     requires job_to { job ≤ instance.now.jobs }
+    requires from { 1 ≤ machine }
     requires to { machine ≤ instance.now.machines }
-    ensures { result ≡ time_between instance.now job (machine + 1) instance.now.machines }
+    ensures legs { (from : ℕ) → 1 ≤ from → from < machine →
+        slice_index legs.new (from - 1)
+        ≡ min (slice_index legs.old (from - 1)) (time_between instance.now job from (machine - 1)) }
 {
-    let end = instance.machines() + 1;
-    let mut tail = 0;
-    for later in machine + 1..end {
-        tail += instance.time(job, later);
+    prove!(machine <= instance.machines());
+    let mut ahead = 0;
+    let mut from = machine - 1;
+    while from > 0 {
+        let place = from as usize - 1;
+        ahead += instance.time(job, from);
+        legs[place] = legs[place].min(ahead);
+        from -= 1;
     }
-    tail
 }
 
-/// The least tail of a set of jobs behind a machine, where none is below `floor`.
-pub(crate) fn least_above(instance: &Instance, set: &JobSet, machine: u16, floor: u32) -> u32
+/// The legs of a set of jobs to a machine.
+fn legs_of(instance: &Instance, set: &JobSet, machine: u16) -> Legs
+    requires from { 1 ≤ machine }
     requires to { machine ≤ instance.now.machines }
     requires some { 0 < length (members set.now) }
     requires jobs { (job : ℕ) → instance.now.jobs < job → contains set.now job ≡ false }
-    requires floor { floor ≤ least_tail instance.now (members set.now) machine }
-    ensures { result ≡ least_tail instance.now (members set.now) machine }
+    ensures { AreLegs instance.now (members set.now) machine result }
 {
-    let mut least = u32::MAX;
+    let mut legs = [u32::MAX; MAX_MACHINES];
     for job in 1..instance.jobs() + 1 {
         if set.contains(job) {
-            let tail = tail_of(instance, job, machine);
-            if tail == floor {
-                return floor;
-            }
-            least = least.min(tail);
+            take_legs(instance, job, machine, &mut legs);
         }
     }
-    least
+    legs
 }
 
-/// Takes a job into the sums and the least tails.
-fn take_in(
-    instance: &Instance,
-    job: u16,
-    sums: &mut [u32; MAX_MACHINES],
-    tails: &mut [u32; MAX_MACHINES],
-)
+/// The legs to a machine after `job` is taken out; `after` is the set without it. It looks for a new least time only
+/// where `job` has the least.
+fn legs_after(instance: &Instance, after: &JobSet, job: u16, machine: u16, legs: &Legs) -> Legs
     requires job_from { 1 ≤ job }
     requires job_to { job ≤ instance.now.jobs }
-    requires small { (machine : ℕ) → 1 ≤ machine → machine ≤ instance.now.machines →
-        slice_index sums.old (machine - 1) ≤ most_jobs * greatest_time }
-    ensures sums { (machine : ℕ) → 1 ≤ machine → machine ≤ instance.now.machines →
-        slice_index sums.new (machine - 1) ≡ slice_index sums.old (machine - 1) + time instance.now job machine }
-    ensures tails { (machine : ℕ) → 1 ≤ machine → machine ≤ instance.now.machines →
-        slice_index tails.new (machine - 1) ≡ min (slice_index tails.old (machine - 1))
-        (time_between instance.now job (machine + 1) instance.now.machines) }
+    requires from { 1 ≤ machine }
+    requires to { machine ≤ instance.now.machines }
+    requires out { contains after.now job ≡ false }
+    requires some { 0 < length (members after.now) }
+    requires jobs { (job : ℕ) → instance.now.jobs < job → contains after.now job ≡ false }
+    requires legs { AreLegs instance.now (members (slice_set after.now (job - 1) true)) machine legs.now }
+    ensures { AreLegs instance.now (members after.now) machine result }
 {
-    let mut behind = 0;
-    let mut machine = instance.machines();
-    while machine > 0 {
-        let place = machine as usize - 1;
-        let time = instance.time(job, machine);
-        sums[place] += time;
-        tails[place] = tails[place].min(behind);
-        behind += time;
-        machine -= 1;
+    prove!(machine <= instance.machines());
+    prove!(!after.contains(job));
+    let mut new_legs = *legs;
+    let mut ahead = 0;
+    let mut from = machine - 1;
+    while from > 0 {
+        let place = from as usize - 1;
+        ahead += instance.time(job, from);
+        let least = legs[place];
+        new_legs[place] = if ahead == least {
+            least_between(instance, after, from, machine - 1, least)
+        } else {
+            least
+        };
+        from -= 1;
     }
+    new_legs
+}
+
+/// The release of a machine, for every set with these legs to it.
+fn release_by(front: &Front, legs: &Legs, machine: u16) -> u64
+    requires from { 1 ≤ machine }
+    requires to { machine ≤ most_machines }
+    requires within { (place : ℕ) → place < machine → slice_index front.now place ≤ greatest_completion }
+    ensures value { (shop : Shop) (jobs : List ℕ) → AreLegs shop jobs machine legs.now →
+        result ≡ release shop front.now jobs machine }
+    ensures limit { result ≤ greatest_completion + 2 ^ 32 }
+{
+    let mut release = front.at(machine);
+    for from in 1..machine {
+        release = release.max(front.at(from) + u64::from(legs[from as usize - 1]));
+    }
+    release
 }
 
 impl Rest {
@@ -127,22 +121,16 @@ impl Rest {
         requires jobs { (job : ℕ) → instance.now.jobs < job → contains set.now job ≡ false }
         ensures rest { IsRestOf instance.now (members set.now) result }
     {
-        let mut sums = [0; MAX_MACHINES];
-        let mut tails = [u32::MAX; MAX_MACHINES];
-        for job in 1..instance.jobs() + 1 {
-            if set.contains(job) {
-                take_in(instance, job, &mut sums, &mut tails);
-            }
+        let loads = Loads::of(instance, set);
+        let mut legs = [[0; MAX_MACHINES]; MAX_MACHINES];
+        for machine in 1..instance.machines() + 1 {
+            legs[machine as usize - 1] = legs_of(instance, set, machine);
         }
-        Rest {
-            machines: instance.machines(),
-            sums,
-            tails,
-        }
+        Rest { loads, legs }
     }
 
-    /// The rest after `job` is taken out; `after` is the set without it. It looks for a new least tail only where `job`
-    /// has the least.
+    /// The rest after `job` is taken out; `after` is the set without it. It looks for a new least only where `job` has
+    /// the least.
     pub fn step(&self, instance: &Instance, after: &JobSet, job: u16) -> Rest
         requires job_from { 1 ≤ job }
         requires job_to { job ≤ instance.now.jobs }
@@ -152,56 +140,47 @@ impl Rest {
         requires rest { IsRestOf instance.now (members (slice_set after.now (job - 1) true)) self.now }
         ensures rest { IsRestOf instance.now (members after.now) result }
     {
-        let machines = instance.machines();
-        prove!(!after.contains(job));
-        let mut sums = self.sums;
-        let mut tails = self.tails;
-        let mut behind = 0;
-        let mut machine = machines;
-        while machine > 0 {
+        let loads = self.loads.step(instance, after, job);
+        let mut legs = self.legs;
+        for machine in 1..instance.machines() + 1 {
             let place = machine as usize - 1;
-            let time = instance.time(job, machine);
-            sums[place] = self.sums[place] - time;
-            let least = self.tails[place];
-            tails[place] = if behind == least {
-                least_above(instance, after, machine, least)
-            } else {
-                least
-            };
-            behind += time;
-            machine -= 1;
+            legs[place] = legs_after(instance, after, job, machine, &self.legs[place]);
         }
-        Rest {
-            machines,
-            sums,
-            tails,
-        }
+        Rest { loads, legs }
+    }
+
+    /// The remaining work of each machine.
+    pub fn loads(&self) -> &Loads
+        ensures { result.now ≡ self.now.loads }
+    {
+        &self.loads
     }
 
     /// The time of all jobs of the set on a machine.
     pub fn sum(&self, machine: u16) -> u32
         requires from { 1 ≤ machine }
-        requires to { machine ≤ self.now.machines }
-        ensures { result ≡ slice_index self.now.sums (machine - 1) }
+        requires to { machine ≤ self.now.loads.machines }
+        ensures { result ≡ slice_index self.now.loads.sums (machine - 1) }
     {
-        self.sums[machine as usize - 1]
+        self.loads.sum(machine)
     }
 
     /// The least tail of a job of the set behind a machine: its time on all later machines.
     pub fn tail(&self, machine: u16) -> u32
         requires from { 1 ≤ machine }
-        requires to { machine ≤ self.now.machines }
-        ensures { result ≡ slice_index self.now.tails (machine - 1) }
+        requires to { machine ≤ self.now.loads.machines }
+        ensures { result ≡ slice_index self.now.loads.tails (machine - 1) }
     {
-        self.tails[machine as usize - 1]
+        self.loads.tail(machine)
     }
 
     /// The machine bound of a front, for every set with this rest. Where the front is that of a list, and the set has
     /// the jobs that the list leaves, no sequence that extends the list has a smaller makespan.
     pub fn bound(&self, front: &Front, machine: u16) -> u64
         requires from { 1 ≤ machine }
-        requires to { machine ≤ self.now.machines }
-        requires within { (place : ℕ) → place < self.now.machines → slice_index front.now place ≤ greatest_completion }
+        requires to { machine ≤ self.now.loads.machines }
+        requires within { (place : ℕ) → place < self.now.loads.machines →
+            slice_index front.now place ≤ greatest_completion }
         ensures value { (shop : Shop) (jobs : List ℕ) → IsRestOf shop jobs self.now →
             result ≡ machine_bound shop front.now jobs machine }
         ensures admissible { (shop : Shop) (scheduled sequence : List ℕ) →
@@ -209,8 +188,26 @@ impl Rest {
             IsFrontOf shop scheduled front.now → IsSequence shop.jobs sequence → Extends sequence scheduled →
             result ≤ span shop sequence }
     {
-        let place = machine as usize - 1;
-        let work = u64::from(self.sums[place]) + u64::from(self.tails[place]);
-        front.at(machine) + work
+        self.loads.bound(front, machine)
+    }
+
+    /// The released bound of a front, for every set with this rest. Where the front is that of a list, and the set has
+    /// the jobs that the list leaves, no sequence that extends the list has a smaller makespan.
+    pub fn released_bound(&self, front: &Front, machine: u16) -> u64
+        requires from { 1 ≤ machine }
+        requires to { machine ≤ self.now.loads.machines }
+        requires within { (place : ℕ) → place < self.now.loads.machines →
+            slice_index front.now place ≤ greatest_completion }
+        ensures value { (shop : Shop) (jobs : List ℕ) → IsRestOf shop jobs self.now →
+            result ≡ released_bound shop front.now jobs machine }
+        ensures admissible { (shop : Shop) (scheduled sequence : List ℕ) →
+            IsRestOf shop (jobs_left shop.jobs scheduled) self.now → 0 < length (jobs_left shop.jobs scheduled) →
+            IsFrontOf shop scheduled front.now → IsSequence shop.jobs sequence → Extends sequence scheduled →
+            result ≤ span shop sequence }
+    {
+        prove!(machine <= self.loads.machines());
+        let release = release_by(front, &self.legs[machine as usize - 1], machine);
+        let work = u64::from(self.loads.sum(machine)) + u64::from(self.loads.tail(machine));
+        release + work
     }
 }

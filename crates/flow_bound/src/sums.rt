@@ -1,14 +1,15 @@
-//! Each job's time on several machines.
+//! Sums of times: of each job on several machines, and of a set of jobs on a machine.
 
-ghost use Rattle.std.specs.Prelude.{◌≡◌, ℕ, ◌+◌, ◌-◌, ◌*◌, ◌≤◌, slice_index};
+ghost use Rattle.std.specs.Prelude.{◌≡◌, ℕ, ◌+◌, ◌-◌, ◌*◌, ◌<◌, ◌≤◌, slice_index, sum_by, false};
 ghost use Rattle.flow_core.specs.Limits.{most_machines, greatest_time};
 ghost use Rattle.flow_core.specs.Shop.{time};
+ghost use Rattle.flow_core.specs.JobSet.{contains, members};
 ghost use Rattle.flow_bound.specs.internal.Times.{AreTimes};
 
-use flow_core::{Instance, MAX_JOBS};
+use flow_core::{Instance, JobSet, MAX_JOBS};
 
 /// Adds each job's time on a machine to its sum.
-pub(crate) fn add_times(instance: &Instance, sums: &mut [u32; MAX_JOBS], machine: u16)
+fn add_times(instance: &Instance, sums: &mut [u32; MAX_JOBS], machine: u16)
     requires from { 1 ≤ machine }
     requires to { machine ≤ instance.now.machines }
     requires small { (job : ℕ) → 1 ≤ job → job ≤ instance.now.jobs →
@@ -32,4 +33,20 @@ pub(crate) fn sum_times(instance: &Instance, sums: &mut [u32; MAX_JOBS], first: 
     for machine in first..end {
         add_times(instance, sums, machine);
     }
+}
+
+/// The time of all jobs of a set on a machine.
+pub(crate) fn sum_of(instance: &Instance, set: &JobSet, machine: u16) -> u32
+    requires from { 1 ≤ machine }
+    requires to { machine ≤ instance.now.machines }
+    requires jobs { (job : ℕ) → instance.now.jobs < job → contains set.now job ≡ false }
+    ensures { result ≡ sum_by (λ job. time instance.now job machine) (members set.now) }
+{
+    let mut sum = 0;
+    for job in 1..instance.jobs() + 1 {
+        if set.contains(job) {
+            sum += instance.time(job, machine);
+        }
+    }
+    sum
 }

@@ -5,7 +5,7 @@ ghost use Rattle.flow_core.specs.Front.{IsWithinFront};
 ghost use Rattle.flow_core.specs.JobSet.{contains, members};
 
 use crate::instances::{three_machines, two_machines};
-use flow_bound::{Rest, bound, insertion_spans, neh, taillard_bound};
+use flow_bound::{Rest, bound, insertion_spans, neh, released_bound, taillard_bound};
 use flow_core::{Front, Instance, JobSet, Sequence, front_push, generate};
 use std::alloc::{AllocError, Global};
 use std::test::Fail;
@@ -105,6 +105,55 @@ fn bounds_of_two_machines_are_the_worked_ones(rt: HostRuntime) -> Result<(), Fai
     Ok(())
 }
 
+/// The released bound of each machine, and that of the rest of the jobs left.
+fn released_bounds(
+    alloc: Global,
+    instance: &Instance,
+    front: &Front,
+    left: &JobSet,
+) -> Result<Vec<(u64, u64)>, AllocError>
+    requires some { 0 < length (members left.now) }
+    requires left { (job : ℕ) → instance.now.jobs < job → contains left.now job ≡ false }
+    requires within { IsWithinFront instance.now front.now }
+{
+    let rest = Rest::of(instance, left);
+    let mut found = Vec::new(alloc);
+    for machine in 1..instance.machines() + 1 {
+        found.push((
+            released_bound(instance, front, left, machine),
+            rest.released_bound(front, machine),
+        ))?;
+    }
+    Ok(found)
+}
+
+/// The released bounds at a list.
+fn released_row(alloc: Global, instance: &Instance, jobs: &[u16]) -> Result<Vec<(u64, u64)>, Fail> {
+    let (front, left) = node(instance, jobs)?;
+    Ok(released_bounds(alloc, instance, &front, &left)?)
+}
+
+#[test]
+fn released_bounds_are_the_worked_ones(rt: HostRuntime) -> Result<(), Fail> {
+    let alloc = rt.alloc();
+    let two = two_machines(alloc)?;
+    let three = three_machines(alloc)?;
+    let rows: [(&Instance, &[u16], &[(u64, u64)]); 4] = [
+        (&two, &[], &[(8, 8), (9, 9)]),
+        (&three, &[], &[(7, 7), (10, 10), (7, 7)]),
+        (&three, &[3], &[(8, 8), (10, 10), (8, 8)]),
+        (&three, &[3, 1], &[(12, 12), (12, 12), (12, 12)]),
+    ];
+    for (instance, jobs, row) in rows {
+        assert_eq!(rt;
+            released_row(alloc, instance, jobs)?.as_slice(),
+            row,
+            "at {jobs:?}"
+        );
+    }
+    Ok(())
+}
+
 /// For each machine, a rest's sum and least tail, and its bound behind a front.
 fn sums_tails_and_bounds(
     alloc: Global,
@@ -112,7 +161,7 @@ fn sums_tails_and_bounds(
     rest: &Rest,
     front: &Front,
 ) -> Result<Vec<(u32, u32, u64)>, AllocError>
-    requires machines { rest.now.machines ≡ instance.now.machines }
+    requires machines { rest.now.loads.machines ≡ instance.now.machines }
     requires within { IsWithinFront instance.now front.now }
 {
     let mut found = Vec::new(alloc);
@@ -130,8 +179,8 @@ fn sums_tails_and_bounds(
 fn rests(instance: &Instance, after: &JobSet, job: u16) -> Result<(Rest, Rest), Fail>
     requires some { 0 < length (members after.now) }
     requires left { (job : ℕ) → instance.now.jobs < job → contains after.now job ≡ false }
-    ensures before { IfOk result (λ rests. rests.0.machines ≡ instance.now.machines) }
-    ensures after { IfOk result (λ rests. rests.1.machines ≡ instance.now.machines) }
+    ensures before { IfOk result (λ rests. rests.0.loads.machines ≡ instance.now.machines) }
+    ensures after { IfOk result (λ rests. rests.1.loads.machines ≡ instance.now.machines) }
 {
     if job < 1 || job > instance.jobs() || after.contains(job) {
         return Err(Fail::from("no other job of the instance"));

@@ -1,6 +1,7 @@
-use Rattle.std.proofs.Common.{◌+◌, ◌-◌, ◌≤◌, slice_index, arith}
+use Rattle.std.proofs.Common.{◌+◌, ◌-◌, ◌≤◌, slice_index, ap, arith}
 use Rattle.flow_core.specs.Limits.{greatest_completion}
 use Rattle.flow_core.specs.JobSet.{members}
+use Rattle.flow_bound.specs.Loads.{least_between}
 use Rattle.flow_bound.proofs.Steps.{admissible-members}
 use Rattle.flow_bound.proofs.machine_bound.bound.Goals as goal
 
@@ -24,7 +25,9 @@ returns-clause-value c =
       c.from.ensures,
       c.from-2.ensures,
       c.sum_of-sum.ensures,
-      c.least_above-least_tail.ensures,
+      c.least_between-least_tail.ensures,
+      ap (least_between c.args.instance.now (members c.args.unscheduled.now) (c.args.machine + 1))
+          c.machines-machines.ensures.value,
     )
 
 pub returns-clause-admissible : goal.returns-clause-admissible

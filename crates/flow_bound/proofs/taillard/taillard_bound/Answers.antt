@@ -6,7 +6,7 @@ use Rattle.flow_bound.specs.Totals.{total}
 use Rattle.flow_bound.specs.Taillard.{machine_load, taillard_bound}
 use Rattle.flow_core.proofs.Fronts.{zeros}
 use Rattle.flow_bound.proofs.Running.{times-none, greatest-step}
-use Rattle.flow_bound.proofs.Loads.{taillard-below}
+use Rattle.flow_bound.proofs.MachineLoads.{taillard-below}
 use Rattle.flow_bound.proofs.taillard.taillard_bound.Goals as goal
 
 pub sum_times-requires-clause-zeros : goal.sum_times-requires-clause-zeros

@@ -1,0 +1,31 @@
+use Rattle.std.proofs.Common.{◌≡◌, ◌+◌, ◌-◌, ◌≤◌, slice_index, refl, ap, arith}
+use Rattle.flow_core.specs.Sequences.{jobs_left}
+use Rattle.flow_bound.proofs.Steps.{admissible-members}
+use Rattle.flow_bound.proofs.loads.Loads.bound.Goals as goal
+
+pub returns-clause-value : goal.returns-clause-value
+returns-clause-value c shop jobs rest =
+    let high : c.args.machine ≤ shop.machines = omega (arith, c.requires.to, rest.machines_are) in
+    let sums : slice_index c.self.inside.sums (c.args.machine - 1)
+    ≡ slice_index c.args.self.now.sums (c.args.machine - 1) =
+    ap (λ o. slice_index o.sums (c.args.machine - 1)) c.self.view_is in
+    let tails : slice_index c.self.inside.tails (c.args.machine - 1)
+    ≡ slice_index c.args.self.now.tails (c.args.machine - 1) =
+    ap (λ o. slice_index o.tails (c.args.machine - 1)) c.self.view_is in
+    omega (
+      arith,
+      c.at.ensures,
+      c.from.ensures,
+      c.from-2.ensures,
+      sums,
+      tails,
+      rest.sums_are c.args.machine c.requires.from high,
+      rest.tails_are c.args.machine c.requires.from high,
+    )
+
+pub returns-clause-admissible : goal.returns-clause-admissible
+returns-clause-admissible c shop scheduled sequence rest some front is extends =
+    admissible-members shop scheduled sequence c.args.front.now (jobs_left shop.jobs scheduled) c.args.machine
+    (c.at.result + (c.from.result + c.from-2.result))
+    c.requires.from (omega (arith, c.requires.to, rest.machines_are)) is extends some refl front
+    (returns-clause-value c shop (jobs_left shop.jobs scheduled) rest)

@@ -1,0 +1,25 @@
+use Rattle.std.proofs.Common.{◌+◌, ap, arith}
+use Rattle.flow_core.specs.JobSet.{members}
+use Rattle.flow_bound.specs.Loads.{least_between}
+use Rattle.flow_bound.proofs.Steps.{released-members}
+use Rattle.flow_bound.proofs.release.released_bound.Goals as goal
+
+pub returns-clause-value : goal.returns-clause-value
+returns-clause-value c =
+    omega (
+      arith,
+      c.release_of-release.ensures.value,
+      c.from.ensures,
+      c.from-2.ensures,
+      c.sum_of-sum.ensures,
+      c.least_between-least_tail.ensures,
+      ap (least_between c.args.instance.now (members c.args.unscheduled.now) (c.args.machine + 1))
+          c.machines-machines.ensures.value,
+    )
+
+pub returns-clause-admissible : goal.returns-clause-admissible
+returns-clause-admissible c scheduled sequence front left is extends =
+    released-members c.args.instance.now scheduled sequence c.args.front.now
+    (members c.args.unscheduled.now) c.args.machine
+    (c.release_of-release.result + c.from.result + c.from-2.result)
+    c.requires.from c.requires.to is extends c.requires.some left front (returns-clause-value c)

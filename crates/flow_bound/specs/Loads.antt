@@ -1,0 +1,26 @@
+-- The remaining work of each machine, where some jobs are left.
+use Rattle.std.specs.Prelude.{ℕ, ◌≡◌, ◌+◌, ◌-◌, ◌≤◌, List, map, slice_index, sum_by}
+use Rattle.flow_core.specs.Shop.{Shop, time, time_between}
+use Rattle.flow_core.specs.Least.{least}
+
+-- the remaining work: how many machines there are, and for each the time of the jobs left and their least tail
+pub record Remaining : Type 0 where
+  pub machines : ℕ
+  pub sums : List ℕ
+  pub tails : List ℕ
+
+-- the least time that one of some jobs needs on the machines from first to last
+abbrev pub least_between : Shop → List ℕ → ℕ → ℕ → ℕ
+least_between shop jobs first last = least (map (λ job. time_between shop job first last) jobs)
+
+-- the least time that one of some jobs needs behind a machine
+abbrev pub least_tail : Shop → List ℕ → ℕ → ℕ
+least_tail shop jobs machine = least_between shop jobs (machine + 1) shop.machines
+
+-- the loads of some jobs have, for each machine, the time of the jobs on it, and their least tail
+pub record AreLoadsOf (shop : Shop) (jobs : List ℕ) (loads : Remaining) : Type 0 where
+  pub machines_are : loads.machines ≡ shop.machines
+  pub sums_are : (machine : ℕ) → 1 ≤ machine → machine ≤ shop.machines →
+      slice_index loads.sums (machine - 1) ≡ sum_by (λ job. time shop job machine) jobs
+  pub tails_are : (machine : ℕ) → 1 ≤ machine → machine ≤ shop.machines →
+      slice_index loads.tails (machine - 1) ≡ least_tail shop jobs machine

@@ -1,0 +1,54 @@
+//! The time of a job on the machines from one to another, and the least such time of a set of jobs.
+
+ghost use Rattle.std.specs.Prelude.{◌≡◌, ℕ, ◌+◌, ◌<◌, ◌≤◌, length, false};
+ghost use Rattle.flow_core.specs.Shop.{time_between};
+ghost use Rattle.flow_core.specs.JobSet.{contains, members};
+ghost use Rattle.flow_bound.specs.Loads.{least_between};
+
+use flow_core::{Instance, JobSet};
+
+/// The time of a job on the machines from `first` to `last`.
+fn time_between(instance: &Instance, job: u16, first: u16, last: u16) -> u32
+    requires job_from { 1 ≤ job }
+    requires job_to { job ≤ instance.now.jobs }
+    requires from { 1 ≤ first }
+    requires order { first ≤ last + 1 }
+    requires to { last ≤ instance.now.machines }
+    ensures { result ≡ time_between instance.now job first last }
+{
+    prove!(last <= instance.machines());
+    let mut time = 0;
+    for machine in first..last + 1 {
+        time += instance.time(job, machine);
+    }
+    time
+}
+
+/// The least time of a job of a set on the machines from `first` to `last`, where none is below `floor`.
+pub(crate) fn least_between(
+    instance: &Instance,
+    set: &JobSet,
+    first: u16,
+    last: u16,
+    floor: u32,
+) -> u32
+    requires from { 1 ≤ first }
+    requires order { first ≤ last + 1 }
+    requires to { last ≤ instance.now.machines }
+    requires some { 0 < length (members set.now) }
+    requires jobs { (job : ℕ) → instance.now.jobs < job → contains set.now job ≡ false }
+    requires floor { floor ≤ least_between instance.now (members set.now) first last }
+    ensures { result ≡ least_between instance.now (members set.now) first last }
+{
+    let mut least = u32::MAX;
+    for job in 1..instance.jobs() + 1 {
+        if set.contains(job) {
+            let time = time_between(instance, job, first, last);
+            if time == floor {
+                return floor;
+            }
+            least = least.min(time);
+        }
+    }
+    least
+}
