@@ -18,6 +18,8 @@ mod starts;
 #[cfg(test)]
 mod text;
 #[cfg(test)]
+mod trees;
+#[cfg(test)]
 mod values;
 #[cfg(test)]
 mod writer;

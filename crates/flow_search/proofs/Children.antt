@@ -1,5 +1,5 @@
 -- The bounds of a node's children.
-use Rattle.std.proofs.Common.{◌≡◌, ℕ, zero, suc, ◌+◌, ◌-◌, ◌*◌, ◌≤◌, Bool, true, false, cond, List, [], ◌∷◌, ◌++◌}
+use Rattle.std.proofs.Common.{◌≡◌, ℕ, zero, suc, ◌+◌, ◌-◌, ◌*◌, ◌≤◌, Bool, true, false, cond, List, [], ◌∷◌, ◌++◌, map}
 use Rattle.std.proofs.Common.{slice_index, refl, ap, sym, ◌∙◌, inl, inr, arith}
 use Rattle.std.specs.List.{filter}
 use Rattle.std.proofs.lemmas.List.{append-nil}
@@ -113,6 +113,10 @@ child-bound shop node left job machine start t tail behind frame limits is kid f
       omega (arith, is_free, front, is.rest_is.sums_are machine from to, sum, is_t, behind_is, cap.0),
       omega (arith, behind_is, cap.0, cap.1),
     )
+
+pub map-push : (f : ℕ → ℕ) (jobs : List ℕ) (job : ℕ) → map f (jobs ++ job ∷ []) ≡ map f jobs ++ f job ∷ []
+map-push f [] job = refl
+map-push f (k ∷ ks) job = ap (λ xs. f k ∷ xs) (map-push f ks job)
 
 -- the jobs so far that pass a test
 pub filter-take : (p : ℕ → Bool) (job : ℕ) → 1 ≤ job → p job ≡ true →

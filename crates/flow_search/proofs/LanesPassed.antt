@@ -37,29 +37,28 @@ lanes-differ shop list group frame lane other at here there differ e = elim (cas
   ]
 ]
 
--- the least time behind a machine of the jobs that a child leaves
-behind-is : (shop : Shop) (list : List ℕ) (group : Group) (frame : LaneFrame) (row : LaneRow)
-    (lane other machine value : ℕ) (tails : List ℕ) →
-    IsFrameOf shop list group frame → IsLaneLeft frame lane → IsLaneLeft frame other → other ≢ lane → 1 ≤ machine →
-    machine ≤ shop.machines →
-    ((k : ℕ) → k < 8 → slice_index tails k
-    ≡ max (slice_index (slice_index_or group.rows (machine - 1) row).tail k) (slice_index frame.gone k)) →
-    IsLeastOfOthers tails lane value →
-    value ≡ least (map (λ job. time_between shop job (machine
-    + 1) shop.machines) (jobs_left shop.jobs (child list group lane)))
-behind-is shop list group frame row lane other machine value tails at here there differ from to made is =
-    let f : ℕ → ℕ = λ job. time_between shop job (machine + 1) shop.machines in
-    let tail-of : (k : ℕ) → IsLaneLeft frame k → slice_index tails k ≡ f (job_of group k) =
-    λ k left. omega (arith, made k left.within, left.left, (at.rows row k machine left from to).tail) in
+-- a lane's row is small
+pub row-small : (shop : Shop) (list : List ℕ) (group : Group) (frame : LaneFrame) (row : LaneRow) (place lane : ℕ) →
+    IsFrameOf shop list group frame → place < shop.machines → lane < 8 →
+    IsSmallRow (slice_index_or group.rows place row) lane
+row-small shop list group frame row place lane at to within =
+    let e : place + 1 - 1 ≡ place = omega arith in
+    subst (λ k. IsSmallRow (slice_index_or group.rows k row) lane) e (at.small row (place
+    + 1) lane (omega arith) (omega (arith, to)) within)
+
+-- the least value of the jobs that a child leaves, from the values in the lanes
+pub least-left : (shop : Shop) (list : List ℕ) (group : Group) (frame : LaneFrame) (f : ℕ → ℕ) (lane other value : ℕ)
+    (values numbers : List ℕ) →
+    IsFrameOf shop list group frame → IsLaneLeft frame lane → IsLaneLeft frame other → other ≢ lane →
+    ((k : ℕ) → IsLaneLeft frame k → slice_index values k ≡ f (job_of group k)) → slice_index values other < GONE →
+    ((k : ℕ) → k < 8 → slice_index numbers k ≡ max (slice_index values k) (slice_index frame.gone k)) →
+    IsLeastOfOthers numbers lane value → value ≡ least (map f (jobs_left shop.jobs (child list group lane)))
+least-left shop list group frame f lane other value values numbers at here there differ are small made is =
+    let number-of : (k : ℕ) → IsLaneLeft frame k → slice_index numbers k ≡ f (job_of group k) =
+    λ k left. omega (arith, made k left.within, left.left, are k left) in
     let best : ℕ = is.one.0 in
     let low : value < GONE =
-    omega (
-      arith,
-      is.least other there.within differ,
-      made other there.within,
-      there.left,
-      (at.small row machine other from to there.within).tail,
-    ) in
+    omega (arith, is.least other there.within differ, made other there.within, there.left, small) in
     let still : IsLaneLeft frame best = record {
       within = is.one.1;
       left = elim (at.gone best is.one.1) [
@@ -72,13 +71,31 @@ behind-is shop list group frame row lane other machine value tails at here there
     let left = left-here shop.jobs (child list group lane) (job_of group best) (at.from best still) (at.to best still)
     (has-other list (job_of group lane) (job_of group best) apart ∙ at.fresh best still) in
     least-is f (jobs_left shop.jobs (child list group lane)) (job_of group best) value left (is.one.3
-    ∙ tail-of best still)
+    ∙ number-of best still)
     (λ job h.
     let parts = left-child shop.jobs list (job_of group lane) job h in
     let stands = at.each job parts.0 parts.1 parts.2 in
     let elsewhere : stands.0 ≢ lane = λ e. parts.3 (sym stands.2 ∙ ap (job_of group) e) in
     let same : f (job_of group stands.0) ≡ f job = ap f stands.2 in
-    omega (arith, is.least stands.0 stands.1.within elsewhere, tail-of stands.0 stands.1, same))
+    omega (arith, is.least stands.0 stands.1.within elsewhere, number-of stands.0 stands.1, same))
+
+-- the least time behind a machine of the jobs that a child leaves
+pub behind-is : (shop : Shop) (list : List ℕ) (group : Group) (frame : LaneFrame) (row : LaneRow)
+    (lane other place value : ℕ) (tails : List ℕ) →
+    IsFrameOf shop list group frame → IsLaneLeft frame lane → IsLaneLeft frame other → other ≢ lane →
+    place < shop.machines →
+    ((k : ℕ) → k < 8 → slice_index tails k
+    ≡ max (slice_index (slice_index_or group.rows place row).tail k) (slice_index frame.gone k)) →
+    IsLeastOfOthers tails lane value →
+    value ≡ least (map (λ job. time_between shop job (place + 1 + 1) shop.machines)
+    (jobs_left shop.jobs (child list group lane)))
+behind-is shop list group frame row lane other place value tails at here there differ to made is =
+    let e : place + 1 - 1 ≡ place = omega arith in
+    least-left shop list group frame (λ job. time_between shop job (place + 1 + 1) shop.machines) lane other value
+    (slice_index_or group.rows place row).tail tails at here there differ
+    (λ k left. sym (ap (λ i. slice_index (slice_index_or group.rows i row).tail k) e)
+    ∙ (at.rows row k (place + 1) left (omega arith) (omega (arith, to))).tail)
+    (row-small shop list group frame row place other at to there.within).tail made is
 
 -- when a child leaves a machine
 pub free-is : (shop : Shop) (list : List ℕ) (group : Group) (frame : LaneFrame) (row : LaneRow)
@@ -122,10 +139,8 @@ bound-is shop list group frame row lane other place free start behind tails at h
     sym (ap (slice_index frame.sum) e) ∙ at.sums (place + 1) low high in
     let sum = left-sum (λ job. time shop job (place
     + 1)) shop.jobs list (job_of group lane) (at.from lane here) (at.to lane here) (at.fresh lane here) in
-    let tail = behind-is shop list group frame row lane other (place + 1) behind tails at here there differ low high
-    (λ k within. made k within
-    ∙ ap (λ i. max (slice_index (slice_index_or group.rows i row).tail k) (slice_index frame.gone k))
-    (sym e)) is_least in
+    let tail = behind-is shop list group frame row lane other place behind tails at here there differ to made is_least
+    in
     omega (arith, leaves, row_is, front, load, sum, tail)
 
 -- the state of a child's uncut after some machines: still open, or cut before
@@ -234,7 +249,8 @@ all-same (suc n) v (suc lane) h = all-same n v lane (omega (arith, h))
 pub passed-start : (shop : Shop) (bound : Bound) (list : List ℕ) (limit uncut flag : ℕ) → uncut ≡ 0 → flag ≡ 1 →
     IsPassed shop bound list limit 0 uncut flag
 passed-start shop bound list limit uncut flag none whole =
-    subst (λ a. IsPassed shop bound list limit 0 a flag) (sym none) (subst (λ b. IsPassed shop bound list limit 0 0 b) (sym whole)
+    subst (λ a. IsPassed shop bound list limit 0 a flag) (sym none) (subst (λ b. IsPassed shop bound list limit 0 0 b)
+    (sym whole)
     (passed-none shop bound list limit))
 
 pub start-small : (shop : Shop) (list : List ℕ) (group : Group) (frame : LaneFrame) (place free start : ℕ) →
@@ -243,15 +259,6 @@ pub start-small : (shop : Shop) (list : List ℕ) (group : Group) (frame : LaneF
     start ≤ greatest_completion + place * greatest_time
 start-small shop list group frame place free start limits at to small is =
     omega (arith, front-small shop list group frame place limits at to, small, is)
-
--- a lane's row is small
-pub row-small : (shop : Shop) (list : List ℕ) (group : Group) (frame : LaneFrame) (row : LaneRow) (place lane : ℕ) →
-    IsFrameOf shop list group frame → place < shop.machines → lane < 8 →
-    IsSmallRow (slice_index_or group.rows place row) lane
-row-small shop list group frame row place lane at to within =
-    let e : place + 1 - 1 ≡ place = omega arith in
-    subst (λ k. IsSmallRow (slice_index_or group.rows k row) lane) e (at.small row (place
-    + 1) lane (omega arith) (omega (arith, to)) within)
 
 pub behind-small : (shop : Shop) (list : List ℕ) (group : Group) (frame : LaneFrame) (row : LaneRow)
     (place lane value : ℕ) (tails : List ℕ) → IsFrameOf shop list group frame → place < shop.machines →

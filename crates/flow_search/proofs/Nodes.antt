@@ -3,17 +3,18 @@ use Rattle.std.proofs.Common.{◌≡◌, ◌≢◌, ℕ, zero, suc, ◌+◌, ◌
 use Rattle.std.proofs.Common.{nat_le, List, [], ◌∷◌, ◌++◌, Some, None, length, map, set, slice_index}
 use Rattle.std.proofs.Common.{slice_index_or, slice_set, take, refl, ap, sym, ◌∙◌, inl, inr, arith, length-append}
 use Rattle.std.specs.List.{filter, find, range_with_len, sum_by}
-use Rattle.std.proofs.lemmas.Bool.{cond-true, cond-false, eqb-false}
+use Rattle.std.proofs.lemmas.Bool.{cond-true, cond-false, eqb-false, eq-eqb, ne_eqb}
 use Rattle.std.proofs.lemmas.Bool.Decides.{eqb_tells}
 use Rattle.std.proofs.lemmas.List.{get_or-set_other, get_or-set_same}
 use Rattle.std.proofs.lemmas.List.Folds.{list_any-append}
 use Rattle.std.proofs.lemmas.List.Elements.{recursion_from_All, All-from_recursion}
 use Rattle.flow_core.specs.Shop.{Shop, numbers, time, time_between, IsWithinLimits}
-use Rattle.flow_core.specs.Least.{least}
+use Rattle.flow_core.specs.Least.{least, greatest}
 use Rattle.flow_core.specs.Front.{IsFrontOf, IsWithinFront}
 use Rattle.flow_core.specs.JobSet.{contains, members}
 use Rattle.flow_core.specs.Sequences.{has, jobs_left}
-use Rattle.flow_core.specs.Bound.{letter, machine_bound, bound_at, front_of}
+use Rattle.flow_core.specs.Bound.{letter, machine_bound, released_bound, release, bound_at, released_bound_at}
+use Rattle.flow_core.specs.Bound.{bound_of, front_of}
 use Rattle.flow_core.specs.Limits.{most_jobs, most_machines}
 use Rattle.flow_core.proofs.JobsLeft.{filter-same, kept, kept-more, kept-has, sum_by-ones}
 use Rattle.flow_core.proofs.Fronts.{front-within}
@@ -118,6 +119,48 @@ find-is shop node front unscheduled count value at =
     (members-are shop node front unscheduled count at)
     ∙ ap (λ x. nat_le value (x + sum_by (λ job. time shop job k) (jobs_left shop.jobs node)
     + least (map (λ job. time_between shop job (k + 1) shop.machines) (jobs_left shop.jobs node)))) same)
+
+map-same : (f g : ℕ → ℕ) (from n : ℕ) → ((k : ℕ) → from ≤ k → k < from + n → f k ≡ g k) →
+    map f (range_with_len from n) ≡ map g (range_with_len from n)
+map-same f g from zero same = refl
+map-same f g from (suc n) same =
+    ap (λ k. k ∷ map f (range_with_len (from + 1) n)) (same from (omega arith) (omega arith))
+    ∙ ap (λ ks. g from ∷ ks) (map-same f g (from + 1) n (λ k low high. same k (omega (arith, low)) (omega (
+      arith,
+      high,
+    ))))
+
+-- and by the released bound
+pub find-released : (shop : Shop) (node front : List ℕ) (unscheduled : List Bool) (count value : ℕ) →
+    IsAt shop node front unscheduled count →
+    find (λ machine. nat_le value (released_bound shop front (members unscheduled) machine)) (numbers 1 shop.machines)
+    ≡ find (λ machine. nat_le value (released_bound_at shop node machine)) (numbers 1 shop.machines)
+find-released shop node front unscheduled count value at =
+    find-same (λ machine. nat_le value (released_bound shop front (members unscheduled) machine))
+    (λ machine. nat_le value (released_bound_at shop node machine)) 1 (shop.machines + 1 - 1)
+    (λ k low high.
+    let same : release shop front (jobs_left shop.jobs node) k
+    ≡ release shop (front_of shop node) (jobs_left shop.jobs node) k =
+    ap greatest (map-same
+    (λ from. slice_index front (from - 1)
+    + least (map (λ job. time_between shop job from (k - 1)) (jobs_left shop.jobs node)))
+    (λ from. slice_index (front_of shop node) (from - 1)
+    + least (map (λ job. time_between shop job from (k - 1)) (jobs_left shop.jobs node))) 1 (k + 1 - 1)
+    (λ from a b.
+    ap (λ x. x + least (map (λ job. time_between shop job from (k - 1)) (jobs_left shop.jobs node)))
+    (at.is_front from a (omega (arith, b, high))
+    ∙ sym (front_of-is shop node from a (omega (arith, b, high)))))) in
+    ap (λ left. nat_le value (released_bound shop front left k)) (members-are shop node front unscheduled count at)
+    ∙ ap (λ x. nat_le value (x + sum_by (λ job. time shop job k) (jobs_left shop.jobs node)
+    + least (map (λ job. time_between shop job (k + 1) shop.machines) (jobs_left shop.jobs node)))) same)
+
+-- the bound of version 2
+pub bound-two : (version : ℕ) → version ≡ 2 → bound_of version ≡ released_bound_at
+bound-two version is = ap (λ b. cond b released_bound_at bound_at) (eq-eqb version 2 is)
+
+-- and of the others
+pub bound-one : (version : ℕ) → version ≢ 2 → bound_of version ≡ bound_at
+bound-one version is = ap (λ b. cond b released_bound_at bound_at) (ne_eqb version 2 is)
 
 -- a machine that was found
 pub machine-is : (shop : Shop) (p : ℕ → Bool) (machine : ℕ) → IsWithinLimits shop →

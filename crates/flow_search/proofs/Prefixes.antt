@@ -1,9 +1,9 @@
 -- From the empty list to a prefix, and what the walk from there comes to.
-use Rattle.std.proofs.Common.{◌≡◌, ℕ, zero, suc, ◌+◌, ◌-◌, ◌*◌, ◌<◌, ◌≤◌, true, false, cond, not, ◌||◌, nat_eq, List, [], ◌∷◌}
+use Rattle.std.proofs.Common.{◌≡◌, ℕ, zero, suc, ◌+◌, ◌-◌, ◌*◌, ◌<◌, ◌≤◌, true, false, not, ◌||◌, nat_eq, List, [], ◌∷◌}
 use Rattle.std.proofs.Common.{◌++◌, None, length, Some, take, drop, get_or, slice_index_or, refl, ap, sym, subst, ◌∙◌}
 use Rattle.std.proofs.Common.{inl, inr, arith}
 use Rattle.std.proofs.lemmas.List.{take_more}
-use Rattle.std.proofs.lemmas.Bool.{cond-true, or_left, or_right, eq-eqb, ne_eqb, false≢true}
+use Rattle.std.proofs.lemmas.Bool.{cond-true, or_left, or_right, eq-eqb, false≢true}
 use Rattle.std.proofs.lemmas.Bool.Decides.{eqb_tells}
 use Rattle.std.proofs.lemmas.List.Elements.{All-from_recursion, recursion_from_All}
 use Rattle.flow_core.specs.declared.row.Row.{Row}
@@ -11,7 +11,8 @@ use Rattle.flow_core.specs.Shop.{Shop}
 use Rattle.flow_core.specs.Front.{IsFrontOf}
 use Rattle.flow_core.specs.JobSet.{contains}
 use Rattle.flow_core.specs.Sequences.{has, AreJobs, AreDistinct, IsSequence, cut}
-use Rattle.flow_core.specs.Bound.{bound_at, released_bound_at, bound_of}
+use Rattle.flow_core.specs.Bound.{bound_of}
+use Rattle.flow_core.proofs.Admissible.{bound_is_admissible, released_bound_is_admissible}
 use Rattle.flow_search.specs.Search.{Bound, Found, tree, best}
 use Rattle.flow_search.specs.Walk.{walk, IsAdmissible}
 use Rattle.flow_search.specs.Plans.{Planned, IsPlan, prefixes_of, prefix_of, best_of, tree_of}
@@ -21,7 +22,7 @@ use Rattle.flow_search.specs.declared.subtree.Search.{Search}
 use Rattle.flow_search.proofs.Walk.{Fresh, walk_is_tree}
 use Rattle.flow_search.proofs.LeastVerdict.{cut-fresh, best-is}
 use Rattle.flow_search.proofs.Lists.{all-weaken}
-use Rattle.flow_search.proofs.Nodes.{at-child}
+use Rattle.flow_search.proofs.Nodes.{at-child, bound-one, bound-two}
 use Rattle.flow_search.proofs.CutLemmas.{joined-size, joined-at}
 
 -- a prefix: distinct jobs, as many as the cut is deep
@@ -129,11 +130,12 @@ prefix-done plan bound admissible prefix front i budget count old new are short 
       w.tree ∙ ap (λ xs. xs ++ (walked plan.shop bound count old).0) way.tree ∙ ap (λ w. w.0) walk_is ∙ law.0,
     )
 
--- the bound of a plan
-pub plan-bound : (plan : Planned) → IsPlan plan → bound_at ≡ bound_of plan.options.version
-plan-bound plan is =
-    sym (ap (λ b. cond b released_bound_at bound_at)
-    (ne_eqb plan.options.version 2 (λ e. omega (arith, e, is.option_limits.last_version))))
+-- the bound of each version is admissible
+pub admissible-of : (version : ℕ) → IsAdmissible (bound_of version)
+admissible-of version = elim (eqb_tells version 2) [
+  | inl two ↦ subst IsAdmissible (sym (bound-two version two.1)) released_bound_is_admissible
+  | inr one ↦ subst IsAdmissible (sym (bound-one version one.1)) bound_is_admissible
+]
 
 -- the best and the tree of a prefix of the plan, once its walk is done; the code knows the instance as `shop`
 pub prefix-answered : (plan : Planned) (bound : Bound) (shop : Shop) (prefix front : List ℕ)

@@ -19,4 +19,4 @@ least_version = 1
 
 -- the greatest version of a certificate
 abbrev pub greatest_version : ℕ
-greatest_version = 1
+greatest_version = 2

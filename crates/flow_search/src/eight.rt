@@ -4,6 +4,7 @@ mod children;
 mod entry;
 mod group;
 mod numbers;
+mod releases;
 
 pub(crate) use children::{open_child, retest_children, test_children};
 pub(crate) use entry::enter_few;

@@ -3,7 +3,7 @@
 ghost use Rattle.std.specs.Prelude.{◌≡◌, ◌+◌, ◌-◌, ◌<◌, ◌≤◌, suc, true, false, length, filter, take, OnOk};
 ghost use Rattle.flow_core.specs.Shop.{numbers};
 ghost use Rattle.flow_core.specs.JobSet.{contains};
-ghost use Rattle.flow_core.specs.Bound.{bound_at};
+ghost use Rattle.flow_core.specs.Bound.{bound_of};
 ghost use Rattle.flow_search.specs.internal.Nodes.{IsAt, Gave, Opens, children_walked};
 ghost use Rattle.flow_search.specs.internal.Lanes.{IsFrameOf, IsTested, IsLaneLeft, job_of};
 ghost use Rattle.flow_search.specs.internal.Lanes.{lane_walked, frame_at};
@@ -11,7 +11,7 @@ ghost use Rattle.flow_search.specs.internal.Lanes.{lane_walked, frame_at};
 use crate::eight::{
     Group, LaneFrame, Lanes, enter_few, open_child, retest_children, test_children,
 };
-use crate::frame::Setting;
+use crate::setting::Setting;
 use crate::subtree::{Search, Stop};
 use flow_core::{Front, Instance, JobSet};
 
@@ -45,17 +45,21 @@ fn visit_lane(
     below: usize,
     search: &mut Search,
 ) -> Result<bool, Stop>
-    requires tested { IsTested setting.now.instance.now bound_at search.old.node.items group.now frame.now }
+    requires tested { IsTested setting.now.instance.now (bound_of setting.now.version)
+        search.old.node.items group.now frame.now }
     requires value { frame.now.value ≡ search.old.value }
     requires left { IsLaneLeft frame.now lane }
     requires count { length search.old.node.items + suc below ≡ setting.now.instance.now.jobs }
     ensures whole { result ≡ Ok false → Gave setting.now.budget
-        (lane_walked setting.now.instance.now bound_at below group.now lane search.old) search.old search.new }
+        (lane_walked setting.now.instance.now (bound_of setting.now.version)
+        below group.now lane search.old) search.old search.new }
     ensures opens { result ≡ Ok true →
-        Opens setting.now.instance.now bound_at setting.now.budget (job_of group.now lane) search.old search.new }
+        Opens setting.now.instance.now (bound_of setting.now.version)
+        setting.now.budget (job_of group.now lane) search.old search.new }
     ensures more { result ≡ Ok true → 1 ≤ below }
     ensures over { result ≡ Err Stop.OverBudget → setting.now.budget < length search.old.tree.items
-        + length (lane_walked setting.now.instance.now bound_at below group.now lane search.old).0 }
+        + length (lane_walked setting.now.instance.now (bound_of setting.now.version)
+        below group.now lane search.old).0 }
 {
     let machines = setting.instance.machines() as usize;
     if below == 0 {
@@ -82,16 +86,19 @@ fn walk_lanes(
     frames: &mut [LaneFrame],
     search: &mut Search,
 ) -> Result<(), Stop>
-    requires tested { IsTested setting.now.instance.now bound_at search.old.node.items group.now (frame_at frames.old 0) }
+    requires tested { IsTested setting.now.instance.now (bound_of setting.now.version)
+        search.old.node.items group.now (frame_at frames.old 0) }
     requires next { (frame_at frames.old 0).next ≡ 0 }
     requires some { 1 ≤ length frames.old }
     requires few { length frames.old ≤ 8 }
     requires count { length search.old.node.items + length frames.old ≡ setting.now.instance.now.jobs }
     requires within { length search.old.tree.items ≤ setting.now.budget }
     ensures done { OnOk result (Gave setting.now.budget
-        (children_walked setting.now.instance.now bound_at (length frames.old - 1) search.old) search.old search.new) }
+        (children_walked setting.now.instance.now (bound_of setting.now.version)
+        (length frames.old - 1) search.old) search.old search.new) }
     ensures over { result ≡ Err Stop.OverBudget → setting.now.budget < length search.old.tree.items
-        + length (children_walked setting.now.instance.now bound_at (length frames.old - 1) search.old).0 }
+        + length (children_walked setting.now.instance.now (bound_of setting.now.version)
+        (length frames.old - 1) search.old).0 }
 {
     let instance = setting.instance;
     let left = frames.len();
@@ -108,13 +115,13 @@ fn walk_lanes(
         }
         let frame = &mut frames[depth];
         let lane = frame.lanes[place] as usize;
-        retest_children(instance, group, frame, search.value);
+        retest_children(setting, group, frame, search.value);
         frame.next = place + 1;
         if visit_lane(setting, group, frame, lane, left - 1 - depth, search)? {
             let (above, below) = frames.split_at_mut(depth + 1);
             let made = &mut below[0];
             open_child(instance, group, &above[depth], made, place);
-            test_children(instance, group, made, search.value);
+            test_children(setting, group, made, search.value);
             search.node.push(group.jobs[lane])?;
             depth += 1;
         }
@@ -135,9 +142,11 @@ pub fn walk_few(
     requires to { count ≤ 8 }
     requires within { length search.old.tree.items ≤ setting.now.budget }
     ensures done { OnOk result (Gave setting.now.budget
-        (children_walked setting.now.instance.now bound_at (count - 1) search.old) search.old search.new) }
+        (children_walked setting.now.instance.now (bound_of setting.now.version)
+        (count - 1) search.old) search.old search.new) }
     ensures over { result ≡ Err Stop.OverBudget → setting.now.budget
-        < length search.old.tree.items + length (children_walked setting.now.instance.now bound_at (count - 1) search.old).0 }
+        < length search.old.tree.items + length (children_walked setting.now.instance.now (bound_of setting.now.version)
+        (count - 1) search.old).0 }
 {
     let instance = setting.instance;
     let left = count as usize;
@@ -146,6 +155,6 @@ pub fn walk_few(
     let frames = &mut lanes.frames[..];
     let first = &mut frames[0];
     enter_few(instance, front, &jobs[..left], group, first);
-    test_children(instance, group, first, search.value);
+    test_children(setting, group, first, search.value);
     walk_lanes(setting, group, &mut frames[..left], search)
 }

@@ -8,19 +8,10 @@ ghost use Rattle.flow_core.specs.Rows.{AreRows, IsRow};
 ghost use Rattle.flow_search.specs.internal.Lows.{AreLows, second_tail};
 ghost use Rattle.flow_search.specs.internal.Frames.{IsFrame, IsChild};
 
-use flow_bound::Rest;
-use flow_core::{Front, Instance, JobSet, MAX_MACHINES, Row};
-
-/// What stays the same while a tree is walked.
-#[derive(Drop)]
-pub struct Setting<'a> {
-    /// The instance.
-    pub instance: &'a Instance,
-    /// The times of its jobs, a row for each job from 1 on.
-    pub rows: &'a [Row],
-    /// The most bytes that the tree may have.
-    pub budget: usize,
-}
+use crate::lows::lows_of;
+use crate::setting::Setting;
+use flow_bound::Loads;
+use flow_core::{Front, JobSet, MAX_MACHINES};
 
 /// A node with more than eight jobs left, whose children are walked.
 #[derive(Drop)]
@@ -28,67 +19,16 @@ pub struct Frame {
     /// When each machine is free after the node's jobs.
     pub front: Front,
     /// For each machine the sum of the times of the jobs left, and their least tail behind it.
-    pub rest: Rest,
+    pub rest: Loads,
     /// For each machine the second least tail of the jobs left: the least tail without a job that has the least.
     pub second: [u32; MAX_MACHINES],
     /// No job below this one begins a child that is still to be walked.
     pub next: u16,
 }
 
-/// The two least tails of some jobs behind each machine, each the greatest number where there is no such job. Where two
-/// jobs have the least, both are the same.
-#[derive(Drop)]
-pub struct Lows {
-    /// The least.
-    pub least: [u32; MAX_MACHINES],
-    /// The second least.
-    pub second: [u32; MAX_MACHINES],
-}
-
-impl Lows {
-    /// Those of no job.
-    fn none() -> Lows
-        ensures { (shop : Shop) → IsWithinLimits shop → AreLows shop [] result }
-    {
-        Lows {
-            least: [u32::MAX; MAX_MACHINES],
-            second: [u32::MAX; MAX_MACHINES],
-        }
-    }
-
-    /// Takes one job more in.
-    fn take(&mut self, instance: &Instance, row: &Row)
-        ensures { (jobs : List ℕ) (job : ℕ) → IsRow instance.now job row.now → AreLows instance.now jobs self.old →
-            AreLows instance.now (jobs ++ job ∷ []) self.new }
-    {
-        for place in 0..instance.machines() as usize {
-            let tail = row.tails[place];
-            let least = self.least[place];
-            self.second[place] = self.second[place].min(least.max(tail));
-            self.least[place] = least.min(tail);
-        }
-    }
-}
-
-/// The two least tails of a set of jobs.
-fn lows_of(setting: &Setting, set: &JobSet) -> Lows
-    requires rows { AreRows setting.now.instance.now setting.now.rows.now }
-    requires jobs { (job : ℕ) → setting.now.instance.now.jobs < job → contains set.now job ≡ false }
-    ensures { AreLows setting.now.instance.now (members set.now) result }
-{
-    let instance = setting.instance;
-    let mut lows = Lows::none();
-    for job in 1..instance.jobs() + 1 {
-        if set.contains(job) {
-            lows.take(instance, &setting.rows[job as usize - 1]);
-        }
-    }
-    lows
-}
-
 impl Frame {
     /// A node before its first child, with its front and the rest of the jobs left.
-    pub fn new(setting: &Setting, front: Front, rest: Rest, left: &JobSet) -> Frame
+    pub fn new(setting: &Setting, front: Front, rest: Loads, left: &JobSet) -> Frame
         requires rows { AreRows setting.now.instance.now setting.now.rows.now }
         requires jobs { (job : ℕ) → setting.now.instance.now.jobs < job → contains left.now job ≡ false }
         ensures front { result.front ≡ front }

@@ -13,4 +13,4 @@ pub const MAX_BUDGET: u32 = 100_000_000;
 pub const MIN_VERSION: u32 = 1;
 
 /// The greatest version of a certificate.
-pub const MAX_VERSION: u32 = 1;
+pub const MAX_VERSION: u32 = 2;

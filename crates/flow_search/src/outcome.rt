@@ -8,8 +8,8 @@ ghost use Rattle.flow_search.specs.internal.Nodes.{found_if};
 ghost use Rattle.flow_search.specs.Outcomes.{IsLawful, found_of};
 
 use crate::eight::Lanes;
-use crate::frame::Setting;
 use crate::plan::Plan;
+use crate::setting::Setting;
 use crate::subtree::{Search, Stop, explore};
 use flow_core::{Front, Instance, Sequence, front_push};
 use std::alloc::{AllocError, Global};
@@ -61,12 +61,15 @@ fn search_below(alloc: Global, plan: &Plan, number: u32) -> Result<Search, Stop>
         search.enter(*job)?;
     }
     let count = jobs - prefix.len() as u16;
-    let budget = plan.options().budget() as usize;
+    let options = plan.options();
+    let budget = options.budget() as usize;
+    let version = options.version();
     let stack = Vec::with_capacity(alloc, count as usize)?;
     let setting = Setting {
         instance,
         rows: plan.rows(),
         budget,
+        version,
     };
     let mut lanes = Lanes::new();
     explore(&setting, &front, count, &mut lanes, &mut search, stack)?;

@@ -5,9 +5,9 @@ ghost use Rattle.std.specs.Prelude.{Ok, Err, None, IfOk, OnOk};
 ghost use Rattle.flow_core.specs.Limits.{most_jobs};
 ghost use Rattle.flow_core.specs.Shop.{numbers};
 ghost use Rattle.flow_core.specs.Front.{IsWithinFront};
-ghost use Rattle.flow_core.specs.JobSet.{contains};
-ghost use Rattle.flow_core.specs.Bound.{machine_bound, bound_at};
-ghost use Rattle.flow_bound.specs.Rest.{IsRestOf};
+ghost use Rattle.flow_core.specs.JobSet.{contains, members};
+ghost use Rattle.flow_core.specs.Bound.{machine_bound, bound_of};
+ghost use Rattle.flow_bound.specs.Loads.{AreLoadsOf};
 ghost use Rattle.flow_search.specs.Walk.{walk};
 ghost use Rattle.flow_core.specs.Rows.{AreRows};
 ghost use Rattle.flow_search.specs.internal.Frames.{IsFrame};
@@ -17,8 +17,10 @@ ghost use Rattle.flow_search.specs.declared.subtree.Stop.TheVariants.{Memory};
 
 use crate::eight::Lanes;
 use crate::few::walk_few;
-use crate::frame::{Frame, Setting};
-use flow_bound::Rest;
+use crate::frame::Frame;
+use crate::release::releasing_machine;
+use crate::setting::Setting;
+use flow_bound::Loads;
 use flow_core::{Front, Instance, JobSet, front_push};
 use std::alloc::{AllocError, AllocFailed, Global};
 
@@ -127,11 +129,11 @@ impl Search {
     }
 }
 
-/// The first machine whose bound at a node reaches a value.
-fn cutting_machine(instance: &Instance, rest: &Rest, front: &Front, value: u64) -> Option<u16>
-    requires rest { (jobs : List ℕ) × IsRestOf instance.now jobs rest.now }
+/// The first machine whose machine bound at a node reaches a value.
+fn plain_machine(instance: &Instance, rest: &Loads, front: &Front, value: u64) -> Option<u16>
+    requires rest { (jobs : List ℕ) × AreLoadsOf instance.now jobs rest.now }
     requires within { IsWithinFront instance.now front.now }
-    ensures { (jobs : List ℕ) → IsRestOf instance.now jobs rest.now →
+    ensures { (jobs : List ℕ) → AreLoadsOf instance.now jobs rest.now →
         result ≡ find (λ machine. nat_le value (machine_bound instance.now front.now jobs machine))
         (numbers 1 instance.now.machines) }
 {
@@ -141,6 +143,56 @@ fn cutting_machine(instance: &Instance, rest: &Rest, front: &Front, value: u64) 
         }
     }
     None
+}
+
+/// The first machine whose bound at a node reaches a value, where the bound is that of the version.
+fn cutting_machine(
+    setting: &Setting,
+    rest: &Loads,
+    front: &Front,
+    set: &JobSet,
+    value: u64,
+) -> Option<u16>
+    requires rows { AreRows setting.now.instance.now setting.now.rows.now }
+    requires at { (node : List ℕ) × (left : ℕ) × IsAt setting.now.instance.now node front.now set.now (suc left) }
+    requires rest { AreLoadsOf setting.now.instance.now (members set.now) rest.now }
+    ensures { (node : List ℕ) (left : ℕ) → IsAt setting.now.instance.now node front.now set.now (suc left) →
+        result ≡ find (λ machine. nat_le value (bound_of setting.now.version setting.now.instance.now node machine))
+        (numbers 1 setting.now.instance.now.machines) }
+{
+    if setting.version == 2 {
+        releasing_machine(setting, rest, front, set, value)
+    } else {
+        plain_machine(setting.instance, rest, front, value)
+    }
+}
+
+/// The first machine whose bound at a child reaches the makespan of the incumbent, where the bound is that of the
+/// version.
+#[inline(always)]
+fn cutting_child(setting: &Setting, here: &Frame, job: u16, search: &Search) -> Option<u16>
+    requires rows { AreRows setting.now.instance.now setting.now.rows.now }
+    requires at { (left : ℕ) ×
+        IsAt setting.now.instance.now search.now.node.items here.now.front search.now.unscheduled (suc (suc left)) ×
+        IsFrame setting.now.instance.now search.now.node.items (suc (suc left)) here.now }
+    requires from { 1 ≤ job }
+    requires to { job ≤ setting.now.instance.now.jobs }
+    requires left { contains search.now.unscheduled job ≡ true }
+    ensures { result ≡ find (λ machine. nat_le search.now.value
+        (bound_of setting.now.version setting.now.instance.now (search.now.node.items ++ job ∷ []) machine))
+        (numbers 1 setting.now.instance.now.machines) }
+{
+    if setting.version == 2 {
+        let instance = setting.instance;
+        let mut set = search.unscheduled;
+        set.remove(job);
+        let mut front = here.front;
+        front_push(instance, &mut front, job);
+        let rest = here.rest.step(instance, &set, job);
+        releasing_machine(setting, &rest, &front, &set, search.value)
+    } else {
+        here.cutting_machine(setting, job, search.value)
+    }
 }
 
 /// The first job of a set from one job to another.
@@ -173,13 +225,16 @@ fn walk_small(
     requires some { 1 ≤ below }
     requires few { below ≤ 8 }
     requires uncut { find (λ machine.
-        nat_le search.old.value (bound_at setting.now.instance.now (search.old.node.items ++ job ∷ []) machine))
+        nat_le search.old.value
+        (bound_of setting.now.version setting.now.instance.now (search.old.node.items ++ job ∷ []) machine))
         (numbers 1 setting.now.instance.now.machines) ≡ None }
     ensures done { OnOk result (Gave setting.now.budget
-        (walk setting.now.instance.now bound_at below (search.old.node.items ++ job ∷ []) (incumbent_of search.old))
+        (walk setting.now.instance.now (bound_of setting.now.version)
+        below (search.old.node.items ++ job ∷ []) (incumbent_of search.old))
         search.old search.new) }
     ensures over { result ≡ Err Stop.OverBudget → setting.now.budget < length search.old.tree.items + length
-        (walk setting.now.instance.now bound_at below (search.old.node.items ++ job ∷ []) (incumbent_of search.old)).0 }
+        (walk setting.now.instance.now (bound_of setting.now.version)
+        below (search.old.node.items ++ job ∷ []) (incumbent_of search.old)).0 }
 {
     search.enter(job)?;
     search.write(setting.budget, b'+')?;
@@ -208,15 +263,17 @@ fn visit(
     requires left { contains search.old.unscheduled job ≡ true }
     requires many { 8 ≤ below }
     ensures whole { result ≡ Ok false → Gave setting.now.budget
-        (walk setting.now.instance.now bound_at below (search.old.node.items ++ job ∷ []) (incumbent_of search.old))
+        (walk setting.now.instance.now (bound_of setting.now.version)
+        below (search.old.node.items ++ job ∷ []) (incumbent_of search.old))
         search.old search.new }
     ensures opens { result ≡ Ok true →
-        Opens setting.now.instance.now bound_at setting.now.budget job search.old search.new }
+        Opens setting.now.instance.now (bound_of setting.now.version) setting.now.budget job search.old search.new }
     ensures more { result ≡ Ok true → 9 ≤ below }
     ensures over { result ≡ Err Stop.OverBudget → setting.now.budget < length search.old.tree.items + length
-        (walk setting.now.instance.now bound_at below (search.old.node.items ++ job ∷ []) (incumbent_of search.old)).0 }
+        (walk setting.now.instance.now (bound_of setting.now.version)
+        below (search.old.node.items ++ job ∷ []) (incumbent_of search.old)).0 }
 {
-    if let Some(machine) = here.cutting_machine(setting, job, search.value) {
+    if let Some(machine) = cutting_child(setting, here, job, search) {
         search.write(setting.budget, b'@' + machine as u8)?;
         return Ok(false);
     }
@@ -245,9 +302,11 @@ fn walk_children(
     requires empty { stack.items ≡ [] }
     requires within { length search.old.tree.items ≤ setting.now.budget }
     ensures done { OnOk result (Gave setting.now.budget
-        (children_walked setting.now.instance.now bound_at below search.old) search.old search.new) }
+        (children_walked setting.now.instance.now (bound_of setting.now.version)
+        below search.old) search.old search.new) }
     ensures over { result ≡ Err Stop.OverBudget → setting.now.budget
-        < length search.old.tree.items + length (children_walked setting.now.instance.now bound_at below search.old).0 }
+        < length search.old.tree.items + length (children_walked setting.now.instance.now (bound_of setting.now.version)
+        below search.old).0 }
 {
     let instance = setting.instance;
     let jobs = instance.jobs();
@@ -287,9 +346,11 @@ pub fn explore(
     requires rows { AreRows setting.now.instance.now setting.now.rows.now }
     requires at { IsAt setting.now.instance.now search.old.node.items front.now search.old.unscheduled count }
     requires empty { stack.items ≡ [] }
-    ensures done { OnOk result (Walked setting.now.instance.now bound_at setting.now.budget count search.old search.new) }
+    ensures done { OnOk result (Walked setting.now.instance.now (bound_of setting.now.version)
+        setting.now.budget count search.old search.new) }
     ensures over { result ≡ Err Stop.OverBudget → setting.now.budget
-        < length search.old.tree.items + length (walked setting.now.instance.now bound_at count search.old).0 }
+        < length search.old.tree.items + length (walked setting.now.instance.now (bound_of setting.now.version)
+        count search.old).0 }
 {
     let instance = setting.instance;
     if count == 0 {
@@ -297,8 +358,14 @@ pub fn explore(
         search.see(front.at(instance.machines()))?;
         return Ok(());
     }
-    let rest = Rest::of(instance, &search.unscheduled);
-    if let Some(machine) = cutting_machine(instance, &rest, front, search.value) {
+    let rest = Loads::of(instance, &search.unscheduled);
+    if let Some(machine) = cutting_machine(
+        setting,
+        &rest,
+        front,
+        &search.unscheduled,
+        search.value,
+    ) {
         search.write(setting.budget, b'@' + machine as u8)?;
         return Ok(());
     }

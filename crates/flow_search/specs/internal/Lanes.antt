@@ -1,8 +1,8 @@
 -- The jobs of a node with at most eight jobs left, side by side in eight lanes.
-use Rattle.std.specs.Prelude.{ℕ, suc, ◌≡◌, ◌≢◌, ◌⊎◌, ◌+◌, ◌-◌, ◌<◌, ◌≤◌, false, List, [], ◌∷◌, ◌++◌, slice_index}
+use Rattle.std.specs.Prelude.{ℕ, suc, ◌≡◌, ◌≢◌, ◌⊎◌, ◌+◌, ◌-◌, ◌*◌, ◌<◌, ◌≤◌, false, List, [], ◌∷◌, ◌++◌, slice_index}
 use Rattle.std.specs.Prelude.{slice_index_or, sum_by, length, drop, filter, nat_eq, Option}
 use Rattle.std.specs.List.{range_with_len}
-use Rattle.flow_core.specs.Limits.{greatest_time}
+use Rattle.flow_core.specs.Limits.{most_machines, greatest_time, greatest_completion}
 use Rattle.flow_core.specs.Shop.{Shop, time, time_between}
 use Rattle.flow_core.specs.Paths.{completion}
 use Rattle.flow_core.specs.Front.{IsFrontOf}
@@ -88,6 +88,12 @@ pub record IsOpened (shop : Shop) (list : List ℕ) (group : Group) (frame : Lan
   pub free : (place lane : ℕ) → IsLaneLeft frame lane → place < shop.machines →
       slice_index (slice_index_or frame.free place []) lane ≡ completion shop (child list group lane) (place + 1)
 
+-- no time at which a child leaves a machine is great, nor what stands for it in a lane that is not left
+abbrev pub AreSmallFrees : Shop → LaneFrame → Type 0
+AreSmallFrees shop frame =
+    (place lane : ℕ) → place < shop.machines → lane < 8 →
+    slice_index (slice_index_or frame.free place []) lane ≤ greatest_completion + most_machines * greatest_time
+
 -- so many machines, of the first ones, stand before the first whose bound reaches a limit; all of them where none does
 pub record IsUncutCount (shop : Shop) (bound : Bound) (list : List ℕ) (limit machines uncut : ℕ) : Type 0 where
   pub within : uncut ≤ machines
@@ -119,10 +125,12 @@ lane_path root group (f ∷ fs) = child (lane_path root group fs) group (slice_i
 -- each frame is that of its node, with the children tested
 abbrev pub AreTested : Shop → Bound → List ℕ → Group → List LaneFrame → Type 0
 AreTested shop bound root group [] = Unit {0}
-AreTested shop bound root group (f ∷ fs) = IsTested shop bound (lane_path root group fs) group f × AreTested shop bound root group fs
+AreTested shop bound root group (f ∷ fs) = IsTested shop bound (lane_path root group fs) group f × AreTested shop
+    bound root group fs
 
 -- what is still to be walked of the nodes of a stack, with so many jobs left below the children of the deepest one
-abbrev pub lanes_left : Shop → Bound → List ℕ → Group → ℕ → List LaneFrame → ℕ × Option Found → List ℕ × (ℕ × Option Found)
+abbrev pub lanes_left : Shop → Bound → List ℕ → Group → ℕ → List LaneFrame → ℕ × Option Found → List ℕ × (ℕ × Option
+    Found)
 lanes_left shop bound root group left [] incumbent = ([], incumbent)
 lanes_left shop bound root group left (f ∷ fs) incumbent =
     then_walk (lanes_walked shop bound left (lane_path root group fs) group (drop f.next (lanes_of f)) incumbent)
@@ -130,7 +138,8 @@ lanes_left shop bound root group left (f ∷ fs) incumbent =
 
 -- the walk of a root's children stands at a node below it, whose frame is `here`: what was written, with what is still
 -- to be walked, is the whole
-pub record IsInLanes (shop : Shop) (bound : Bound) (budget : ℕ) (group : Group) (root : List ℕ) (whole : List ℕ × (ℕ × Option Found))
+pub record IsInLanes (shop : Shop) (bound : Bound) (budget : ℕ) (group : Group) (root : List ℕ) (whole : List ℕ × (ℕ ×
+    Option Found))
     (old : Search) (here : LaneFrame) (below : ℕ) (frames : List LaneFrame) (now : Search) : Type 0 where
   pub node : now.node.items ≡ lane_path root group frames
   pub count : length (lane_path root group frames) + suc below ≡ shop.jobs

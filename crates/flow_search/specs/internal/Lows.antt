@@ -1,20 +1,28 @@
--- The two least tails of some jobs.
-use Rattle.std.specs.Prelude.{ℕ, ◌≡◌, ◌-◌, ◌≤◌, List, slice_index}
-use Rattle.flow_core.specs.Shop.{Shop}
+-- The two least numbers of some jobs.
+use Rattle.std.specs.Prelude.{ℕ, ◌≡◌, ◌+◌, ◌-◌, ◌<◌, List, map, slice_index}
+use Rattle.flow_core.specs.Shop.{Shop, time_between}
 use Rattle.flow_core.specs.internal.TwoLeast.{tails, least_below, second_below}
-use Rattle.flow_search.specs.declared.frame.Lows.{Lows}
+use Rattle.flow_search.specs.declared.lows.Lows.{Lows}
 
 -- what stands for the least of no numbers: the greatest number of 32 bits
 abbrev pub unknown : ℕ
 unknown = 4294967295
 
+-- the two least of the numbers that some jobs have at the first places
+abbrev pub AreLows : (ℕ → ℕ → ℕ) → ℕ → List ℕ → Lows → Type 0
+AreLows number count jobs lows =
+    (place : ℕ) → place < count →
+    (slice_index lows.least place ≡ least_below unknown (map (number place) jobs))
+    × (slice_index lows.second place ≡ second_below unknown unknown (map (number place) jobs))
+
+-- the time that a job needs from the machine at a place to before another machine
+abbrev pub time_to : Shop → ℕ → ℕ → ℕ → ℕ
+time_to shop machine place job = time_between shop job (place + 1) (machine - 1)
+
+-- the tail of a job behind the machine at a place
+abbrev pub tail_at : Shop → ℕ → ℕ → ℕ
+tail_at shop place job = time_between shop job (place + 1 + 1) shop.machines
+
 -- the second least tail of some jobs
 abbrev pub second_tail : Shop → List ℕ → ℕ → ℕ
 second_tail shop jobs machine = second_below unknown unknown (tails shop machine jobs)
-
--- the two least tails of some jobs behind each machine
-abbrev pub AreLows : Shop → List ℕ → Lows → Type 0
-AreLows shop jobs lows =
-    (machine : ℕ) → 1 ≤ machine → machine ≤ shop.machines →
-    (slice_index lows.least (machine - 1) ≡ least_below unknown (tails shop machine jobs))
-    × (slice_index lows.second (machine - 1) ≡ second_tail shop jobs machine)

@@ -1,17 +1,19 @@
 //! The children of a node, side by side: their fronts, and the machines that cut them.
 
 ghost use Rattle.std.specs.Prelude.{◌≡◌, ℕ, ◌+◌, ◌<◌, ◌≤◌, List, length, slice_index};
-ghost use Rattle.flow_core.specs.Bound.{bound_at};
-ghost use Rattle.flow_search.specs.internal.Lanes.{IsFrameOf, IsOpened, IsTested, child, lanes_of};
+ghost use Rattle.flow_core.specs.Bound.{bound_at, bound_of};
+ghost use Rattle.flow_search.specs.internal.Lanes.{IsFrameOf, IsOpened, IsTested, AreSmallFrees, child, lanes_of};
 
 use crate::eight::group::{GONE, Group, LaneFrame};
 use crate::eight::numbers::{at_least, below, greater, others, sums, without};
+use crate::eight::releases::test_releases;
+use crate::setting::Setting;
 use flow_core::Instance;
 
-/// Computes when each child leaves each machine, and how many machines there are before the first whose bound reaches a
-/// value.
+/// Computes when each child leaves each machine, and how many machines there are before the first whose machine bound
+/// reaches a value.
 #[inline(never)]
-pub fn test_children(instance: &Instance, group: &Group, frame: &mut LaneFrame, value: u64)
+fn test_plain(instance: &Instance, group: &Group, frame: &mut LaneFrame, value: u64)
     requires { (list : List ℕ) × IsFrameOf instance.now list group.now frame.old }
     ensures front { frame.new.front ≡ frame.old.front }
     ensures sum { frame.new.sum ≡ frame.old.sum }
@@ -19,6 +21,7 @@ pub fn test_children(instance: &Instance, group: &Group, frame: &mut LaneFrame, 
     ensures lanes { frame.new.lanes ≡ frame.old.lanes }
     ensures next { frame.new.next ≡ frame.old.next }
     ensures value { frame.new.value ≡ value }
+    ensures small { AreSmallFrees instance.now frame.new }
     ensures tested { (list : List ℕ) → IsFrameOf instance.now list group.now frame.old →
         IsTested instance.now bound_at list group.now frame.new }
 {
@@ -44,19 +47,39 @@ pub fn test_children(instance: &Instance, group: &Group, frame: &mut LaneFrame, 
     frame.value = value;
 }
 
-/// Tests the children of a node again, where they were tested against another value.
+/// Computes when each child leaves each machine, and how many machines there are before the first whose bound, which is
+/// that of the version, reaches a value.
 #[inline(always)]
-pub fn retest_children(instance: &Instance, group: &Group, frame: &mut LaneFrame, value: u64)
-    requires { (list : List ℕ) × IsTested instance.now bound_at list group.now frame.old }
+pub fn test_children(setting: &Setting, group: &Group, frame: &mut LaneFrame, value: u64)
+    requires { (list : List ℕ) × IsFrameOf setting.now.instance.now list group.now frame.old }
     ensures gone { frame.new.gone ≡ frame.old.gone }
     ensures lanes { frame.new.lanes ≡ frame.old.lanes }
     ensures next { frame.new.next ≡ frame.old.next }
     ensures value { frame.new.value ≡ value }
-    ensures tested { (list : List ℕ) → IsTested instance.now bound_at list group.now frame.old →
-        IsTested instance.now bound_at list group.now frame.new }
+    ensures tested { (list : List ℕ) → IsFrameOf setting.now.instance.now list group.now frame.old →
+        IsTested setting.now.instance.now (bound_of setting.now.version) list group.now frame.new }
+{
+    test_plain(setting.instance, group, frame, value);
+    if setting.version == 2 {
+        test_releases(setting.instance, group, frame);
+    }
+}
+
+/// Tests the children of a node again, where they were tested against another value.
+#[inline(always)]
+pub fn retest_children(setting: &Setting, group: &Group, frame: &mut LaneFrame, value: u64)
+    requires { (list : List ℕ) ×
+        IsTested setting.now.instance.now (bound_of setting.now.version) list group.now frame.old }
+    ensures gone { frame.new.gone ≡ frame.old.gone }
+    ensures lanes { frame.new.lanes ≡ frame.old.lanes }
+    ensures next { frame.new.next ≡ frame.old.next }
+    ensures value { frame.new.value ≡ value }
+    ensures tested { (list : List ℕ) →
+        IsTested setting.now.instance.now (bound_of setting.now.version) list group.now frame.old →
+        IsTested setting.now.instance.now (bound_of setting.now.version) list group.now frame.new }
 {
     if value != frame.value {
-        test_children(instance, group, frame, value);
+        test_children(setting, group, frame, value);
     }
 }
 

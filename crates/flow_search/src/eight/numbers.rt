@@ -1,6 +1,6 @@
 //! Eight numbers side by side. The loops are short, so that the compiler packs them.
 
-ghost use Rattle.std.specs.Prelude.{◌≡◌, ℕ, ◌+◌, ◌<◌, ◌≤◌, max, length, slice_index};
+ghost use Rattle.std.specs.Prelude.{◌≡◌, ℕ, ◌+◌, ◌-◌, ◌<◌, ◌≤◌, max, length, slice_index};
 ghost use Rattle.flow_search.specs.internal.Lanes.{IsLeastOfOthers};
 
 /// For each lane the least number of the other lanes.
@@ -86,6 +86,20 @@ pub(crate) fn sums(numbers: &[u32; 8], others: &[u32; 8]) -> [u32; 8]
     let mut made = [0u32; 8];
     for lane in 0..8usize {
         made[lane] = numbers[lane] + others[lane];
+    }
+    made
+}
+
+/// The difference in each lane; 0 where the other number is greater.
+#[inline(always)]
+pub(crate) fn differences(numbers: &[u32; 8], others: &[u32; 8]) -> [u32; 8]
+    ensures size { length result ≡ 8 }
+    ensures each { (lane : ℕ) → lane < 8 →
+        slice_index result lane ≡ slice_index numbers.now lane - slice_index others.now lane }
+{
+    let mut made = [0u32; 8];
+    for lane in 0..8usize {
+        made[lane] = numbers[lane].saturating_sub(others[lane]);
     }
     made
 }

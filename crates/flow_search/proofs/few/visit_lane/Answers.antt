@@ -2,7 +2,7 @@ use Rattle.std.proofs.Common.{◌≡◌, ℕ, ◌+◌, ◌≤◌, Bool, Err, Non
 use Rattle.std.proofs.Common.{arith}
 use Rattle.std.proofs.lemmas.Bool.{le-ltb}
 use Rattle.std.proofs.lemmas.Result.{err_from_is_err_and}
-use Rattle.flow_core.specs.Bound.{bound_at}
+use Rattle.flow_core.specs.Bound.{bound_of}
 use Rattle.flow_search.specs.internal.Nodes.{incumbent_of}
 use Rattle.flow_search.specs.internal.Lanes.{IsUncutCount, child}
 use Rattle.flow_search.specs.declared.subtree.Stop.{Stop}
@@ -15,13 +15,15 @@ use Rattle.flow_search.proofs.few.visit_lane.Goals.{After-machines-machines}
 
 -- the test of the child, where it leaves a job
 tested : (c : After-machines-machines) → 1 ≤ c.args.below →
-    IsUncutCount c.args.setting.now.instance.now bound_at (child c.args.search.now.node.items c.args.group.now c.args.lane)
+    IsUncutCount c.args.setting.now.instance.now (bound_of c.args.setting.now.version) (child
+    c.args.search.now.node.items c.args.group.now c.args.lane)
     c.args.search.now.value c.args.setting.now.instance.now.machines (slice_index c.args.frame.now.uncut c.args.lane)
 tested c some =
-    subst (λ value. IsUncutCount c.args.setting.now.instance.now bound_at
+    subst (λ value. IsUncutCount c.args.setting.now.instance.now (bound_of c.args.setting.now.version)
     (child c.args.search.now.node.items c.args.group.now c.args.lane)
     value c.args.setting.now.instance.now.machines (slice_index c.args.frame.now.uncut c.args.lane)) c.requires.value
-    (uncut-here c.args.setting.now.instance.now bound_at c.args.search.now.node.items c.args.group.now c.args.frame.now
+    (uncut-here c.args.setting.now.instance.now (bound_of c.args.setting.now.version) c.args.search.now.node.items
+    c.args.group.now c.args.frame.now
     c.args.lane
     c.requires.tested c.requires.left (omega (arith, some, c.requires.count)))
 
@@ -35,7 +37,7 @@ returns-in_err-write-2-clause-over c e =
     omega (
       arith,
       c.in_err-write-2.ensures.over same,
-      walk-some c.args.setting.now.instance.now bound_at c.args.below
+      walk-some c.args.setting.now.instance.now (bound_of c.args.setting.now.version) c.args.below
           (child c.args.search.now.node.items c.args.group.now c.args.lane)
           (incumbent_of c.args.search.now),
     )
@@ -50,7 +52,7 @@ returns-in_err-write-3-clause-over c e =
     omega (
       arith,
       c.in_err-write-3.ensures.over same,
-      walk-some c.args.setting.now.instance.now bound_at c.args.below
+      walk-some c.args.setting.now.instance.now (bound_of c.args.setting.now.version) c.args.below
           (child c.args.search.now.node.items c.args.group.now c.args.lane)
           (incumbent_of c.args.search.now),
     )
@@ -58,7 +60,8 @@ returns-in_err-write-3-clause-over c e =
 pub returns-then-uncut-machines-clause-whole : goal.returns-then-uncut-machines-clause-whole
 returns-then-uncut-machines-clause-whole c e =
     let some : 1 ≤ c.args.below = omega (arith, c.if-below-eq0.false) in
-    lane-cut c.args.setting.now.instance.now bound_at c.args.setting.now.budget c.args.below
+    lane-cut c.args.setting.now.instance.now (bound_of c.args.setting.now.version) c.args.setting.now.budget
+    c.args.below
     (slice_index c.args.frame.now.uncut c.args.lane)
     c.args.group.now c.args.lane c.args.search.now c.write-then-uncut-machines.new.self some
     (tested (goal.at.returns-then-uncut-machines-clause-whole c).After-machines-machines some)
@@ -73,7 +76,8 @@ returns-clause-opens c e =
     record {
       wrote = c.in_ok-write-3.ensures.done;
       uncut =
-          count-found c.args.setting.now.instance.now bound_at (child c.args.search.now.node.items c.args.group.now c.args.lane)
+          count-found c.args.setting.now.instance.now (bound_of c.args.setting.now.version) (child
+          c.args.search.now.node.items c.args.group.now c.args.lane)
           c.args.search.now.value uncut (tested (goal.at.returns-clause-opens c).After-machines-machines some)
           ∙ ap (λ b. cond b (Some (uncut + 1)) None) (le-ltb uncut c.args.setting.now.instance.now.machines high);
     }

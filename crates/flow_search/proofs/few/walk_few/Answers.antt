@@ -1,6 +1,6 @@
 use Rattle.std.proofs.Common.{rules, ◌≡◌, length, set, take, ap, sym, subst, ◌∙◌, arith}
 use Rattle.std.proofs.lemmas.List.{get_or-set_same, get_or-take}
-use Rattle.flow_core.specs.Bound.{bound_at}
+use Rattle.flow_core.specs.Bound.{bound_of}
 use Rattle.flow_search.specs.internal.Lanes.{IsFew, IsTested, frame_at}
 use Rattle.flow_search.proofs.LanesEntered.{count-is, few-at}
 use Rattle.flow_search.proofs.few.walk_few.Goals as goal
@@ -41,7 +41,8 @@ first c =
 
 pub walk_lanes-requires-clause-tested : goal.walk_lanes-requires-clause-tested
 walk_lanes-requires-clause-tested c =
-    subst (IsTested c.args.setting.now.instance.now bound_at c.args.search.now.node.items c.enter_few.new.group)
+    subst (IsTested c.args.setting.now.instance.now (bound_of c.args.setting.now.version) c.args.search.now.node.items
+    c.enter_few.new.group)
     (sym (first (goal.at.walk_lanes-requires-clause-tested c).After-test_children))
     (c.test_children.ensures.tested c.args.search.now.node.items
     (c.enter_few.ensures.at c.args.search.now.node.items

@@ -1,5 +1,5 @@
 use Rattle.std.proofs.Common.{◌≡◌, ◌+◌, ◌-◌, ◌*◌, ◌<◌, length, reverse, take}
-use Rattle.flow_core.specs.Bound.{bound_at}
+use Rattle.flow_core.specs.Bound.{bound_of}
 use Rattle.flow_search.specs.internal.Nodes.{children_walked}
 use Rattle.flow_search.specs.internal.Lanes.{IsInLanes, frame_at}
 use Rattle.flow_search.proofs.few.walk_lanes.Given as goal
@@ -8,8 +8,9 @@ abbrev pub invariant-walk : goal.invariant-walk
 invariant-walk l = record {
   deep : l.depth < length l.frames;
   size : length l.frames ≡ length l.fn.frames;
-  at : IsInLanes l.setting.instance.now bound_at l.setting.budget l.group l.fn.search.node.items
-      (children_walked l.setting.instance.now bound_at (length l.fn.frames - 1) l.fn.search) l.fn.search
+  at : IsInLanes l.setting.instance.now (bound_of l.setting.version) l.setting.budget l.group l.fn.search.node.items
+      (children_walked l.setting.instance.now (bound_of l.setting.version) (length l.fn.frames - 1) l.fn.search)
+      l.fn.search
       (frame_at l.frames l.depth)
       (length l.fn.frames - 1 - l.depth) (reverse (take l.depth l.frames)) l.search;
 }

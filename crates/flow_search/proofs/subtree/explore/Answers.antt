@@ -1,19 +1,22 @@
-use Rattle.std.proofs.Common.{◌≡◌, suc, ◌-◌, nat_le, sym, subst, ◌∙◌, ap, arith}
+use Rattle.std.proofs.Common.{◌≡◌, ℕ, ◌≤◌, suc, ◌-◌, nat_le, sym, subst, ◌∙◌, ap, arith}
 use Rattle.std.specs.List.{find}
 use Rattle.std.proofs.lemmas.Result.{on_ok_weaker}
 use Rattle.flow_core.specs.Shop.{numbers}
 use Rattle.flow_core.specs.Front.{IsFrontOf}
 use Rattle.flow_core.specs.JobSet.{members}
-use Rattle.flow_core.specs.Bound.{bound_at}
-use Rattle.flow_bound.specs.Rest.{IsRestOf}
+use Rattle.flow_core.specs.Bound.{bound_of}
+use Rattle.flow_bound.specs.Loads.{AreLoadsOf}
 use Rattle.flow_search.specs.internal.Lows.{second_tail}
 use Rattle.flow_search.specs.internal.Nodes.{IsAt, incumbent_of}
 use Rattle.flow_search.specs.internal.Frames.{IsFrame}
-use Rattle.flow_search.proofs.Nodes.{left-count, within-front, find-is, machine-is, cut-here}
+use Rattle.flow_search.proofs.Nodes.{left-count, machine-is, cut-here}
 use Rattle.flow_search.proofs.Resume.{frame-of}
 use Rattle.flow_search.proofs.LanesWalked.{IsUncut, uncut-found, node-done, node-over}
 use Rattle.flow_search.proofs.subtree.explore.Goals as goal
 use Rattle.flow_search.proofs.subtree.explore.Goals.{After-cutting_machine, In_default}
+
+suc-back : (n : ℕ) → 1 ≤ n → n ≡ suc (n - 1)
+suc-back n some = omega (arith, some)
 
 pub of-rest-requires-clause-some : goal.of-rest-requires-clause-some
 of-rest-requires-clause-some c =
@@ -21,21 +24,26 @@ of-rest-requires-clause-some c =
     c.args.search.now.unscheduled c.args.count c.requires.at in
     omega (arith, size, c.if-count-eq0.false)
 
-pub cutting_machine-requires-clause-within : goal.cutting_machine-requires-clause-within
-cutting_machine-requires-clause-within c =
-    within-front c.args.setting.now.instance.now c.args.search.now.node.items c.args.front.now
-    c.args.search.now.unscheduled c.args.count c.requires.at
+pub cutting_machine-requires-clause-at : goal.cutting_machine-requires-clause-at
+cutting_machine-requires-clause-at c =
+    let more : c.args.count ≡ suc (c.args.count - 1) = omega (arith, c.if-count-eq0.false) in (
+      c.args.search.now.node.items,
+      c.args.count - 1,
+      subst (IsAt c.args.setting.now.instance.now c.args.search.now.node.items c.args.front.now
+          c.args.search.now.unscheduled) more c.requires.at,
+    )
 
 -- what the search for the machine found
 found : (c : After-cutting_machine) →
     c.cutting_machine.result
     ≡ find (λ machine. nat_le c.args.search.now.value
-    (bound_at c.args.setting.now.instance.now c.args.search.now.node.items machine))
+    (bound_of c.args.setting.now.version c.args.setting.now.instance.now c.args.search.now.node.items machine))
     (numbers 1 c.args.setting.now.instance.now.machines)
 found c =
-    c.cutting_machine.ensures (members c.args.search.now.unscheduled) c.of-rest.ensures.rest
-    ∙ find-is c.args.setting.now.instance.now c.args.search.now.node.items c.args.front.now
-    c.args.search.now.unscheduled c.args.count c.args.search.now.value c.requires.at
+    let more : c.args.count ≡ suc (c.args.count - 1) = omega (arith, c.if-count-eq0.false) in
+    c.cutting_machine.ensures c.args.search.now.node.items (c.args.count - 1)
+    (subst (IsAt c.args.setting.now.instance.now c.args.search.now.node.items c.args.front.now
+    c.args.search.now.unscheduled) more c.requires.at)
 
 pub overflow_cast-machine : goal.overflow_cast-machine
 overflow_cast-machine c =
@@ -51,7 +59,8 @@ overflow_add-machine c =
 
 pub returns-in-Some-clause-done : goal.returns-in-Some-clause-done
 returns-in-Some-clause-done c =
-    cut-here c.args.setting.now.instance.now bound_at c.args.setting.now.budget c.args.count
+    cut-here c.args.setting.now.instance.now (bound_of c.args.setting.now.version) c.args.setting.now.budget
+    c.args.count
     (c.args.count - 1) c.in-Some.machine c.args.search.now c.write-in-Some.new.self
     (omega (arith, c.if-count-eq0.false)) (sym c.in-Some.is
     ∙ found (goal.at.returns-in-Some-clause-done c).After-cutting_machine) c.in_ok-write-2.ensures.done
@@ -67,32 +76,36 @@ walk_children-requires-clause-frame c =
     subst (λ q. IsFrame shop q (suc (c.args.count - 1)) c.new-here.result) (sym w.node)
     (frame-of shop old.node.items c.args.front.now old.unscheduled (suc (c.args.count - 1)) c.new-here.result at
     (subst (IsFrontOf shop old.node.items) (sym c.new-here.ensures.front) c.requires.at.is_front)
-    (subst (IsRestOf shop (members old.unscheduled)) (sym c.new-here.ensures.rest) c.of-rest.ensures.rest)
+    (subst (AreLoadsOf shop (members old.unscheduled)) (sym c.new-here.ensures.rest) c.of-rest.ensures.rest)
     (λ machine from to. c.new-here.ensures.second machine from to
     ∙ ap (λ u. second_tail shop (members u) machine) w.unscheduled))
 
 -- no machine cuts the root
 uncut : (c : In_default) →
-    IsUncut c.args.setting.now.instance.now bound_at c.args.count c.args.search.now.node.items
+    IsUncut c.args.setting.now.instance.now (bound_of c.args.setting.now.version) c.args.count
+    c.args.search.now.node.items
     (incumbent_of c.args.search.now)
 uncut c =
-    uncut-found c.args.setting.now.instance.now bound_at c.args.count c.args.search.now
+    uncut-found c.args.setting.now.instance.now (bound_of c.args.setting.now.version) c.args.count c.args.search.now
     (omega (arith, c.if-count-eq0.false))
-    (sym c.in_default.is ∙ c.cutting_machine.ensures (members c.args.search.now.unscheduled) c.of-rest.ensures.rest
-    ∙ find-is c.args.setting.now.instance.now c.args.search.now.node.items c.args.front.now
-    c.args.search.now.unscheduled c.args.count c.args.search.now.value c.requires.at)
+    (sym c.in_default.is
+    ∙ c.cutting_machine.ensures c.args.search.now.node.items (c.args.count - 1)
+    (subst (IsAt c.args.setting.now.instance.now c.args.search.now.node.items c.args.front.now
+    c.args.search.now.unscheduled) (suc-back c.args.count (omega (arith, c.if-count-eq0.false))) c.requires.at))
 
 pub returns-then-count-le8-clause-done : goal.returns-then-count-le8-clause-done
 returns-then-count-le8-clause-done c =
     on_ok_weaker c.walk_few.result
-    (node-done c.args.setting.now.instance.now bound_at c.args.setting.now.budget c.args.count c.args.search.now
+    (node-done c.args.setting.now.instance.now (bound_of c.args.setting.now.version) c.args.setting.now.budget
+    c.args.count c.args.search.now
     c.write-2.new.self c.walk_few.new.search
     (uncut (goal.at.returns-then-count-le8-clause-done c).In_default) c.in_ok-write-3.ensures.done)
     c.walk_few.ensures.done
 
 pub returns-then-count-le8-clause-over : goal.returns-then-count-le8-clause-over
 returns-then-count-le8-clause-over c e =
-    node-over c.args.setting.now.instance.now bound_at c.args.setting.now.budget c.args.count c.args.search.now
+    node-over c.args.setting.now.instance.now (bound_of c.args.setting.now.version) c.args.setting.now.budget
+    c.args.count c.args.search.now
     c.write-2.new.self
     (uncut (goal.at.returns-then-count-le8-clause-over c).In_default) c.in_ok-write-3.ensures.done
     (c.walk_few.ensures.over e)
@@ -100,13 +113,15 @@ returns-then-count-le8-clause-over c e =
 pub returns-clause-done : goal.returns-clause-done
 returns-clause-done c =
     on_ok_weaker c.walk_children.result
-    (node-done c.args.setting.now.instance.now bound_at c.args.setting.now.budget c.args.count c.args.search.now
+    (node-done c.args.setting.now.instance.now (bound_of c.args.setting.now.version) c.args.setting.now.budget
+    c.args.count c.args.search.now
     c.write-2.new.self c.walk_children.new.search
     (uncut (goal.at.returns-clause-done c).In_default) c.in_ok-write-3.ensures.done)
     c.walk_children.ensures.done
 
 pub returns-clause-over : goal.returns-clause-over
 returns-clause-over c e =
-    node-over c.args.setting.now.instance.now bound_at c.args.setting.now.budget c.args.count c.args.search.now
+    node-over c.args.setting.now.instance.now (bound_of c.args.setting.now.version) c.args.setting.now.budget
+    c.args.count c.args.search.now
     c.write-2.new.self
     (uncut (goal.at.returns-clause-over c).In_default) c.in_ok-write-3.ensures.done (c.walk_children.ensures.over e)

@@ -1,13 +1,14 @@
 use Rattle.std.proofs.Common.{◌+◌, ◌-◌, ◌*◌, length, reverse}
-use Rattle.flow_core.specs.Bound.{bound_at}
+use Rattle.flow_core.specs.Bound.{bound_of}
 use Rattle.flow_search.specs.internal.Nodes.{children_walked}
 use Rattle.flow_search.specs.internal.Frames.{IsWalking}
 use Rattle.flow_search.proofs.subtree.walk_children.Given as goal
 
 abbrev pub invariant-walk : goal.invariant-walk
 invariant-walk l =
-    IsWalking l.setting.instance.now bound_at l.setting.budget l.fn.search.node.items
-    (children_walked l.setting.instance.now bound_at l.fn.below l.fn.search) l.fn.search l.here l.below
+    IsWalking l.setting.instance.now (bound_of l.setting.version) l.setting.budget l.fn.search.node.items
+    (children_walked l.setting.instance.now (bound_of l.setting.version) l.fn.below l.fn.search) l.fn.search l.here
+    l.below
     (reverse l.stack.items) l.search
 
 abbrev pub decreases-walk : goal.decreases-walk

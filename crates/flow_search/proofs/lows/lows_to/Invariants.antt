@@ -2,9 +2,11 @@ use Rattle.std.proofs.Common.{◌-◌}
 use Rattle.std.specs.List.{filter}
 use Rattle.flow_core.specs.Shop.{numbers}
 use Rattle.flow_core.specs.JobSet.{contains}
-use Rattle.flow_search.specs.internal.Lows.{AreLows}
-use Rattle.flow_search.proofs.frame.lows_of.Given as goal
+use Rattle.flow_search.specs.internal.Lows.{AreLows, time_to}
+use Rattle.flow_search.proofs.lows.lows_to.Given as goal
 
 -- the two least are those of the jobs so far that the set has
 abbrev pub invariant-loop-job : goal.invariant-loop-job
-invariant-loop-job l = AreLows l.setting.instance.now (filter (contains l.set) (numbers 1 (l.job - 1))) l.lows
+invariant-loop-job l =
+    AreLows (time_to l.setting.instance.now l.machine) (l.machine - 1) (filter (contains l.set) (numbers 1 (l.job -
+    1))) l.lows

@@ -4,7 +4,7 @@ use Rattle.flow_core.specs.Paths.{completion}
 use Rattle.flow_core.specs.Bound.{bound_at}
 use Rattle.flow_search.specs.internal.Lanes.{IsFrameOf, IsLaneLeft, child}
 use Rattle.flow_search.proofs.LanesPassed.{IsPassed}
-use Rattle.flow_search.proofs.eight.children.test_children.Given as goal
+use Rattle.flow_search.proofs.eight.children.test_plain.Given as goal
 
 -- after some machines
 abbrev pub invariant-loop-place : goal.invariant-loop-place
@@ -24,6 +24,8 @@ invariant-loop-place l = record {
       lane → IsLaneLeft l.fn.frame other → other ≢ lane →
       IsPassed l.instance bound_at (child list l.group lane) l.value l.place (slice_index l.uncut lane)
       (slice_index l.flags lane);
+  done_small : (place lane : ℕ) → place < l.place → lane < 8 →
+      slice_index (slice_index_or l.frame.free place []) lane ≤ greatest_completion + most_machines * greatest_time;
   done : (list : List ℕ) (place lane : ℕ) → IsFrameOf l.instance list l.group l.fn.frame → IsLaneLeft l.fn.frame lane
       → place < l.place →
       slice_index (slice_index_or l.frame.free place []) lane ≡ completion l.instance (child list l.group lane)

@@ -1,8 +1,9 @@
-use Rattle.std.proofs.Common.{rules, ◌≡◌, ℕ, ◌+◌, ◌<◌, ◌≤◌, max, List, [], slice_index, refl, ap, sym, ◌∙◌, subst, inl}
+use Rattle.std.proofs.Common.{rules, ◌≡◌, ℕ, ◌+◌, ◌*◌, ◌<◌, ◌≤◌, max}
+use Rattle.std.proofs.Common.{List, [], slice_index, refl, ap, sym, ◌∙◌, subst, inl}
 use Rattle.std.proofs.Common.{inr, arith}
 use Rattle.std.proofs.lemmas.Bool.{cases_lt}
 use Rattle.std.proofs.lemmas.List.{length-set}
-use Rattle.flow_core.specs.Limits.{most_machines}
+use Rattle.flow_core.specs.Limits.{most_machines, greatest_time, greatest_completion}
 use Rattle.flow_core.specs.Shop.{Shop}
 use Rattle.flow_core.specs.Paths.{completion}
 use Rattle.flow_core.specs.Bound.{bound_at}
@@ -10,7 +11,7 @@ use Rattle.flow_search.specs.internal.Lanes.{IsLaneLeft, IsFrameOf, IsUncutCount
 use Rattle.flow_search.proofs.LanesPassed.{all-same, passed-start, passed-more, free-none, free-is, bound-is}
 use Rattle.flow_search.proofs.LanesPassed.{start-small, behind-small, sum-small, row-small, done-more}
 use Rattle.flow_search.proofs.LanesOpened.{opened-same}
-use Rattle.flow_search.proofs.eight.children.test_children.Goals as goal
+use Rattle.flow_search.proofs.eight.children.test_plain.Goals as goal
 
 pub loop-place-init : goal.loop-place-init
 loop-place-init c = record {
@@ -28,6 +29,7 @@ loop-place-init c = record {
   passed = λ list lane other at here there differ.
       passed-start c.args.instance.now bound_at (child list c.args.group.now lane) c.args.value _ _
       (all-same 8 0 lane here.within) (all-same 8 1 lane here.within);
+  done_small = λ place lane h low. absurd (omega (arith, h));
   done = λ list place lane at here h. absurd (omega (arith, h));
 }
 
@@ -87,6 +89,15 @@ loop-place-preserved c =
     let start : (lane : ℕ) → lane < 8 → slice_index c.at_least-start.result lane ≡ max
     (slice_index c.loop-place.free lane) (slice_index c.args.frame.now.front place) =
     λ lane low. c.at_least-start.ensures.each lane low ∙ ap (max (slice_index c.loop-place.free lane)) front in
+    let leaves_small : (lane : ℕ) → lane < 8 → slice_index c.sums-free.result lane
+    ≤ greatest_completion + (place + 1) * greatest_time = λ lane low.
+    let begins = start-small shop c.requires.0 c.args.group.now c.args.frame.now place
+    (slice_index c.loop-place.free lane) (slice_index c.at_least-start.result lane)
+    c.machines-machines.ensures.limits c.requires.1 to (c.loop-place.invariant.free_small lane low)
+    (start lane low) in
+    let small = (row-small shop c.requires.0 c.args.group.now c.args.frame.now (record { time = []; tail = [] })
+    place lane c.requires.1 to low).time in
+    omega (arith, c.sums-free.ensures.each lane low, begins, small) in
     let leaves : (list : List ℕ) (lane : ℕ) → IsFrameOf shop list c.args.group.now c.args.frame.now → IsLaneLeft
     c.args.frame.now lane → slice_index c.sums-free.result lane ≡ completion shop (child list c.args.group.now lane)
     (place + 1) =
@@ -102,14 +113,7 @@ loop-place-preserved c =
       lanes = c.loop-place.invariant.lanes;
       next = c.loop-place.invariant.next;
       size = length-set c.loop-place.frame.free place c.sums-free.result ∙ c.loop-place.invariant.size;
-      free_small = λ lane low.
-          let begins = start-small shop c.requires.0 c.args.group.now c.args.frame.now place
-          (slice_index c.loop-place.free lane) (slice_index c.at_least-start.result lane)
-          c.machines-machines.ensures.limits c.requires.1 to (c.loop-place.invariant.free_small lane low)
-          (start lane low) in
-          let small = (row-small shop c.requires.0 c.args.group.now c.args.frame.now (record { time = []; tail = [] })
-          place lane c.requires.1 to low).time in
-          omega (arith, c.sums-free.ensures.each lane low, begins, small);
+      free_small = leaves_small;
       uncut_small = λ lane low.
           let flag : slice_index c.below-flags.result lane ≤ 1 = elim
           (cases_lt (slice_index c.sums.result lane) c.saturating_sub-room.result) [
@@ -170,12 +174,22 @@ loop-place-preserved c =
           (λ over. c.below-flags.ensures.cut lane here.within
           (omega (arith, over, bound, whole, sum, c.saturating_sub-room.ensures, c.min-limit.ensures)))
           (c.sums-uncut.ensures.each lane here.within);
+      done_small = λ there lane earlier low.
+          done-more (λ k times. slice_index times lane ≤ greatest_completion + most_machines * greatest_time)
+          c.loop-place.frame.free [] place c.sums-free.result
+          (omega (arith, c.loop-place.invariant.size, to, most)) (omega (arith, leaves_small lane low, to, most))
+          (λ k before. c.loop-place.invariant.done_small k lane before low) there earlier;
       done = λ list there lane at here low.
           done-more (λ k times. slice_index times lane ≡ completion shop (child list c.args.group.now lane) (k + 1))
           c.loop-place.frame.free [] place c.sums-free.result
           (omega (arith, c.loop-place.invariant.size, to, most)) (leaves list lane at here)
           (λ k earlier. c.loop-place.invariant.done list k lane at here earlier) there low;
     }
+
+pub returns-clause-small : goal.returns-clause-small
+returns-clause-small c place lane to low =
+    c.loop-place.invariant.done_small place lane
+    (omega (arith, to, c.loop-place-test.false, c.loop-place.auto.place-end, c.machines-machines.ensures.value)) low
 
 pub returns-clause-tested : goal.returns-clause-tested
 returns-clause-tested c list at =

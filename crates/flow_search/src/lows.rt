@@ -1,0 +1,102 @@
+//! The two least numbers of some jobs, side by side: their tails, or what they need between two machines.
+
+ghost use Rattle.std.specs.Prelude.{◌≡◌, ℕ, ◌+◌, ◌-◌, ◌<◌, ◌≤◌, false, List, [], ◌∷◌, ◌++◌, length, slice_index};
+ghost use Rattle.flow_core.specs.Limits.{most_machines};
+ghost use Rattle.flow_core.specs.Shop.{Shop, IsWithinLimits};
+ghost use Rattle.flow_core.specs.JobSet.{contains, members};
+ghost use Rattle.flow_core.specs.Rows.{AreRows, IsRow};
+ghost use Rattle.flow_search.specs.internal.Lows.{AreLows, tail_at, time_to};
+
+use crate::setting::Setting;
+use flow_core::{Instance, JobSet, MAX_MACHINES, Row};
+
+/// The two least of some jobs' numbers at each place, each the greatest number where there is no such job. Where two
+/// jobs have the least, both are the same.
+#[derive(Drop)]
+pub struct Lows {
+    /// The least.
+    pub least: [u32; MAX_MACHINES],
+    /// The second least.
+    pub second: [u32; MAX_MACHINES],
+}
+
+impl Lows {
+    /// Those of no job.
+    fn none() -> Lows
+        ensures { (number : ℕ → ℕ → ℕ) (count : ℕ) → count ≤ most_machines → AreLows number count [] result }
+    {
+        Lows {
+            least: [u32::MAX; MAX_MACHINES],
+            second: [u32::MAX; MAX_MACHINES],
+        }
+    }
+
+    /// Takes one job more in, by its numbers at the first places.
+    fn take(&mut self, numbers: &[u32; MAX_MACHINES], count: usize)
+        requires { count ≤ most_machines }
+        ensures { (number : ℕ → ℕ → ℕ) (jobs : List ℕ) (job : ℕ) →
+            ((place : ℕ) → place < count → slice_index numbers.now place ≡ number place job) →
+            AreLows number count jobs self.old → AreLows number count (jobs ++ job ∷ []) self.new }
+    {
+        for place in 0..count {
+            let tail = numbers[place];
+            let least = self.least[place];
+            self.second[place] = self.second[place].min(least.max(tail));
+            self.least[place] = least.min(tail);
+        }
+    }
+}
+
+/// The two least tails of a set of jobs behind each machine.
+pub fn lows_of(setting: &Setting, set: &JobSet) -> Lows
+    requires rows { AreRows setting.now.instance.now setting.now.rows.now }
+    requires jobs { (job : ℕ) → setting.now.instance.now.jobs < job → contains set.now job ≡ false }
+    ensures { AreLows (tail_at setting.now.instance.now) setting.now.instance.now.machines (members set.now) result }
+{
+    let instance = setting.instance;
+    let machines = instance.machines() as usize;
+    let mut lows = Lows::none();
+    for job in 1..instance.jobs() + 1 {
+        if set.contains(job) {
+            lows.take(&setting.rows[job as usize - 1].tails, machines);
+        }
+    }
+    lows
+}
+
+/// What a job needs from each earlier machine to before a machine, that from machine 1 first.
+fn times_to(row: &Row, machine: u16) -> [u32; MAX_MACHINES]
+    requires from { 1 ≤ machine }
+    requires row { (shop : Shop) × (job : ℕ) × IsWithinLimits shop × IsRow shop job row.now ×
+        (machine ≤ shop.machines) }
+    ensures { (shop : Shop) (job : ℕ) → IsRow shop job row.now → machine ≤ shop.machines → (place : ℕ) →
+        place < machine - 1 → slice_index result place ≡ time_to shop machine place job }
+{
+    let last = machine as usize - 1;
+    let needs = row.times[last] + row.tails[last];
+    let mut made = [0; MAX_MACHINES];
+    for place in 0..last {
+        made[place] = (row.times[place] + row.tails[place]).saturating_sub(needs);
+    }
+    made
+}
+
+/// The two least times that a set of jobs needs from each earlier machine to before a machine.
+pub fn lows_to(setting: &Setting, set: &JobSet, machine: u16) -> Lows
+    requires rows { AreRows setting.now.instance.now setting.now.rows.now }
+    requires jobs { (job : ℕ) → setting.now.instance.now.jobs < job → contains set.now job ≡ false }
+    requires from { 1 ≤ machine }
+    requires to { machine ≤ setting.now.instance.now.machines }
+    ensures { AreLows (time_to setting.now.instance.now machine) (machine - 1) (members set.now) result }
+{
+    let instance = setting.instance;
+    prove!(machine <= instance.machines());
+    let mut lows = Lows::none();
+    for job in 1..instance.jobs() + 1 {
+        if set.contains(job) {
+            let times = times_to(&setting.rows[job as usize - 1], machine);
+            lows.take(&times, machine as usize - 1);
+        }
+    }
+    lows
+}

@@ -1,0 +1,61 @@
+//! Released bounds at a node with more than eight jobs left.
+
+ghost use Rattle.std.specs.Prelude.{◌≡◌, ℕ, ◌+◌, ◌-◌, ◌<◌, ◌≤◌, false, nat_le, List, length, map, slice_index, find};
+ghost use Rattle.flow_core.specs.Limits.{most_machines, greatest_completion};
+ghost use Rattle.flow_core.specs.Shop.{Shop, numbers};
+ghost use Rattle.flow_core.specs.Least.{least};
+ghost use Rattle.flow_core.specs.Front.{IsWithinFront};
+ghost use Rattle.flow_core.specs.JobSet.{contains, members};
+ghost use Rattle.flow_core.specs.Bound.{release, released_bound};
+ghost use Rattle.flow_core.specs.Rows.{AreRows};
+ghost use Rattle.flow_bound.specs.Loads.{AreLoadsOf};
+ghost use Rattle.flow_search.specs.internal.Lows.{time_to, unknown};
+
+use crate::lows::lows_to;
+use crate::setting::Setting;
+use flow_bound::Loads;
+use flow_core::{Front, JobSet, MAX_MACHINES};
+
+/// The release of a machine, by the least time that the jobs left need from each earlier machine to before it.
+fn release_by(front: &Front, times: &[u32; MAX_MACHINES], machine: u16) -> u64
+    requires from { 1 ≤ machine }
+    requires to { machine ≤ most_machines }
+    requires within { (place : ℕ) → place < machine → slice_index front.now place ≤ greatest_completion }
+    ensures value { (shop : Shop) (jobs : List ℕ) → ((place : ℕ) → place < machine - 1 →
+        slice_index times.now place ≡ least (map (time_to shop machine place) jobs)) →
+        result ≡ release shop front.now jobs machine }
+    ensures limit { result ≤ greatest_completion + unknown }
+{
+    let mut made = front.at(machine);
+    for earlier in 1..machine {
+        made = made.max(front.at(earlier) + u64::from(times[earlier as usize - 1]));
+    }
+    made
+}
+
+/// The first machine whose released bound at a node reaches a value.
+pub fn releasing_machine(
+    setting: &Setting,
+    rest: &Loads,
+    front: &Front,
+    set: &JobSet,
+    value: u64,
+) -> Option<u16>
+    requires rows { AreRows setting.now.instance.now setting.now.rows.now }
+    requires jobs { (job : ℕ) → setting.now.instance.now.jobs < job → contains set.now job ≡ false }
+    requires some { 0 < length (members set.now) }
+    requires rest { AreLoadsOf setting.now.instance.now (members set.now) rest.now }
+    requires within { IsWithinFront setting.now.instance.now front.now }
+    ensures { result ≡ find (λ machine.
+        nat_le value (released_bound setting.now.instance.now front.now (members set.now) machine))
+        (numbers 1 setting.now.instance.now.machines) }
+{
+    for machine in 1..setting.instance.machines() + 1 {
+        let lows = lows_to(setting, set, machine);
+        let release = release_by(front, &lows.least, machine);
+        if value <= release + u64::from(rest.sum(machine)) + u64::from(rest.tail(machine)) {
+            return Some(machine);
+        }
+    }
+    None
+}
