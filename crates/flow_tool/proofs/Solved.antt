@@ -19,7 +19,8 @@ pub solve-written : (index workers depth budget version : ℕ) (mirror : Bool) (
     Ok options ≡ asked_options workers depth budget version →
     Came most_text (λ text. Picks text index (Ok block)) given gives ended →
     Wrote (AnswersPlan (mirrored_if mirror block.instance) options) taken takes →
-    Came most_text (λ text. Wrote (AnswersSolve index workers depth budget version mirror text) taken takes) given gives ended
+    Came most_text (λ text. Wrote (AnswersSolve index workers depth budget version mirror text) taken takes)
+    given gives ended
 solve-written index workers depth budget version mirror block options given gives ended taken takes is came wrote = (
   came.0,
   came.1,
@@ -33,16 +34,17 @@ solve-written index workers depth budget version mirror block options given give
   ),
 )
 
-pub solve-ended : (Untouched : Type 0) (index workers depth budget version : ℕ) (mirror : Bool) (block : Block) (options : Choices)
-    (given gives : Option (List ℕ)) (ended : Bool) (taken takes : Option (List ℕ)) (fault : ToolFault) →
+pub solve-ended : (Untouched : Type 0) (index workers depth budget version : ℕ) (mirror : Bool) (block : Block)
+    (options : Choices) (given gives : Option (List ℕ)) (ended : Bool) (taken takes : Option (List ℕ)) (fault : ToolFault) →
     Ok options ≡ asked_options workers depth budget version →
     Came most_text (λ text. Picks text index (Ok block)) given gives ended →
     EndsAlone Untouched (AnswersPlan (mirrored_if mirror block.instance) options) taken takes fault →
-    Ends Untouched most_text (AnswersSolve index workers depth budget version mirror) given gives ended taken takes fault
-solve-ended Untouched index workers depth budget version mirror block options given gives ended taken takes fault is came (inl
-    (untouched, inl memory)) = inl (untouched, inl (memory, (came.0, came.1, came.2)))
-solve-ended Untouched index workers depth budget version mirror block options given gives ended taken takes fault is came (inl
-    (untouched, inr answers)) =
+    Ends Untouched most_text (AnswersSolve index workers depth budget version mirror) given gives ended taken takes
+    fault
+solve-ended Untouched index workers depth budget version mirror block options given gives ended taken takes fault is
+    came (inl (untouched, inl memory)) = inl (untouched, inl (memory, (came.0, came.1, came.2)))
+solve-ended Untouched index workers depth budget version mirror block options given gives ended taken takes fault is
+    came (inl (untouched, inr answers)) =
     inl (
       untouched,
       inr (inr (inr (
@@ -54,8 +56,8 @@ solve-ended Untouched index workers depth budget version mirror block options gi
             (block, came.4, options-answer (mirrored_if mirror block.instance) _ options _ is answers),
       ))),
     )
-solve-ended Untouched index workers depth budget version mirror block options given gives ended taken takes fault is came (inr
-    (writing, part)) =
+solve-ended Untouched index workers depth budget version mirror block options given gives ended taken takes fault is
+    came (inr (writing, part)) =
     inr (
       writing,
       (

@@ -11,7 +11,7 @@ returns-in_err-put_all-clause-ended g c =
     omega (arith, c.in_ok-bytes.ensures.within, c.in_ok-bytes.bytes.ok.0) in
     let p = err_from_is_err_and c.from_residual-in_err-put_all.result c.from_residual-in_err-put_all.ensures.1 in
     rw (p.1, p.2)
-    (ends-in-writing-for most_certificate (AnswersCheck c.args.either c.args.instance.now) _ _ _ _ _ _ c.in_ok-bytes.bytes.items
-    c.in_ok-line.line.items within c.in_ok-bytes.ensures.bytes c.in_ok-bytes.ensures.ended
+    (ends-in-writing-for most_certificate (AnswersCheck c.args.either c.args.instance.now) _ _ _ _ _ _
+    c.in_ok-bytes.bytes.items c.in_ok-line.line.items within c.in_ok-bytes.ensures.bytes c.in_ok-bytes.ensures.ended
     (rw c.as_slice.ensures.value at c.in_ok-line.ensures.line)
     (rw c.as_slice-2.ensures.value at c.in_err-put_all.ensures.err))

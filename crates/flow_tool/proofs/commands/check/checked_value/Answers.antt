@@ -34,7 +34,8 @@ returns c =
       least = tt;
       refused = is-refused c.args.either c.args.instance.now c.args.bytes.now c.in-Err.fault c.in-Err.ensures.fault
           c.in-Err.ensures.none
-          (λ asked value lawful. no-certificate _ c.args.bytes.now c.in-Err-check.other (cc (c.ran_out.ensures, c.if-ran_out.false))
+          (λ asked value lawful. no-certificate _ c.args.bytes.now c.in-Err-check.other
+          (cc (c.ran_out.ensures, c.if-ran_out.false))
           c.in-Err-check.ensures.none value (subst (λ shop. IsCertificate shop c.args.bytes.now value)
           (sym c.in_ok-mirror.ensures) lawful));
     }
