@@ -35,8 +35,8 @@ solve-written index workers depth budget version mirror block options given give
 )
 
 pub solve-ended : (Untouched : Type 0) (index workers depth budget version : ℕ) (mirror : Bool) (block : Block)
-    (options : Choices) (given gives : Option (List ℕ)) (ended : Bool) (taken takes : Option (List ℕ)) (fault : ToolFault) →
-    Ok options ≡ asked_options workers depth budget version →
+    (options : Choices) (given gives : Option (List ℕ)) (ended : Bool) (taken takes : Option (List ℕ))
+    (fault : ToolFault) → Ok options ≡ asked_options workers depth budget version →
     Came most_text (λ text. Picks text index (Ok block)) given gives ended →
     EndsAlone Untouched (AnswersPlan (mirrored_if mirror block.instance) options) taken takes fault →
     Ends Untouched most_text (AnswersSolve index workers depth budget version mirror) given gives ended taken takes

@@ -85,7 +85,8 @@ pub(crate) fn run_solve<R: Threads + Wait + Sync, S: Source, G: Gate + Sync, K: 
         × WroteCertificate (mirrored_if mirror block.instance) (K.taken out.old) (K.taken out.new))
         (S.given file.old) (S.given file.new) (S.has_ended file.new)) }
     ensures ended { IfErr result (Ends (out.new ≡ out.old) most_text
-        (AnswersSolve index workers depth budget version mirror) (S.given file.old) (S.given file.new) (S.has_ended file.new) (K.taken out.old) (K.taken out.new)) }
+        (AnswersSolve index workers depth budget version mirror) (S.given file.old) (S.given file.new)
+        (S.has_ended file.new) (K.taken out.old) (K.taken out.new)) }
     ensures read_device { IsErrOf result (ToolFault.Read read.Device) ↔ (S.has_failed file.new ≡ true) }
     ensures write_device { IsErrOf result (ToolFault.Write write.Device) ↔ (K.has_failed out.new ≡ true) }
     ensures stands { Grows (S.given file.old) (S.given file.new) }

@@ -1,4 +1,4 @@
-use Rattle.std.proofs.Common.{◌≡◌, cong, sym, Ok}
+use Rattle.std.proofs.Common.{◌≡◌, ap, Ok}
 use Rattle.std.proofs.lemmas.Result.{err_from_is_err_and}
 use Rattle.flow_core.specs.Written.{written}
 use Rattle.flow_tool.specs.Commands.{mirrored_block}
@@ -10,5 +10,5 @@ returns-in_err-put_all-clause-ended g c =
     let p = err_from_is_err_and c.from_residual-in_err-put_all.result c.from_residual-in_err-put_all.ensures.1 in
     rw (p.1, p.2)
     (ends-in-writing _ _ (λ block answer. answer ≡ Ok (written (mirrored_block block))) _ _ _ _ _ _
-    c.in_ok-block.block c.in_ok-text.text.items c.in_ok-block.ensures.picked (cong Ok c.in_ok-text.ensures)
+    c.in_ok-block.block c.in_ok-text.text.items c.in_ok-block.ensures.picked (ap Ok c.in_ok-text.ensures)
     (rw c.as_slice.ensures.value at c.in_err-put_all.ensures.err))
