@@ -16,6 +16,8 @@ mod search;
 #[cfg(test)]
 mod text;
 #[cfg(test)]
+mod trees;
+#[cfg(test)]
 mod values;
 #[cfg(test)]
 mod writer;

@@ -40,6 +40,24 @@ fn options_name_first_fault(rt: HostRuntime) -> Result<(), Fail> {
 }
 
 #[test]
+fn with_version_takes_1_and_2(rt: HostRuntime) -> Result<(), Fail> {
+    let options = Options::new(3, 2, 7)?;
+    assert_eq!(rt; options.version(), 1);
+    for version in [0, 3] {
+        match options.with_version(version) {
+            Ok(_) => return Err(Fail::from("options were made")),
+            Err(fault) => assert_eq!(rt; fault, OptionFault::Version),
+        }
+    }
+    for version in 1..3u32 {
+        let chosen = options.with_version(version)?;
+        assert_eq!(rt; chosen.version(), version);
+        assert_eq!(rt; (chosen.workers(), chosen.depth(), chosen.budget()), (3, 2, 7));
+    }
+    Ok(())
+}
+
+#[test]
 fn prepare_names_first_fault(rt: HostRuntime) -> Result<(), Fail> {
     let alloc = rt.alloc();
     let options = Options::new(1, 3, AMPLE)?;
@@ -188,5 +206,34 @@ fn solve_plain_keeps_to_the_budget(rt: HostRuntime) -> Result<(), Fail> {
     let enough = prepare(alloc, &instance, Options::new(1, 1, 4)?)?;
     let verdict = solve_plain(alloc, &enough)?;
     assert!(rt; is_verdict(&verdict, 12, &[3, 1, 2], &[b"B", b"C", b"++.B"]));
+    Ok(())
+}
+
+#[test]
+fn version_2_has_the_same_trees_on_three_machines(rt: HostRuntime) -> Result<(), Fail> {
+    let alloc = rt.alloc();
+    let instance = three_machines(alloc)?;
+    let rows: [&[&[u8]]; 2] = [&[b"+BC++.B"], &[b"B", b"C", b"++.B"]];
+    for (depth, trees) in (0..2u32).zip(rows) {
+        let options = Options::new(1, depth, AMPLE)?.with_version(2)?;
+        let plan = prepare(alloc, &instance, options)?;
+        let verdict = solve_plain(alloc, &plan)?;
+        assert!(rt; is_verdict(&verdict, 12, &[3, 1, 2], trees), "at depth {depth}");
+    }
+    Ok(())
+}
+
+#[test]
+fn version_2_needs_one_byte_on_two_machines(rt: HostRuntime) -> Result<(), Fail> {
+    let alloc = rt.alloc();
+    let instance = two_machines(alloc)?;
+    let first = prepare(alloc, &instance, Options::new(1, 0, 3)?)?;
+    match solve_plain(alloc, &first) {
+        Ok(_) => return Err(Fail::from("a verdict beyond the budget")),
+        Err(fault) => assert_eq!(rt; fault, RunFault::OverBudget(0)),
+    }
+    let second = prepare(alloc, &instance, Options::new(1, 0, 1)?.with_version(2)?)?;
+    let verdict = solve_plain(alloc, &second)?;
+    assert!(rt; is_verdict(&verdict, 9, &[2, 3, 1], &[b"B"]));
     Ok(())
 }

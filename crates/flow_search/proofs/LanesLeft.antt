@@ -65,7 +65,8 @@ left-next shop bound root group below lane here later fs st step =
     ap (λ ls. then_walk (walk_each w ls st) more) (step.is ∙ ap (λ ls. lane ∷ ls) after)
     ∙ then-assoc (w lane st) (walk_each w (drop later.next (lanes_of later))) more
 
-left-none : (shop : Shop) (bound : Bound) (root : List ℕ) (group : Group) (below : ℕ) (here : LaneFrame) (fs : List LaneFrame)
+left-none : (shop : Shop) (bound : Bound) (root : List ℕ) (group : Group) (below : ℕ) (here : LaneFrame) (fs : List
+    LaneFrame)
     (st : Incumbent) → drop here.next (lanes_of here) ≡ [] →
     lanes_left shop bound root group below (here ∷ fs) st ≡ lanes_left shop bound root group (suc below) fs st
 left-none shop bound root group below here fs st e =
@@ -97,7 +98,8 @@ pub record IsMoved (jobs : List ℕ) (old new : Search) : Type 0 where
   pub unscheduled : new.unscheduled ≡ old.unscheduled
 
 -- the walk before its first child
-pub lanes-start : (shop : Shop) (bound : Bound) (budget : ℕ) (group : Group) (old : Search) (here : LaneFrame) (below : ℕ) →
+pub lanes-start : (shop : Shop) (bound : Bound) (budget : ℕ) (group : Group) (old : Search) (here : LaneFrame) (below
+    : ℕ) →
     IsTested shop bound old.node.items group here → here.next ≡ 0 →
     length old.node.items + suc below ≡ shop.jobs → length old.tree.items ≤ budget →
     IsInLanes shop bound budget group old.node.items (children_walked shop bound below old) old here below [] old
@@ -118,7 +120,8 @@ lanes-start shop bound budget group old here below tested next count within =
       within = within;
     }
 
-module _ {shop : Shop} {bound : Bound} {budget : ℕ} {group : Group} {root : List ℕ} {whole : List ℕ × Incumbent} {old : Search}
+module _ {shop : Shop} {bound : Bound} {budget : ℕ} {group : Group} {root : List ℕ} {whole : List ℕ × Incumbent} {old
+    : Search}
     {here : LaneFrame} {below : ℕ} {fs : List LaneFrame} {now : Search}
     (i : IsInLanes shop bound budget group root whole old here below fs now) where
   -- a child's subtree was walked
@@ -162,7 +165,8 @@ module _ {shop : Shop} {bound : Bound} {budget : ℕ} {group : Group} {root : Li
       let first_is : lane_walked shop bound below group lane now ≡ first =
       ap (λ q. walk shop bound below (child q group lane) st) i.node in
       let all : now.tree.items ++ (first.0 ++ rest.0) ≡ old.tree.items ++ whole.0 =
-      ap (λ w. now.tree.items ++ w.0) (sym (left-next shop bound root group below lane here later fs st step)) ∙ i.text in
+      ap (λ w. now.tree.items ++ w.0) (sym (left-next shop bound root group below lane here later fs st step)) ∙
+      i.text in
       longer-part budget now.tree.items first.0 rest.0 old.tree.items whole.0
       (subst (λ w. budget < length now.tree.items + length w.0) first_is over) all
 
@@ -194,7 +198,8 @@ module _ {shop : Shop} {bound : Bound} {budget : ℕ} {group : Group} {root : Li
       let children : List ℕ → Walk =
       λ q. walk_each (λ job. walk shop bound left (q ++ job ∷ [])) (jobs_left shop.jobs q) st in
       let below_is : deeper st ≡ children node =
-      lanes-whole shop bound left (lane_path root group (later ∷ fs)) group made made.next st made_at.opened.at first_lane
+      lanes-whole shop bound left (lane_path root group (later ∷ fs)) group made made.next st made_at.opened.at
+      first_lane
       ∙ ap children path_is in
       let first_is : first ≡ (43 ∷ (deeper st).0, (deeper st).1) =
       ap (λ n. walk shop bound n node st) more
@@ -237,7 +242,8 @@ module _ {shop : Shop} {bound : Bound} {budget : ℕ} {group : Group} {root : Li
       let st : Incumbent = incumbent_of now in
       let same : lanes_left shop bound root group below (here ∷ fs) st ≡ lanes_left shop bound root group (suc below)
       (f ∷ gs) st =
-      left-none shop bound root group below here fs st empty ∙ ap (λ xs. lanes_left shop bound root group (suc below) xs st) e in
+      left-none shop bound root group below here fs st empty ∙ ap (λ xs. lanes_left shop bound root group (suc below)
+      xs st) e in
       record {
         node = moved.node;
         count = omega (
@@ -264,7 +270,8 @@ module _ {shop : Shop} {bound : Bound} {budget : ℕ} {group : Group} {root : Li
   lanes-done empty e root_is =
       let st : Incumbent = incumbent_of now in
       let same : lanes_left shop bound root group below (here ∷ fs) st ≡ ([], st) =
-      left-none shop bound root group below here fs st empty ∙ ap (λ xs. lanes_left shop bound root group (suc below) xs st) e in
+      left-none shop bound root group below here fs st empty ∙ ap (λ xs. lanes_left shop bound root group (suc below)
+      xs st) e in
       record {
         tree = sym (append-nil now.tree.items) ∙ ap (λ w. now.tree.items ++ w.0) (sym same) ∙ i.text;
         incumbent = ap (λ w. w.1) (sym same) ∙ i.state;

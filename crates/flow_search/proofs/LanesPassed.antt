@@ -139,7 +139,8 @@ bound-is shop list group frame row lane other place free start behind tails at h
     sym (ap (slice_index frame.sum) e) ∙ at.sums (place + 1) low high in
     let sum = left-sum (λ job. time shop job (place
     + 1)) shop.jobs list (job_of group lane) (at.from lane here) (at.to lane here) (at.fresh lane here) in
-    let tail = behind-is shop list group frame row lane other place behind tails at here there differ to made is_least in
+    let tail = behind-is shop list group frame row lane other place behind tails at here there differ to made is_least
+    in
     omega (arith, leaves, row_is, front, load, sum, tail)
 
 -- the state of a child's uncut after some machines: still open, or cut before
@@ -248,7 +249,8 @@ all-same (suc n) v (suc lane) h = all-same n v lane (omega (arith, h))
 pub passed-start : (shop : Shop) (bound : Bound) (list : List ℕ) (limit uncut flag : ℕ) → uncut ≡ 0 → flag ≡ 1 →
     IsPassed shop bound list limit 0 uncut flag
 passed-start shop bound list limit uncut flag none whole =
-    subst (λ a. IsPassed shop bound list limit 0 a flag) (sym none) (subst (λ b. IsPassed shop bound list limit 0 0 b) (sym whole)
+    subst (λ a. IsPassed shop bound list limit 0 a flag) (sym none) (subst (λ b. IsPassed shop bound list limit 0 0 b)
+    (sym whole)
     (passed-none shop bound list limit))
 
 pub start-small : (shop : Shop) (list : List ℕ) (group : Group) (frame : LaneFrame) (place free start : ℕ) →

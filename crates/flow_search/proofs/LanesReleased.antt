@@ -125,7 +125,8 @@ pub need-is : (shop : Shop) (list : List ℕ) (group : Group) (frame : LaneFrame
     slice_index (slice_index_or frame.free earlier []) lane + value
     ≡ need shop (front_of shop (child list group lane)) (jobs_left shop.jobs (child list group lane)) (place + 1)
     (earlier + 1)
-need-is shop list group frame row lane other earlier place value between masked limits opened here there differ before to
+need-is shop list group frame row lane other earlier place value between masked limits opened here there differ before
+    to
     are made is =
     let f : ℕ → ℕ = λ job. time_between shop job (earlier + 1) (place + 1 - 1) in
     let at = opened.at in
@@ -144,7 +145,8 @@ need-is shop list group frame row lane other earlier place value between masked 
       tail-small shop (job_of group other) (shop.machines - earlier) earlier limits (omega (arith, before, to)),
       most,
     ) in
-    let tail = least-left shop list group frame f lane other value between masked at here there differ each small made is
+    let tail = least-left shop list group frame f lane other value between masked at here there differ each small made
+    is
     in
     let free = opened.free earlier lane here (omega (arith, before, to)) in
     let front = front_of-is shop (child list group lane) (earlier + 1) (omega arith) (omega (arith, before, to)) in
@@ -162,7 +164,8 @@ pub released-is : (shop : Shop) (list : List ℕ) (group : Group) (frame : LaneF
     ≡ max (slice_index (slice_index_or group.rows place row).tail k) (slice_index frame.gone k)) →
     IsLeastOfOthers tails lane behind →
     start + behind + slice_index frame.sum place ≡ released_bound_at shop (child list group lane) (place + 1)
-released-is shop list group frame row lane other place released start behind tails opened here there differ to release_is
+released-is shop list group frame row lane other place released start behind tails opened here there differ to
+    release_is
     start_is made is_least =
     let at = opened.at in
     let e : place + 1 - 1 ≡ place = omega arith in
@@ -177,7 +180,8 @@ released-is shop list group frame row lane other place released start behind tai
     sym (ap (slice_index frame.sum) e) ∙ at.sums (place + 1) low high in
     let sum = left-sum (λ job. time shop job (place
     + 1)) shop.jobs list (job_of group lane) (at.from lane here) (at.to lane here) (at.fresh lane here) in
-    let tail = behind-is shop list group frame row lane other place behind tails at here there differ to made is_least in
+    let tail = behind-is shop list group frame row lane other place behind tails at here there differ to made is_least
+    in
     let late = release-is shop (front_of shop (child list group lane)) (jobs_left shop.jobs (child list group lane))
     place in
     let leaves = completion-push shop list (job_of group lane) place in

@@ -36,7 +36,8 @@ lettered shop bound count uncut node st some is =
     ap (λ c. walk shop bound c node st) e
     ∙ ap (answer_of st (children shop bound (count - 1) node st)) (count-found shop bound node st.0 uncut is)
 
-pub lane-cut : (shop : Shop) (bound : Bound) (budget count uncut : ℕ) (group : Group) (lane : ℕ) (old new : Search) → 0 < count →
+pub lane-cut : (shop : Shop) (bound : Bound) (budget count uncut : ℕ) (group : Group) (lane : ℕ) (old new : Search) →
+    0 < count →
     IsUncutCount shop bound (child old.node.items group lane) old.value shop.machines uncut →
     uncut < shop.machines →
     Wrote budget (65 + uncut) old new → Gave budget (lane_walked shop bound count group lane old) old new
@@ -62,7 +63,8 @@ IsUncut shop bound count node incumbent =
     ≡ (43 ∷ (children shop bound (count - 1) node incumbent).0, (children shop bound (count - 1) node incumbent).1)
 
 -- nor at a child, before it is entered
-pub uncut-child : (shop : Shop) (bound : Bound) (count job : ℕ) (old in_child : Search) → 0 < count → Entered job old in_child →
+pub uncut-child : (shop : Shop) (bound : Bound) (count job : ℕ) (old in_child : Search) → 0 < count → Entered job old
+    in_child →
     find (λ machine. nat_le old.value (bound shop (old.node.items ++ job ∷ []) machine)) (numbers 1 shop.machines)
     ≡ None →
     IsUncut shop bound count in_child.node.items (incumbent_of in_child)
@@ -85,7 +87,8 @@ uncut-found shop bound count search some finds =
     (sym finds)
 
 -- once the plus is written, at the node
-plus-is : (shop : Shop) (bound : Bound) (count : ℕ) (node : List ℕ) (st : Incumbent) (mid : Search) → IsUncut shop bound count node st →
+plus-is : (shop : Shop) (bound : Bound) (count : ℕ) (node : List ℕ) (st : Incumbent) (mid : Search) → IsUncut shop
+    bound count node st →
     mid.node.items ≡ node → incumbent_of mid ≡ st →
     walk shop bound count node st
     ≡ (43 ∷ (children_walked shop bound (count - 1) mid).0, (children_walked shop bound (count - 1) mid).1)

@@ -125,7 +125,10 @@ map-same : (f g : ℕ → ℕ) (from n : ℕ) → ((k : ℕ) → from ≤ k → 
 map-same f g from zero same = refl
 map-same f g from (suc n) same =
     ap (λ k. k ∷ map f (range_with_len (from + 1) n)) (same from (omega arith) (omega arith))
-    ∙ ap (λ ks. g from ∷ ks) (map-same f g (from + 1) n (λ k low high. same k (omega (arith, low)) (omega (arith, high))))
+    ∙ ap (λ ks. g from ∷ ks) (map-same f g (from + 1) n (λ k low high. same k (omega (arith, low)) (omega (
+      arith,
+      high,
+    ))))
 
 -- and by the released bound
 pub find-released : (shop : Shop) (node front : List ℕ) (unscheduled : List Bool) (count value : ℕ) →

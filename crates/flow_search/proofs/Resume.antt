@@ -15,7 +15,7 @@ use Rattle.flow_core.specs.Bound.{letter, front_of}
 use Rattle.flow_search.specs.Search.{Bound}
 use Rattle.flow_core.proofs.JobsLeft.{bool_cases}
 use Rattle.flow_core.proofs.Admissible.{front_of-is}
-use Rattle.flow_bound.specs.Rest.{IsRestOf}
+use Rattle.flow_bound.specs.Loads.{AreLoadsOf}
 use Rattle.flow_search.specs.Walk.{walk, walk_each}
 use Rattle.flow_search.specs.internal.Lows.{second_tail}
 use Rattle.flow_search.specs.internal.Nodes.{IsAt, Wrote, Entered, Left, Gave, Walked, Opens, walked, incumbent_of}
@@ -145,7 +145,8 @@ pub then-assoc : (a : Walk) (f g : Incumbent → Walk) → then_walk (then_walk 
     (λ st. then_walk (f st) g)
 then-assoc a f g = ap (λ t. (t, (g (f a.1).1).1)) (append_assoc a.0 (f a.1).0 (g (f a.1).1).0)
 
-resume-next : (shop : Shop) (bound : Bound) (root : List ℕ) (left job : ℕ) (here later : Frame) (fs : List Frame) (st : Incumbent) →
+resume-next : (shop : Shop) (bound : Bound) (root : List ℕ) (left job : ℕ) (here later : Frame) (fs : List Frame) (st
+    : Incumbent) →
     left_from shop.jobs (path root fs) here.next ≡ job ∷ left_from shop.jobs (path root fs) (job + 1) →
     later.next ≡ job + 1 →
     resume shop bound root left (here ∷ fs) st
@@ -157,7 +158,8 @@ resume-next shop bound root left job here later fs st e next =
     ∙ then-assoc (w job st) (walk_each w (left_from shop.jobs (path root fs) (job + 1))) more
     ∙ ap (λ k. then_walk (w job st) (λ s. then_walk (walk_from shop bound left (path root fs) k s) more)) (sym next)
 
-resume-none : (shop : Shop) (bound : Bound) (root : List ℕ) (left : ℕ) (here : Frame) (fs : List Frame) (st : Incumbent) →
+resume-none : (shop : Shop) (bound : Bound) (root : List ℕ) (left : ℕ) (here : Frame) (fs : List Frame) (st :
+    Incumbent) →
     left_from shop.jobs (path root fs) here.next ≡ [] → resume shop bound root left (here ∷ fs) st
     ≡ resume shop bound root (suc left) fs st
 resume-none shop bound root left here fs st e =
@@ -195,7 +197,7 @@ kid-of shop node front set count job at low high there =
 -- the frame of a node, from its rest
 pub frame-of : (shop : Shop) (node front : List ℕ) (set : List Bool) (left : ℕ) (frame : Frame) →
     IsAt shop node front set left →
-    IsFrontOf shop node frame.front → IsRestOf shop (members set) frame.rest →
+    IsFrontOf shop node frame.front → AreLoadsOf shop (members set) frame.rest →
     ((machine : ℕ) → 1 ≤ machine → machine ≤ shop.machines →
     slice_index_or frame.second (machine - 1) 0 ≡ second_tail shop (members set) machine) →
     IsFrame shop node left frame
@@ -203,7 +205,7 @@ frame-of shop node front set left frame at times rest second =
     let left_is : members set ≡ jobs_left shop.jobs node = members-are shop node front set left at in
     record {
       times = times;
-      rest_is = subst (λ js. IsRestOf shop js frame.rest) left_is rest;
+      rest_is = subst (λ js. AreLoadsOf shop js frame.rest) left_is rest;
       second_is = λ machine from to. second machine from to ∙ ap (λ js. second_tail shop js machine) left_is;
       count = at.whole;
       some = ap length (sym left_is) ∙ left-count shop node front set left at;
@@ -216,7 +218,8 @@ child-walk shop bound below job old in_child entered =
     ap (λ q. walk shop bound below q (incumbent_of in_child)) entered.node
     ∙ ap (walk shop bound below (old.node.items ++ job ∷ [])) entered.incumbent
 
-pub child-done : (shop : Shop) (bound : Bound) (budget below job : ℕ) (old in_child after new : Search) → Entered job old in_child →
+pub child-done : (shop : Shop) (bound : Bound) (budget below job : ℕ) (old in_child after new : Search) → Entered job
+    old in_child →
     Walked shop bound budget below in_child after → Left job old.node.items after new → contains old.unscheduled job ≡
     true →
     Gave budget (walk shop bound below (old.node.items ++ job ∷ []) (incumbent_of old)) old new
@@ -234,12 +237,19 @@ child-done shop bound budget below job old in_child after new entered w left the
       within = subst (λ t. length t ≤ budget) (sym left.tree) w.within;
     }
 
-pub child-over : (shop : Shop) (bound : Bound) (budget below job : ℕ) (old in_child : Search) → Entered job old in_child →
+pub child-over : (shop : Shop) (bound : Bound) (budget below job : ℕ) (old in_child : Search) → Entered job old
+    in_child →
     budget < length in_child.tree.items + length (walked shop bound below in_child).0 →
     budget < length old.tree.items + length (walk shop bound below (old.node.items ++ job ∷ [])
     (incumbent_of old)).0
 child-over shop bound budget below job old in_child entered over =
-    omega (arith, over, ap length entered.tree, ap (λ w. length w.0) (child-walk shop bound below job old in_child entered))
+    omega (
+      arith,
+      over,
+      ap length entered.tree,
+      ap (λ w. length w.0) (child-walk shop bound below job old in_child
+          entered),
+    )
 
 -- a child that a bound cuts
 pub cut-done : (shop : Shop) (bound : Bound) (budget below job machine : ℕ) (old new : Search) → below ≢ 0 →
@@ -338,7 +348,8 @@ module _ {shop : Shop} {bound : Bound} {budget : ℕ} {root : List ℕ} {whole :
       let first : Walk = walk shop bound below (path root fs ++ job ∷ []) st in
       let first_is : walk shop bound below (now.node.items ++ job ∷ []) st ≡ first =
       ap (λ q. walk shop bound below (q ++ job ∷ []) st) i.node in
-      let all : resume shop bound root below (here ∷ fs) st ≡ then_walk first (resume shop bound root below (later ∷ fs)) =
+      let all : resume shop bound root below (here ∷ fs) st ≡ then_walk first (resume shop bound root below (later ∷
+      fs)) =
       resume-next shop bound root below job here later fs st kid.0 refl in
       let after : incumbent_of new ≡ first.1 = gave.incumbent ∙ ap (λ w. w.1) first_is in
       let tree : new.tree.items ≡ now.tree.items ++ first.0 = gave.tree ∙ ap (λ w. now.tree.items ++ w.0) first_is in
@@ -385,7 +396,7 @@ module _ {shop : Shop} {bound : Bound} {budget : ℕ} {root : List ℕ} {whole :
       Some job ≡ find (contains now.unscheduled) (numbers here.next shop.jobs) → 9 ≤ below →
       Opens shop bound budget job now mid → Entered job mid new →
       IsFrontOf shop (now.node.items ++ job ∷ []) child.front →
-      IsRestOf shop (members new.unscheduled) child.rest →
+      AreLoadsOf shop (members new.unscheduled) child.rest →
       ((machine : ℕ) → 1 ≤ machine → machine ≤ shop.machines →
       slice_index_or child.second (machine - 1) 0 ≡ second_tail shop (members new.unscheduled) machine) →
       child.next ≡ 1 →
@@ -426,14 +437,16 @@ module _ {shop : Shop} {bound : Bound} {budget : ℕ} {root : List ℕ} {whole :
       ap (λ n. walk shop bound n (path root fs ++ job ∷ []) st) more
       ∙ ap (answer_of st (walk_each (λ k. walk shop bound left ((path root fs ++ job ∷ []) ++ k
       ∷ [])) (jobs_left shop.jobs (path root fs ++ job ∷ [])) st)) uncut
-      ∙ ap (λ q. (43 ∷ (walk_from shop bound left q 1 st).0, (walk_from shop bound left q 1 st).1)) (ap (λ j. path root fs ++ j
+      ∙ ap (λ q. (43 ∷ (walk_from shop bound left q 1 st).0, (walk_from shop bound left q 1 st).1)) (ap (λ j. path
+      root fs ++ j
       ∷ []) (sym back)) in
       let all : resume shop bound root below (here ∷ fs) st ≡ then_walk first rest =
       resume-next shop bound root below job here later fs st kid.0 refl in
       let tree : new.tree.items ≡ now.tree.items ++ 43 ∷ [] = entered.tree ∙ opens.wrote.tree in
       let child_rest : Incumbent → Walk = resume shop bound root left (child ∷ later ∷ fs) in
       let child_is : (s : Incumbent) → child_rest s ≡ then_walk (deeper s) rest = λ s.
-      ap (λ n. then_walk (walk_from shop bound left (path root (later ∷ fs)) n s) (resume shop bound root (suc left) (later
+      ap (λ n. then_walk (walk_from shop bound left (path root (later ∷ fs)) n s) (resume shop bound root (suc left)
+      (later
       ∷ fs))) next
       ∙ ap (λ n. then_walk (deeper s) (resume shop bound root n (later ∷ fs))) (sym more) in
       let whole_is : resume shop bound root below (here ∷ fs) st ≡ (43 ∷ (child_rest st).0, (child_rest st).1) =
@@ -443,7 +456,7 @@ module _ {shop : Shop} {bound : Bound} {budget : ℕ} {root : List ℕ} {whole :
         node = node ∙ sym here_at;
         frame = record {
           times = subst (λ q. IsFrontOf shop q child.front) (sym here_at) front;
-          rest_is = subst (λ js. IsRestOf shop js child.rest) left_is rest_given;
+          rest_is = subst (λ js. AreLoadsOf shop js child.rest) left_is rest_given;
           second_is = λ machine from to. second machine from to ∙ ap (λ js. second_tail shop js machine) left_is;
           count = ap (λ q. length q + suc left) (sym (node ∙ sym here_at)) ∙ at_new.whole;
           some = ap length (sym left_is)
@@ -474,7 +487,7 @@ module _ {shop : Shop} {bound : Bound} {budget : ℕ} {root : List ℕ} {whole :
       ≡ find (contains now.unscheduled) (numbers here.next shop.jobs) →
       Opens shop bound budget job now mid → Entered job mid new →
       IsAt shop new.node.items (front_of shop (now.node.items ++ job ∷ [])) new.unscheduled below
-      × IsRestOf shop (members (slice_set new.unscheduled (job - 1) true)) here.rest
+      × AreLoadsOf shop (members (slice_set new.unscheduled (job - 1) true)) here.rest
   walking-entered job mid new found opens entered =
       let kid = walking-child job found in
       let node : new.node.items ≡ now.node.items ++ job ∷ [] = entered.node
@@ -493,7 +506,7 @@ module _ {shop : Shop} {bound : Bound} {budget : ℕ} {root : List ℕ} {whole :
       ∙ ap members (sym whole) in (
         subst (λ q. IsAt shop q front new.unscheduled below) (sym node)
             (subst (λ u. IsAt shop (now.node.items ++ job ∷ []) front u below) (sym set) at_kid),
-        subst (λ js. IsRestOf shop js here.rest) jobs i.frame.rest_is,
+        subst (λ js. AreLoadsOf shop js here.rest) jobs i.frame.rest_is,
       )
 
   -- no child is left: back at the node above

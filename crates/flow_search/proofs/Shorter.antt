@@ -67,7 +67,8 @@ module _ (bound other : Bound) (stronger : IsStronger bound other) (shop : Shop)
   unfolding tree_at
   tree_at-shorter zero node = omega arith
   tree_at-shorter (suc left) node =
-      node-shorter (flat_map (λ job. tree_at shop bound start prefix left (node ++ job ∷ [])) (jobs_left shop.jobs node))
+      node-shorter (flat_map (λ job. tree_at shop bound start prefix left (node ++ job ∷ [])) (jobs_left shop.jobs
+      node))
       (flat_map (λ job. tree_at shop other start prefix left (node ++ job ∷ [])) (jobs_left shop.jobs node))
       (cutting_machine shop bound start prefix node) (cutting_machine shop other start prefix node)
       (texts-shorter (λ job. tree_at shop bound start prefix left (node ++ job ∷ []))

@@ -137,7 +137,8 @@ trees-count plan = length-map (prefixes_of plan) (tree plan.shop (bound_of plan.
 
 pub tree-at : (plan : Planned) (number : ℕ) → number < length (prefixes_of plan) →
     slice_index_or (trees_of plan) number [] ≡ tree_of plan number
-tree-at plan number h = get_or-map (tree plan.shop (bound_of plan.options.version) plan.start.value) (prefixes_of plan) number [] [] h
+tree-at plan number h = get_or-map (tree plan.shop (bound_of plan.options.version) plan.start.value) (prefixes_of
+    plan) number [] [] h
 
 pub trees-more : (plan : Planned) (number : ℕ) → number < length (prefixes_of plan) →
     take (number + 1) (trees_of plan) ≡ take number (trees_of plan) ++ tree_of plan number ∷ []

@@ -28,7 +28,8 @@ found-none p from (suc n) none =
     ap (λ b. cond b (Some from) (find p (range_with_len (from + 1) n))) (none from (omega arith) (omega arith))
     ∙ found-none p (from + 1) n (λ i a b. none i (omega (arith, a)) (omega (arith, b)))
 
-pub count-found : (shop : Shop) (bound : Bound) (list : List ℕ) (limit uncut : ℕ) → IsUncutCount shop bound list limit shop.machines uncut →
+pub count-found : (shop : Shop) (bound : Bound) (list : List ℕ) (limit uncut : ℕ) → IsUncutCount shop bound list limit
+    shop.machines uncut →
     find (λ machine. nat_le limit (bound shop list machine)) (numbers 1 shop.machines) ≡ cond
     (nat_lt uncut shop.machines) (Some (uncut + 1)) None
 count-found shop bound list limit uncut is = elim (cases_lt uncut shop.machines) [

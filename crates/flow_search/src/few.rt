@@ -45,17 +45,21 @@ fn visit_lane(
     below: usize,
     search: &mut Search,
 ) -> Result<bool, Stop>
-    requires tested { IsTested setting.now.instance.now (bound_of setting.now.version) search.old.node.items group.now frame.now }
+    requires tested { IsTested setting.now.instance.now (bound_of setting.now.version)
+        search.old.node.items group.now frame.now }
     requires value { frame.now.value ≡ search.old.value }
     requires left { IsLaneLeft frame.now lane }
     requires count { length search.old.node.items + suc below ≡ setting.now.instance.now.jobs }
     ensures whole { result ≡ Ok false → Gave setting.now.budget
-        (lane_walked setting.now.instance.now (bound_of setting.now.version) below group.now lane search.old) search.old search.new }
+        (lane_walked setting.now.instance.now (bound_of setting.now.version)
+        below group.now lane search.old) search.old search.new }
     ensures opens { result ≡ Ok true →
-        Opens setting.now.instance.now (bound_of setting.now.version) setting.now.budget (job_of group.now lane) search.old search.new }
+        Opens setting.now.instance.now (bound_of setting.now.version)
+        setting.now.budget (job_of group.now lane) search.old search.new }
     ensures more { result ≡ Ok true → 1 ≤ below }
     ensures over { result ≡ Err Stop.OverBudget → setting.now.budget < length search.old.tree.items
-        + length (lane_walked setting.now.instance.now (bound_of setting.now.version) below group.now lane search.old).0 }
+        + length (lane_walked setting.now.instance.now (bound_of setting.now.version)
+        below group.now lane search.old).0 }
 {
     let machines = setting.instance.machines() as usize;
     if below == 0 {
@@ -82,16 +86,19 @@ fn walk_lanes(
     frames: &mut [LaneFrame],
     search: &mut Search,
 ) -> Result<(), Stop>
-    requires tested { IsTested setting.now.instance.now (bound_of setting.now.version) search.old.node.items group.now (frame_at frames.old 0) }
+    requires tested { IsTested setting.now.instance.now (bound_of setting.now.version)
+        search.old.node.items group.now (frame_at frames.old 0) }
     requires next { (frame_at frames.old 0).next ≡ 0 }
     requires some { 1 ≤ length frames.old }
     requires few { length frames.old ≤ 8 }
     requires count { length search.old.node.items + length frames.old ≡ setting.now.instance.now.jobs }
     requires within { length search.old.tree.items ≤ setting.now.budget }
     ensures done { OnOk result (Gave setting.now.budget
-        (children_walked setting.now.instance.now (bound_of setting.now.version) (length frames.old - 1) search.old) search.old search.new) }
+        (children_walked setting.now.instance.now (bound_of setting.now.version)
+        (length frames.old - 1) search.old) search.old search.new) }
     ensures over { result ≡ Err Stop.OverBudget → setting.now.budget < length search.old.tree.items
-        + length (children_walked setting.now.instance.now (bound_of setting.now.version) (length frames.old - 1) search.old).0 }
+        + length (children_walked setting.now.instance.now (bound_of setting.now.version)
+        (length frames.old - 1) search.old).0 }
 {
     let instance = setting.instance;
     let left = frames.len();
@@ -135,9 +142,11 @@ pub fn walk_few(
     requires to { count ≤ 8 }
     requires within { length search.old.tree.items ≤ setting.now.budget }
     ensures done { OnOk result (Gave setting.now.budget
-        (children_walked setting.now.instance.now (bound_of setting.now.version) (count - 1) search.old) search.old search.new) }
+        (children_walked setting.now.instance.now (bound_of setting.now.version)
+        (count - 1) search.old) search.old search.new) }
     ensures over { result ≡ Err Stop.OverBudget → setting.now.budget
-        < length search.old.tree.items + length (children_walked setting.now.instance.now (bound_of setting.now.version) (count - 1) search.old).0 }
+        < length search.old.tree.items + length (children_walked setting.now.instance.now (bound_of setting.now.version)
+        (count - 1) search.old).0 }
 {
     let instance = setting.instance;
     let left = count as usize;

@@ -10,7 +10,7 @@ ghost use Rattle.flow_search.specs.internal.Frames.{IsFrame, IsChild};
 
 use crate::lows::lows_of;
 use crate::setting::Setting;
-use flow_bound::Rest;
+use flow_bound::Loads;
 use flow_core::{Front, JobSet, MAX_MACHINES};
 
 /// A node with more than eight jobs left, whose children are walked.
@@ -19,7 +19,7 @@ pub struct Frame {
     /// When each machine is free after the node's jobs.
     pub front: Front,
     /// For each machine the sum of the times of the jobs left, and their least tail behind it.
-    pub rest: Rest,
+    pub rest: Loads,
     /// For each machine the second least tail of the jobs left: the least tail without a job that has the least.
     pub second: [u32; MAX_MACHINES],
     /// No job below this one begins a child that is still to be walked.
@@ -28,7 +28,7 @@ pub struct Frame {
 
 impl Frame {
     /// A node before its first child, with its front and the rest of the jobs left.
-    pub fn new(setting: &Setting, front: Front, rest: Rest, left: &JobSet) -> Frame
+    pub fn new(setting: &Setting, front: Front, rest: Loads, left: &JobSet) -> Frame
         requires rows { AreRows setting.now.instance.now setting.now.rows.now }
         requires jobs { (job : ℕ) → setting.now.instance.now.jobs < job → contains left.now job ≡ false }
         ensures front { result.front ≡ front }

@@ -67,7 +67,8 @@ pub fn lows_of(setting: &Setting, set: &JobSet) -> Lows
 /// What a job needs from each earlier machine to before a machine, that from machine 1 first.
 fn times_to(row: &Row, machine: u16) -> [u32; MAX_MACHINES]
     requires from { 1 ≤ machine }
-    requires row { (shop : Shop) × (job : ℕ) × IsWithinLimits shop × IsRow shop job row.now × (machine ≤ shop.machines) }
+    requires row { (shop : Shop) × (job : ℕ) × IsWithinLimits shop × IsRow shop job row.now ×
+        (machine ≤ shop.machines) }
     ensures { (shop : Shop) (job : ℕ) → IsRow shop job row.now → machine ≤ shop.machines → (place : ℕ) →
         place < machine - 1 → slice_index result place ≡ time_to shop machine place job }
 {

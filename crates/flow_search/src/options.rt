@@ -25,7 +25,8 @@ pub enum OptionFault {
     Version,
 }
 
-/// How many workers a run has, the depth of its cut, how many bytes a tree may have, and the version of the certificate.
+/// How many workers a run has, the depth of its cut, how many bytes a tree may have, and the version of the
+/// certificate.
 #[derive(Clone, Copy, Debug, PartialEq, Eq)]
 pub struct Options {
     workers: u32,

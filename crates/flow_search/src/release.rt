@@ -8,12 +8,12 @@ ghost use Rattle.flow_core.specs.Front.{IsWithinFront};
 ghost use Rattle.flow_core.specs.JobSet.{contains, members};
 ghost use Rattle.flow_core.specs.Bound.{release, released_bound};
 ghost use Rattle.flow_core.specs.Rows.{AreRows};
-ghost use Rattle.flow_bound.specs.Rest.{IsRestOf};
+ghost use Rattle.flow_bound.specs.Loads.{AreLoadsOf};
 ghost use Rattle.flow_search.specs.internal.Lows.{time_to, unknown};
 
 use crate::lows::lows_to;
 use crate::setting::Setting;
-use flow_bound::Rest;
+use flow_bound::Loads;
 use flow_core::{Front, JobSet, MAX_MACHINES};
 
 /// The release of a machine, by the least time that the jobs left need from each earlier machine to before it.
@@ -36,7 +36,7 @@ fn release_by(front: &Front, times: &[u32; MAX_MACHINES], machine: u16) -> u64
 /// The first machine whose released bound at a node reaches a value.
 pub fn releasing_machine(
     setting: &Setting,
-    rest: &Rest,
+    rest: &Loads,
     front: &Front,
     set: &JobSet,
     value: u64,
@@ -44,7 +44,7 @@ pub fn releasing_machine(
     requires rows { AreRows setting.now.instance.now setting.now.rows.now }
     requires jobs { (job : ℕ) → setting.now.instance.now.jobs < job → contains set.now job ≡ false }
     requires some { 0 < length (members set.now) }
-    requires rest { IsRestOf setting.now.instance.now (members set.now) rest.now }
+    requires rest { AreLoadsOf setting.now.instance.now (members set.now) rest.now }
     requires within { IsWithinFront setting.now.instance.now front.now }
     ensures { result ≡ find (λ machine.
         nat_le value (released_bound setting.now.instance.now front.now (members set.now) machine))

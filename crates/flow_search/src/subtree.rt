@@ -7,7 +7,7 @@ ghost use Rattle.flow_core.specs.Shop.{numbers};
 ghost use Rattle.flow_core.specs.Front.{IsWithinFront};
 ghost use Rattle.flow_core.specs.JobSet.{contains, members};
 ghost use Rattle.flow_core.specs.Bound.{machine_bound, bound_of};
-ghost use Rattle.flow_bound.specs.Rest.{IsRestOf};
+ghost use Rattle.flow_bound.specs.Loads.{AreLoadsOf};
 ghost use Rattle.flow_search.specs.Walk.{walk};
 ghost use Rattle.flow_core.specs.Rows.{AreRows};
 ghost use Rattle.flow_search.specs.internal.Frames.{IsFrame};
@@ -20,7 +20,7 @@ use crate::few::walk_few;
 use crate::frame::Frame;
 use crate::release::releasing_machine;
 use crate::setting::Setting;
-use flow_bound::Rest;
+use flow_bound::Loads;
 use flow_core::{Front, Instance, JobSet, front_push};
 use std::alloc::{AllocError, AllocFailed, Global};
 
@@ -130,10 +130,10 @@ impl Search {
 }
 
 /// The first machine whose machine bound at a node reaches a value.
-fn plain_machine(instance: &Instance, rest: &Rest, front: &Front, value: u64) -> Option<u16>
-    requires rest { (jobs : List ℕ) × IsRestOf instance.now jobs rest.now }
+fn plain_machine(instance: &Instance, rest: &Loads, front: &Front, value: u64) -> Option<u16>
+    requires rest { (jobs : List ℕ) × AreLoadsOf instance.now jobs rest.now }
     requires within { IsWithinFront instance.now front.now }
-    ensures { (jobs : List ℕ) → IsRestOf instance.now jobs rest.now →
+    ensures { (jobs : List ℕ) → AreLoadsOf instance.now jobs rest.now →
         result ≡ find (λ machine. nat_le value (machine_bound instance.now front.now jobs machine))
         (numbers 1 instance.now.machines) }
 {
@@ -148,14 +148,14 @@ fn plain_machine(instance: &Instance, rest: &Rest, front: &Front, value: u64) ->
 /// The first machine whose bound at a node reaches a value, where the bound is that of the version.
 fn cutting_machine(
     setting: &Setting,
-    rest: &Rest,
+    rest: &Loads,
     front: &Front,
     set: &JobSet,
     value: u64,
 ) -> Option<u16>
     requires rows { AreRows setting.now.instance.now setting.now.rows.now }
     requires at { (node : List ℕ) × (left : ℕ) × IsAt setting.now.instance.now node front.now set.now (suc left) }
-    requires rest { IsRestOf setting.now.instance.now (members set.now) rest.now }
+    requires rest { AreLoadsOf setting.now.instance.now (members set.now) rest.now }
     ensures { (node : List ℕ) (left : ℕ) → IsAt setting.now.instance.now node front.now set.now (suc left) →
         result ≡ find (λ machine. nat_le value (bound_of setting.now.version setting.now.instance.now node machine))
         (numbers 1 setting.now.instance.now.machines) }
@@ -229,10 +229,12 @@ fn walk_small(
         (bound_of setting.now.version setting.now.instance.now (search.old.node.items ++ job ∷ []) machine))
         (numbers 1 setting.now.instance.now.machines) ≡ None }
     ensures done { OnOk result (Gave setting.now.budget
-        (walk setting.now.instance.now (bound_of setting.now.version) below (search.old.node.items ++ job ∷ []) (incumbent_of search.old))
+        (walk setting.now.instance.now (bound_of setting.now.version)
+        below (search.old.node.items ++ job ∷ []) (incumbent_of search.old))
         search.old search.new) }
     ensures over { result ≡ Err Stop.OverBudget → setting.now.budget < length search.old.tree.items + length
-        (walk setting.now.instance.now (bound_of setting.now.version) below (search.old.node.items ++ job ∷ []) (incumbent_of search.old)).0 }
+        (walk setting.now.instance.now (bound_of setting.now.version)
+        below (search.old.node.items ++ job ∷ []) (incumbent_of search.old)).0 }
 {
     search.enter(job)?;
     search.write(setting.budget, b'+')?;
@@ -261,13 +263,15 @@ fn visit(
     requires left { contains search.old.unscheduled job ≡ true }
     requires many { 8 ≤ below }
     ensures whole { result ≡ Ok false → Gave setting.now.budget
-        (walk setting.now.instance.now (bound_of setting.now.version) below (search.old.node.items ++ job ∷ []) (incumbent_of search.old))
+        (walk setting.now.instance.now (bound_of setting.now.version)
+        below (search.old.node.items ++ job ∷ []) (incumbent_of search.old))
         search.old search.new }
     ensures opens { result ≡ Ok true →
         Opens setting.now.instance.now (bound_of setting.now.version) setting.now.budget job search.old search.new }
     ensures more { result ≡ Ok true → 9 ≤ below }
     ensures over { result ≡ Err Stop.OverBudget → setting.now.budget < length search.old.tree.items + length
-        (walk setting.now.instance.now (bound_of setting.now.version) below (search.old.node.items ++ job ∷ []) (incumbent_of search.old)).0 }
+        (walk setting.now.instance.now (bound_of setting.now.version)
+        below (search.old.node.items ++ job ∷ []) (incumbent_of search.old)).0 }
 {
     if let Some(machine) = cutting_child(setting, here, job, search) {
         search.write(setting.budget, b'@' + machine as u8)?;
@@ -298,9 +302,11 @@ fn walk_children(
     requires empty { stack.items ≡ [] }
     requires within { length search.old.tree.items ≤ setting.now.budget }
     ensures done { OnOk result (Gave setting.now.budget
-        (children_walked setting.now.instance.now (bound_of setting.now.version) below search.old) search.old search.new) }
+        (children_walked setting.now.instance.now (bound_of setting.now.version)
+        below search.old) search.old search.new) }
     ensures over { result ≡ Err Stop.OverBudget → setting.now.budget
-        < length search.old.tree.items + length (children_walked setting.now.instance.now (bound_of setting.now.version) below search.old).0 }
+        < length search.old.tree.items + length (children_walked setting.now.instance.now (bound_of setting.now.version)
+        below search.old).0 }
 {
     let instance = setting.instance;
     let jobs = instance.jobs();
@@ -340,9 +346,11 @@ pub fn explore(
     requires rows { AreRows setting.now.instance.now setting.now.rows.now }
     requires at { IsAt setting.now.instance.now search.old.node.items front.now search.old.unscheduled count }
     requires empty { stack.items ≡ [] }
-    ensures done { OnOk result (Walked setting.now.instance.now (bound_of setting.now.version) setting.now.budget count search.old search.new) }
+    ensures done { OnOk result (Walked setting.now.instance.now (bound_of setting.now.version)
+        setting.now.budget count search.old search.new) }
     ensures over { result ≡ Err Stop.OverBudget → setting.now.budget
-        < length search.old.tree.items + length (walked setting.now.instance.now (bound_of setting.now.version) count search.old).0 }
+        < length search.old.tree.items + length (walked setting.now.instance.now (bound_of setting.now.version)
+        count search.old).0 }
 {
     let instance = setting.instance;
     if count == 0 {
@@ -350,7 +358,7 @@ pub fn explore(
         search.see(front.at(instance.machines()))?;
         return Ok(());
     }
-    let rest = Rest::of(instance, &search.unscheduled);
+    let rest = Loads::of(instance, &search.unscheduled);
     if let Some(machine) = cutting_machine(
         setting,
         &rest,

@@ -4,7 +4,7 @@ use Rattle.std.specs.Prelude.{Option}
 use Rattle.flow_core.specs.Shop.{Shop, numbers}
 use Rattle.flow_core.specs.Front.{IsFrontOf}
 use Rattle.flow_core.specs.Sequences.{has, jobs_left, AreJobs}
-use Rattle.flow_bound.specs.Rest.{IsRestOf}
+use Rattle.flow_bound.specs.Loads.{AreLoadsOf}
 use Rattle.flow_search.specs.Search.{Bound, Found}
 use Rattle.flow_search.specs.Walk.{walk, walk_each}
 use Rattle.flow_search.specs.internal.Lows.{second_tail}
@@ -15,7 +15,7 @@ use Rattle.flow_search.specs.declared.subtree.Search.{Search}
 -- what a frame has of a node with so many jobs left
 pub record IsFrame (shop : Shop) (node : List ℕ) (left : ℕ) (frame : Frame) : Type 0 where
   pub times : IsFrontOf shop node frame.front
-  pub rest_is : IsRestOf shop (jobs_left shop.jobs node) frame.rest
+  pub rest_is : AreLoadsOf shop (jobs_left shop.jobs node) frame.rest
   pub second_is : (machine : ℕ) → 1 ≤ machine → machine ≤ shop.machines →
       slice_index frame.second (machine - 1) ≡ second_tail shop (jobs_left shop.jobs node) machine
   pub count : length node + left ≡ shop.jobs
@@ -65,7 +65,8 @@ pub record IsWalking (shop : Shop) (bound : Bound) (budget : ℕ) (root : List �
   pub next : 1 ≤ here.next
   pub past : here.next ≤ shop.jobs + 1
   pub stack : IsStack shop root (suc (suc below)) frames
-  pub text : now.tree.items ++ (resume shop bound root below (here ∷ frames) (incumbent_of now)).0 ≡ old.tree.items ++ whole.0
+  pub text : now.tree.items ++ (resume shop bound root below (here ∷ frames) (incumbent_of now)).0 ≡ old.tree.items ++
+      whole.0
   pub state : (resume shop bound root below (here ∷ frames) (incumbent_of now)).1 ≡ whole.1
   pub many : 8 ≤ below
   pub within : length now.tree.items ≤ budget

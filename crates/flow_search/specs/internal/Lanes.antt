@@ -125,10 +125,12 @@ lane_path root group (f ∷ fs) = child (lane_path root group fs) group (slice_i
 -- each frame is that of its node, with the children tested
 abbrev pub AreTested : Shop → Bound → List ℕ → Group → List LaneFrame → Type 0
 AreTested shop bound root group [] = Unit {0}
-AreTested shop bound root group (f ∷ fs) = IsTested shop bound (lane_path root group fs) group f × AreTested shop bound root group fs
+AreTested shop bound root group (f ∷ fs) = IsTested shop bound (lane_path root group fs) group f × AreTested shop
+    bound root group fs
 
 -- what is still to be walked of the nodes of a stack, with so many jobs left below the children of the deepest one
-abbrev pub lanes_left : Shop → Bound → List ℕ → Group → ℕ → List LaneFrame → ℕ × Option Found → List ℕ × (ℕ × Option Found)
+abbrev pub lanes_left : Shop → Bound → List ℕ → Group → ℕ → List LaneFrame → ℕ × Option Found → List ℕ × (ℕ × Option
+    Found)
 lanes_left shop bound root group left [] incumbent = ([], incumbent)
 lanes_left shop bound root group left (f ∷ fs) incumbent =
     then_walk (lanes_walked shop bound left (lane_path root group fs) group (drop f.next (lanes_of f)) incumbent)
@@ -136,7 +138,8 @@ lanes_left shop bound root group left (f ∷ fs) incumbent =
 
 -- the walk of a root's children stands at a node below it, whose frame is `here`: what was written, with what is still
 -- to be walked, is the whole
-pub record IsInLanes (shop : Shop) (bound : Bound) (budget : ℕ) (group : Group) (root : List ℕ) (whole : List ℕ × (ℕ × Option Found))
+pub record IsInLanes (shop : Shop) (bound : Bound) (budget : ℕ) (group : Group) (root : List ℕ) (whole : List ℕ × (ℕ ×
+    Option Found))
     (old : Search) (here : LaneFrame) (below : ℕ) (frames : List LaneFrame) (now : Search) : Type 0 where
   pub node : now.node.items ≡ lane_path root group frames
   pub count : length (lane_path root group frames) + suc below ≡ shop.jobs

@@ -15,13 +15,15 @@ use Rattle.flow_search.proofs.few.visit_lane.Goals.{After-machines-machines}
 
 -- the test of the child, where it leaves a job
 tested : (c : After-machines-machines) → 1 ≤ c.args.below →
-    IsUncutCount c.args.setting.now.instance.now (bound_of c.args.setting.now.version) (child c.args.search.now.node.items c.args.group.now c.args.lane)
+    IsUncutCount c.args.setting.now.instance.now (bound_of c.args.setting.now.version) (child
+    c.args.search.now.node.items c.args.group.now c.args.lane)
     c.args.search.now.value c.args.setting.now.instance.now.machines (slice_index c.args.frame.now.uncut c.args.lane)
 tested c some =
     subst (λ value. IsUncutCount c.args.setting.now.instance.now (bound_of c.args.setting.now.version)
     (child c.args.search.now.node.items c.args.group.now c.args.lane)
     value c.args.setting.now.instance.now.machines (slice_index c.args.frame.now.uncut c.args.lane)) c.requires.value
-    (uncut-here c.args.setting.now.instance.now (bound_of c.args.setting.now.version) c.args.search.now.node.items c.args.group.now c.args.frame.now
+    (uncut-here c.args.setting.now.instance.now (bound_of c.args.setting.now.version) c.args.search.now.node.items
+    c.args.group.now c.args.frame.now
     c.args.lane
     c.requires.tested c.requires.left (omega (arith, some, c.requires.count)))
 
@@ -58,7 +60,8 @@ returns-in_err-write-3-clause-over c e =
 pub returns-then-uncut-machines-clause-whole : goal.returns-then-uncut-machines-clause-whole
 returns-then-uncut-machines-clause-whole c e =
     let some : 1 ≤ c.args.below = omega (arith, c.if-below-eq0.false) in
-    lane-cut c.args.setting.now.instance.now (bound_of c.args.setting.now.version) c.args.setting.now.budget c.args.below
+    lane-cut c.args.setting.now.instance.now (bound_of c.args.setting.now.version) c.args.setting.now.budget
+    c.args.below
     (slice_index c.args.frame.now.uncut c.args.lane)
     c.args.group.now c.args.lane c.args.search.now c.write-then-uncut-machines.new.self some
     (tested (goal.at.returns-then-uncut-machines-clause-whole c).After-machines-machines some)
@@ -73,7 +76,8 @@ returns-clause-opens c e =
     record {
       wrote = c.in_ok-write-3.ensures.done;
       uncut =
-          count-found c.args.setting.now.instance.now (bound_of c.args.setting.now.version) (child c.args.search.now.node.items c.args.group.now c.args.lane)
+          count-found c.args.setting.now.instance.now (bound_of c.args.setting.now.version) (child
+          c.args.search.now.node.items c.args.group.now c.args.lane)
           c.args.search.now.value uncut (tested (goal.at.returns-clause-opens c).After-machines-machines some)
           ∙ ap (λ b. cond b (Some (uncut + 1)) None) (le-ltb uncut c.args.setting.now.instance.now.machines high);
     }

@@ -41,7 +41,8 @@ first c =
 
 pub walk_lanes-requires-clause-tested : goal.walk_lanes-requires-clause-tested
 walk_lanes-requires-clause-tested c =
-    subst (IsTested c.args.setting.now.instance.now (bound_of c.args.setting.now.version) c.args.search.now.node.items c.enter_few.new.group)
+    subst (IsTested c.args.setting.now.instance.now (bound_of c.args.setting.now.version) c.args.search.now.node.items
+    c.enter_few.new.group)
     (sym (first (goal.at.walk_lanes-requires-clause-tested c).After-test_children))
     (c.test_children.ensures.tested c.args.search.now.node.items
     (c.enter_few.ensures.at c.args.search.now.node.items

@@ -44,12 +44,15 @@ walk-init c =
     record {
       deep = c.requires.some;
       size = refl;
-      at = subst (λ n. IsInLanes c.args.setting.now.instance.now (bound_of c.args.setting.now.version) c.args.setting.now.budget c.args.group.now
+      at = subst (λ n. IsInLanes c.args.setting.now.instance.now (bound_of c.args.setting.now.version)
+          c.args.setting.now.budget c.args.group.now
           c.args.search.now.node.items
-          (children_walked c.args.setting.now.instance.now (bound_of c.args.setting.now.version) (length c.args.frames.now - 1) c.args.search.now)
+          (children_walked c.args.setting.now.instance.now (bound_of c.args.setting.now.version) (length
+          c.args.frames.now - 1) c.args.search.now)
           c.args.search.now
           (frame_at c.args.frames.now 0) n [] c.args.search.now) below
-          (lanes-start c.args.setting.now.instance.now (bound_of c.args.setting.now.version) c.args.setting.now.budget c.args.group.now c.args.search.now
+          (lanes-start c.args.setting.now.instance.now (bound_of c.args.setting.now.version) c.args.setting.now.budget
+          c.args.group.now c.args.search.now
           (frame_at c.args.frames.now 0) (length c.args.frames.now - 1) c.requires.tested c.requires.next
           (omega (arith, c.requires.some, c.requires.count)) c.requires.within);
     }
@@ -108,8 +111,10 @@ walk-preserved-then-place-left c =
     record {
       deep = omega (arith, c.walk.invariant.deep);
       size = c.walk.invariant.size;
-      at = subst (λ n. IsInLanes shop (bound_of c.args.setting.now.version) c.args.setting.now.budget c.args.group.now root
-          (children_walked shop (bound_of c.args.setting.now.version) (length c.args.frames.now - 1) c.args.search.now) c.args.search.now f n gs new) below
+      at = subst (λ n. IsInLanes shop (bound_of c.args.setting.now.version) c.args.setting.now.budget c.args.group.now
+          root
+          (children_walked shop (bound_of c.args.setting.now.version) (length c.args.frames.now - 1)
+          c.args.search.now) c.args.search.now f n gs new) below
           (lanes-up c.walk.invariant.at f gs new
           (empty (goal.at.walk-preserved-then-place-left c).Then-place-left) top moved);
     }
@@ -129,7 +134,8 @@ node_of c = lane_path c.args.search.now.node.items c.args.group.now (reverse (ta
 -- what is known of it
 record IsLater (c : After-retest_children) : Type 0 where
   pub step : IsStep (frame_at c.walk.frames c.walk.depth) (later c) (lane_of (frame_at c.walk.frames c.walk.depth))
-  pub tested : IsTested c.args.setting.now.instance.now (bound_of c.args.setting.now.version) (node_of c) c.args.group.now (later c)
+  pub tested : IsTested c.args.setting.now.instance.now (bound_of c.args.setting.now.version) (node_of c)
+      c.args.group.now (later c)
   pub left : IsLaneLeft (later c) (lane_of (frame_at c.walk.frames c.walk.depth))
   pub low : (frame_at c.walk.frames c.walk.depth).next < length (lanes_of (later c))
 
@@ -156,7 +162,8 @@ is-later c =
         place = ap (λ lanes. slice_index lanes (frame.next + 1 - 1)) c.retest_children.ensures.lanes
             ∙ ap (slice_index frame.lanes) back;
       };
-      tested = tested-moved c.args.setting.now.instance.now (bound_of c.args.setting.now.version) (node_of c) c.args.group.now c.retest_children.new.frame
+      tested = tested-moved c.args.setting.now.instance.now (bound_of c.args.setting.now.version) (node_of c)
+          c.args.group.now c.retest_children.new.frame
           (frame.next + 1) (c.retest_children.ensures.tested (node_of c) c.walk.invariant.at.tested.0);
       left = record {
         within = is.1.within;
@@ -169,7 +176,8 @@ is-later c =
 pub visit_lane-requires-clause-tested : goal.visit_lane-requires-clause-tested
 visit_lane-requires-clause-tested c =
     let at = (goal.at.visit_lane-requires-clause-tested c).After-retest_children in
-    subst (λ list. IsTested c.args.setting.now.instance.now (bound_of c.args.setting.now.version) list c.args.group.now (later at))
+    subst (λ list. IsTested c.args.setting.now.instance.now (bound_of c.args.setting.now.version) list
+    c.args.group.now (later at))
     (sym c.walk.invariant.at.node)
     (is-later at).tested
 
@@ -295,8 +303,10 @@ walk-preserved-then-branch c =
     (child-at (goal.at.walk-preserved-then-branch c).After-open_child (node_of at) is.tested) in
     let less : length c.args.frames.now - 1 - depth - 1 ≡ length c.args.frames.now - 1 - (depth + 1) = omega arith in
     let walking : LaneFrame → ℕ → List LaneFrame → Type 0 =
-    λ frame n frames. IsInLanes shop (bound_of c.args.setting.now.version) c.args.setting.now.budget c.args.group.now root
-    (children_walked shop (bound_of c.args.setting.now.version) (length c.args.frames.now - 1) c.args.search.now) c.args.search.now frame n frames new in
+    λ frame n frames. IsInLanes shop (bound_of c.args.setting.now.version) c.args.setting.now.budget c.args.group.now
+    root
+    (children_walked shop (bound_of c.args.setting.now.version) (length c.args.frames.now - 1) c.args.search.now)
+    c.args.search.now frame n frames new in
     record {
       deep = omega (arith, sizes, plus.1);
       size = sizes;
@@ -319,10 +329,12 @@ whole c = let put : Bool → Result Bool Stop = λ b. Ok b in c.in_ok-visit_lane
 pub walk-smaller : goal.walk-smaller
 walk-smaller c =
     let g = whole c in
-    let text : List ℕ = (lane_walked c.args.setting.now.instance.now (bound_of c.args.setting.now.version) (length c.args.frames.now - 1 - c.walk.depth)
+    let text : List ℕ = (lane_walked c.args.setting.now.instance.now (bound_of c.args.setting.now.version) (length
+    c.args.frames.now - 1 - c.walk.depth)
     c.args.group.now (lane_of (frame_at c.walk.frames c.walk.depth)) c.walk.search).0 in
     let some : 1 ≤ length text =
-    walk-some c.args.setting.now.instance.now (bound_of c.args.setting.now.version) (length c.args.frames.now - 1 - c.walk.depth)
+    walk-some c.args.setting.now.instance.now (bound_of c.args.setting.now.version) (length c.args.frames.now - 1 -
+    c.walk.depth)
     (child c.walk.search.node.items c.args.group.now (lane_of (frame_at c.walk.frames c.walk.depth)))
     (incumbent_of c.walk.search) in
     let tree : length c.visit_lane.new.search.tree.items ≡ length (c.walk.search.tree.items ++ text) =
@@ -338,16 +350,20 @@ walk-preserved c =
     record {
       deep = omega (arith, size, c.walk.invariant.deep);
       size = size ∙ c.walk.invariant.size;
-      at = subst (λ frame. IsInLanes c.args.setting.now.instance.now (bound_of c.args.setting.now.version) c.args.setting.now.budget c.args.group.now
+      at = subst (λ frame. IsInLanes c.args.setting.now.instance.now (bound_of c.args.setting.now.version)
+          c.args.setting.now.budget c.args.group.now
           c.args.search.now.node.items
-          (children_walked c.args.setting.now.instance.now (bound_of c.args.setting.now.version) (length c.args.frames.now - 1) c.args.search.now)
+          (children_walked c.args.setting.now.instance.now (bound_of c.args.setting.now.version) (length
+          c.args.frames.now - 1) c.args.search.now)
           c.args.search.now
           frame (length c.args.frames.now - 1 - c.walk.depth)
           (reverse (take c.walk.depth (set c.walk.frames c.walk.depth (later at)))) c.visit_lane.new.search)
           (sym same.0)
-          (subst (λ frames. IsInLanes c.args.setting.now.instance.now (bound_of c.args.setting.now.version) c.args.setting.now.budget c.args.group.now
+          (subst (λ frames. IsInLanes c.args.setting.now.instance.now (bound_of c.args.setting.now.version)
+          c.args.setting.now.budget c.args.group.now
           c.args.search.now.node.items
-          (children_walked c.args.setting.now.instance.now (bound_of c.args.setting.now.version) (length c.args.frames.now - 1) c.args.search.now)
+          (children_walked c.args.setting.now.instance.now (bound_of c.args.setting.now.version) (length
+          c.args.frames.now - 1) c.args.search.now)
           c.args.search.now
           (later at) (length c.args.frames.now - 1 - c.walk.depth) frames c.visit_lane.new.search) (sym same.1)
           (lanes-walked c.walk.invariant.at (lane_of (frame_at c.walk.frames c.walk.depth)) (later at)

@@ -9,7 +9,8 @@ invariant-walk l = record {
   deep : l.depth < length l.frames;
   size : length l.frames ≡ length l.fn.frames;
   at : IsInLanes l.setting.instance.now (bound_of l.setting.version) l.setting.budget l.group l.fn.search.node.items
-      (children_walked l.setting.instance.now (bound_of l.setting.version) (length l.fn.frames - 1) l.fn.search) l.fn.search
+      (children_walked l.setting.instance.now (bound_of l.setting.version) (length l.fn.frames - 1) l.fn.search)
+      l.fn.search
       (frame_at l.frames l.depth)
       (length l.fn.frames - 1 - l.depth) (reverse (take l.depth l.frames)) l.search;
 }

@@ -1,4 +1,5 @@
-use Rattle.std.proofs.Common.{◌≡◌, ℕ, ◌+◌, ◌-◌, true, false, [], slice_index, slice_index_or, sym, ap, subst, ◌∙◌, arith}
+use Rattle.std.proofs.Common.{◌≡◌, ℕ, ◌+◌, ◌-◌, true, false, []}
+use Rattle.std.proofs.Common.{slice_index, slice_index_or, sym, ap, subst, ◌∙◌, arith}
 use Rattle.std.specs.List.{filter}
 use Rattle.flow_core.specs.Shop.{numbers}
 use Rattle.flow_core.specs.JobSet.{contains, members}
@@ -21,7 +22,8 @@ loop-job-preserved c =
     elim c.if-contains.branch [
       | then-contains w ↦
           let there : contains set job ≡ true = sym c.contains.ensures.value ∙ w.if-contains.true in
-          subst (λ l. AreLows (tail_at shop) c.machines-machines.result (filter (contains set) (numbers 1 (job + 1 - 1))) l) (sym w.lows-is)
+          subst (λ l. AreLows (tail_at shop) c.machines-machines.result (filter (contains set) (numbers 1 (job + 1 -
+          1))) l) (sym w.lows-is)
           (subst (λ js. AreLows (tail_at shop) c.machines-machines.result js w.take.new.self) (sym (filter-take
           (contains set) job c.loop-job.auto.job there))
           (w.take.ensures (tail_at shop) (filter (contains set) (numbers 1 (job - 1))) job
@@ -30,12 +32,16 @@ loop-job-preserved c =
           let row = c.requires.rows.each job (record { times = []; tails = [] }) c.loop-job.auto.job
           (omega (arith, c.loop-job-test.true, c.jobs-job-end.ensures.value)) (place + 1) (omega arith)
           (omega (arith, low, c.machines-machines.ensures.value)) in
-          ap (slice_index (slice_index_or c.args.setting.now.rows.now (job - 1) (record { times = []; tails = [] })).tails)
+          ap (slice_index (slice_index_or c.args.setting.now.rows.now (job - 1) (record {
+            times = [];
+            tails = [];
+          })).tails)
           (sym e) ∙ row.1)
           c.loop-job.invariant))
       | else-contains w ↦
           let out : contains set job ≡ false = sym c.contains.ensures.value ∙ w.if-contains.false in
-          subst (λ l. AreLows (tail_at shop) c.machines-machines.result (filter (contains set) (numbers 1 (job + 1 - 1))) l) (sym w.lows-is)
+          subst (λ l. AreLows (tail_at shop) c.machines-machines.result (filter (contains set) (numbers 1 (job + 1 -
+          1))) l) (sym w.lows-is)
           (subst (λ js. AreLows (tail_at shop) c.machines-machines.result js c.loop-job.lows) (sym (filter-leave
           (contains set) job c.loop-job.auto.job out)) c.loop-job.invariant)
     ]

@@ -8,4 +8,5 @@ use Rattle.flow_search.proofs.lows.lows_to.Given as goal
 -- the two least are those of the jobs so far that the set has
 abbrev pub invariant-loop-job : goal.invariant-loop-job
 invariant-loop-job l =
-    AreLows (time_to l.setting.instance.now l.machine) (l.machine - 1) (filter (contains l.set) (numbers 1 (l.job - 1))) l.lows
+    AreLows (time_to l.setting.instance.now l.machine) (l.machine - 1) (filter (contains l.set) (numbers 1 (l.job -
+    1))) l.lows

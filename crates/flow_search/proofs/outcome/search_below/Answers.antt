@@ -54,16 +54,22 @@ returns-in_err-explore-clause-over c e =
     let count : c.jobs-jobs.result - length prefix ≡ plan.shop.jobs - length prefix =
     ap (λ n. n - length prefix) jobs in
     let over : c.budget-budget.result < length c.loop-job.search.tree.items
-    + length (walked plan.shop (bound_of c.version-version.result) (c.jobs-jobs.result - length prefix) c.loop-job.search).0 =
+    + length (walked plan.shop (bound_of c.version-version.result) (c.jobs-jobs.result - length prefix)
+    c.loop-job.search).0 =
     subst (λ s. c.budget-budget.result < length c.loop-job.search.tree.items
-    + length (walked s (bound_of c.version-version.result) (c.jobs-jobs.result - length prefix) c.loop-job.search).0) shop
+    + length (walked s (bound_of c.version-version.result) (c.jobs-jobs.result - length prefix) c.loop-job.search).0)
+    shop
     (c.in_err-explore.ensures.over same) in
-    let longer : c.budget-budget.result < length (tree plan.shop (bound_of c.version-version.result) plan.start.value prefix) =
-    prefix-over plan (bound_of c.version-version.result) (admissible-of c.version-version.result) prefix c.loop-job.front c.loop-job.job-index c.budget-budget.result
+    let longer : c.budget-budget.result < length (tree plan.shop (bound_of c.version-version.result) plan.start.value
+    prefix) =
+    prefix-over plan (bound_of c.version-version.result) (admissible-of c.version-version.result) prefix
+    c.loop-job.front c.loop-job.job-index c.budget-budget.result
     (c.jobs-jobs.result - length prefix) c.loop-job.search c.prefix-prefix.ensures.jobs short
     count (omega arith) (omega arith) c.loop-job.invariant over in
-    let named : length (tree plan.shop (bound_of c.version-version.result) plan.start.value prefix) ≡ length (tree_of plan c.args.number) =
-    ap (λ q. length (tree plan.shop (bound_of c.version-version.result) plan.start.value q)) c.prefix-prefix.ensures.value
+    let named : length (tree plan.shop (bound_of c.version-version.result) plan.start.value prefix) ≡ length (tree_of
+    plan c.args.number) =
+    ap (λ q. length (tree plan.shop (bound_of c.version-version.result) plan.start.value q))
+    c.prefix-prefix.ensures.value
     ∙ ap (λ b. length (tree plan.shop b plan.start.value (prefix_of plan c.args.number)))
     (ap bound_of (c.version-version.ensures.value ∙ ap (λ o. o.version) c.options-options.ensures.value)) in
     let budget : c.budget-budget.result ≡ plan.options.budget = c.budget-budget.ensures.value
@@ -78,9 +84,12 @@ answered c =
     let prefix : List ℕ = c.prefix-prefix.result.now in
     let deep : plan.options.depth ≤ plan.shop.jobs = c.prefix-prefix.ensures.plan.deep in
     let short : length prefix ≤ plan.shop.jobs = omega (arith, deep, c.prefix-prefix.ensures.size) in
-    prefix-answered plan (bound_of c.version-version.result) c.instance-instance.result.now prefix c.loop-job.front c.args.number c.loop-job.job-index
+    prefix-answered plan (bound_of c.version-version.result) c.instance-instance.result.now prefix c.loop-job.front
+    c.args.number c.loop-job.job-index
     c.budget-budget.result c.jobs-jobs.result c.loop-job.search c.explore.new.search
-    (ap bound_of (c.version-version.ensures.value ∙ ap (λ o. o.version) c.options-options.ensures.value)) (admissible-of c.version-version.result) c.instance-instance.ensures.value c.jobs-jobs.ensures.value c.prefix-prefix.ensures.value
+    (ap bound_of (c.version-version.ensures.value ∙ ap (λ o. o.version) c.options-options.ensures.value))
+    (admissible-of c.version-version.result) c.instance-instance.ensures.value c.jobs-jobs.ensures.value
+    c.prefix-prefix.ensures.value
     c.prefix-prefix.ensures.jobs short (omega arith) (omega arith) c.loop-job.invariant c.in_ok-explore.ensures.done
 
 pub returns-clause-best : goal.returns-clause-best

@@ -17,7 +17,8 @@ bounded c =
     let machine : ℕ = c.loop-machine.machine in
     let jobs : List ℕ = members c.args.set.now in
     let low : 1 ≤ machine = c.loop-machine.auto.machine in
-    let high : machine ≤ shop.machines = omega (arith, c.loop-machine-test.true, c.machines-machine-end.ensures.value) in
+    let high : machine ≤ shop.machines = omega (arith, c.loop-machine-test.true, c.machines-machine-end.ensures.value)
+    in
     let release = c.release_by-release.ensures.value shop jobs
     (λ place within. (c.lows_to-lows.ensures place within).0
     ∙ least-to shop machine place jobs c.requires.rows.limits high within c.requires.some) in
@@ -39,8 +40,10 @@ returns-then-value-release c =
     let p : ℕ → Bool = λ k. nat_le c.args.value (released_bound shop c.args.front.now (members c.args.set.now) k) in
     let total : ℕ = c.release_by-release.result + c.from.result + c.from-in-loop-machine.result in
     let is = bounded (goal.at.returns-then-value-release c).After-from-in-loop-machine in
-    let pass : p machine ≡ true = ap (nat_le c.args.value) (sym is) ∙ le-leb c.args.value total c.if-value-release.true in
-    let high : machine ≤ shop.machines = omega (arith, c.loop-machine-test.true, c.machines-machine-end.ensures.value) in
+    let pass : p machine ≡ true = ap (nat_le c.args.value) (sym is) ∙ le-leb c.args.value total
+    c.if-value-release.true in
+    let high : machine ≤ shop.machines = omega (arith, c.loop-machine-test.true, c.machines-machine-end.ensures.value)
+    in
     sym (find-here p machine shop.machines high pass) ∙ c.loop-machine.invariant
 
 pub loop-machine-preserved : goal.loop-machine-preserved
@@ -50,7 +53,9 @@ loop-machine-preserved c =
     let p : ℕ → Bool = λ k. nat_le c.args.value (released_bound shop c.args.front.now (members c.args.set.now) k) in
     let total : ℕ = c.release_by-release.result + c.from.result + c.from-in-loop-machine.result in
     let is = bounded (goal.at.loop-machine-preserved c).After-from-in-loop-machine in
-    let fail : p machine ≡ false = ap (nat_le c.args.value) (sym is) ∙ lt-leb c.args.value total c.if-value-release.false
+    let fail : p machine ≡ false = ap (nat_le c.args.value) (sym is) ∙ lt-leb c.args.value total
+    c.if-value-release.false
     in
-    let high : machine ≤ shop.machines = omega (arith, c.loop-machine-test.true, c.machines-machine-end.ensures.value) in
+    let high : machine ≤ shop.machines = omega (arith, c.loop-machine-test.true, c.machines-machine-end.ensures.value)
+    in
     find-skip p machine shop.machines high fail ∙ c.loop-machine.invariant

@@ -3,7 +3,7 @@ use Rattle.std.proofs.Common.{◌∙◌, arith}
 use Rattle.std.specs.List.{find}
 use Rattle.flow_core.specs.Shop.{numbers}
 use Rattle.flow_core.specs.JobSet.{members}
-use Rattle.flow_bound.specs.Rest.{IsRestOf}
+use Rattle.flow_bound.specs.Loads.{AreLoadsOf}
 use Rattle.flow_search.specs.internal.Nodes.{IsAt}
 use Rattle.flow_search.proofs.Nodes.{left-count, within-front, at-child, members-are, put-back, find-released}
 use Rattle.flow_search.proofs.Nodes.{bound-one, bound-two}
@@ -37,13 +37,13 @@ step-rest-requires-clause-some c =
           (child-at (goal.at.step-rest-requires-clause-some c).After-front_push),
     )
 
-pub step-rest-requires-clause-rest : goal.step-rest-requires-clause-rest
-step-rest-requires-clause-rest c =
+pub step-rest-requires-clause-loads : goal.step-rest-requires-clause-loads
+step-rest-requires-clause-loads c =
     let shop = c.args.setting.now.instance.now in
     let whole : slice_set c.remove.new.self (c.args.job - 1) true ≡ c.args.search.now.unscheduled =
     ap (λ set. slice_set set (c.args.job - 1) true) c.remove.ensures.value
     ∙ put-back c.args.search.now.unscheduled (c.args.job - 1) c.requires.left in
-    subst (λ jobs. IsRestOf shop jobs c.args.here.now.rest)
+    subst (λ jobs. AreLoadsOf shop jobs c.args.here.now.rest)
     (sym (ap members whole ∙ members-are shop c.args.search.now.node.items c.args.here.now.front
     c.args.search.now.unscheduled (suc (suc c.requires.at.0)) c.requires.at.1)) c.requires.at.2.rest_is
 

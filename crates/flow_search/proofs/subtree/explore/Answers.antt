@@ -5,7 +5,7 @@ use Rattle.flow_core.specs.Shop.{numbers}
 use Rattle.flow_core.specs.Front.{IsFrontOf}
 use Rattle.flow_core.specs.JobSet.{members}
 use Rattle.flow_core.specs.Bound.{bound_of}
-use Rattle.flow_bound.specs.Rest.{IsRestOf}
+use Rattle.flow_bound.specs.Loads.{AreLoadsOf}
 use Rattle.flow_search.specs.internal.Lows.{second_tail}
 use Rattle.flow_search.specs.internal.Nodes.{IsAt, incumbent_of}
 use Rattle.flow_search.specs.internal.Frames.{IsFrame}
@@ -59,7 +59,8 @@ overflow_add-machine c =
 
 pub returns-in-Some-clause-done : goal.returns-in-Some-clause-done
 returns-in-Some-clause-done c =
-    cut-here c.args.setting.now.instance.now (bound_of c.args.setting.now.version) c.args.setting.now.budget c.args.count
+    cut-here c.args.setting.now.instance.now (bound_of c.args.setting.now.version) c.args.setting.now.budget
+    c.args.count
     (c.args.count - 1) c.in-Some.machine c.args.search.now c.write-in-Some.new.self
     (omega (arith, c.if-count-eq0.false)) (sym c.in-Some.is
     ∙ found (goal.at.returns-in-Some-clause-done c).After-cutting_machine) c.in_ok-write-2.ensures.done
@@ -75,13 +76,14 @@ walk_children-requires-clause-frame c =
     subst (λ q. IsFrame shop q (suc (c.args.count - 1)) c.new-here.result) (sym w.node)
     (frame-of shop old.node.items c.args.front.now old.unscheduled (suc (c.args.count - 1)) c.new-here.result at
     (subst (IsFrontOf shop old.node.items) (sym c.new-here.ensures.front) c.requires.at.is_front)
-    (subst (IsRestOf shop (members old.unscheduled)) (sym c.new-here.ensures.rest) c.of-rest.ensures.rest)
+    (subst (AreLoadsOf shop (members old.unscheduled)) (sym c.new-here.ensures.rest) c.of-rest.ensures.loads)
     (λ machine from to. c.new-here.ensures.second machine from to
     ∙ ap (λ u. second_tail shop (members u) machine) w.unscheduled))
 
 -- no machine cuts the root
 uncut : (c : In_default) →
-    IsUncut c.args.setting.now.instance.now (bound_of c.args.setting.now.version) c.args.count c.args.search.now.node.items
+    IsUncut c.args.setting.now.instance.now (bound_of c.args.setting.now.version) c.args.count
+    c.args.search.now.node.items
     (incumbent_of c.args.search.now)
 uncut c =
     uncut-found c.args.setting.now.instance.now (bound_of c.args.setting.now.version) c.args.count c.args.search.now
@@ -94,14 +96,16 @@ uncut c =
 pub returns-then-count-le8-clause-done : goal.returns-then-count-le8-clause-done
 returns-then-count-le8-clause-done c =
     on_ok_weaker c.walk_few.result
-    (node-done c.args.setting.now.instance.now (bound_of c.args.setting.now.version) c.args.setting.now.budget c.args.count c.args.search.now
+    (node-done c.args.setting.now.instance.now (bound_of c.args.setting.now.version) c.args.setting.now.budget
+    c.args.count c.args.search.now
     c.write-2.new.self c.walk_few.new.search
     (uncut (goal.at.returns-then-count-le8-clause-done c).In_default) c.in_ok-write-3.ensures.done)
     c.walk_few.ensures.done
 
 pub returns-then-count-le8-clause-over : goal.returns-then-count-le8-clause-over
 returns-then-count-le8-clause-over c e =
-    node-over c.args.setting.now.instance.now (bound_of c.args.setting.now.version) c.args.setting.now.budget c.args.count c.args.search.now
+    node-over c.args.setting.now.instance.now (bound_of c.args.setting.now.version) c.args.setting.now.budget
+    c.args.count c.args.search.now
     c.write-2.new.self
     (uncut (goal.at.returns-then-count-le8-clause-over c).In_default) c.in_ok-write-3.ensures.done
     (c.walk_few.ensures.over e)
@@ -109,13 +113,15 @@ returns-then-count-le8-clause-over c e =
 pub returns-clause-done : goal.returns-clause-done
 returns-clause-done c =
     on_ok_weaker c.walk_children.result
-    (node-done c.args.setting.now.instance.now (bound_of c.args.setting.now.version) c.args.setting.now.budget c.args.count c.args.search.now
+    (node-done c.args.setting.now.instance.now (bound_of c.args.setting.now.version) c.args.setting.now.budget
+    c.args.count c.args.search.now
     c.write-2.new.self c.walk_children.new.search
     (uncut (goal.at.returns-clause-done c).In_default) c.in_ok-write-3.ensures.done)
     c.walk_children.ensures.done
 
 pub returns-clause-over : goal.returns-clause-over
 returns-clause-over c e =
-    node-over c.args.setting.now.instance.now (bound_of c.args.setting.now.version) c.args.setting.now.budget c.args.count c.args.search.now
+    node-over c.args.setting.now.instance.now (bound_of c.args.setting.now.version) c.args.setting.now.budget
+    c.args.count c.args.search.now
     c.write-2.new.self
     (uncut (goal.at.returns-clause-over c).In_default) c.in_ok-write-3.ensures.done (c.walk_children.ensures.over e)

@@ -32,7 +32,8 @@ overflow_add-machine c =
 
 pub returns-in-Some-clause-whole : goal.returns-in-Some-clause-whole
 returns-in-Some-clause-whole c e =
-    cut-done c.args.setting.now.instance.now (bound_of c.args.setting.now.version) c.args.setting.now.budget c.args.below c.args.job c.in-Some.machine
+    cut-done c.args.setting.now.instance.now (bound_of c.args.setting.now.version) c.args.setting.now.budget
+    c.args.below c.args.job c.in-Some.machine
     c.args.search.now c.write.new.self
     (omega (arith, c.requires.many)) (sym c.in-Some.is
     ∙ c.cutting_child.ensures) c.in_ok-write.ensures.done

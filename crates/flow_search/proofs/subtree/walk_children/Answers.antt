@@ -8,7 +8,7 @@ use Rattle.flow_core.specs.Front.{IsFrontOf}
 use Rattle.flow_core.specs.JobSet.{contains, members}
 use Rattle.flow_core.specs.Bound.{bound_of, front_of}
 use Rattle.flow_search.specs.Walk.{walk}
-use Rattle.flow_bound.specs.Rest.{IsRestOf}
+use Rattle.flow_bound.specs.Loads.{AreLoadsOf}
 use Rattle.flow_search.specs.internal.Nodes.{IsAt, Left, Gave, Opens, children_walked, incumbent_of}
 use Rattle.flow_search.specs.internal.Frames.{IsWalking, IsChild, path}
 use Rattle.flow_search.specs.declared.subtree.Stop.{Stop}
@@ -114,7 +114,8 @@ enter-requires-clause-to c = let k = kid (goal.at.enter-requires-clause-to c).In
 
 -- the plus that was written
 opens : (c : Then-branch) →
-    Opens c.args.setting.now.instance.now (bound_of c.args.setting.now.version) c.args.setting.now.budget c.in-Some.job c.walk.search c.visit.new.search
+    Opens c.args.setting.now.instance.now (bound_of c.args.setting.now.version) c.args.setting.now.budget
+    c.in-Some.job c.walk.search c.visit.new.search
     × (9 ≤ c.walk.below)
 opens c =
     let put : Bool → Result Bool Stop = λ b. Ok b in
@@ -125,7 +126,7 @@ opens c =
 entered : (c : In_ok-enter) →
     IsAt c.args.setting.now.instance.now c.enter.new.self.node.items (front_of c.args.setting.now.instance.now
     (c.walk.search.node.items ++ c.in-Some.job ∷ [])) c.enter.new.self.unscheduled c.walk.below
-    × IsRestOf c.args.setting.now.instance.now (members (slice_set c.enter.new.self.unscheduled
+    × AreLoadsOf c.args.setting.now.instance.now (members (slice_set c.enter.new.self.unscheduled
     (c.in-Some.job - 1) true)) c.walk.here.rest
     × (1 ≤ c.walk.below)
 entered c =
@@ -153,8 +154,8 @@ step-rest-requires-clause-some c =
     c.enter.new.self.unscheduled c.walk.below is.0 in
     omega (arith, size, is.2)
 
-pub step-rest-requires-clause-rest : goal.step-rest-requires-clause-rest
-step-rest-requires-clause-rest c = (entered (goal.at.step-rest-requires-clause-rest c).In_ok-enter).1
+pub step-rest-requires-clause-loads : goal.step-rest-requires-clause-loads
+step-rest-requires-clause-loads c = (entered (goal.at.step-rest-requires-clause-loads c).In_ok-enter).1
 
 pub front_push-requires-clause-job_from : goal.front_push-requires-clause-job_from
 front_push-requires-clause-job_from c = (kid (goal.at.front_push-requires-clause-job_from c).In-Some).0.from
@@ -199,20 +200,22 @@ walk-preserved-then-branch c =
     reverse-push c.walk.stack.items c.push.new.self.items (moved c.walk.here (c.in-Some.job
     + 1)) c.in_ok-push.ensures.items in
     subst (λ xs. IsWalking shop (bound_of c.args.setting.now.version) c.args.setting.now.budget old.node.items
-    (children_walked shop (bound_of c.args.setting.now.version) c.args.below old) old c.new-here.result (c.walk.below - 1) xs c.enter.new.self)
+    (children_walked shop (bound_of c.args.setting.now.version) c.args.below old) old c.new-here.result (c.walk.below
+    - 1) xs c.enter.new.self)
     (sym pushed)
     (walking-down c.walk.invariant c.in-Some.job c.visit.new.search c.enter.new.self c.new-here.result
     (found-job (goal.at.walk-preserved-then-branch c).In-Some) opened.1 opened.0 c.in_ok-enter.ensures
     (subst (IsFrontOf shop (c.walk.search.node.items ++ c.in-Some.job
     ∷ [])) (sym c.new-here.ensures.front)
     (c.front_push.ensures.front c.walk.search.node.items c.walk.invariant.at.is_front))
-    (subst (IsRestOf shop (members c.enter.new.self.unscheduled))
-    (sym c.new-here.ensures.rest) c.step-rest.ensures.rest)
+    (subst (AreLoadsOf shop (members c.enter.new.self.unscheduled))
+    (sym c.new-here.ensures.rest) c.step-rest.ensures.loads)
     c.new-here.ensures.second c.new-here.ensures.next)
 
 -- the child's subtree that was walked
 whole : (c : goal.Else-branch) → Gave c.args.setting.now.budget
-    (walk c.args.setting.now.instance.now (bound_of c.args.setting.now.version) c.walk.below (c.walk.search.node.items ++ c.in-Some.job
+    (walk c.args.setting.now.instance.now (bound_of c.args.setting.now.version) c.walk.below (c.walk.search.node.items
+    ++ c.in-Some.job
     ∷ []) (incumbent_of c.walk.search)) c.walk.search c.visit.new.search
 whole c = let put : Bool → Result Bool Stop = λ b. Ok b in c.in_ok-visit.ensures.whole (ap put c.if-branch.false)
 
@@ -220,10 +223,12 @@ pub walk-smaller : goal.walk-smaller
 walk-smaller c =
     let shop = c.args.setting.now.instance.now in
     let g = whole c in
-    let text : List ℕ = (walk shop (bound_of c.args.setting.now.version) c.walk.below (c.walk.search.node.items ++ c.in-Some.job
+    let text : List ℕ = (walk shop (bound_of c.args.setting.now.version) c.walk.below (c.walk.search.node.items ++
+    c.in-Some.job
     ∷ []) (incumbent_of c.walk.search)).0 in
     let some : 1 ≤ length text =
-    walk-some shop (bound_of c.args.setting.now.version) c.walk.below (c.walk.search.node.items ++ c.in-Some.job ∷ []) (incumbent_of c.walk.search) in
+    walk-some shop (bound_of c.args.setting.now.version) c.walk.below (c.walk.search.node.items ++ c.in-Some.job ∷ [])
+    (incumbent_of c.walk.search) in
     let tree : length c.visit.new.search.tree.items ≡ length (c.walk.search.tree.items ++ text) = ap length g.tree in
     omega (arith, some, tree, g.within, length-append c.walk.search.tree.items text)
 

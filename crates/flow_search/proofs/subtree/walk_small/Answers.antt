@@ -32,8 +32,10 @@ walk_few-requires-clause-at c =
 
 -- no machine cuts the child that was entered
 uncut : (c : In_ok-write) →
-    IsUncut c.args.setting.now.instance.now (bound_of c.args.setting.now.version) c.args.below c.enter.new.self.node.items (incumbent_of c.enter.new.self)
-uncut c = uncut-child c.args.setting.now.instance.now (bound_of c.args.setting.now.version) c.args.below c.args.job c.args.search.now c.enter.new.self
+    IsUncut c.args.setting.now.instance.now (bound_of c.args.setting.now.version) c.args.below
+    c.enter.new.self.node.items (incumbent_of c.enter.new.self)
+uncut c = uncut-child c.args.setting.now.instance.now (bound_of c.args.setting.now.version) c.args.below c.args.job
+    c.args.search.now c.enter.new.self
     c.requires.some c.in_ok-enter.ensures c.requires.uncut
 
 pub returns-in_err-walk_few-clause-over : goal.returns-in_err-walk_few-clause-over
@@ -42,9 +44,11 @@ returns-in_err-walk_few-clause-over c e =
     let p = err_from_is_err_and c.from_residual-in_err-walk_few.result c.from_residual-in_err-walk_few.ensures.1 in
     let put : Stop → Result (Unit {0}) Stop = λ stop. Err stop in
     let same : put c.in_err-walk_few.field-0.0 ≡ put OverBudget = ap put (sym p.2) ∙ sym p.1 ∙ e in
-    child-over shop (bound_of c.args.setting.now.version) c.args.setting.now.budget c.args.below c.args.job c.args.search.now c.enter.new.self
+    child-over shop (bound_of c.args.setting.now.version) c.args.setting.now.budget c.args.below c.args.job
+    c.args.search.now c.enter.new.self
     c.in_ok-enter.ensures
-    (node-over shop (bound_of c.args.setting.now.version) c.args.setting.now.budget c.args.below c.enter.new.self c.write.new.self
+    (node-over shop (bound_of c.args.setting.now.version) c.args.setting.now.budget c.args.below c.enter.new.self
+    c.write.new.self
     (uncut (goal.at.returns-in_err-walk_few-clause-over c).In_ok-write) c.in_ok-write.ensures.done
     (c.in_err-walk_few.ensures.over same))
 
@@ -52,9 +56,12 @@ pub returns-clause-done : goal.returns-clause-done
 returns-clause-done c =
     let shop = c.args.setting.now.instance.now in
     let old = c.args.search.now in
-    let w : Walked shop (bound_of c.args.setting.now.version) c.args.setting.now.budget c.args.below c.enter.new.self c.walk_few.new.search =
-    node-done shop (bound_of c.args.setting.now.version) c.args.setting.now.budget c.args.below c.enter.new.self c.write.new.self c.walk_few.new.search
+    let w : Walked shop (bound_of c.args.setting.now.version) c.args.setting.now.budget c.args.below c.enter.new.self
+    c.walk_few.new.search =
+    node-done shop (bound_of c.args.setting.now.version) c.args.setting.now.budget c.args.below c.enter.new.self
+    c.write.new.self c.walk_few.new.search
     (uncut (goal.at.returns-clause-done c).In_ok-write) c.in_ok-write.ensures.done c.in_ok-walk_few.ensures.done in
-    child-done shop (bound_of c.args.setting.now.version) c.args.setting.now.budget c.args.below c.args.job old c.enter.new.self c.walk_few.new.search
+    child-done shop (bound_of c.args.setting.now.version) c.args.setting.now.budget c.args.below c.args.job old
+    c.enter.new.self c.walk_few.new.search
     c.leave.new.self
     c.in_ok-enter.ensures w (c.leave.ensures old.node.items (w.node ∙ c.in_ok-enter.ensures.node)) c.requires.left

@@ -108,7 +108,8 @@ returns-clause-each c list lane other opened here there differ =
     let e : c.loop-earlier.earlier ≡ c.args.place = omega
     (arith, c.loop-earlier-test.false, c.loop-earlier.auto.earlier-end) in
     let back : c.args.place + 1 - 1 ≡ c.args.place = omega arith in
-    let free : slice_index (slice_index_or c.args.frame.now.free c.args.place []) lane ≡ slice_index front c.args.place =
+    let free : slice_index (slice_index_or c.args.frame.now.free c.args.place []) lane ≡ slice_index front
+    c.args.place =
     opened.free c.args.place lane here c.requires.to
     ∙ sym (front_of-is shop (child list c.args.group.now lane) (c.args.place + 1) (omega arith)
     (omega (arith, c.requires.to)))

@@ -97,7 +97,17 @@ loop-place-preserved c =
           (slice_index c.below-flags.result lane) (slice_index c.sums-uncut.result lane)
           (c.loop-place.invariant.passed list lane other opened here there differ)
           (λ under. c.below-flags.ensures.kept lane here.within
-          (omega (arith, under, bound, whole, load, most, c.saturating_sub-room.ensures, c.min-limit.ensures, c.from.ensures)))
+          (omega (
+            arith,
+            under,
+            bound,
+            whole,
+            load,
+            most,
+            c.saturating_sub-room.ensures,
+            c.min-limit.ensures,
+            c.from.ensures,
+          )))
           (λ over. c.below-flags.ensures.cut lane here.within
           (omega (arith, over, bound, whole, c.saturating_sub-room.ensures, c.min-limit.ensures, c.from.ensures)))
           (c.sums-uncut.ensures.each lane here.within);
