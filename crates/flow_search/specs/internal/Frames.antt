@@ -66,7 +66,7 @@ pub record IsWalking (shop : Shop) (bound : Bound) (budget : ℕ) (root : List �
   pub past : here.next ≤ shop.jobs + 1
   pub stack : IsStack shop root (suc (suc below)) frames
   pub text : now.tree.items ++ (resume shop bound root below (here ∷ frames) (incumbent_of now)).0 ≡ old.tree.items ++
-  whole.0
+      whole.0
   pub state : (resume shop bound root below (here ∷ frames) (incumbent_of now)).1 ≡ whole.1
   pub many : 8 ≤ below
   pub within : length now.tree.items ≤ budget

@@ -45,7 +45,7 @@ walk-init c =
       deep = c.requires.some;
       size = refl;
       at = subst (λ n. IsInLanes c.args.setting.now.instance.now (bound_of c.args.setting.now.version)
-      c.args.setting.now.budget c.args.group.now
+          c.args.setting.now.budget c.args.group.now
           c.args.search.now.node.items
           (children_walked c.args.setting.now.instance.now (bound_of c.args.setting.now.version) (length
           c.args.frames.now - 1) c.args.search.now)
@@ -112,7 +112,7 @@ walk-preserved-then-place-left c =
       deep = omega (arith, c.walk.invariant.deep);
       size = c.walk.invariant.size;
       at = subst (λ n. IsInLanes shop (bound_of c.args.setting.now.version) c.args.setting.now.budget c.args.group.now
-      root
+          root
           (children_walked shop (bound_of c.args.setting.now.version) (length c.args.frames.now - 1)
           c.args.search.now) c.args.search.now f n gs new) below
           (lanes-up c.walk.invariant.at f gs new
@@ -135,7 +135,7 @@ node_of c = lane_path c.args.search.now.node.items c.args.group.now (reverse (ta
 record IsLater (c : After-retest_children) : Type 0 where
   pub step : IsStep (frame_at c.walk.frames c.walk.depth) (later c) (lane_of (frame_at c.walk.frames c.walk.depth))
   pub tested : IsTested c.args.setting.now.instance.now (bound_of c.args.setting.now.version) (node_of c)
-  c.args.group.now (later c)
+      c.args.group.now (later c)
   pub left : IsLaneLeft (later c) (lane_of (frame_at c.walk.frames c.walk.depth))
   pub low : (frame_at c.walk.frames c.walk.depth).next < length (lanes_of (later c))
 
@@ -163,7 +163,7 @@ is-later c =
             ∙ ap (slice_index frame.lanes) back;
       };
       tested = tested-moved c.args.setting.now.instance.now (bound_of c.args.setting.now.version) (node_of c)
-      c.args.group.now c.retest_children.new.frame
+          c.args.group.now c.retest_children.new.frame
           (frame.next + 1) (c.retest_children.ensures.tested (node_of c) c.walk.invariant.at.tested.0);
       left = record {
         within = is.1.within;
@@ -351,7 +351,7 @@ walk-preserved c =
       deep = omega (arith, size, c.walk.invariant.deep);
       size = size ∙ c.walk.invariant.size;
       at = subst (λ frame. IsInLanes c.args.setting.now.instance.now (bound_of c.args.setting.now.version)
-      c.args.setting.now.budget c.args.group.now
+          c.args.setting.now.budget c.args.group.now
           c.args.search.now.node.items
           (children_walked c.args.setting.now.instance.now (bound_of c.args.setting.now.version) (length
           c.args.frames.now - 1) c.args.search.now)

@@ -37,8 +37,8 @@ step-rest-requires-clause-some c =
           (child-at (goal.at.step-rest-requires-clause-some c).After-front_push),
     )
 
-pub step-rest-requires-clause-rest : goal.step-rest-requires-clause-rest
-step-rest-requires-clause-rest c =
+pub step-rest-requires-clause-loads : goal.step-rest-requires-clause-loads
+step-rest-requires-clause-loads c =
     let shop = c.args.setting.now.instance.now in
     let whole : slice_set c.remove.new.self (c.args.job - 1) true ≡ c.args.search.now.unscheduled =
     ap (λ set. slice_set set (c.args.job - 1) true) c.remove.ensures.value

@@ -76,7 +76,7 @@ walk_children-requires-clause-frame c =
     subst (λ q. IsFrame shop q (suc (c.args.count - 1)) c.new-here.result) (sym w.node)
     (frame-of shop old.node.items c.args.front.now old.unscheduled (suc (c.args.count - 1)) c.new-here.result at
     (subst (IsFrontOf shop old.node.items) (sym c.new-here.ensures.front) c.requires.at.is_front)
-    (subst (AreLoadsOf shop (members old.unscheduled)) (sym c.new-here.ensures.rest) c.of-rest.ensures.rest)
+    (subst (AreLoadsOf shop (members old.unscheduled)) (sym c.new-here.ensures.rest) c.of-rest.ensures.loads)
     (λ machine from to. c.new-here.ensures.second machine from to
     ∙ ap (λ u. second_tail shop (members u) machine) w.unscheduled))
 

@@ -154,8 +154,8 @@ step-rest-requires-clause-some c =
     c.enter.new.self.unscheduled c.walk.below is.0 in
     omega (arith, size, is.2)
 
-pub step-rest-requires-clause-rest : goal.step-rest-requires-clause-rest
-step-rest-requires-clause-rest c = (entered (goal.at.step-rest-requires-clause-rest c).In_ok-enter).1
+pub step-rest-requires-clause-loads : goal.step-rest-requires-clause-loads
+step-rest-requires-clause-loads c = (entered (goal.at.step-rest-requires-clause-loads c).In_ok-enter).1
 
 pub front_push-requires-clause-job_from : goal.front_push-requires-clause-job_from
 front_push-requires-clause-job_from c = (kid (goal.at.front_push-requires-clause-job_from c).In-Some).0.from
@@ -209,7 +209,7 @@ walk-preserved-then-branch c =
     ∷ [])) (sym c.new-here.ensures.front)
     (c.front_push.ensures.front c.walk.search.node.items c.walk.invariant.at.is_front))
     (subst (AreLoadsOf shop (members c.enter.new.self.unscheduled))
-    (sym c.new-here.ensures.rest) c.step-rest.ensures.rest)
+    (sym c.new-here.ensures.rest) c.step-rest.ensures.loads)
     c.new-here.ensures.second c.new-here.ensures.next)
 
 -- the child's subtree that was walked
