@@ -1,4 +1,4 @@
-//! The rest of a set of jobs: the loads of the machines, and the legs to each of them.
+//! The rest of a set of jobs: the loads of the machines, and the lags to each of them.
 
 ghost use Rattle.std.specs.Prelude.{◌≡◌, ℕ, ◌+◌, ◌-◌, ◌^◌, ◌<◌, ◌≤◌, min, List, Bool, true, false};
 ghost use Rattle.std.specs.Prelude.{length, slice_index, slice_set};
@@ -9,34 +9,34 @@ ghost use Rattle.flow_core.specs.Front.{IsFrontOf};
 ghost use Rattle.flow_core.specs.JobSet.{contains, members};
 ghost use Rattle.flow_core.specs.Sequences.{jobs_left, IsSequence, Extends};
 ghost use Rattle.flow_core.specs.Bound.{machine_bound, release, released_bound};
-ghost use Rattle.flow_bound.specs.Rest.{AreLegs, IsRestOf};
+ghost use Rattle.flow_bound.specs.Rest.{AreLags, IsRestOf};
 
 use crate::least::least_between;
 use crate::loads::Loads;
 use flow_core::{Front, Instance, JobSet, MAX_MACHINES};
 
-/// The legs of a set of jobs to a machine: for each machine before it, the least time that a job of the set needs from
+/// The lags of a set of jobs to a machine: for each machine before it, the least time that a job of the set needs from
 /// there to it.
-type Legs = [u32; MAX_MACHINES];
+type Lags = [u32; MAX_MACHINES];
 
-/// The rest of a set of jobs: the remaining work of each machine, and the legs to it. It stores no set.
+/// The rest of a set of jobs: the remaining work of each machine, and the lags to it. It stores no set.
 #[derive(Clone, Copy, Debug, PartialEq, Eq)]
 pub struct Rest {
     /// The remaining work of each machine.
     loads: Loads,
-    /// For each machine, the legs to it.
-    legs: [Legs; MAX_MACHINES],
+    /// For each machine, the lags to it.
+    lags: [Lags; MAX_MACHINES],
 }
 
-/// Takes a job into the legs to a machine.
-fn take_legs(instance: &Instance, job: u16, machine: u16, legs: &mut Legs)
+/// Takes a job into the lags to a machine.
+fn take_lags(instance: &Instance, job: u16, machine: u16, lags: &mut Lags)
     requires job_from { 1 ≤ job }
     requires job_to { job ≤ instance.now.jobs }
     requires from { 1 ≤ machine }
     requires to { machine ≤ instance.now.machines }
-    ensures legs { (from : ℕ) → 1 ≤ from → from < machine →
-        slice_index legs.new (from - 1)
-        ≡ min (slice_index legs.old (from - 1)) (time_between instance.now job from (machine - 1)) }
+    ensures lags { (from : ℕ) → 1 ≤ from → from < machine →
+        slice_index lags.new (from - 1)
+        ≡ min (slice_index lags.old (from - 1)) (time_between instance.now job from (machine - 1)) }
 {
     prove!(machine <= instance.machines());
     let mut ahead = 0;
@@ -44,31 +44,31 @@ fn take_legs(instance: &Instance, job: u16, machine: u16, legs: &mut Legs)
     while from > 0 {
         let place = from as usize - 1;
         ahead += instance.time(job, from);
-        legs[place] = legs[place].min(ahead);
+        lags[place] = lags[place].min(ahead);
         from -= 1;
     }
 }
 
-/// The legs of a set of jobs to a machine.
-fn legs_of(instance: &Instance, set: &JobSet, machine: u16) -> Legs
+/// The lags of a set of jobs to a machine.
+fn lags_of(instance: &Instance, set: &JobSet, machine: u16) -> Lags
     requires from { 1 ≤ machine }
     requires to { machine ≤ instance.now.machines }
     requires some { 0 < length (members set.now) }
     requires jobs { (job : ℕ) → instance.now.jobs < job → contains set.now job ≡ false }
-    ensures { AreLegs instance.now (members set.now) machine result }
+    ensures { AreLags instance.now (members set.now) machine result }
 {
-    let mut legs = [u32::MAX; MAX_MACHINES];
+    let mut lags = [u32::MAX; MAX_MACHINES];
     for job in 1..instance.jobs() + 1 {
         if set.contains(job) {
-            take_legs(instance, job, machine, &mut legs);
+            take_lags(instance, job, machine, &mut lags);
         }
     }
-    legs
+    lags
 }
 
-/// The legs to a machine after `job` is taken out; `after` is the set without it. It looks for a new least time only
+/// The lags to a machine after `job` is taken out; `after` is the set without it. It looks for a new least time only
 /// where `job` has the least.
-fn legs_after(instance: &Instance, after: &JobSet, job: u16, machine: u16, legs: &Legs) -> Legs
+fn lags_after(instance: &Instance, after: &JobSet, job: u16, machine: u16, lags: &Lags) -> Lags
     requires job_from { 1 ≤ job }
     requires job_to { job ≤ instance.now.jobs }
     requires from { 1 ≤ machine }
@@ -76,40 +76,40 @@ fn legs_after(instance: &Instance, after: &JobSet, job: u16, machine: u16, legs:
     requires out { contains after.now job ≡ false }
     requires some { 0 < length (members after.now) }
     requires jobs { (job : ℕ) → instance.now.jobs < job → contains after.now job ≡ false }
-    requires legs { AreLegs instance.now (members (slice_set after.now (job - 1) true)) machine legs.now }
-    ensures { AreLegs instance.now (members after.now) machine result }
+    requires lags { AreLags instance.now (members (slice_set after.now (job - 1) true)) machine lags.now }
+    ensures { AreLags instance.now (members after.now) machine result }
 {
     prove!(machine <= instance.machines());
     prove!(!after.contains(job));
-    let mut new_legs = *legs;
+    let mut new_lags = *lags;
     let mut ahead = 0;
     let mut from = machine - 1;
     while from > 0 {
         let place = from as usize - 1;
         ahead += instance.time(job, from);
-        let least = legs[place];
-        new_legs[place] = if ahead == least {
+        let least = lags[place];
+        new_lags[place] = if ahead == least {
             least_between(instance, after, from, machine - 1, least)
         } else {
             least
         };
         from -= 1;
     }
-    new_legs
+    new_lags
 }
 
-/// The release of a machine, for every set with these legs to it.
-fn release_by(front: &Front, legs: &Legs, machine: u16) -> u64
+/// The release of a machine, for every set with these lags to it.
+fn release_by(front: &Front, lags: &Lags, machine: u16) -> u64
     requires from { 1 ≤ machine }
     requires to { machine ≤ most_machines }
     requires within { (place : ℕ) → place < machine → slice_index front.now place ≤ greatest_completion }
-    ensures value { (shop : Shop) (jobs : List ℕ) → AreLegs shop jobs machine legs.now →
+    ensures value { (shop : Shop) (jobs : List ℕ) → AreLags shop jobs machine lags.now →
         result ≡ release shop front.now jobs machine }
     ensures limit { result ≤ greatest_completion + 2 ^ 32 }
 {
     let mut release = front.at(machine);
     for from in 1..machine {
-        release = release.max(front.at(from) + u64::from(legs[from as usize - 1]));
+        release = release.max(front.at(from) + u64::from(lags[from as usize - 1]));
     }
     release
 }
@@ -122,11 +122,11 @@ impl Rest {
         ensures rest { IsRestOf instance.now (members set.now) result }
     {
         let loads = Loads::of(instance, set);
-        let mut legs = [[0; MAX_MACHINES]; MAX_MACHINES];
+        let mut lags = [[0; MAX_MACHINES]; MAX_MACHINES];
         for machine in 1..instance.machines() + 1 {
-            legs[machine as usize - 1] = legs_of(instance, set, machine);
+            lags[machine as usize - 1] = lags_of(instance, set, machine);
         }
-        Rest { loads, legs }
+        Rest { loads, lags }
     }
 
     /// The rest after `job` is taken out; `after` is the set without it. It looks for a new least only where `job` has
@@ -141,12 +141,12 @@ impl Rest {
         ensures rest { IsRestOf instance.now (members after.now) result }
     {
         let loads = self.loads.step(instance, after, job);
-        let mut legs = self.legs;
+        let mut lags = self.lags;
         for machine in 1..instance.machines() + 1 {
             let place = machine as usize - 1;
-            legs[place] = legs_after(instance, after, job, machine, &self.legs[place]);
+            lags[place] = lags_after(instance, after, job, machine, &self.lags[place]);
         }
-        Rest { loads, legs }
+        Rest { loads, lags }
     }
 
     /// The remaining work of each machine.
@@ -206,7 +206,7 @@ impl Rest {
             result ≤ span shop sequence }
     {
         prove!(machine <= self.loads.machines());
-        let release = release_by(front, &self.legs[machine as usize - 1], machine);
+        let release = release_by(front, &self.lags[machine as usize - 1], machine);
         let work = u64::from(self.loads.sum(machine)) + u64::from(self.loads.tail(machine));
         release + work
     }

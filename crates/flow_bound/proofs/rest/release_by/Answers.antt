@@ -12,21 +12,21 @@ loop-from-preserved c =
     let front : slice_index c.args.front.now (from - 1) ≤ greatest_completion =
     c.requires.within (from - 1) (omega arith) in
     record {
-      is = λ shop jobs legs.
+      is = λ shop jobs lags.
           omega (
             arith,
             c.max-release.ensures,
             c.at.ensures,
             c.from.ensures,
-            legs from c.loop-from.auto.from (omega arith),
-            c.loop-from.invariant.is shop jobs legs,
+            lags from c.loop-from.auto.from (omega arith),
+            c.loop-from.invariant.is shop jobs lags,
             greatest-step (start_from shop c.args.front.now jobs c.args.machine) from c.loop-from.auto.from,
           );
       limit = omega (arith, c.max-release.ensures, c.at.ensures, c.from.ensures, front, c.loop-from.invariant.limit);
     }
 
 pub returns-clause-value : goal.returns-clause-value
-returns-clause-value c shop jobs legs =
+returns-clause-value c shop jobs lags =
     let machine = c.args.machine in
     let start = start_from shop c.args.front.now jobs machine in
     let greatest_to = λ (n : ℕ). greatest (map start (numbers 1 n)) in
@@ -34,7 +34,7 @@ returns-clause-value c shop jobs legs =
     let whole : machine + 1 - 1 ≡ machine = omega arith in
     omega (
       arith,
-      c.loop-from.invariant.is shop jobs legs,
+      c.loop-from.invariant.is shop jobs lags,
       ap greatest_to last,
       ap greatest_to whole,
       greatest-step start machine c.requires.from,

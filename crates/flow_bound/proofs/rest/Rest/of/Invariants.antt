@@ -1,13 +1,13 @@
 use Rattle.std.proofs.Common.{◌≡◌, ℕ, [], ◌-◌, ◌<◌, ◌≤◌, length, slice_index_or}
 use Rattle.flow_core.specs.Limits.{most_machines}
 use Rattle.flow_core.specs.JobSet.{members}
-use Rattle.flow_bound.specs.Rest.{AreLegs}
+use Rattle.flow_bound.specs.Rest.{AreLags}
 use Rattle.flow_bound.proofs.rest.Rest.of.Given as goal
 
--- the legs to the machines so far
+-- the lags to the machines so far
 abbrev pub invariant-loop-machine : goal.invariant-loop-machine
 invariant-loop-machine l = record {
-  size : length l.legs ≡ most_machines;
+  size : length l.lags ≡ most_machines;
   are : (k : ℕ) → 1 ≤ k → k < l.machine →
-      AreLegs l.instance (members l.set) k (slice_index_or l.legs (k - 1) []);
+      AreLags l.instance (members l.set) k (slice_index_or l.lags (k - 1) []);
 }

@@ -8,7 +8,7 @@ returns-clause-value c shop jobs rest =
     let high : c.args.machine ≤ shop.machines = omega (arith, c.requires.to, rest.loads_are.machines_are) in
     omega (
       arith,
-      c.release_by-release.ensures.value shop jobs (rest.legs_are c.args.machine c.requires.from high),
+      c.release_by-release.ensures.value shop jobs (rest.lags_are c.args.machine c.requires.from high),
       c.sum.ensures,
       c.tail.ensures,
       c.from.ensures,

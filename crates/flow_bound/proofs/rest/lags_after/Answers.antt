@@ -7,11 +7,11 @@ use Rattle.flow_core.proofs.Recurrence.{time_between-first}
 use Rattle.flow_bound.specs.Loads.{least_between}
 use Rattle.flow_bound.proofs.Running.{times-small}
 use Rattle.flow_bound.proofs.Rests.{least-with, written, tail-before}
-use Rattle.flow_bound.proofs.rest.legs_after.Goals as goal
-use Rattle.flow_bound.proofs.rest.legs_after.Goals.{After-time, then-ahead-least, else-ahead-least}
+use Rattle.flow_bound.proofs.rest.lags_after.Goals as goal
+use Rattle.flow_bound.proofs.rest.lags_after.Goals.{After-time, then-ahead-least, else-ahead-least}
 
--- the leg from the machine, before and after
-here : (c : After-time) → slice_index c.args.legs.now (c.loop-from.from - 1) ≡ min (c.loop-from.ahead + c.time.result)
+-- the lag from the machine, before and after
+here : (c : After-time) → slice_index c.args.lags.now (c.loop-from.from - 1) ≡ min (c.loop-from.ahead + c.time.result)
     (least_between c.args.instance.now (members c.args.after.now) c.loop-from.from (c.args.machine - 1))
 here c =
     let shop = c.args.instance.now in
@@ -29,7 +29,7 @@ here c =
     c.requires.job_from c.requires.job_to within c.requires.jobs c.requires.out c.requires.some in
     let ahead : time_between shop job from last ≡ c.loop-from.ahead + c.time.result =
     omega (arith, is.ahead_is, c.time.ensures.value, time_between-first shop job from last is.within) in
-    c.requires.legs from low (omega (arith, is.within, low)) ∙ lower
+    c.requires.lags from low (omega (arith, is.within, low)) ∙ lower
     ∙ ap (λ n. min n (least_between shop (members after) from last)) ahead
 
 pub overflow_add-ahead : goal.overflow_add-ahead
@@ -55,19 +55,19 @@ loop-from-preserved c =
     let is = c.loop-from.invariant in
     let low : 1 ≤ from = omega arith in
     let was = here (goal.at.loop-from-preserved c).After-time in
-    let leg : c.if-ahead-least.new_legs ≡ least_between shop (members after) from last =
+    let lag : c.if-ahead-least.new_lags ≡ least_between shop (members after) from last =
     elim c.if-ahead-least.branch [
-      | then-ahead-least w ↦ w.new_legs-is ∙ w.least_between.ensures
+      | then-ahead-least w ↦ w.new_lags-is ∙ w.least_between.ensures
       | else-ahead-least w ↦
-          let other : c.loop-from.ahead + c.time.result ≢ slice_index c.args.legs.now (from - 1) =
+          let other : c.loop-from.ahead + c.time.result ≢ slice_index c.args.lags.now (from - 1) =
           w.if-ahead-least.false in
-          omega (arith, w.new_legs-is, other, was)
+          omega (arith, w.new_lags-is, other, was)
     ] in
     record {
       within = omega (arith, is.within);
       size = grind (arith, common_steps);
       ahead_is = tail-before shop c.args.job from c.loop-from.ahead c.time.result last low is.within is.ahead_is
           c.time.ensures.value;
-      are = written (λ n. least_between shop (members after) n last) c.loop-from.new_legs from c.if-ahead-least.new_legs
-          last low (omega arith) leg is.are;
+      are = written (λ n. least_between shop (members after) n last) c.loop-from.new_lags from c.if-ahead-least.new_lags
+          last low (omega arith) lag is.are;
     }

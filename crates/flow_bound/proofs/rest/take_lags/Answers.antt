@@ -4,7 +4,7 @@ use Rattle.flow_core.specs.Shop.{time_between}
 use Rattle.flow_core.proofs.Recurrence.{time_between-none, time_between-first}
 use Rattle.flow_bound.proofs.Running.{times-small}
 use Rattle.flow_bound.proofs.Rests.{written, below-stay, tail-before}
-use Rattle.flow_bound.proofs.rest.take_legs.Goals as goal
+use Rattle.flow_bound.proofs.rest.take_lags.Goals as goal
 
 pub loop-from-init : goal.loop-from-init
 loop-from-init c = record {
@@ -33,14 +33,14 @@ loop-from-preserved c =
     let last : ℕ = c.args.machine - 1 in
     let is = c.loop-from.invariant in
     let between = λ (n : ℕ). time_between shop c.args.job n last in
-    let old = λ (n : ℕ). slice_index c.args.legs.now (n - 1) in
+    let old = λ (n : ℕ). slice_index c.args.lags.now (n - 1) in
     let low : 1 ≤ from = omega arith in
     record {
       within = omega (arith, is.within);
       size = grind (arith, common_steps);
       ahead_is = tail-before shop c.args.job from c.loop-from.ahead c.time-ahead.result last low is.within is.ahead_is
           c.time-ahead.ensures.value;
-      are = written (λ n. min (old n) (between n)) c.loop-from.legs from c.min.result last low (omega arith) (omega (
+      are = written (λ n. min (old n) (between n)) c.loop-from.lags from c.min.result last low (omega arith) (omega (
         arith,
         c.min.ensures,
         is.stay from low (omega arith),
@@ -48,5 +48,5 @@ loop-from-preserved c =
         c.time-ahead.ensures.value,
         time_between-first shop c.args.job from last is.within,
       )) is.are;
-      stay = below-stay old c.loop-from.legs from c.min.result low is.stay;
+      stay = below-stay old c.loop-from.lags from c.min.result low is.stay;
     }

@@ -3,12 +3,12 @@ use Rattle.flow_core.specs.Limits.{most_machines}
 use Rattle.flow_core.specs.Shop.{time_between}
 use Rattle.flow_core.specs.JobSet.{contains}
 use Rattle.flow_bound.proofs.Rests.{least_kept}
-use Rattle.flow_bound.proofs.rest.legs_of.Given as goal
+use Rattle.flow_bound.proofs.rest.lags_of.Given as goal
 
--- the legs of the jobs so far that the set has
+-- the lags of the jobs so far that the set has
 abbrev pub invariant-loop-job : goal.invariant-loop-job
 invariant-loop-job l = record {
-  size : length l.legs ≡ most_machines;
-  are : (from : ℕ) → 1 ≤ from → from < l.machine → slice_index l.legs (from - 1)
+  size : length l.lags ≡ most_machines;
+  are : (from : ℕ) → 1 ≤ from → from < l.machine → slice_index l.lags (from - 1)
       ≡ least_kept 4294967295 (λ job. time_between l.instance job from (l.machine - 1)) (contains l.set) (l.job - 1);
 }

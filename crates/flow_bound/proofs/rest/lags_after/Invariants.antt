@@ -3,16 +3,16 @@ use Rattle.flow_core.specs.Limits.{most_machines}
 use Rattle.flow_core.specs.Shop.{time_between}
 use Rattle.flow_core.specs.JobSet.{members}
 use Rattle.flow_bound.specs.Loads.{least_between}
-use Rattle.flow_bound.proofs.rest.legs_after.Given as goal
+use Rattle.flow_bound.proofs.rest.lags_after.Given as goal
 
--- the legs from the machines so far
+-- the lags from the machines so far
 abbrev pub invariant-loop-from : goal.invariant-loop-from
 invariant-loop-from l = record {
   within : l.from ≤ l.machine - 1;
-  size : length l.new_legs ≡ most_machines;
+  size : length l.new_lags ≡ most_machines;
   ahead_is : l.ahead ≡ time_between l.instance l.job (l.from + 1) (l.machine - 1);
   are : (k : ℕ) → l.from < k → k ≤ l.machine - 1 →
-      slice_index l.new_legs (k - 1) ≡ least_between l.instance (members l.after) k (l.machine - 1);
+      slice_index l.new_lags (k - 1) ≡ least_between l.instance (members l.after) k (l.machine - 1);
 }
 
 abbrev pub decreases-loop-from : goal.decreases-loop-from

@@ -6,8 +6,8 @@ use Rattle.flow_core.specs.Shop.{time_between}
 use Rattle.flow_core.specs.JobSet.{contains}
 use Rattle.flow_bound.proofs.Running.{times-small}
 use Rattle.flow_bound.proofs.Rests.{least-take, least-skip, least-whole}
-use Rattle.flow_bound.proofs.rest.legs_of.Goals as goal
-use Rattle.flow_bound.proofs.rest.legs_of.Goals.{then-contains, else-contains}
+use Rattle.flow_bound.proofs.rest.lags_of.Goals as goal
+use Rattle.flow_bound.proofs.rest.lags_of.Goals.{then-contains, else-contains}
 
 pub loop-job-init : goal.loop-job-init
 loop-job-init c = record {
@@ -32,7 +32,7 @@ loop-job-preserved c =
             size = grind (arith, common_steps);
             are = λ from at_least below.
                 let more = least-take 4294967295 (between from) (contains set) job low there in
-                ap (λ xs. slice_index xs (from - 1)) w.legs-is ∙ w.take_legs.ensures.legs from at_least below
+                ap (λ xs. slice_index xs (from - 1)) w.lags-is ∙ w.take_lags.ensures.lags from at_least below
                 ∙ ap (λ n. min n (between from job)) (is.are from at_least below) ∙ sym more;
           }
       | else-contains w ↦
@@ -40,7 +40,7 @@ loop-job-preserved c =
           record {
             size = grind (arith, common_steps);
             are = λ from at_least below.
-                ap (λ xs. slice_index xs (from - 1)) w.legs-is ∙ is.are from at_least below
+                ap (λ xs. slice_index xs (from - 1)) w.lags-is ∙ is.are from at_least below
                 ∙ sym (least-skip 4294967295 (between from) (contains set) job low out);
           }
     ]
