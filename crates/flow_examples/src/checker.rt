@@ -1,6 +1,6 @@
 //! The checker.
 
-use crate::instances::{three_machines, two_machines};
+use crate::instances::{CERTIFICATE_AT_DEPTH_0, three_machines, two_machines};
 use flow_cert::{CheckFault, check};
 use flow_core::Instance;
 use std::alloc::Global;
@@ -206,7 +206,7 @@ fn lines_make_the_certificate(rt: HostRuntime) -> Result<(), Fail> {
     let alloc = rt.alloc();
     for (index, line) in LINES_AT_DEPTH_0.iter().enumerate() {
         let text = with_line(alloc, index + 1, line)?;
-        assert_eq!(rt; text.as_slice(), AT_DEPTH_0.as_slice());
+        assert_eq!(rt; text.as_slice(), CERTIFICATE_AT_DEPTH_0.as_slice());
     }
     Ok(())
 }
@@ -353,7 +353,7 @@ fn checker_names_first_fault_of_each_prefix(rt: HostRuntime) -> Result<(), Fail>
     let alloc = rt.alloc();
     let instance = three_machines(alloc)?;
     for length in 0..50 {
-        let found = check(alloc, &instance, &AT_DEPTH_0[..length]);
+        let found = check(alloc, &instance, &CERTIFICATE_AT_DEPTH_0[..length]);
         assert_eq!(rt; found, Err(fault_of_prefix(length)), "at {length} bytes");
     }
     Ok(())
@@ -368,7 +368,7 @@ fn checker_accepts_two_of_all_changed_bytes(rt: HostRuntime) -> Result<(), Fail>
     let mut versions: u64 = 0;
     for place in 0..50 {
         for change in 1..=255u8 {
-            let mut text = AT_DEPTH_0;
+            let mut text = CERTIFICATE_AT_DEPTH_0;
             text[place] ^= change;
             if let Ok(value) = check(alloc, &instance, &text) {
                 assert_eq!(rt; value, 12);

@@ -1,6 +1,1 @@
-mod Certified
-mod Endings
 mod Ordered
-mod Small
-mod Refused
-mod Solved

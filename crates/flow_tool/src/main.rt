@@ -1,13 +1,8 @@
 //! The program: one command, over files or standard input.
 #![tactic(auto)]
 
-mod block;
-mod commands;
 mod dispatch;
-mod fault;
 mod inputs;
-mod limits;
-mod printed;
 mod status;
 mod stop;
 #[cfg(test)]

@@ -1,0 +1,5 @@
+mod Certified
+mod Endings
+mod Refused
+mod Small
+mod Solved

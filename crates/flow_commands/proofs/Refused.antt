@@ -1,0 +1,53 @@
+-- Why the bytes of a certificate were refused.
+use Rattle.std.proofs.Common.{◌≡◌, refl, inl, inr, ℕ, Bool, true, false, List}
+use Rattle.flow_core.specs.Shop.{Shop}
+use Rattle.flow_core.specs.Mirror.{mirrored}
+use Rattle.flow_cert.specs.Certificate.{IsCertificate}
+use Rattle.flow_cert.specs.Check.{IsFirstFault, IsOfNoValue}
+use Rattle.flow_cert.specs.declared.fault.CheckFault.{CheckFault}
+use Rattle.flow_cert.specs.declared.fault.CheckFault.TheVariants.{Memory, Header, Size, Value, Sequence, NotAttained}
+use Rattle.flow_cert.specs.declared.fault.CheckFault.TheVariants.{Tree, Weak, Low, End}
+use Rattle.flow_commands.specs.Commands.{IsAccepted}
+use Rattle.flow_commands.specs.internal.Checked.{IsRefused, ran_out}
+
+-- no value of the instance, and none of the mirrored one where that is asked for
+none-accepted : (either : Bool) (shop : Shop) (bytes : List ℕ) → ((value : ℕ) → ¬ IsCertificate shop bytes value) →
+    (either ≡ true → (value : ℕ) → ¬ IsCertificate (mirrored shop) bytes value) →
+    (value : ℕ) → ¬ IsAccepted either shop bytes value
+none-accepted either shop bytes own other value (inl lawful) = own value lawful
+none-accepted either shop bytes own other value (inr (asked, lawful)) = other asked value lawful
+
+-- a fault of the bytes as a certificate of the instance, where they are none of the mirrored one
+pub is-refused : (either : Bool) (shop : Shop) (bytes : List ℕ) (fault : CheckFault) →
+    IsFirstFault shop bytes fault → IsOfNoValue shop bytes fault →
+    (either ≡ true → (value : ℕ) → ¬ IsCertificate (mirrored shop) bytes value) → IsRefused either shop bytes fault
+is-refused either shop bytes Memory first none other = tt
+is-refused either shop bytes Header first none other =
+    (Header, first, refl, none-accepted either shop bytes none other)
+is-refused either shop bytes Size first none other = (Size, first, refl, none-accepted either shop bytes none other)
+is-refused either shop bytes Value first none other = (Value, first, refl, none-accepted either shop bytes none other)
+is-refused either shop bytes Sequence first none other =
+    (Sequence, first, refl, none-accepted either shop bytes none other)
+is-refused either shop bytes NotAttained first none other =
+    (NotAttained, first, refl, none-accepted either shop bytes none other)
+is-refused either shop bytes (Tree line) first none other =
+    (Tree line, first, refl, none-accepted either shop bytes none other)
+is-refused either shop bytes (Weak line) first none other =
+    (Weak line, first, refl, none-accepted either shop bytes none other)
+is-refused either shop bytes (Low line) first none other =
+    (Low line, first, refl, none-accepted either shop bytes none other)
+is-refused either shop bytes End first none other = (End, first, refl, none-accepted either shop bytes none other)
+
+-- a check that did not end because memory ran out says that the bytes are no certificate
+pub no-certificate : (shop : Shop) (bytes : List ℕ) (fault : CheckFault) → ran_out fault ≡ false →
+    IsOfNoValue shop bytes fault → (value : ℕ) → ¬ IsCertificate shop bytes value
+no-certificate shop bytes Memory known none = absurd (cc known)
+no-certificate shop bytes Header known none = none
+no-certificate shop bytes Size known none = none
+no-certificate shop bytes Value known none = none
+no-certificate shop bytes Sequence known none = none
+no-certificate shop bytes NotAttained known none = none
+no-certificate shop bytes (Tree line) known none = none
+no-certificate shop bytes (Weak line) known none = none
+no-certificate shop bytes (Low line) known none = none
+no-certificate shop bytes End known none = none

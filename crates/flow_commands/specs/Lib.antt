@@ -1,0 +1,4 @@
+pub mod Limits
+pub mod Commands
+pub mod Runs
+pub mod internal

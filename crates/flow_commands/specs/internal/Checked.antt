@@ -1,0 +1,17 @@
+-- Why no certificate of an instance was accepted.
+use Rattle.std.specs.Prelude.{ℕ, Bool, true, false, List, Err}
+use Rattle.flow_core.specs.Shop.{Shop}
+use Rattle.flow_cert.specs.declared.fault.CheckFault.{CheckFault}
+use Rattle.flow_cert.specs.declared.fault.CheckFault.TheVariants.{Memory}
+use Rattle.flow_commands.specs.declared.fault.ToolFault.TheVariants.{Certificate}
+use Rattle.flow_commands.specs.Commands.{AnswersCheck}
+
+-- whether a check ended because memory ran out
+abbrev pub ran_out : CheckFault → Bool
+ran_out Memory = true
+ran_out fault = false
+
+-- the fault that is answered for the bytes; `Memory` says nothing of them
+abbrev pub IsRefused : Bool → Shop → List ℕ → CheckFault → Type 0
+IsRefused either shop bytes Memory = Unit {0}
+IsRefused either shop bytes fault = AnswersCheck either shop bytes (Err (Certificate fault))

@@ -1,0 +1,52 @@
+//! The command `mirror`.
+
+ghost use Rattle.std.specs.Prelude.{◌≡◌, ◌↔◌, false, true, IfOk, OnOk, IfErr, IsErrOf};
+ghost use Rattle.flow_core.specs.Bytes.{Grows};
+ghost use Rattle.flow_core.specs.Written.{written};
+ghost use Rattle.flow_core.specs.declared.bytes.fault.ReadFault.TheVariants as read;
+ghost use Rattle.flow_core.specs.declared.bytes.fault.WriteFault.TheVariants as write;
+ghost use Rattle.flow_commands.specs.Commands.{AnswersMirror, mirrored_block};
+ghost use Rattle.flow_commands.specs.Runs.{Came, Ends, Wrote};
+ghost use Rattle.flow_commands.specs.Limits.{most_text};
+
+use crate::block::read_block;
+use crate::fault::ToolFault;
+use flow_core::{Block, Sink, Source, block_text, put_all};
+use std::alloc::{AllocError, Global};
+
+/// The text of a block with its instance mirrored.
+fn mirrored_text(alloc: Global, block: &Block) -> Result<Vec<u8>, AllocError>
+    ensures { IfOk result (λ text. text.items ≡ written (mirrored_block block.now)) }
+{
+    let mirrored = Block {
+        seed: block.seed,
+        upper: block.upper,
+        lower: block.lower,
+        instance: block.instance.mirrored(alloc)?,
+    };
+    block_text(alloc, &mirrored)
+}
+
+/// Writes the block that an index names with its machines in reverse order.
+pub fn run_mirror<S: Source, K: Sink>(
+    alloc: Global,
+    file: &mut S,
+    index: u32,
+    out: &mut K,
+) -> Result<(), ToolFault>
+    requires file_works { S.has_failed file.old ≡ false }
+    requires out_works { K.has_failed out.old ≡ false }
+    ensures written { OnOk result (Came most_text
+        (λ text. Wrote (AnswersMirror index text) (K.taken out.old) (K.taken out.new))
+        (S.given file.old) (S.given file.new) (S.has_ended file.new)) }
+    ensures ended { IfErr result (Ends (out.new ≡ out.old) most_text (AnswersMirror index)
+        (S.given file.old) (S.given file.new) (S.has_ended file.new) (K.taken out.old) (K.taken out.new)) }
+    ensures read_device { IsErrOf result (ToolFault.Read read.Device) ↔ (S.has_failed file.new ≡ true) }
+    ensures write_device { IsErrOf result (ToolFault.Write write.Device) ↔ (K.has_failed out.new ≡ true) }
+    ensures stands { Grows (S.given file.old) (S.given file.new) }
+{
+    let block = read_block(alloc, file, index)?;
+    let text = mirrored_text(alloc, &block)?;
+    put_all(out, text.as_slice())?;
+    Ok(())
+}

@@ -1,0 +1,98 @@
+//! The command `solve`.
+
+ghost use Rattle.std.specs.Prelude.{◌≡◌, ◌↔◌, false, true, Ok, IfOk, OnOk, IfErr, IsErrOf};
+ghost use Rattle.flow_core.specs.Bytes.{Grows};
+ghost use Rattle.flow_core.specs.declared.bytes.fault.ReadFault.TheVariants as read;
+ghost use Rattle.flow_core.specs.declared.bytes.fault.WriteFault.TheVariants as write;
+ghost use Rattle.flow_core.specs.declared.text.block.Block.{Block};
+ghost use Rattle.flow_commands.specs.Commands.{AnswersPlan, AnswersSolve, Picks, asked_options, mirrored_if};
+ghost use Rattle.flow_commands.specs.Runs.{Came, Ends, EndsAlone, Wrote, WroteCertificate};
+ghost use Rattle.flow_commands.specs.Limits.{most_text};
+
+use crate::block::read_block;
+use crate::fault::ToolFault;
+use flow_cert::write_certificate;
+use flow_core::{Instance, Sink, Source};
+use flow_pool::{Gate, solve};
+use flow_search::{OptionFault, Options, prepare};
+use std::alloc::{AllocError, Global};
+use std::sync::Wait;
+use std::thread::Threads;
+
+/// Solves an instance, and writes the certificate of its plan.
+fn solve_instance<R: Threads + Wait + Sync, G: Gate + Sync, K: Sink>(
+    rt: &R,
+    alloc: Global,
+    instance: &Instance,
+    options: Options,
+    gate: &G,
+    out: &mut K,
+) -> Result<(), ToolFault>
+    requires { K.has_failed out.old ≡ false }
+    ensures written { OnOk result (Wrote (AnswersPlan instance.now options) (K.taken out.old) (K.taken out.new)) }
+    ensures lawful { OnOk result (WroteCertificate instance.now (K.taken out.old) (K.taken out.new)) }
+    ensures ended { IfErr result (EndsAlone (out.new ≡ out.old) (AnswersPlan instance.now options)
+        (K.taken out.old) (K.taken out.new)) }
+    ensures write_device { IsErrOf result (ToolFault.Write write.Device) ↔ (K.has_failed out.new ≡ true) }
+{
+    let plan = prepare(alloc, instance, options)?;
+    let report = solve(rt, alloc, &plan, gate)?;
+    write_certificate(&plan, &report.verdict, out)?;
+    Ok(())
+}
+
+/// The options of four numbers; or the first fault, that of the version last.
+fn options_of(workers: u32, depth: u32, budget: u32, version: u32) -> Result<Options, OptionFault>
+    ensures { result ≡ asked_options workers depth budget version }
+{
+    let options = Options::new(workers, depth, budget)?;
+    options.with_version(version)
+}
+
+/// The instance, or the mirrored one where that is asked for.
+fn turned(alloc: Global, instance: Instance, mirror: bool) -> Result<Instance, AllocError>
+    ensures { IfOk result (λ turned. turned ≡ mirrored_if mirror instance) }
+{
+    if mirror {
+        return instance.mirrored(alloc);
+    }
+    Ok(instance)
+}
+
+/// Solves the block that an index names with so many workers, and writes the certificate of its plan, in a
+/// version; with `mirror` that of the mirrored instance.
+pub fn run_solve<R: Threads + Wait + Sync, S: Source, G: Gate + Sync, K: Sink>(
+    rt: &R,
+    alloc: Global,
+    file: &mut S,
+    index: u32,
+    workers: u32,
+    depth: u32,
+    budget: u32,
+    version: u32,
+    mirror: bool,
+    gate: &G,
+    out: &mut K,
+) -> Result<(), ToolFault>
+    requires file_works { S.has_failed file.old ≡ false }
+    requires out_works { K.has_failed out.old ≡ false }
+    ensures written { OnOk result (Came most_text
+        (λ text. Wrote (AnswersSolve index workers depth budget version mirror text)
+        (K.taken out.old) (K.taken out.new))
+        (S.given file.old) (S.given file.new) (S.has_ended file.new)) }
+    ensures lawful { OnOk result (Came most_text (λ text.
+        (block : Block) × Picks text index (Ok block)
+        × WroteCertificate (mirrored_if mirror block.instance) (K.taken out.old) (K.taken out.new))
+        (S.given file.old) (S.given file.new) (S.has_ended file.new)) }
+    ensures ended { IfErr result (Ends (out.new ≡ out.old) most_text
+        (AnswersSolve index workers depth budget version mirror) (S.given file.old) (S.given file.new)
+        (S.has_ended file.new) (K.taken out.old) (K.taken out.new)) }
+    ensures read_device { IsErrOf result (ToolFault.Read read.Device) ↔ (S.has_failed file.new ≡ true) }
+    ensures write_device { IsErrOf result (ToolFault.Write write.Device) ↔ (K.has_failed out.new ≡ true) }
+    ensures stands { Grows (S.given file.old) (S.given file.new) }
+{
+    let block = read_block(alloc, file, index)?;
+    let options = options_of(workers, depth, budget, version)?;
+    let instance = turned(alloc, block.instance, mirror)?;
+    solve_instance(rt, alloc, &instance, options, gate, out)
+}
