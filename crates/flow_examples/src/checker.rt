@@ -1,6 +1,6 @@
 //! The checker.
 
-use crate::instances::{three_machines, two_machines};
+use crate::instances::{CERTIFICATE_AT_DEPTH_0, three_machines, two_machines};
 use flow_cert::{CheckFault, check};
 use flow_core::Instance;
 use std::alloc::Global;
@@ -8,9 +8,6 @@ use std::test::Fail;
 
 /// The first line of each certificate.
 const TITLE: &[u8] = b"flowshop certificate 1\n";
-
-/// The certificate of the instance with three machines at depth 0.
-const AT_DEPTH_0: [u8; 50] = *b"flowshop certificate 1\n3 3 0\n12\n3 1 2\n+BC++.B\nend\n";
 
 /// The text of these parts.
 fn joined(alloc: Global, parts: &[&[u8]]) -> Result<Vec<u8>, Fail> {
@@ -147,7 +144,7 @@ fn lines_make_the_certificate(rt: HostRuntime) -> Result<(), Fail> {
     let alloc = rt.alloc();
     for (index, line) in LINES_AT_DEPTH_0.iter().enumerate() {
         let text = with_line(alloc, index + 1, line)?;
-        assert_eq!(rt; text.as_slice(), AT_DEPTH_0.as_slice());
+        assert_eq!(rt; text.as_slice(), CERTIFICATE_AT_DEPTH_0.as_slice());
     }
     Ok(())
 }
@@ -291,7 +288,7 @@ fn checker_names_first_fault_of_each_prefix(rt: HostRuntime) -> Result<(), Fail>
     let alloc = rt.alloc();
     let instance = three_machines(alloc)?;
     for length in 0..50 {
-        let found = check(alloc, &instance, &AT_DEPTH_0[..length]);
+        let found = check(alloc, &instance, &CERTIFICATE_AT_DEPTH_0[..length]);
         assert_eq!(rt; found, Err(fault_of_prefix(length)), "at {length} bytes");
     }
     Ok(())
@@ -304,7 +301,7 @@ fn checker_accepts_one_of_all_changed_bytes(rt: HostRuntime) -> Result<(), Fail>
     let mut accepted: u64 = 0;
     for place in 0..50 {
         for change in 1..=255u8 {
-            let mut text = AT_DEPTH_0;
+            let mut text = CERTIFICATE_AT_DEPTH_0;
             text[place] ^= change;
             if let Ok(value) = check(alloc, &instance, &text) {
                 accepted = accepted.saturating_add(1);

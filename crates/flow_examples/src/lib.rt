@@ -1,4 +1,5 @@
-//! Worked examples, as tests of the public calls of the libraries.
+//! Worked examples: two instances with what they should give, for other crates too, and tests of the public calls of
+//! the libraries.
 #![tactic(auto)]
 
 #[cfg(test)]
@@ -6,11 +7,13 @@ mod bounds;
 #[cfg(test)]
 mod bytes;
 #[cfg(test)]
+mod changed_text;
+#[cfg(test)]
 mod checker;
 #[cfg(test)]
 mod greatest;
-#[cfg(test)]
 mod instances;
+mod outcomes;
 #[cfg(test)]
 mod search;
 #[cfg(test)]
@@ -19,3 +22,9 @@ mod text;
 mod values;
 #[cfg(test)]
 mod writer;
+
+pub use instances::{
+    CERTIFICATE_AT_DEPTH_0, GENERATED_TEXT, THREE_MACHINES_TEXT, TREES_AT_DEPTH_1,
+    TWO_MACHINES_TEXT, WEAK_CERTIFICATE, three_machines, two_machines,
+};
+pub use outcomes::{AMPLE, TIGHT, all_outcomes, is_verdict};

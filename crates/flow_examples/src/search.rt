@@ -1,20 +1,12 @@
 //! Options, plans, outcomes and verdicts.
 
-ghost use Rattle.std.specs.Prelude.{◌≡◌, ℕ, length, vec_len, IfOk};
-ghost use Rattle.flow_search.specs.Plans.{prefixes_of};
-ghost use Rattle.flow_search.specs.Outcomes.{AreLawful};
-
-use crate::instances::{three_machines, two_machines};
+use crate::instances::{TREES_AT_DEPTH_1, three_machines, two_machines};
+use crate::outcomes::{AMPLE, TIGHT, all_outcomes, is_verdict};
 use flow_core::Instance;
 use flow_search::{
-    OptionFault, Options, Outcome, Plan, PlanFault, RunFault, Verdict, answer, conclude, prepare,
-    solve_plain,
+    OptionFault, Options, Outcome, PlanFault, RunFault, answer, conclude, prepare, solve_plain,
 };
-use std::alloc::{AllocError, Global};
 use std::test::Fail;
-
-/// A budget that no tree exceeds.
-const AMPLE: u32 = 1_000_000;
 
 #[test]
 fn options_name_first_fault(rt: HostRuntime) -> Result<(), Fail> {
@@ -91,13 +83,12 @@ fn answer_succeeds(rt: HostRuntime) -> Result<(), Fail> {
     let instance = three_machines(alloc)?;
     let plan = prepare(alloc, &instance, Options::new(1, 1, AMPLE)?)?;
     assert!(rt; plan.prefixes() == 3);
-    let trees: [&[u8]; 2] = [b"B", b"C"];
     for number in 0..2u32 {
         let Outcome::Done { best, tree } = answer(alloc, &plan, number) else {
             return Err(Fail::from("a prefix was not answered"));
         };
         assert!(rt; best.is_none());
-        assert_eq!(rt; tree.as_slice(), trees[number as usize]);
+        assert_eq!(rt; tree.as_slice(), TREES_AT_DEPTH_1[number as usize]);
     }
     let Outcome::Done { best, tree } = answer(alloc, &plan, 2) else {
         return Err(Fail::from("the last prefix was not answered"));
@@ -105,31 +96,8 @@ fn answer_succeeds(rt: HostRuntime) -> Result<(), Fail> {
     let best = best.ok_or("no best")?;
     assert_eq!(rt; best.value, 12);
     assert_eq!(rt; best.sequence.jobs(), [3, 1, 2].as_slice());
-    assert_eq!(rt; tree.as_slice(), b"++.B".as_slice());
+    assert_eq!(rt; tree.as_slice(), TREES_AT_DEPTH_1[2]);
     Ok(())
-}
-
-/// The outcomes of all prefixes in order.
-fn all_outcomes(alloc: Global, plan: &Plan) -> Result<Vec<Outcome>, AllocError>
-    ensures count { IfOk result (λ outcomes. vec_len outcomes ≡ length (prefixes_of plan.now)) }
-    ensures lawful { IfOk result (λ outcomes. AreLawful plan.now outcomes.items) }
-{
-    let mut outcomes = Vec::new(alloc);
-    for number in 0..plan.prefixes() {
-        outcomes.push(answer(alloc, plan, number))?;
-    }
-    Ok(outcomes)
-}
-
-/// Whether a verdict has this value, this sequence and these trees.
-fn is_verdict(verdict: &Verdict, value: u64, sequence: &[u16], trees: &[&[u8]]) -> bool {
-    let mut same = verdict.value == value
-        && verdict.sequence.jobs() == sequence
-        && verdict.trees.len() == trees.len();
-    for (tree, expected) in verdict.trees.iter().zip(trees) {
-        same = same && tree.as_slice() == *expected;
-    }
-    same
 }
 
 #[test]
@@ -138,8 +106,8 @@ fn conclude_takes_the_outcomes_of_all_prefixes(rt: HostRuntime) -> Result<(), Fa
     let instance = three_machines(alloc)?;
     let plan = prepare(alloc, &instance, Options::new(1, 1, AMPLE)?)?;
     let verdict = conclude(alloc, &plan, all_outcomes(alloc, &plan)?)?;
-    assert!(rt; is_verdict(&verdict, 12, &[3, 1, 2], &[b"B", b"C", b"++.B"]));
-    let tight = prepare(alloc, &instance, Options::new(1, 1, 3)?)?;
+    assert!(rt; is_verdict(&verdict, 12, &[3, 1, 2], &TREES_AT_DEPTH_1));
+    let tight = prepare(alloc, &instance, Options::new(1, 1, TIGHT)?)?;
     match conclude(alloc, &tight, all_outcomes(alloc, &tight)?) {
         Ok(_) => return Err(Fail::from("a verdict beyond the budget")),
         Err(fault) => assert_eq!(rt; fault, RunFault::OverBudget(2)),
@@ -153,7 +121,7 @@ fn solve_plain_gives_the_worked_verdicts(rt: HostRuntime) -> Result<(), Fail> {
     let three = three_machines(alloc)?;
     let rows: [&[&[u8]]; 4] = [
         &[b"+BC++.B"],
-        &[b"B", b"C", b"++.B"],
+        &TREES_AT_DEPTH_1,
         &[b"B", b"B", b"C", b"B", b"+.", b"B"],
         &[b".", b".", b".", b".", b".", b"."],
     ];
@@ -180,13 +148,13 @@ fn solve_plain_gives_the_worked_verdicts(rt: HostRuntime) -> Result<(), Fail> {
 fn solve_plain_keeps_to_the_budget(rt: HostRuntime) -> Result<(), Fail> {
     let alloc = rt.alloc();
     let instance = three_machines(alloc)?;
-    let tight = prepare(alloc, &instance, Options::new(1, 1, 3)?)?;
+    let tight = prepare(alloc, &instance, Options::new(1, 1, TIGHT)?)?;
     match solve_plain(alloc, &tight) {
         Ok(_) => return Err(Fail::from("a verdict beyond the budget")),
         Err(fault) => assert_eq!(rt; fault, RunFault::OverBudget(2)),
     }
-    let enough = prepare(alloc, &instance, Options::new(1, 1, 4)?)?;
+    let enough = prepare(alloc, &instance, Options::new(1, 1, TIGHT + 1)?)?;
     let verdict = solve_plain(alloc, &enough)?;
-    assert!(rt; is_verdict(&verdict, 12, &[3, 1, 2], &[b"B", b"C", b"++.B"]));
+    assert!(rt; is_verdict(&verdict, 12, &[3, 1, 2], &TREES_AT_DEPTH_1));
     Ok(())
 }

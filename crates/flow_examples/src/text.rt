@@ -1,6 +1,6 @@
 //! Benchmark text: what is read, the first fault, and what is written.
 
-use crate::instances::{TWO_MACHINES_TEXT, two_machines};
+use crate::instances::{GENERATED_TEXT, TWO_MACHINES_TEXT, two_machines};
 use flow_core::{Block, Instance, TextFault, block_text, generate, read_blocks};
 use std::alloc::Global;
 use std::test::Fail;
@@ -100,12 +100,7 @@ fn block_is_written_in_one_form_and_read_again(rt: HostRuntime) -> Result<(), Fa
         instance: generate(alloc, 2, 2, 1)?,
     };
     let text = block_text(alloc, &block)?;
-    assert_eq!(rt;
-        text.as_slice(),
-        b"number of jobs, number of machines, initial seed, upper bound and lower bound :\n\
-        2 2 1 122 122\nprocessing times :\n1 14\n75 46\n"
-            .as_slice()
-    );
+    assert_eq!(rt; text.as_slice(), GENERATED_TEXT);
     let again = only_block(alloc, text.as_slice())?;
     assert_eq!(rt; (again.seed, again.upper, again.lower), (1, 122, 122));
     assert!(rt; again.instance == block.instance);

@@ -2,7 +2,7 @@
 
 ghost use Rattle.std.specs.Prelude.{◌≡◌, false};
 
-use crate::instances::{three_machines, two_machines};
+use crate::instances::{CERTIFICATE_AT_DEPTH_0, three_machines, two_machines};
 use flow_cert::write_certificate;
 use flow_core::{Instance, MemorySink, WriteFault};
 use flow_search::{Options, prepare, solve_plain};
@@ -47,10 +47,7 @@ fn sink_of_fifty_bytes_takes_a_certificate_of_fifty(rt: HostRuntime) -> Result<(
     let mut sink = MemorySink::new(alloc, 50);
     let written = write(alloc, &three_machines(alloc)?, 0, &mut sink)?;
     assert_eq!(rt; written, Ok(()));
-    assert_eq!(rt;
-        sink.bytes(),
-        b"flowshop certificate 1\n3 3 0\n12\n3 1 2\n+BC++.B\nend\n".as_slice()
-    );
+    assert_eq!(rt; sink.bytes(), CERTIFICATE_AT_DEPTH_0.as_slice());
     Ok(())
 }
 

@@ -6,7 +6,7 @@ use Rattle.std.proofs.Math.Seq.{get_or-append_seam}
 use Rattle.flow_search.specs.Plans.{Planned}
 use Rattle.flow_search.specs.Outcomes.{IsLawful, AreLawful}
 use Rattle.flow_search.specs.declared.outcome.Outcome.{Outcome}
-use Rattle.flow_examples.proofs.search.all_outcomes.Goals as goal
+use Rattle.flow_examples.proofs.outcomes.all_outcomes.Goals as goal
 
 -- one more outcome
 one-more : (plan : Planned) (outcomes : List Outcome) (next : Outcome) → AreLawful plan outcomes →

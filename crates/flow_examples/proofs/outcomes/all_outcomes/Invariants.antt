@@ -1,6 +1,6 @@
 use Rattle.std.proofs.Common.{◌≡◌, length}
 use Rattle.flow_search.specs.Outcomes.{AreLawful}
-use Rattle.flow_examples.proofs.search.all_outcomes.Given as goal
+use Rattle.flow_examples.proofs.outcomes.all_outcomes.Given as goal
 
 abbrev pub invariant-loop-number : goal.invariant-loop-number
 invariant-loop-number l = record {

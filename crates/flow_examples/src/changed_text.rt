@@ -1,0 +1,236 @@
+//! Texts that differ in a byte or two from one with two blocks, beside a plain reading of each.
+
+use flow_core::{Block, TextFault, read_blocks};
+use std::alloc::{AllocError, Global};
+use std::test::Fail;
+
+/// Two blocks, whose numbers are spread over lines. The seed is the greatest number, and one time is near the limit.
+const TWO_BLOCKS: [u8; 57] =
+    *b"a\n2 1 4294967295\t9\n8\r\n\nb c\n899999 06\n d\n1 2 0 10 3\ne\n3\n4\n";
+
+/// What the next line that is not blank should bring.
+#[derive(Clone, Copy, PartialEq, Drop)]
+enum Wanted {
+    HeadLabel,
+    Head,
+    TimesLabel,
+    Times,
+}
+
+/// A reading of the first lines of a text.
+#[derive(Drop)]
+struct Reading {
+    wanted: Wanted,
+    /// How many numbers the group still lacks.
+    missing: usize,
+    /// The numbers so far, of heads and times.
+    numbers: Vec<u32>,
+}
+
+impl Reading {
+    /// The fault of a line that does not bring what is wanted.
+    fn fault(&self, line: usize) -> TextFault {
+        match self.wanted {
+            Wanted::HeadLabel | Wanted::TimesLabel => TextFault::Label(line),
+            Wanted::Head => TextFault::Head(line),
+            Wanted::Times => TextFault::Times(line),
+        }
+    }
+
+    fn read_label(&mut self, line: usize) -> Result<(), TextFault> {
+        match self.wanted {
+            Wanted::HeadLabel => {
+                self.wanted = Wanted::Head;
+                self.missing = 5;
+            }
+            Wanted::TimesLabel => {
+                self.wanted = Wanted::Times;
+                self.missing = self.size();
+            }
+            _ => return Err(self.fault(line)),
+        }
+        Ok(())
+    }
+
+    fn read_numbers(&mut self, numbers: &[u32], line: usize) -> Result<(), TextFault> {
+        if numbers.len() > self.missing {
+            return Err(self.fault(line));
+        }
+        if self.wanted == Wanted::Times && numbers.iter().any(|time| *time > 999_999) {
+            return Err(TextFault::Limits(line));
+        }
+        self.numbers
+            .extend_from_slice(numbers)
+            .map_err(|_| TextFault::Memory)?;
+        self.missing -= numbers.len();
+        if self.missing > 0 {
+            return Ok(());
+        }
+        if self.wanted == Wanted::Times {
+            self.wanted = Wanted::HeadLabel;
+            return Ok(());
+        }
+        self.wanted = Wanted::TimesLabel;
+        if self.size() == 0 {
+            return Err(TextFault::Limits(line));
+        }
+        Ok(())
+    }
+
+    /// How many times follow a head, whose numbers were the last; 0 where its sizes are outside the limits.
+    fn size(&self) -> usize {
+        match self.numbers.as_slice() {
+            [.., jobs, machines, _, _, _] if *jobs <= 800 && *machines <= 26 => {
+                (*jobs as usize).saturating_mul(*machines as usize)
+            }
+            _ => 0,
+        }
+    }
+}
+
+/// What stands between the blanks of a line.
+fn words_of(alloc: Global, line: &[u8]) -> Result<Vec<&[u8]>, AllocError> {
+    let mut words = Vec::new(alloc);
+    for word in line.split(|byte| *byte == b' ' || *byte == b'\t' || *byte == b'\r') {
+        if !word.is_empty() {
+            words.push(word)?;
+        }
+    }
+    Ok(words)
+}
+
+/// The numbers that these words are.
+fn numbers_of(alloc: Global, words: &[&[u8]], line: usize) -> Result<Vec<u32>, TextFault> {
+    for word in words {
+        if !word.iter().all(|byte| byte.is_ascii_digit()) {
+            return Err(TextFault::Byte(line));
+        }
+    }
+    let mut numbers = Vec::new(alloc);
+    for word in words {
+        match str::from_utf8(word).unwrap_or("").parse::<u32>() {
+            Ok(number) => numbers.push(number).map_err(|_| TextFault::Memory)?,
+            Err(_) => return Err(TextFault::Number(line)),
+        }
+    }
+    Ok(numbers)
+}
+
+/// Reads a text line by line.
+fn plain_reading(alloc: Global, text: &[u8]) -> Result<Vec<u32>, TextFault> {
+    let mut reading = Reading {
+        wanted: Wanted::HeadLabel,
+        missing: 0,
+        numbers: Vec::new(alloc),
+    };
+    let mut line: usize = 0;
+    for bytes in text.split(|byte| *byte == b'\n') {
+        line = line.saturating_add(1);
+        let words = words_of(alloc, bytes).map_err(|_| TextFault::Memory)?;
+        match words.first() {
+            None => {}
+            Some([b'0'..=b'9', ..]) => {
+                if reading.wanted == Wanted::HeadLabel || reading.wanted == Wanted::TimesLabel {
+                    return Err(reading.fault(line));
+                }
+                let numbers = numbers_of(alloc, words.as_slice(), line)?;
+                reading.read_numbers(numbers.as_slice(), line)?;
+            }
+            Some(_) => reading.read_label(line)?,
+        }
+    }
+    // What stands behind the last LF is a line only where it has bytes.
+    let lines = if text.ends_with(b"\n") || text.is_empty() {
+        line
+    } else {
+        line.saturating_add(1)
+    };
+    match reading.wanted {
+        Wanted::HeadLabel if reading.numbers.is_empty() => Err(TextFault::NoBlock),
+        Wanted::HeadLabel => Ok(reading.numbers),
+        _ => Err(reading.fault(lines)),
+    }
+}
+
+/// The numbers of blocks, of heads and times.
+fn numbers_of_blocks(alloc: Global, blocks: &[Block]) -> Result<Vec<u32>, AllocError> {
+    let mut numbers = Vec::new(alloc);
+    for block in blocks {
+        let instance = &block.instance;
+        numbers.push(u32::from(instance.jobs()))?;
+        numbers.push(u32::from(instance.machines()))?;
+        numbers.extend_from_slice(&[block.seed, block.upper, block.lower])?;
+        for machine in 1..instance.machines() + 1 {
+            for job in 1..instance.jobs() + 1 {
+                numbers.push(instance.time(job, machine))?;
+            }
+        }
+    }
+    Ok(numbers)
+}
+
+/// Whether a text is read; an error where `read_blocks` and the plain reading differ.
+fn is_read(alloc: Global, text: &[u8]) -> Result<bool, Fail> {
+    let differs = "another reading than the plain one";
+    let plain = plain_reading(alloc, text);
+    let blocks = match read_blocks(alloc, text) {
+        Ok(blocks) => blocks,
+        Err(fault) => {
+            return match plain {
+                Err(found) if found == fault => Ok(false),
+                _ => Err(Fail::from(differs)),
+            };
+        }
+    };
+    let found = numbers_of_blocks(alloc, blocks.as_slice())?;
+    match plain {
+        Ok(numbers) if numbers.as_slice() == found.as_slice() => Ok(true),
+        _ => Err(Fail::from(differs)),
+    }
+}
+
+#[test]
+fn changed_bytes_are_read_as_by_the_plain_reading(rt: HostRuntime) -> Result<(), Fail> {
+    let alloc = rt.alloc();
+    assert!(rt; is_read(alloc, &TWO_BLOCKS)?);
+    let mut count: usize = 0;
+    for place in 0..57 {
+        for change in 1..=255u8 {
+            let mut text = TWO_BLOCKS;
+            text[place] ^= change;
+            if is_read(alloc, &text)? {
+                count = count.saturating_add(1);
+            }
+        }
+    }
+    assert_eq!(rt; count, 2_259);
+    Ok(())
+}
+
+#[test]
+fn lost_doubled_and_swapped_bytes_are_read_as_by_the_plain_reading(
+    rt: HostRuntime,
+) -> Result<(), Fail> {
+    let alloc = rt.alloc();
+    let mut counts = [0usize; 3];
+    for place in 0..57 {
+        let (before, from) = TWO_BLOCKS.split_at(place);
+        let mut lost = Vec::from_slice(alloc, before)?;
+        lost.extend_from_slice(&from[1..])?;
+        let mut doubled = Vec::from_slice(alloc, before)?;
+        doubled.push(from[0])?;
+        doubled.extend_from_slice(from)?;
+        let mut swapped = TWO_BLOCKS;
+        swapped.swap(place, (place + 1) % 57);
+        for (count, text) in counts
+            .iter_mut()
+            .zip([lost.as_slice(), doubled.as_slice(), &swapped])
+        {
+            if is_read(alloc, text)? {
+                *count = count.saturating_add(1);
+            }
+        }
+    }
+    assert_eq!(rt; counts, [28, 37, 25]);
+    Ok(())
+}
