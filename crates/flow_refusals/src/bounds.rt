@@ -1,8 +1,8 @@
 //! The starting sequence.
 
-use crate::instances::three_machines;
 use crate::trouble::{Trouble, confirm};
 use flow_bound::{insertion_spans, neh};
+use flow_examples::three_machines;
 use std::alloc::Global;
 
 /// `neh`.

@@ -1,18 +1,11 @@
 //! The writer and the checker of certificates.
 
-use crate::instances::three_machines;
-use crate::search::AMPLE;
 use crate::trouble::{Trouble, confirm};
 use flow_cert::{CheckFault, check, write_certificate};
 use flow_core::MemorySink;
+use flow_examples::{AMPLE, CERTIFICATE_AT_DEPTH_0, WEAK_CERTIFICATE, three_machines};
 use flow_search::{Options, prepare, solve_plain};
 use std::alloc::Global;
-
-/// The certificate of the instance with three machines at depth 0.
-const AT_DEPTH_0: &[u8] = b"flowshop certificate 1\n3 3 0\n12\n3 1 2\n+BC++.B\nend\n";
-
-/// A text at depth 1 whose third tree has a letter with a bound below the value.
-const WEAK: &[u8] = b"flowshop certificate 1\n3 3 1\n12\n3 1 2\nB\nC\n++.A\nend\n";
 
 /// `write_certificate` into a sink in memory. Where it fails, memory ran out, since the sink has room.
 pub(crate) fn certificate_is_written(alloc: Global) -> Result<(), Trouble> {
@@ -25,15 +18,18 @@ pub(crate) fn certificate_is_written(alloc: Global) -> Result<(), Trouble> {
         confirm(sink.bytes().is_empty(), "write_certificate")?;
         return Err(Trouble::Refused);
     }
-    confirm(sink.bytes() == AT_DEPTH_0, "write_certificate")
+    confirm(
+        sink.bytes() == CERTIFICATE_AT_DEPTH_0.as_slice(),
+        "write_certificate",
+    )
 }
 
 /// `check` of a lawful certificate and of a text that is none.
 pub(crate) fn certificates_are_checked(alloc: Global) -> Result<(), Trouble> {
     let instance = three_machines(alloc)?;
-    let value = check(alloc, &instance, AT_DEPTH_0)?;
+    let value = check(alloc, &instance, &CERTIFICATE_AT_DEPTH_0)?;
     confirm(value == 12, "check of a certificate")?;
-    match check(alloc, &instance, WEAK) {
+    match check(alloc, &instance, WEAK_CERTIFICATE) {
         Err(CheckFault::Weak(7)) => Ok(()),
         Err(CheckFault::Memory) => Err(Trouble::Refused),
         _ => Err(Trouble::Wrong("check of a text with a weak letter")),

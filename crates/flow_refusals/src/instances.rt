@@ -1,24 +1,9 @@
 //! Instances, sequences and the generator.
 
-ghost use Rattle.std.specs.Prelude.{◌≡◌, IfOk};
-
 use crate::trouble::{Trouble, confirm};
-use flow_core::{Instance, InstanceFault, Sequence, generate, makespan, rows};
+use flow_core::{Instance, Sequence, generate, makespan, rows};
+use flow_examples::{three_machines, two_machines};
 use std::alloc::Global;
-
-/// Three jobs on three machines, with rows `4 0 0`, `0 8 2` and `4 0 1`.
-pub(crate) fn three_machines(alloc: Global) -> Result<Instance, InstanceFault>
-    ensures { IfOk result (λ instance. (instance.jobs ≡ 3) × (instance.machines ≡ 3)) }
-{
-    Instance::new(alloc, 3, 3, &[4, 0, 0, 0, 8, 2, 4, 0, 1])
-}
-
-/// Three jobs on two machines, with rows `3 1 2` and `2 4 2`.
-pub(crate) fn two_machines(alloc: Global) -> Result<Instance, InstanceFault>
-    ensures { IfOk result (λ instance. (instance.jobs ≡ 3) × (instance.machines ≡ 2)) }
-{
-    Instance::new(alloc, 3, 2, &[3, 1, 2, 2, 4, 2])
-}
 
 /// `Instance::new` and `Sequence::new`.
 pub(crate) fn instances_are_made(alloc: Global) -> Result<(), Trouble> {

@@ -1,5 +1,6 @@
-//! Makes each library call that may return that memory ran out, on worked instances, and compares what it returns with
-//! what it should. A group of calls ends at a call for which memory ran out, and the next group follows.
+//! Makes each library call that may return that memory ran out, and runs each command, on worked instances. It compares
+//! what they return and write with what they should. A group of calls ends at a call for which memory ran out, and the
+//! next group follows.
 //!
 //! The status is 0 where each call returned what it should. It is 1 where memory ran out in some call, or a worker
 //! could not be started, and all other calls returned what they should. It is 2 where a call returned anything else.
@@ -10,6 +11,7 @@
 
 mod bounds;
 mod certificates;
+mod commands;
 mod growths;
 mod instances;
 mod lanes;
@@ -32,7 +34,7 @@ const REFUSED: u8 = 1;
 const WRONG: u8 = 2;
 
 /// How many groups of calls there are.
-const GROUPS: usize = 16;
+const GROUPS: usize = 23;
 
 /// Makes all calls: each group, also where one before it did not return what it should.
 fn found<T: Threads + Wait + Sync>(threads: &T, alloc: Global) -> [Result<(), Trouble>; GROUPS] {
@@ -53,6 +55,13 @@ fn found<T: Threads + Wait + Sync>(threads: &T, alloc: Global) -> [Result<(), Tr
         certificates::certificates_are_checked(alloc),
         lanes::lane_is_used(alloc),
         workers::workers_solve(threads, alloc),
+        commands::span_is_run(alloc),
+        commands::gen_is_run(alloc),
+        commands::neh_is_run(alloc),
+        commands::solve_is_run(threads, alloc),
+        commands::solve_is_refused(threads, alloc),
+        commands::check_is_run(alloc),
+        commands::check_is_refused(alloc),
     ]
 }
 

@@ -1,34 +1,13 @@
 //! Plans, outcomes and verdicts.
 
-ghost use Rattle.std.specs.Prelude.{◌≡◌, length, vec_len, IfOk};
-ghost use Rattle.flow_search.specs.Plans.{prefixes_of};
-ghost use Rattle.flow_search.specs.Outcomes.{AreLawful};
-
-use crate::instances::three_machines;
 use crate::trouble::{Trouble, confirm};
-use flow_search::{
-    Options, Outcome, Plan, RunFault, Verdict, answer, conclude, prepare, solve_plain,
-};
-use std::alloc::{AllocError, Global};
-
-/// A budget that no tree exceeds.
-pub(crate) const AMPLE: u32 = 1_000_000;
-
-/// A budget that the tree of the last prefix exceeds, at depth 1.
-pub(crate) const TIGHT: u32 = 3;
-
-/// The trees of the instance with three machines, at depth 1.
-const TREES: [&[u8]; 3] = [b"B", b"C", b"++.B"];
+use flow_examples::{AMPLE, TIGHT, TREES_AT_DEPTH_1, all_outcomes, is_verdict, three_machines};
+use flow_search::{Options, Outcome, RunFault, Verdict, answer, conclude, prepare, solve_plain};
+use std::alloc::Global;
 
 /// Whether a verdict is that of the instance with three machines, at depth 1.
 pub(crate) fn is_worked(verdict: &Verdict) -> bool {
-    let mut same = verdict.value == 12
-        && verdict.sequence.jobs() == [3, 1, 2].as_slice()
-        && verdict.trees.len() == TREES.len();
-    for (tree, expected) in verdict.trees.iter().zip(TREES) {
-        same = same && tree.as_slice() == expected;
-    }
-    same
+    is_verdict(verdict, 12, &[3, 1, 2], &TREES_AT_DEPTH_1)
 }
 
 /// `prepare` and `answer`. An answer that has no memory is a refusal.
@@ -40,7 +19,7 @@ pub(crate) fn prefixes_are_answered(alloc: Global) -> Result<(), Trouble> {
     for number in 0..plan.prefixes() {
         match answer(alloc, &plan, number) {
             Outcome::Done { best: _, tree } => {
-                let right = TREES
+                let right = TREES_AT_DEPTH_1
                     .get(number as usize)
                     .is_some_and(|expected| tree.as_slice() == *expected);
                 confirm(right, "answer")?;
@@ -50,18 +29,6 @@ pub(crate) fn prefixes_are_answered(alloc: Global) -> Result<(), Trouble> {
         }
     }
     Ok(())
-}
-
-/// The outcomes of all prefixes in order.
-fn all_outcomes(alloc: Global, plan: &Plan) -> Result<Vec<Outcome>, AllocError>
-    ensures count { IfOk result (λ outcomes. vec_len outcomes ≡ length (prefixes_of plan.now)) }
-    ensures lawful { IfOk result (λ outcomes. AreLawful plan.now outcomes.items) }
-{
-    let mut outcomes = Vec::new(alloc);
-    for number in 0..plan.prefixes() {
-        outcomes.push(answer(alloc, plan, number))?;
-    }
-    Ok(outcomes)
 }
 
 /// `conclude`.

@@ -1,32 +1,27 @@
 //! Benchmark text, sinks and sources.
 
-use crate::instances::two_machines;
 use crate::trouble::{Trouble, confirm};
 use flow_core::{MemorySink, MemorySource, Sink, block_text, put_all, read_all, read_blocks};
+use flow_examples::{TWO_MACHINES_TEXT, two_machines};
 use std::alloc::Global;
-
-/// The text of the instance with two machines.
-const TWO_MACHINES: &[u8] =
-    b"number of jobs, number of machines, initial seed, upper bound and lower bound :\n\
-    3 2 0 0 0\nprocessing times :\n3 1 2\n2 4 2\n";
 
 /// `read_blocks` and `block_text`.
 pub(crate) fn text_is_read(alloc: Global) -> Result<(), Trouble> {
-    let blocks = read_blocks(alloc, TWO_MACHINES)?;
+    let blocks = read_blocks(alloc, TWO_MACHINES_TEXT)?;
     let expected = two_machines(alloc)?;
     let [block] = blocks.as_slice() else {
         return Err(Trouble::Wrong("read_blocks"));
     };
     confirm(block.instance == expected, "read_blocks")?;
     let text = block_text(alloc, block)?;
-    confirm(text.as_slice() == TWO_MACHINES, "block_text")
+    confirm(text.as_slice() == TWO_MACHINES_TEXT, "block_text")
 }
 
 /// `read_all`.
 pub(crate) fn source_is_read(alloc: Global) -> Result<(), Trouble> {
-    let mut source = MemorySource::new(TWO_MACHINES, 7, None);
-    let bytes = read_all(alloc, &mut source, TWO_MACHINES.len())?;
-    confirm(bytes.as_slice() == TWO_MACHINES, "read_all")
+    let mut source = MemorySource::new(TWO_MACHINES_TEXT, 7, None);
+    let bytes = read_all(alloc, &mut source, TWO_MACHINES_TEXT.len())?;
+    confirm(bytes.as_slice() == TWO_MACHINES_TEXT, "read_all")
 }
 
 /// `put` of a sink in memory, by `put_all`. Where it fails, memory ran out, since the sink has room.
@@ -37,11 +32,11 @@ pub(crate) fn sink_takes_all(alloc: Global) -> Result<(), Trouble> {
         confirm(sink.bytes().is_empty(), "the first put of a sink in memory")?;
         return Err(Trouble::Refused);
     }
-    if put_all(&mut sink, TWO_MACHINES).is_err() {
+    if put_all(&mut sink, TWO_MACHINES_TEXT).is_err() {
         let right = sink.bytes() == b"flow ".as_slice();
         confirm(right, "the second put of a sink in memory")?;
         return Err(Trouble::Refused);
     }
-    let right = sink.bytes().starts_with(b"flow ") && sink.bytes().ends_with(TWO_MACHINES);
+    let right = sink.bytes().starts_with(b"flow ") && sink.bytes().ends_with(TWO_MACHINES_TEXT);
     confirm(right, "the puts of a sink in memory")
 }

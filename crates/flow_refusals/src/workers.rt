@@ -1,9 +1,9 @@
 //! Workers in threads.
 
-use crate::instances::three_machines;
-use crate::search::{AMPLE, TIGHT, is_worked};
+use crate::search::is_worked;
 use crate::trouble::{Trouble, confirm};
 use flow_core::Instance;
+use flow_examples::{AMPLE, TIGHT, three_machines};
 use flow_lanes::{lane, settle};
 use flow_pool::{Gate, Open, SolveFault, Task, WorkerEnds, serve, solve, solve_limited};
 use flow_search::{Options, Outcome, prepare};

@@ -1,5 +1,1 @@
-mod Certified
-mod Endings
 mod Ordered
-mod Small
-mod Solved

@@ -2,10 +2,10 @@
 use Rattle.std.proofs.Common.{◌≤◌, inl, ℕ, Bool, List, length, Option, Ok}
 use Rattle.flow_core.specs.declared.text.block.Block.{Block}
 use Rattle.flow_tool.specs.declared.command_line.Order.{Order}
-use Rattle.flow_tool.specs.Commands.{AnswersCheck, AnswersFor, Picks}
+use Rattle.flow_commands.specs.Commands.{AnswersCheck, AnswersFor, Picks}
 use Rattle.flow_tool.specs.internal.Asked.{AnswersOrder, WroteOrdered}
-use Rattle.flow_tool.specs.Limits.{most_certificate, most_text}
-use Rattle.flow_tool.specs.Runs.{Came, Wrote}
+use Rattle.flow_commands.specs.Limits.{most_certificate, most_text}
+use Rattle.flow_commands.specs.Runs.{Came, Wrote}
 
 -- the certificate is the one that was read
 pub wrote-for-certificate : (index : ℕ) (given gives : Option (List ℕ)) (ended : Bool)

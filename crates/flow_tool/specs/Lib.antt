@@ -1,5 +1,2 @@
-pub mod Limits
-pub mod Commands
-pub mod Runs
 pub mod Status
 pub mod internal

@@ -2,22 +2,17 @@
 
 ghost use Rattle.std.specs.Prelude.{◌≡◌, ◌≤◌, List, ℕ, length, false, Ok, OnOk, IfErr};
 ghost use Rattle.flow_core.specs.declared.text.block.Block.{Block};
-ghost use Rattle.flow_tool.specs.Commands.{AnswersCheck, AnswersFor, Picks};
+ghost use Rattle.flow_commands.specs.Commands.{AnswersCheck, AnswersFor, Picks};
 ghost use Rattle.flow_tool.specs.internal.Asked.{AnswersAsked, WroteOrdered};
-ghost use Rattle.flow_tool.specs.Limits.{most_certificate, most_text};
-ghost use Rattle.flow_tool.specs.Runs.{Came, Ends, Wrote, WroteLeast};
+ghost use Rattle.flow_commands.specs.Limits.{most_certificate, most_text};
+ghost use Rattle.flow_commands.specs.Runs.{Came, Ends, Wrote, WroteLeast};
 
 use crate::command_line::{OfBlock, Order, make_command, order_of};
-use crate::commands::check::run_check;
-use crate::commands::generate::run_gen;
-use crate::commands::neh::run_neh;
-use crate::commands::solve::run_solve;
-use crate::commands::span::run_span;
-use crate::fault::ToolFault;
 use crate::inputs::Inputs;
 use crate::stop::Stop;
 use clap::Error;
 use clap::error::ErrorKind;
+use flow_commands::{ToolFault, run_check, run_gen, run_neh, run_solve, run_span};
 use flow_core::{Sink, Source, put_all};
 use flow_pool::Open;
 use std::alloc::Global;

@@ -1,14 +1,9 @@
 //! The program: one command, over files or standard input.
 #![tactic(auto)]
 
-mod block;
 mod command_line;
-mod commands;
 mod dispatch;
-mod fault;
 mod inputs;
-mod limits;
-mod printed;
 mod status;
 mod stop;
 #[cfg(test)]

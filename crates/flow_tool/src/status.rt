@@ -3,8 +3,8 @@
 ghost use Rattle.std.specs.Prelude.{◌≡◌};
 ghost use Rattle.flow_tool.specs.Status.{exit_status};
 
-use crate::fault::ToolFault;
 use crate::stop::Stop;
+use flow_commands::ToolFault;
 
 /// Memory ran out, or what was given is refused.
 const REFUSED: u8 = 1;

@@ -3,7 +3,7 @@
 ghost use Rattle.std.specs.Prelude.{◌≡◌};
 ghost use Rattle.flow_tool.specs.declared.stop.Stop.TheVariants.{Fault, Memory};
 
-use crate::fault::ToolFault;
+use flow_commands::ToolFault;
 use std::alloc::AllocError;
 use thiserror::Error;
 

@@ -1,4 +1,4 @@
 //! The tests of the program.
 
-mod commands;
 mod dispatch;
+mod stop;

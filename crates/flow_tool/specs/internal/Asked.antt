@@ -4,10 +4,10 @@ use Rattle.flow_tool.specs.declared.command_line.OfBlock.{OfBlock}
 use Rattle.flow_tool.specs.declared.command_line.OfBlock.TheVariants.{Span, Neh, Solve}
 use Rattle.flow_tool.specs.declared.command_line.Order.{Order}
 use Rattle.flow_tool.specs.declared.command_line.Order.TheVariants as order
-use Rattle.flow_tool.specs.Commands.{Answer, AnswersCheck, AnswersFor, AnswersGen, AnswersNeh, AnswersSolve}
-use Rattle.flow_tool.specs.Commands.{AnswersSpan}
-use Rattle.flow_tool.specs.Limits.{most_certificate, most_text}
-use Rattle.flow_tool.specs.Runs.{Wrote}
+use Rattle.flow_commands.specs.Commands.{Answer, AnswersCheck, AnswersFor, AnswersGen, AnswersNeh, AnswersSolve}
+use Rattle.flow_commands.specs.Commands.{AnswersSpan}
+use Rattle.flow_commands.specs.Limits.{most_certificate, most_text}
+use Rattle.flow_commands.specs.Runs.{Wrote}
 
 -- what is answered for a text, by what a command line asks for of one of its blocks
 abbrev pub AnswersAsked : ℕ → OfBlock → List ℕ → Answer → Type 0

@@ -4,17 +4,36 @@ ghost use Rattle.std.specs.Prelude.{◌≡◌, false};
 
 use crate::command_line::{OfBlock, Order, make_command, order_of};
 use crate::dispatch::run_words;
-use crate::fault::ToolFault;
 use crate::inputs::Inputs;
 use crate::stop::Stop;
-use crate::tests::commands::{DEPTH_0, DEPTH_1, DEPTH_2, GENERATED, ROOM, THREE_MACHINES};
 use clap::error::ErrorKind;
+use flow_commands::ToolFault;
 use flow_core::{MemorySink, MemorySource, WriteFault};
 use std::alloc::{AllocError, Global};
 use std::cell::Cell;
 use std::sync::Wait;
 use std::test::Fail;
 use std::thread::Threads;
+
+/// How many bytes the output takes.
+const ROOM: usize = 100_000;
+
+/// The instance with three machines.
+const THREE_MACHINES: &[u8] = b"a\n3 3 0 0 0\nb\n4 0 0\n0 8 2\n4 0 1\n";
+
+/// Its certificate at depth 0.
+const DEPTH_0: &[u8] = b"flowshop certificate 1\n3 3 0\n12\n3 1 2\n+BC++.B\nend\n";
+
+/// Its certificate at depth 1.
+const DEPTH_1: &[u8] = b"flowshop certificate 1\n3 3 1\n12\n3 1 2\nB\nC\n++.B\nend\n";
+
+/// Its certificate at depth 2.
+const DEPTH_2: &[u8] = b"flowshop certificate 1\n3 3 2\n12\n3 1 2\nB\nB\nC\nB\n+.\nB\nend\n";
+
+/// What `gen` writes for two jobs, two machines and seed 1.
+const GENERATED: &[u8] =
+    b"number of jobs, number of machines, initial seed, upper bound and lower bound :\n\
+2 2 1 122 122\nprocessing times :\n1 14\n75 46\n";
 
 /// The instance with two machines, and then that with three.
 const BOTH: &[u8] = b"a\n3 2 0 0 0\nb\n3 1 2\n2 4 2\na\n3 3 0 0 0\nb\n4 0 0\n0 8 2\n4 0 1\n";

@@ -1,0 +1,4 @@
+mod Certified
+mod Endings
+mod Small
+mod Solved

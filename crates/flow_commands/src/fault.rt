@@ -1,0 +1,158 @@
+//! Why a command refused.
+
+ghost use Rattle.std.specs.Prelude.{◌≡◌};
+ghost use Rattle.flow_core.specs.declared.bytes.fault.ReadFault.TheVariants as read;
+ghost use Rattle.flow_core.specs.declared.text.fault.TextFault.TheVariants as text;
+ghost use Rattle.flow_core.specs.declared.sequence.SequenceFault.TheVariants as sequence;
+ghost use Rattle.flow_core.specs.declared.instance.InstanceFault.TheVariants as instance;
+ghost use Rattle.flow_search.specs.declared.plan.PlanFault.TheVariants as plan;
+ghost use Rattle.flow_pool.specs.declared.whole_run.SolveFault.TheVariants as solve;
+ghost use Rattle.flow_cert.specs.declared.fault.CheckFault.TheVariants as check;
+ghost use Rattle.flow_commands.specs.declared.fault.ToolFault.TheVariants.{Memory, Read, Text, Sequence, Instance};
+ghost use Rattle.flow_commands.specs.declared.fault.ToolFault.TheVariants.{Choice, Plan, Run, Certificate, Write};
+
+use flow_cert::CheckFault;
+use flow_core::{InstanceFault, ReadFault, SequenceFault, TextFault, WriteFault};
+use flow_pool::SolveFault;
+use flow_search::{OptionFault, PlanFault};
+use std::alloc::AllocError;
+use thiserror::Error;
+
+/// Why a command refused, in the order in which it is tested; its text is the line on standard error.
+#[derive(Clone, Copy, Debug, PartialEq, Eq, Error)]
+pub enum ToolFault {
+    /// Memory ran out, in whatever layer.
+    #[error("refused memory")]
+    Memory,
+    /// A source refused, or gave more bytes than its limit.
+    #[error("failed read {0}")]
+    Read(ReadFault),
+    /// The text has no reading.
+    #[error("refused text {0}")]
+    Text(TextFault),
+    /// The text has no block of this number.
+    #[error("refused index")]
+    Index,
+    /// The jobs are no sequence of the instance.
+    #[error("refused sequence {0}")]
+    Sequence(SequenceFault),
+    /// No instance is generated.
+    #[error("refused instance {0}")]
+    Instance(InstanceFault),
+    /// The numbers are no options.
+    #[error("refused option {0}")]
+    Choice(OptionFault),
+    /// The instance and the options have no plan.
+    #[error("refused plan {0}")]
+    Plan(PlanFault),
+    /// A worker could not be started, or a tree is longer than the budget.
+    #[error("refused run {0}")]
+    Run(SolveFault),
+    /// The bytes are no lawful certificate of the instance.
+    #[error("refused certificate {0}")]
+    Certificate(CheckFault),
+    /// The sink refused.
+    #[error("failed write {0}")]
+    Write(WriteFault),
+}
+
+impl From<AllocError> for ToolFault {
+    ghost from_gives = { λ _ given. given ≡ Memory };
+
+    fn from(_error: AllocError) -> ToolFault {
+        ToolFault::Memory
+    }
+}
+
+impl From<ReadFault> for ToolFault {
+    ghost from_gives = { λ fault given. given ≡ (elim fault [ read.Memory ↦ Memory | other ↦ Read other ]) };
+
+    fn from(fault: ReadFault) -> ToolFault {
+        match fault {
+            ReadFault::Memory => ToolFault::Memory,
+            _ => ToolFault::Read(fault),
+        }
+    }
+}
+
+impl From<TextFault> for ToolFault {
+    ghost from_gives = { λ fault given. given ≡ (elim fault [ text.Memory ↦ Memory | other ↦ Text other ]) };
+
+    fn from(fault: TextFault) -> ToolFault {
+        match fault {
+            TextFault::Memory => ToolFault::Memory,
+            _ => ToolFault::Text(fault),
+        }
+    }
+}
+
+impl From<SequenceFault> for ToolFault {
+    ghost from_gives = { λ fault given. given ≡ (elim fault [ sequence.Memory ↦ Memory | other ↦ Sequence other ]) };
+
+    fn from(fault: SequenceFault) -> ToolFault {
+        match fault {
+            SequenceFault::Memory => ToolFault::Memory,
+            _ => ToolFault::Sequence(fault),
+        }
+    }
+}
+
+impl From<InstanceFault> for ToolFault {
+    ghost from_gives = { λ fault given. given ≡ (elim fault [ instance.Memory ↦ Memory | other ↦ Instance other ]) };
+
+    fn from(fault: InstanceFault) -> ToolFault {
+        match fault {
+            InstanceFault::Memory => ToolFault::Memory,
+            _ => ToolFault::Instance(fault),
+        }
+    }
+}
+
+impl From<OptionFault> for ToolFault {
+    ghost from_gives = { λ fault given. given ≡ Choice fault };
+
+    fn from(fault: OptionFault) -> ToolFault {
+        ToolFault::Choice(fault)
+    }
+}
+
+impl From<PlanFault> for ToolFault {
+    ghost from_gives = { λ fault given. given ≡ (elim fault [ plan.Memory ↦ Memory | other ↦ Plan other ]) };
+
+    fn from(fault: PlanFault) -> ToolFault {
+        match fault {
+            PlanFault::Memory => ToolFault::Memory,
+            _ => ToolFault::Plan(fault),
+        }
+    }
+}
+
+impl From<SolveFault> for ToolFault {
+    ghost from_gives = { λ fault given. given ≡ (elim fault [ solve.Memory ↦ Memory | other ↦ Run other ]) };
+
+    fn from(fault: SolveFault) -> ToolFault {
+        match fault {
+            SolveFault::Memory => ToolFault::Memory,
+            _ => ToolFault::Run(fault),
+        }
+    }
+}
+
+impl From<CheckFault> for ToolFault {
+    ghost from_gives = { λ fault given. given ≡ (elim fault [ check.Memory ↦ Memory | other ↦ Certificate other ]) };
+
+    fn from(fault: CheckFault) -> ToolFault {
+        match fault {
+            CheckFault::Memory => ToolFault::Memory,
+            _ => ToolFault::Certificate(fault),
+        }
+    }
+}
+
+impl From<WriteFault> for ToolFault {
+    ghost from_gives = { λ fault given. given ≡ Write fault };
+
+    fn from(fault: WriteFault) -> ToolFault {
+        ToolFault::Write(fault)
+    }
+}

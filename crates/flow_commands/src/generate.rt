@@ -1,0 +1,49 @@
+//! The command `gen`.
+
+ghost use Rattle.std.specs.Prelude.{◌≡◌, ◌↔◌, ◌⊎◌, false, true, None, Ok, Err};
+ghost use Rattle.std.specs.Prelude.{IfOk, OnOk, IfErr, IsErrOf};
+ghost use Rattle.flow_core.specs.declared.bytes.fault.WriteFault.TheVariants as write;
+ghost use Rattle.flow_core.specs.Generator.{generated, generator_fault};
+ghost use Rattle.flow_core.specs.InstanceFaults.{but_memory};
+ghost use Rattle.flow_commands.specs.Commands.{AnswersGen, IsGeneratedText};
+ghost use Rattle.flow_commands.specs.Runs.{EndsAlone, Wrote};
+
+use crate::fault::ToolFault;
+use flow_bound::{neh, taillard_bound};
+use flow_core::{Block, Instance, InstanceFault, Sink, block_text, generate, put_all};
+use std::alloc::{AllocError, Global};
+
+/// The text of an instance with its bounds.
+fn generated_text(alloc: Global, seed: u32, instance: Instance) -> Result<Vec<u8>, AllocError>
+    ensures { IfOk result (λ text. IsGeneratedText seed instance text.items) }
+{
+    let upper = neh(alloc, &instance)?.1 as u32;
+    let lower = taillard_bound(&instance) as u32;
+    let block = Block {
+        seed,
+        upper,
+        lower,
+        instance,
+    };
+    block_text(alloc, &block)
+}
+
+/// Writes the instance of a seed as one block, with its bounds.
+pub fn run_gen<K: Sink>(
+    alloc: Global,
+    jobs: u32,
+    machines: u32,
+    seed: u32,
+    out: &mut K,
+) -> Result<(), ToolFault>
+    requires { K.has_failed out.old ≡ false }
+    ensures written { OnOk result (Wrote (AnswersGen jobs machines seed) (K.taken out.old) (K.taken out.new)) }
+    ensures ended { IfErr result (EndsAlone (out.new ≡ out.old) (AnswersGen jobs machines seed)
+        (K.taken out.old) (K.taken out.new)) }
+    ensures write_device { IsErrOf result (ToolFault.Write write.Device) ↔ (K.has_failed out.new ≡ true) }
+{
+    let instance = generate(alloc, jobs, machines, seed)?;
+    let text = generated_text(alloc, seed, instance)?;
+    put_all(out, text.as_slice())?;
+    Ok(())
+}

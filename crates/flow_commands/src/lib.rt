@@ -1,0 +1,25 @@
+//! The commands, over sources and sinks: each reads what it needs, and writes its output or refuses by its first fault.
+//!
+//! Each command has a file of its word. (`gen` is a word of the language, so its file is `generate`.) A new one needs a
+//! file here, and its words in flow_tool. What it writes is said in `specs/Commands.antt`; a fault of a new kind stands
+//! in `fault`.
+#![tactic(auto)]
+
+mod block;
+mod check;
+mod fault;
+mod generate;
+mod limits;
+mod neh;
+mod printed;
+mod solve;
+mod span;
+#[cfg(test)]
+mod tests;
+
+pub use check::run_check;
+pub use fault::ToolFault;
+pub use generate::run_gen;
+pub use neh::run_neh;
+pub use solve::run_solve;
+pub use span::run_span;

@@ -1,0 +1,50 @@
+//! The command `neh`.
+
+ghost use Rattle.std.specs.Prelude.{◌≡◌, ◌↔◌, false, true, IfOk, OnOk, IfErr, IsErrOf, Ok};
+ghost use Rattle.flow_core.specs.Bytes.{Grows};
+ghost use Rattle.flow_core.specs.declared.bytes.fault.ReadFault.TheVariants as read;
+ghost use Rattle.flow_core.specs.declared.bytes.fault.WriteFault.TheVariants as write;
+ghost use Rattle.flow_commands.specs.Commands.{AnswersNeh, AnswersStart};
+ghost use Rattle.flow_commands.specs.Runs.{Came, Ends, Wrote};
+ghost use Rattle.flow_commands.specs.Limits.{most_text};
+
+use crate::block::read_block;
+use crate::fault::ToolFault;
+use crate::printed::{makespan_line, sequence_line};
+use flow_bound::neh;
+use flow_core::{Instance, Sink, Source, put_all};
+use std::alloc::{AllocError, Global};
+
+/// The lines of the starting sequence and its makespan.
+fn starting_lines(alloc: Global, instance: &Instance) -> Result<Vec<u8>, AllocError>
+    ensures { IfOk result (λ lines. AnswersStart instance.now (Ok lines.items)) }
+{
+    let (sequence, value) = neh(alloc, instance)?;
+    let mut lines = sequence_line(alloc, sequence.jobs())?;
+    lines.extend_from_slice(makespan_line(alloc, value)?.as_slice())?;
+    Ok(lines)
+}
+
+/// Writes the starting sequence of the block that an index names, and its makespan.
+pub fn run_neh<S: Source, K: Sink>(
+    alloc: Global,
+    file: &mut S,
+    index: u32,
+    out: &mut K,
+) -> Result<(), ToolFault>
+    requires file_works { S.has_failed file.old ≡ false }
+    requires out_works { K.has_failed out.old ≡ false }
+    ensures written { OnOk result (Came most_text
+        (λ text. Wrote (AnswersNeh index text) (K.taken out.old) (K.taken out.new))
+        (S.given file.old) (S.given file.new) (S.has_ended file.new)) }
+    ensures ended { IfErr result (Ends (out.new ≡ out.old) most_text (AnswersNeh index)
+        (S.given file.old) (S.given file.new) (S.has_ended file.new) (K.taken out.old) (K.taken out.new)) }
+    ensures read_device { IsErrOf result (ToolFault.Read read.Device) ↔ (S.has_failed file.new ≡ true) }
+    ensures write_device { IsErrOf result (ToolFault.Write write.Device) ↔ (K.has_failed out.new ≡ true) }
+    ensures stands { Grows (S.given file.old) (S.given file.new) }
+{
+    let block = read_block(alloc, file, index)?;
+    let lines = starting_lines(alloc, &block.instance)?;
+    put_all(out, lines.as_slice())?;
+    Ok(())
+}

@@ -1,0 +1,46 @@
+//! The lines that commands print.
+
+ghost use Rattle.std.specs.Prelude.{◌≡◌, ◌++◌, IfOk, codes, decimal};
+ghost use Rattle.flow_commands.specs.Commands.{makespan_line, optimal_line, sequence_line};
+
+use itoa::Buffer;
+use std::alloc::{AllocError, Global};
+
+/// The line of a makespan.
+pub(crate) fn makespan_line(alloc: Global, value: u64) -> Result<Vec<u8>, AllocError>
+    ensures { IfOk result (λ line. line.items ≡ makespan_line value) }
+{
+    value_line(alloc, b"makespan ", value)
+}
+
+/// The line of a value that a certificate proves least.
+pub(crate) fn optimal_line(alloc: Global, value: u64) -> Result<Vec<u8>, AllocError>
+    ensures { IfOk result (λ line. line.items ≡ optimal_line value) }
+{
+    value_line(alloc, b"optimal ", value)
+}
+
+/// A line of some words and a value.
+fn value_line(alloc: Global, words: &[u8], value: u64) -> Result<Vec<u8>, AllocError>
+    ensures { IfOk result (λ line. line.items ≡ words.now ++ decimal value ++ codes "\n") }
+{
+    let mut buffer = Buffer::new();
+    let mut line = Vec::from_slice(alloc, words)?;
+    line.extend_from_slice(buffer.format(value).as_bytes())?;
+    line.push(b'\n')?;
+    Ok(line)
+}
+
+/// The line of a sequence.
+pub(crate) fn sequence_line(alloc: Global, jobs: &[u16]) -> Result<Vec<u8>, AllocError>
+    ensures { IfOk result (λ line. line.items ≡ sequence_line jobs.now) }
+{
+    let mut buffer = Buffer::new();
+    let mut line = Vec::from_slice(alloc, b"sequence")?;
+    for job in jobs {
+        line.push(b' ')?;
+        line.extend_from_slice(buffer.format(*job).as_bytes())?;
+    }
+    line.push(b'\n')?;
+    Ok(line)
+}

@@ -1,0 +1,50 @@
+//! The command `span`.
+
+ghost use Rattle.std.specs.Prelude.{◌≡◌, ◌↔◌, false, true, Ok, IfOk, OnOk, IfErr, IsErrOf};
+ghost use Rattle.flow_core.specs.Bytes.{Grows};
+ghost use Rattle.flow_core.specs.SequenceFaults.{sequence_fault, but_memory};
+ghost use Rattle.flow_core.specs.declared.bytes.fault.ReadFault.TheVariants as read;
+ghost use Rattle.flow_core.specs.declared.bytes.fault.WriteFault.TheVariants as write;
+ghost use Rattle.flow_commands.specs.Commands.{AnswersSpan, span_answer};
+ghost use Rattle.flow_commands.specs.Runs.{Came, Ends, Wrote};
+ghost use Rattle.flow_commands.specs.Limits.{most_text};
+
+use crate::block::read_block;
+use crate::fault::ToolFault;
+use crate::printed::makespan_line;
+use flow_core::{Instance, Sequence, SequenceFault, Sink, Source, makespan, put_all};
+use std::alloc::Global;
+
+/// The line of the makespan of jobs in this order.
+fn span_line(alloc: Global, instance: &Instance, jobs: &[u16]) -> Result<Vec<u8>, SequenceFault>
+    ensures line { IfOk result (λ line. span_answer instance.now jobs.now ≡ Ok line.items) }
+    ensures refused { IfErr result (λ fault. (sequence_fault instance.now.jobs jobs.now ≡ but_memory fault)) }
+{
+    let sequence = Sequence::new(alloc, instance, jobs)?;
+    Ok(makespan_line(alloc, makespan(instance, &sequence))?)
+}
+
+/// Writes the makespan of a sequence for the block that an index names.
+pub fn run_span<S: Source, K: Sink>(
+    alloc: Global,
+    file: &mut S,
+    index: u32,
+    jobs: &[u16],
+    out: &mut K,
+) -> Result<(), ToolFault>
+    requires file_works { S.has_failed file.old ≡ false }
+    requires out_works { K.has_failed out.old ≡ false }
+    ensures written { OnOk result (Came most_text
+        (λ text. Wrote (AnswersSpan index jobs.now text) (K.taken out.old) (K.taken out.new))
+        (S.given file.old) (S.given file.new) (S.has_ended file.new)) }
+    ensures ended { IfErr result (Ends (out.new ≡ out.old) most_text (AnswersSpan index jobs.now)
+        (S.given file.old) (S.given file.new) (S.has_ended file.new) (K.taken out.old) (K.taken out.new)) }
+    ensures read_device { IsErrOf result (ToolFault.Read read.Device) ↔ (S.has_failed file.new ≡ true) }
+    ensures write_device { IsErrOf result (ToolFault.Write write.Device) ↔ (K.has_failed out.new ≡ true) }
+    ensures stands { Grows (S.given file.old) (S.given file.new) }
+{
+    let block = read_block(alloc, file, index)?;
+    let line = span_line(alloc, &block.instance, jobs)?;
+    put_all(out, line.as_slice())?;
+    Ok(())
+}

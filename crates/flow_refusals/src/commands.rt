@@ -1,0 +1,146 @@
+//! The commands, over sources and sinks in memory.
+
+ghost use Rattle.std.specs.Prelude.{◌≡◌, false};
+
+use crate::trouble::{Trouble, confirm};
+use flow_cert::CheckFault;
+use flow_commands::{ToolFault, run_check, run_gen, run_neh, run_solve, run_span};
+use flow_core::{MemorySink, MemorySource};
+use flow_examples::{
+    AMPLE, CERTIFICATE_AT_DEPTH_0, GENERATED_TEXT, THREE_MACHINES_TEXT, TIGHT, TWO_MACHINES_TEXT,
+    WEAK_CERTIFICATE,
+};
+use flow_pool::{Open, SolveFault};
+use std::alloc::Global;
+use std::sync::Wait;
+use std::thread::Threads;
+
+/// A source of all these bytes.
+fn all_of(bytes: &[u8]) -> MemorySource
+    ensures { result.failed ≡ false }
+{
+    MemorySource::new(bytes, 7, None)
+}
+
+/// A sink with room for any output here.
+fn room(alloc: Global) -> MemorySink
+    ensures { result.failed ≡ false }
+{
+    MemorySink::new(alloc, 1_000)
+}
+
+/// `Ok` where a command wrote this text. Where memory ran out it wrote nothing, or in its sink a proper prefix.
+fn confirm_written(
+    ran: Result<(), ToolFault>,
+    out: &MemorySink,
+    text: &[u8],
+    command: &'static str,
+) -> Result<(), Trouble> {
+    match ran {
+        Ok(()) => confirm(out.bytes() == text, command),
+        Err(ToolFault::Memory | ToolFault::Run(SolveFault::Threads)) => {
+            confirm(out.bytes().is_empty(), command)?;
+            Err(Trouble::Refused)
+        }
+        Err(ToolFault::Write(_)) => {
+            let is_part = text.starts_with(out.bytes()) && out.bytes().len() < text.len();
+            confirm(is_part, command)?;
+            Err(Trouble::Refused)
+        }
+        Err(_) => Err(Trouble::Wrong(command)),
+    }
+}
+
+/// `Ok` where a command refused by this fault. It never writes anything.
+fn confirm_refused(
+    ran: Result<(), ToolFault>,
+    out: &MemorySink,
+    fault: ToolFault,
+    command: &'static str,
+) -> Result<(), Trouble> {
+    confirm(out.bytes().is_empty(), command)?;
+    match ran {
+        Err(ToolFault::Memory | ToolFault::Run(SolveFault::Threads)) => Err(Trouble::Refused),
+        Err(found) => confirm(found == fault, command),
+        Ok(()) => Err(Trouble::Wrong(command)),
+    }
+}
+
+/// `run_span`.
+pub(crate) fn span_is_run(alloc: Global) -> Result<(), Trouble> {
+    let mut out = room(alloc);
+    let ran = run_span(
+        alloc,
+        &mut all_of(TWO_MACHINES_TEXT),
+        1,
+        &[2, 3, 1],
+        &mut out,
+    );
+    confirm_written(ran, &out, b"makespan 9\n", "run_span")
+}
+
+/// `run_gen`.
+pub(crate) fn gen_is_run(alloc: Global) -> Result<(), Trouble> {
+    let mut out = room(alloc);
+    let ran = run_gen(alloc, 2, 2, 1, &mut out);
+    confirm_written(ran, &out, GENERATED_TEXT, "run_gen")
+}
+
+/// `run_neh`.
+pub(crate) fn neh_is_run(alloc: Global) -> Result<(), Trouble> {
+    let mut out = room(alloc);
+    let ran = run_neh(alloc, &mut all_of(TWO_MACHINES_TEXT), 1, &mut out);
+    confirm_written(ran, &out, b"sequence 2 3 1\nmakespan 9\n", "run_neh")
+}
+
+/// `run_solve`, within a budget.
+pub(crate) fn solve_is_run<T: Threads + Wait + Sync>(
+    threads: &T,
+    alloc: Global,
+) -> Result<(), Trouble> {
+    let mut out = room(alloc);
+    let mut file = all_of(THREE_MACHINES_TEXT);
+    let ran = run_solve(threads, alloc, &mut file, 1, 2, 0, AMPLE, &Open, &mut out);
+    confirm_written(ran, &out, &CERTIFICATE_AT_DEPTH_0, "run_solve")
+}
+
+/// `run_solve`, beyond a budget.
+pub(crate) fn solve_is_refused<T: Threads + Wait + Sync>(
+    threads: &T,
+    alloc: Global,
+) -> Result<(), Trouble> {
+    let mut out = room(alloc);
+    let mut file = all_of(THREE_MACHINES_TEXT);
+    let ran = run_solve(threads, alloc, &mut file, 1, 2, 1, TIGHT, &Open, &mut out);
+    let fault = ToolFault::Run(SolveFault::OverBudget(2));
+    confirm_refused(ran, &out, fault, "run_solve beyond the budget")
+}
+
+/// `run_check` of a certificate.
+pub(crate) fn check_is_run(alloc: Global) -> Result<(), Trouble> {
+    let mut out = room(alloc);
+    let mut cert = all_of(&CERTIFICATE_AT_DEPTH_0);
+    let ran = run_check(
+        alloc,
+        &mut all_of(THREE_MACHINES_TEXT),
+        1,
+        &mut cert,
+        &mut out,
+    );
+    confirm_written(ran, &out, b"optimal 12\n", "run_check")
+}
+
+/// `run_check` of a text with a weak letter.
+pub(crate) fn check_is_refused(alloc: Global) -> Result<(), Trouble> {
+    let mut out = room(alloc);
+    let mut cert = all_of(WEAK_CERTIFICATE);
+    let ran = run_check(
+        alloc,
+        &mut all_of(THREE_MACHINES_TEXT),
+        1,
+        &mut cert,
+        &mut out,
+    );
+    let fault = ToolFault::Certificate(CheckFault::Weak(7));
+    confirm_refused(ran, &out, fault, "run_check of a text with a weak letter")
+}

@@ -1,5 +1,0 @@
-use Rattle.std.proofs.Common.{◌≡◌, ◌++◌, ◌∷◌, codes, take, decimal, flat_map}
-use Rattle.flow_tool.proofs.printed.sequence_line.Given as goal
-
-abbrev pub invariant-loop-job : goal.invariant-loop-job
-invariant-loop-job l = l.line.items ≡ codes "sequence" ++ flat_map (λ job. 32 ∷ decimal job) (take l.job-index l.jobs)

@@ -1,0 +1,24 @@
+//! The lines on standard error.
+
+use crate::stop::Stop;
+use flow_commands::ToolFault;
+use flow_core::SequenceFault;
+use std::test::Fail;
+
+#[test]
+fn stops_are_printed_as_their_lines(rt: HostRuntime) -> Result<(), Fail> {
+    let rows = [
+        (Stop::CommandLine, "refused command line"),
+        (Stop::Memory, "refused memory"),
+        (Stop::Open, "failed open"),
+        (Stop::Fault(ToolFault::Memory), "refused memory"),
+        (
+            Stop::Fault(ToolFault::Sequence(SequenceFault::Twice(2))),
+            "refused sequence Twice 2",
+        ),
+    ];
+    for (stop, line) in rows {
+        assert_eq!(rt; format!(in rt.alloc(); "{}", stop)?.as_str(), line);
+    }
+    Ok(())
+}
