@@ -6,7 +6,7 @@ ghost use Rattle.flow_core.specs.Limits.{most_jobs};
 ghost use Rattle.flow_core.specs.Shop.{numbers};
 ghost use Rattle.flow_core.specs.Front.{IsWithinFront};
 ghost use Rattle.flow_core.specs.JobSet.{contains, members};
-ghost use Rattle.flow_core.specs.Bound.{machine_bound, bound_of};
+ghost use Rattle.flow_core.specs.Bound.{machine_bound, released_bound_at, bound_of};
 ghost use Rattle.flow_bound.specs.Loads.{AreLoadsOf};
 ghost use Rattle.flow_search.specs.Walk.{walk};
 ghost use Rattle.flow_core.specs.Rows.{AreRows};
@@ -167,6 +167,29 @@ fn cutting_machine(
     }
 }
 
+/// The first machine whose released bound at a child reaches the makespan of the incumbent.
+#[inline(never)]
+fn releasing_child(setting: &Setting, here: &Frame, job: u16, search: &Search) -> Option<u16>
+    requires rows { AreRows setting.now.instance.now setting.now.rows.now }
+    requires at { (left : ℕ) ×
+        IsAt setting.now.instance.now search.now.node.items here.now.front search.now.unscheduled (suc (suc left)) ×
+        IsFrame setting.now.instance.now search.now.node.items (suc (suc left)) here.now }
+    requires from { 1 ≤ job }
+    requires to { job ≤ setting.now.instance.now.jobs }
+    requires left { contains search.now.unscheduled job ≡ true }
+    ensures { result ≡ find (λ machine. nat_le search.now.value
+        (released_bound_at setting.now.instance.now (search.now.node.items ++ job ∷ []) machine))
+        (numbers 1 setting.now.instance.now.machines) }
+{
+    let instance = setting.instance;
+    let mut set = search.unscheduled;
+    set.remove(job);
+    let mut front = here.front;
+    front_push(instance, &mut front, job);
+    let rest = here.rest.step(instance, &set, job);
+    releasing_machine(setting, &rest, &front, &set, search.value)
+}
+
 /// The first machine whose bound at a child reaches the makespan of the incumbent, where the bound is that of the
 /// version.
 #[inline(always)]
@@ -183,13 +206,7 @@ fn cutting_child(setting: &Setting, here: &Frame, job: u16, search: &Search) -> 
         (numbers 1 setting.now.instance.now.machines) }
 {
     if setting.version == 2 {
-        let instance = setting.instance;
-        let mut set = search.unscheduled;
-        set.remove(job);
-        let mut front = here.front;
-        front_push(instance, &mut front, job);
-        let rest = here.rest.step(instance, &set, job);
-        releasing_machine(setting, &rest, &front, &set, search.value)
+        releasing_child(setting, here, job, search)
     } else {
         here.cutting_machine(setting, job, search.value)
     }
