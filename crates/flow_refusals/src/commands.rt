@@ -4,7 +4,7 @@ ghost use Rattle.std.specs.Prelude.{◌≡◌, false};
 
 use crate::trouble::{Trouble, confirm};
 use flow_cert::CheckFault;
-use flow_commands::{ToolFault, run_check, run_gen, run_neh, run_solve, run_span};
+use flow_commands::{ToolFault, run_check, run_gen, run_mirror, run_neh, run_solve, run_span};
 use flow_core::{MemorySink, MemorySource};
 use flow_examples::{
     AMPLE, CERTIFICATE_AT_DEPTH_0, GENERATED_TEXT, THREE_MACHINES_TEXT, TIGHT, TWO_MACHINES_TEXT,
@@ -14,6 +14,14 @@ use flow_pool::{Open, SolveFault};
 use std::alloc::Global;
 use std::sync::Wait;
 use std::thread::Threads;
+
+/// What `mirror` writes for the instance with two machines.
+const MIRRORED_TEXT: &[u8] =
+    b"number of jobs, number of machines, initial seed, upper bound and lower bound :\n\
+3 2 0 0 0\nprocessing times :\n2 4 2\n3 1 2\n";
+
+/// The certificate of the mirrored instance of three machines at depth 0, in version 2.
+const MIRRORED_CERTIFICATE: &[u8] = b"flowshop certificate 2\n3 3 0\n12\n2 1 3\n+BC+AB\nend\n";
 
 /// A source of all these bytes.
 fn all_of(bytes: &[u8]) -> MemorySource
@@ -93,6 +101,13 @@ pub(crate) fn neh_is_run(alloc: Global) -> Result<(), Trouble> {
     confirm_written(ran, &out, b"sequence 2 3 1\nmakespan 9\n", "run_neh")
 }
 
+/// `run_mirror`.
+pub(crate) fn mirror_is_run(alloc: Global) -> Result<(), Trouble> {
+    let mut out = room(alloc);
+    let ran = run_mirror(alloc, &mut all_of(TWO_MACHINES_TEXT), 1, &mut out);
+    confirm_written(ran, &out, MIRRORED_TEXT, "run_mirror")
+}
+
 /// `run_solve`, within a budget.
 pub(crate) fn solve_is_run<T: Threads + Wait + Sync>(
     threads: &T,
@@ -118,6 +133,24 @@ pub(crate) fn solve_is_refused<T: Threads + Wait + Sync>(
     );
     let fault = ToolFault::Run(SolveFault::OverBudget(2));
     confirm_refused(ran, &out, fault, "run_solve beyond the budget")
+}
+
+/// `run_solve` of the mirrored instance, in version 2.
+pub(crate) fn mirrored_is_solved<T: Threads + Wait + Sync>(
+    threads: &T,
+    alloc: Global,
+) -> Result<(), Trouble> {
+    let mut out = room(alloc);
+    let mut file = all_of(THREE_MACHINES_TEXT);
+    let ran = run_solve(
+        threads, alloc, &mut file, 1, 2, 0, AMPLE, 2, true, &Open, &mut out,
+    );
+    confirm_written(
+        ran,
+        &out,
+        MIRRORED_CERTIFICATE,
+        "run_solve of the mirrored instance",
+    )
 }
 
 /// `run_check` of a certificate.
@@ -149,4 +182,13 @@ pub(crate) fn check_is_refused(alloc: Global) -> Result<(), Trouble> {
     );
     let fault = ToolFault::Certificate(CheckFault::Weak(7));
     confirm_refused(ran, &out, fault, "run_check of a text with a weak letter")
+}
+
+/// `run_check` of a certificate of the mirrored instance, where that is accepted too.
+pub(crate) fn mirrored_is_checked(alloc: Global) -> Result<(), Trouble> {
+    let mut out = room(alloc);
+    let mut cert = all_of(MIRRORED_CERTIFICATE);
+    let mut file = all_of(THREE_MACHINES_TEXT);
+    let ran = run_check(alloc, &mut file, 1, &mut cert, true, &mut out);
+    confirm_written(ran, &out, b"optimal 12\n", "run_check of either")
 }

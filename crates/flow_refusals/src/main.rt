@@ -34,7 +34,7 @@ const REFUSED: u8 = 1;
 const WRONG: u8 = 2;
 
 /// How many groups of calls there are.
-const GROUPS: usize = 23;
+const GROUPS: usize = 27;
 
 /// Makes all calls: each group, also where one before it did not return what it should.
 fn found<T: Threads + Wait + Sync>(threads: &T, alloc: Global) -> [Result<(), Trouble>; GROUPS] {
@@ -49,6 +49,7 @@ fn found<T: Threads + Wait + Sync>(threads: &T, alloc: Global) -> [Result<(), Tr
         bounds::starting_sequence_is_found(alloc),
         bounds::insertions_are_tried(alloc),
         search::prefixes_are_answered(alloc),
+        search::plan_starts_as_given(alloc),
         search::outcomes_are_concluded(alloc),
         search::plan_is_solved(alloc),
         certificates::certificate_is_written(alloc),
@@ -58,10 +59,13 @@ fn found<T: Threads + Wait + Sync>(threads: &T, alloc: Global) -> [Result<(), Tr
         commands::span_is_run(alloc),
         commands::gen_is_run(alloc),
         commands::neh_is_run(alloc),
+        commands::mirror_is_run(alloc),
         commands::solve_is_run(threads, alloc),
         commands::solve_is_refused(threads, alloc),
+        commands::mirrored_is_solved(threads, alloc),
         commands::check_is_run(alloc),
         commands::check_is_refused(alloc),
+        commands::mirrored_is_checked(alloc),
     ]
 }
 

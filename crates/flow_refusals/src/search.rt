@@ -1,8 +1,11 @@
 //! Plans, outcomes and verdicts.
 
 use crate::trouble::{Trouble, confirm};
+use flow_core::Sequence;
 use flow_examples::{AMPLE, TIGHT, TREES_AT_DEPTH_1, all_outcomes, is_verdict, three_machines};
-use flow_search::{Options, Outcome, RunFault, Verdict, answer, conclude, prepare, solve_plain};
+use flow_search::{
+    Options, Outcome, RunFault, Verdict, answer, conclude, prepare, prepare_from, solve_plain,
+};
 use std::alloc::Global;
 
 /// Whether a verdict is that of the instance with three machines, at depth 1.
@@ -29,6 +32,15 @@ pub(crate) fn prefixes_are_answered(alloc: Global) -> Result<(), Trouble> {
         }
     }
     Ok(())
+}
+
+/// `prepare_from`.
+pub(crate) fn plan_starts_as_given(alloc: Global) -> Result<(), Trouble> {
+    let instance = three_machines(alloc)?;
+    let start = Sequence::new(alloc, &instance, &[3, 1, 2])?;
+    let plan = prepare_from(alloc, &instance, start, Options::new(1, 1, AMPLE)?)?;
+    let right = plan.start().jobs() == [3, 1, 2].as_slice() && plan.start_value() == 12;
+    confirm(right, "prepare_from")
 }
 
 /// `conclude`.
