@@ -1,13 +1,19 @@
 -- A run of `solve` for a block, where the options are read.
-use Rattle.std.proofs.Common.{◌≡◌, inl, inr, subst, ℕ, Bool, List, Option, Result, Ok}
+use Rattle.std.proofs.Common.{◌≡◌, refl, inl, inr, subst, None, ℕ, Bool, List, Option, Result, Ok}
 use Rattle.flow_core.specs.Shop.{Shop}
 use Rattle.flow_core.specs.declared.text.block.Block.{Block}
+use Rattle.flow_bound.specs.Neh.{IsNeh}
 use Rattle.flow_search.specs.Choices.{Choices}
+use Rattle.flow_search.specs.Plans.{Planned, IsPlan, plan_fault}
 use Rattle.flow_search.specs.declared.options.OptionFault.{OptionFault}
 use Rattle.flow_commands.specs.Commands.{Answer, AnswersOptions, AnswersPlan, AnswersSolve, Picks, asked_options}
 use Rattle.flow_commands.specs.Commands.{mirrored_if}
 use Rattle.flow_commands.specs.Runs.{Came, Ends, EndsAlone, Wrote}
+use Rattle.flow_pool.specs.Report.{IsSolveFault}
+use Rattle.flow_pool.specs.declared.whole_run.SolveFault.{SolveFault}
+use Rattle.flow_pool.specs.declared.whole_run.SolveFault.TheVariants as solve
 use Rattle.flow_commands.specs.declared.fault.ToolFault.{ToolFault}
+use Rattle.flow_commands.specs.declared.fault.ToolFault.TheVariants as tool
 use Rattle.flow_commands.specs.Limits.{most_text}
 
 options-answer : (shop : Shop) (read : Result Choices OptionFault) (options : Choices) (answer : Answer) →
@@ -73,3 +79,16 @@ solve-ended Untouched index workers depth budget version mirror block options gi
         ),
       ),
     )
+
+-- a run of a plan that was refused
+pub run-ended : (Untouched : Type 0) → Untouched → (shop : Shop) (options : Choices) (plan : Planned) → IsPlan plan →
+    IsNeh plan.shop plan.start.sequence → plan.shop ≡ shop → plan.options ≡ options →
+    plan_fault shop options ≡ None → (taken takes : Option (List ℕ)) (fault : SolveFault) → IsSolveFault plan fault →
+    EndsAlone Untouched (AnswersPlan shop options) taken takes
+    (elim fault [ solve.Memory ↦ tool.Memory | other ↦ tool.Run other ])
+run-ended Untouched untouched shop options plan is_plan start same chosen accepted taken takes solve.Memory h =
+    inl (untouched, inl refl)
+run-ended Untouched untouched shop options plan is_plan start same chosen accepted taken takes solve.Threads h =
+    inl (untouched, inr (inl (plan, is_plan, start, same, chosen, accepted, inl refl)))
+run-ended Untouched untouched shop options plan is_plan start same chosen accepted taken takes (solve.OverBudget
+    number) h = inl (untouched, inr (inl (plan, is_plan, start, same, chosen, accepted, inr (number, h, refl))))

@@ -5,6 +5,7 @@ use Rattle.flow_cert.proofs.Lawful.{text-of-plan}
 use Rattle.flow_commands.specs.Commands.{AnswersPlan}
 use Rattle.flow_commands.proofs.Certified.{wrote-certificate}
 use Rattle.flow_commands.proofs.Endings.{ends-alone-in-writing}
+use Rattle.flow_commands.proofs.Solved.{run-ended}
 use Rattle.flow_commands.proofs.solve.solve_instance.Goals as goal
 
 pub returns-clause-lawful : goal.returns-clause-lawful
@@ -30,3 +31,11 @@ returns-in_err-write_certificate-clause-ended g c =
     ))
     (rw (text-of-plan c.in_ok-plan.plan c.in_ok-report.report.verdict c.in_ok-report.ensures.verdict)
     at c.in_err-write_certificate.ensures.err))
+
+pub returns-in_err-report-clause-ended : goal.returns-in_err-report-clause-ended
+returns-in_err-report-clause-ended g c =
+    let p = err_from_is_err_and c.from_residual-in_err-report.result c.from_residual-in_err-report.ensures.1 in
+    rw (p.1, p.2)
+    (run-ended _ refl _ _ c.in_ok-plan.plan c.in_ok-plan.ensures.plan c.in_ok-plan.ensures.start
+    c.in_ok-plan.ensures.shop c.in_ok-plan.ensures.options c.in_ok-plan.ensures.accepted _ _ _
+    c.in_err-report.ensures.fault)

@@ -214,8 +214,8 @@ pub returns-clause-gives : goal.returns-clause-gives
 returns-clause-gives c list stands kid =
     let before = goal.at.returns-clause-gives c in
     let is = bounded before.After-reaches list (asked before.After-deref list
-    (reached before.After-left_here list stands) c.if-left_here-eq0.false)
-    (lent before.After-deref list stands) kid in (
+    (reached before.After-left_here list stands) c.if-left_here-eq0.false) (lent before.After-deref list stands) kid
+    in (
       c.if-spot-claim.false,
       read before.After-left_here list _
           (cut-strong c.args.claim.now.instance.now (bound_of c.args.claim.now.version) c.args.claim.now.value
