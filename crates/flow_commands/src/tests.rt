@@ -454,7 +454,7 @@ fn run_solve_starts_workers(rt: HostRuntime) -> Result<(), Fail> {
         let mut out = MemorySink::new(alloc, ROOM);
         let mut file = all_of(THREE_MACHINES);
         run_solve(
-            &rt, alloc, &mut file, 1, workers, 1, AMPLE, 1, &gate, &mut out,
+            &rt, alloc, &mut file, 1, workers, 1, AMPLE, 1, false, &gate, &mut out,
         )?;
         assert!(rt; gate.is_complete());
         assert!(rt; !gate.late.load(Ordering::SeqCst));

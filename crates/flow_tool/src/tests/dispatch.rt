@@ -383,7 +383,7 @@ fn other_words_are_refused(rt: HostRuntime) -> Result<(), Fail> {
     assert!(rt; !out.bytes().is_empty());
     let (out, said) = run_line(&rt, alloc, "--version")?;
     assert_eq!(rt; said.as_str(), "");
-    assert!(rt; out.bytes() == b"flowshop 1.0, certificate versions 1 and 2\n");
+    assert!(rt; out.bytes() == b"flowshop 1.0, certificate versions 1 and 2\n".as_slice());
     let mut out = MemorySink::new(alloc, 10);
     let ran = run_words(&rt, alloc, &inputs, words.as_slice(), &mut out);
     assert_eq!(rt; ran, Err(Stop::Fault(ToolFault::Write(WriteFault::Device))));

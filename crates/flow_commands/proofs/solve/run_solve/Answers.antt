@@ -9,7 +9,7 @@ returns-clause-written g c =
     (solve-written c.args.index c.args.workers c.args.depth c.args.budget c.args.version c.args.mirror
     c.in_ok-block.block c.in_ok-options.options
     _ _ _ _ _ c.in_ok-options.ensures c.in_ok-block.ensures.picked)
-    c.solve_instance.ensures.written
+    (rw c.in_ok-instance.ensures at c.solve_instance.ensures.written)
 
 pub returns-clause-ended : goal.returns-clause-ended
 returns-clause-ended g c =
@@ -17,4 +17,11 @@ returns-clause-ended g c =
     (λ fault. solve-ended (c.solve_instance.new.out ≡ c.args.out.now) c.args.index c.args.workers c.args.depth
     c.args.budget c.args.version c.args.mirror c.in_ok-block.block c.in_ok-options.options _ _ _ _ _ fault
     c.in_ok-options.ensures c.in_ok-block.ensures.picked)
-    c.solve_instance.ensures.ended
+    (rw c.in_ok-instance.ensures at c.solve_instance.ensures.ended)
+
+pub returns-clause-lawful : goal.returns-clause-lawful
+returns-clause-lawful g c =
+    let picked = c.in_ok-block.ensures.picked in
+    on_ok_weaker c.solve_instance.result
+    (λ wrote. (picked.0, picked.1, picked.2, picked.3, (c.in_ok-block.block, picked.4, wrote)))
+    (rw c.in_ok-instance.ensures at c.solve_instance.ensures.lawful)
