@@ -1,8 +1,8 @@
 //! The commands, over sources and sinks: each reads what it needs, and writes its output or refuses by its first fault.
 //!
 //! Each command has a file of its word. (`gen` is a word of the language, so its file is `generate`.) A new one needs a
-//! file here, and its words in flow_tool. What it writes is said in `specs/Commands.antt`; a fault of a new kind stands
-//! in `fault`.
+//! file here, its words in flow_words, and in flow_tool the line that runs it. What it writes is said in
+//! `specs/Commands.antt`; a fault of a new kind stands in `fault`.
 #![tactic(auto)]
 
 mod block;

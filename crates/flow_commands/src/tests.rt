@@ -68,6 +68,7 @@ fn span(alloc: Global, text: &[u8], index: u32, jobs: &[u16]) -> Ran {
     Ok(out)
 }
 
+/// A run of `solve` in version 1.
 fn solved<T: Threads + Wait + Sync>(
     rt: &T,
     alloc: Global,
@@ -75,6 +76,20 @@ fn solved<T: Threads + Wait + Sync>(
     workers: u32,
     depth: u32,
     budget: u32,
+) -> Ran {
+    solved_as(rt, alloc, text, workers, depth, budget, 1, false)
+}
+
+/// A run of `solve` in a version, for the instance or the mirrored one.
+fn solved_as<T: Threads + Wait + Sync>(
+    rt: &T,
+    alloc: Global,
+    text: &[u8],
+    workers: u32,
+    depth: u32,
+    budget: u32,
+    version: u32,
+    mirror: bool,
 ) -> Ran {
     let mut out = MemorySink::new(alloc, ROOM);
     run_solve(
@@ -85,8 +100,8 @@ fn solved<T: Threads + Wait + Sync>(
         workers,
         depth,
         budget,
-        1,
-        false,
+        version,
+        mirror,
         &Open,
         &mut out,
     )?;
@@ -94,9 +109,14 @@ fn solved<T: Threads + Wait + Sync>(
 }
 
 fn checked(alloc: Global, text: &[u8], certificate: &[u8]) -> Ran {
+    checked_as(alloc, text, certificate, false)
+}
+
+/// A run of `check`, which may take a certificate of the mirrored instance too.
+fn checked_as(alloc: Global, text: &[u8], certificate: &[u8], either: bool) -> Ran {
     let mut out = MemorySink::new(alloc, ROOM);
     let mut cert = MemorySource::new(certificate, 9, None);
-    run_check(alloc, &mut all_of(text), 1, &mut cert, false, &mut out)?;
+    run_check(alloc, &mut all_of(text), 1, &mut cert, either, &mut out)?;
     Ok(out)
 }
 
@@ -260,8 +280,12 @@ fn check_accepts_what_solve_wrote(rt: HostRuntime) -> Result<(), Fail> {
     ];
     for (text, deepest, line) in texts {
         for depth in 0..deepest + 1 {
-            let certificate = solved(&rt, alloc, text, 2, depth, AMPLE)?;
-            assert!(rt; wrote(&checked(alloc, text, certificate.bytes()), line));
+            for version in 1..3u32 {
+                let own = solved_as(&rt, alloc, text, 2, depth, AMPLE, version, false)?;
+                assert!(rt; wrote(&checked(alloc, text, own.bytes()), line));
+                let mirrored = solved_as(&rt, alloc, text, 2, depth, AMPLE, version, true)?;
+                assert!(rt; wrote(&checked_as(alloc, text, mirrored.bytes(), true), line));
+            }
         }
     }
     Ok(())
@@ -270,8 +294,9 @@ fn check_accepts_what_solve_wrote(rt: HostRuntime) -> Result<(), Fail> {
 #[test]
 fn check_names_first_fault(rt: HostRuntime) -> Result<(), Fail> {
     let alloc = rt.alloc();
-    let rows: [(&[u8], CheckFault); 4] = [
-        (b"flowshop certificate 2\n", CheckFault::Header),
+    let rows: [(&[u8], CheckFault); 5] = [
+        (b"flowshop certificate 3\n", CheckFault::Header),
+        (b"flowshop certificate 2\n", CheckFault::Size),
         (b"flowshop certificate 1\n3 3 0\n012\n", CheckFault::Value),
         (
             b"flowshop certificate 1\n3 3 1\n12\n3 1 2\nB\nC\n++.A\nend\n",
