@@ -44,7 +44,10 @@ fn with_version_takes_1_and_2(rt: HostRuntime) -> Result<(), Fail> {
     for version in 1..3u32 {
         let chosen = options.with_version(version)?;
         assert_eq!(rt; chosen.version(), version);
-        assert_eq!(rt; (chosen.workers(), chosen.depth(), chosen.budget()), (3, 2, 7));
+        assert_eq!(rt;
+            (chosen.workers(), chosen.depth(), chosen.budget()),
+            (3, 2, 7)
+        );
     }
     Ok(())
 }
@@ -186,7 +189,10 @@ fn version_2_has_the_same_trees_on_three_machines(rt: HostRuntime) -> Result<(),
         let options = Options::new(1, depth, AMPLE)?.with_version(2)?;
         let plan = prepare(alloc, &instance, options)?;
         let verdict = solve_plain(alloc, &plan)?;
-        assert!(rt; is_verdict(&verdict, 12, &[3, 1, 2], trees), "at depth {depth}");
+        assert!(rt;
+            is_verdict(&verdict, 12, &[3, 1, 2], trees),
+            "at depth {depth}"
+        );
     }
     Ok(())
 }

@@ -62,7 +62,12 @@ fn bound(instance: &Instance, version: u32, jobs: &[u16], machine: u16) -> u64 {
             release = release.max(completion(instance, jobs, from).saturating_add(least));
         }
     }
-    let tail = least_between(instance, jobs, machine.saturating_add(1), instance.machines());
+    let tail = least_between(
+        instance,
+        jobs,
+        machine.saturating_add(1),
+        instance.machines(),
+    );
     release.saturating_add(load).saturating_add(tail)
 }
 
@@ -115,7 +120,10 @@ fn answers_have_the_trees_of_a_plain_recursion(rt: HostRuntime) -> Result<(), Fa
             let mut value = plan.start_value();
             let mut expected = Vec::new(alloc);
             walk(&instance, version, 10, &mut jobs, &mut value, &mut expected)?;
-            assert!(rt; tree.as_slice() == expected.as_slice(), "seed {seed}, version {version}");
+            assert!(rt;
+                tree.as_slice() == expected.as_slice(),
+                "seed {seed}, version {version}"
+            );
             lengths[version as usize - 1] = tree.len();
         }
         assert!(rt; lengths[1] <= lengths[0]);

@@ -20,7 +20,8 @@ const MIRRORED_TEXT: &[u8] =
     b"number of jobs, number of machines, initial seed, upper bound and lower bound :\n\
 3 2 0 0 0\nprocessing times :\n2 4 2\n3 1 2\n";
 
-/// The certificate of the mirrored instance of three machines at depth 0, in version 2.
+/// The certificate of the mirrored instance of three machines at depth 0, in version 2. It was computed apart from the
+/// program, by the definitions.
 const MIRRORED_CERTIFICATE: &[u8] = b"flowshop certificate 2\n3 3 0\n12\n2 1 3\n+BC+AB\nend\n";
 
 /// A source of all these bytes.
