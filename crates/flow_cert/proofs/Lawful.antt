@@ -18,7 +18,7 @@ use Rattle.flow_search.specs.Search.{comes_before, in_force, tree_at, tree, sequ
 use Rattle.flow_search.specs.Plans.{Planned, prefixes_of, trees_of, verdict_of}
 use Rattle.flow_search.specs.Verdicts.{IsVerdict}
 use Rattle.flow_search.specs.declared.verdict.Verdict.{Verdict}
-use Rattle.flow_search.specs.Limits.{greatest_version}
+use Rattle.flow_core.specs.Limits.{greatest_version}
 use Rattle.flow_search.proofs.Lists.{all-weaken, find-some}
 use Rattle.flow_search.proofs.Walk.{Fresh, IsLeft, fresh-push, jobs_left-are, extensions-are, range-all}
 use Rattle.flow_search.proofs.LeastVerdict.{cut-fresh, verdict_is_least}

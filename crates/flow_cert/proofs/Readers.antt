@@ -6,12 +6,12 @@ use Rattle.std.proofs.lemmas.List.{get_or_default, get_or-set_same, get_or-set_o
 use Rattle.std.proofs.lemmas.List.{set-append_right}
 use Rattle.flow_core.specs.Shop.{Shop}
 use Rattle.flow_core.specs.Sequences.{has}
-use Rattle.flow_cert.specs.internal.Heads.{AreHeads, AreKept, AreUnknown}
+use Rattle.flow_cert.specs.internal.Lags.{AreLags, AreKept, AreUnknown}
 use Rattle.flow_cert.specs.internal.Links.{AreLinks, IsPlace}
 use Rattle.flow_cert.specs.internal.Nodes.{IsNode, IsAt, left_before, left_here}
 use Rattle.flow_cert.specs.internal.Reader.{frame_at, here, above, Stands, IsBack, Opened, Closed}
 use Rattle.flow_cert.specs.declared.reading.node.Node.{Node}
-use Rattle.flow_cert.specs.declared.reading.release.Heads.{Heads}
+use Rattle.flow_cert.specs.declared.reading.release.Lags.{Lags}
 use Rattle.flow_cert.specs.declared.reading.reader.Frame.{Frame}
 use Rattle.flow_cert.specs.declared.reading.reader.TreeReader.{TreeReader}
 use Rattle.flow_cert.proofs.Links.{next-some, links-out, links-back}
@@ -34,10 +34,10 @@ at-same shop list node other links same left right e f g at =
     subst (λ n. IsAt shop list n links left) (sym e) (subst (λ l. IsAt shop list other l left) (sym f) (subst
     (IsAt shop list other same) (sym g) at))
 
--- where no heads are known, those that are kept are any list's
-pub none-kept : (shop : Shop) (list : List ℕ) (kept : List (Option Heads)) → AreUnknown kept → AreKept shop list kept
+-- where no lags are known, those that are kept are any list's
+pub none-kept : (shop : Shop) (list : List ℕ) (kept : List (Option Lags)) → AreUnknown kept → AreKept shop list kept
 none-kept shop list kept none machine from within =
-    subst (λ (o : Option Heads). IfSome o (λ two. AreHeads shop list machine two)) (sym (none (machine - 1) (omega
+    subst (λ (o : Option Lags). IfSome o (λ two. AreLags shop list machine two)) (sym (none (machine - 1) (omega
     (arith, from, within)))) tt
 
 -- the list's node may know more
@@ -45,8 +45,8 @@ pub learnt : (shop : Shop) (old new : TreeReader) (f : Frame) → new.below ≡ 
     new.links.items ≡ old.links.items → new.frames.items ≡ set old.frames.items old.below f →
     old.below < length old.frames.items →
     ((list : List ℕ) → Stands shop list old → IsAt shop list f.node old.links.items (suc old.below)) →
-    ((list : List ℕ) → Stands shop list old → AreKept shop list new.heads.items) → IsBack shop old new
-learnt shop old new f below links frames within kept heads = record {
+    ((list : List ℕ) → Stands shop list old → AreKept shop list new.lags.items) → IsBack shop old new
+learnt shop old new f below links frames within kept lags = record {
   below = below;
   links = links;
   size = ap length frames ∙ length-set old.frames.items old.below f;
@@ -59,7 +59,7 @@ learnt shop old new f below links frames within kept heads = record {
         at = at-same shop list (here new) f.node new.links.items old.links.items (suc new.below) (suc old.below) (ap
             (λ g. g.node) there) links (ap suc below) (kept list stands);
         room = ap length frames ∙ length-set old.frames.items old.below f ∙ stands.room;
-        heads = heads list stands;
+        lags = lags list stands;
       };
 }
 
@@ -79,10 +79,10 @@ pub opened : (shop : Shop) (last job value : ℕ) (old new : TreeReader) (f kid 
     new.frames.items ≡ set (set old.frames.items old.below f) new.below kid → old.below < length old.frames.items →
     f ≡ record { node = here old; job = job; last = last } →
     ((list : List ℕ) → IsNode shop list (here old) (suc old.below) → has list job ≡ false →
-    IsNode shop (list ++ job ∷ []) kid.node (suc new.below)) → AreUnknown new.heads.items →
+    IsNode shop (list ++ job ∷ []) kid.node (suc new.below)) → AreUnknown new.lags.items →
     Opened shop last job old new
 opened shop last job value old new f kid below links leads frames within is made none = record {
-  heads = none;
+  lags = none;
   below = below;
   links = links ∙ ap (slice_set old.links.items last) leads;
   size = ap length frames ∙ length-set (set old.frames.items old.below f) new.below kid
@@ -185,7 +185,7 @@ opened-stands shop list last r o stands place some is =
             (slice_index links job) stands.at.are_links place refl some refl);
       };
       room = is.size ∙ stands.room;
-      heads = none-kept shop (list ++ job ∷ []) o.heads.items is.heads;
+      lags = none-kept shop (list ++ job ∷ []) o.lags.items is.lags;
     }
 
 -- the frame of the list above stays while a child is read
@@ -221,6 +221,6 @@ closed-back shop last r o b c is back closed =
         at = at-same shop list (here c) (here r) c.links.items r.links.items (suc c.below) (suc r.below) node links
             (ap suc below) stands.at;
         room = size ∙ stands.room;
-        heads = none-kept shop list c.heads.items closed.heads;
+        lags = none-kept shop list c.lags.items closed.lags;
       };
     }

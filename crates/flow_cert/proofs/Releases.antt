@@ -1,4 +1,4 @@
--- Heads of jobs, and the release of a machine.
+-- Lags of jobs, and the release of a machine.
 use Rattle.std.proofs.Common.{◌≡◌, ◌≢◌, cond, nat_eq, nat_le, Bool, true, inl, inr, ℕ, zero, suc, ◌+◌, ◌-◌, ◌*◌, ◌<◌}
 use Rattle.std.proofs.Common.{◌≤◌, max, List, [], ◌∷◌, ◌++◌, length, map, false, refl}
 use Rattle.std.proofs.Common.{slice_index, slice_index_or, ap, ap₂, sym, ◌∙◌, arith}
@@ -18,10 +18,10 @@ use Rattle.flow_core.proofs.JobsLeft.{numbers-more}
 use Rattle.flow_core.proofs.Recurrence.{after, time_between-first, time_between-none}
 use Rattle.flow_core.proofs.Taken.{left-count}
 use Rattle.flow_core.proofs.TwoLeast.{Without, least-below-cap}
-use Rattle.flow_cert.specs.internal.Heads.{AreHeads, heads}
+use Rattle.flow_cert.specs.internal.Lags.{AreLags, lags}
 use Rattle.flow_cert.specs.internal.Nodes.{IsNode, unknown}
 use Rattle.flow_cert.specs.declared.reading.node.Node.{Node}
-use Rattle.flow_cert.specs.declared.reading.release.Heads.{Heads}
+use Rattle.flow_cert.specs.declared.reading.release.Lags.{Lags}
 use Rattle.flow_cert.proofs.NodeSteps.{child-completion, without-left}
 
 -- the times up to a machine, and those from there on
@@ -39,12 +39,12 @@ between-split shop job (suc d) a k m e within some =
       between-split shop job d (a + 1) k m (omega (arith, e)) within (omega arith),
     )
 
--- a job's head, from its times and tails
-pub head-is : (shop : Shop) (job from machine t u x y : ℕ) → IsWithinLimits shop → 1 ≤ from → from ≤ machine →
+-- a job's lag, from its times and tails
+pub lag-is : (shop : Shop) (job from machine t u x y : ℕ) → IsWithinLimits shop → 1 ≤ from → from ≤ machine →
     machine ≤ shop.machines → t ≡ time shop job from → u ≡ time_between shop job (from + 1) shop.machines →
     x ≡ time shop job machine → y ≡ time_between shop job (machine + 1) shop.machines →
     (t + u ≡ time_between shop job from (machine - 1) + (x + y)) × (t + u ≤ most_machines * greatest_time)
-head-is shop job from machine t u x y limits low up high is_t is_u is_x is_y =
+lag-is shop job from machine t u x y limits low up high is_t is_u is_x is_y =
     let most : shop.machines ≤ most_machines = limits.machines in
     let whole = time_between-first shop job from shop.machines (omega (arith, up, high)) in
     let behind = time_between-first shop job machine shop.machines high in
@@ -54,23 +54,23 @@ head-is shop job from machine t u x y limits low up high is_t is_u is_x is_y =
     let here = time-small shop job from limits in
     (omega (arith, whole, behind, split, is_t, is_u, is_x, is_y), omega (arith, is_t, is_u, tail, here, most, low))
 
--- a job's head, from its row
-pub row-head : (shop : Shop) (rows : List Row) (job from machine : ℕ) (other : Row) → AreRows shop rows → 1 ≤ job →
+-- a job's lag, from its row
+pub row-lag : (shop : Shop) (rows : List Row) (job from machine : ℕ) (other : Row) → AreRows shop rows → 1 ≤ job →
     job ≤ shop.jobs → 1 ≤ from → from ≤ machine → machine ≤ shop.machines →
     let row : Row = slice_index_or rows (job - 1) other in
     (slice_index row.times (from - 1) + slice_index row.tails (from - 1) ≡ time_between shop job from (machine - 1)
     + (slice_index row.times (machine - 1) + slice_index row.tails (machine - 1)))
     × (slice_index row.times (from - 1) + slice_index row.tails (from - 1) ≤ most_machines * greatest_time)
-row-head shop rows job from machine other are first last low up high =
+row-lag shop rows job from machine other are first last low up high =
     let here = are.each job other first last from low (omega (arith, up, high)) in
     let there = are.each job other first last machine (omega (arith, low, up)) high in
-    head-is shop job from machine _ _ _ _ are.limits low up high here.0 here.1 there.0 there.1
+    lag-is shop job from machine _ _ _ _ are.limits low up high here.0 here.1 there.0 there.1
 
--- a head is small
-pub head-small : (shop : Shop) (job from machine : ℕ) → IsWithinLimits shop → 1 ≤ from → from ≤ machine →
+-- a lag is small
+pub lag-small : (shop : Shop) (job from machine : ℕ) → IsWithinLimits shop → 1 ≤ from → from ≤ machine →
     machine ≤ shop.machines → time_between shop job from (machine - 1) ≤ most_machines * greatest_time
-head-small shop job from machine limits low up high =
-    let is = head-is shop job from machine _ _ _ _ limits low up high refl refl refl refl in
+lag-small shop job from machine limits low up high =
+    let is = lag-is shop job from machine _ _ _ _ limits low up high refl refl refl refl in
     omega (arith, is.0, is.1)
 
 -- the greatest over the numbers up to one more
@@ -102,32 +102,32 @@ greatest-same f g (suc n) same =
     ∙ sym (greatest-suc g n)
 
 -- where jobs are left, the number that stands for none takes no part
-pub least-heads : (shop : Shop) (from machine : ℕ) (jobs : List ℕ) → IsWithinLimits shop → 1 ≤ from →
+pub least-lags : (shop : Shop) (from machine : ℕ) (jobs : List ℕ) → IsWithinLimits shop → 1 ≤ from →
     from ≤ machine → machine ≤ shop.machines → 0 < length jobs →
-    least_below unknown (heads shop from machine jobs) ≡ least (heads shop from machine jobs)
-least-heads shop from machine jobs limits low up high some =
+    least_below unknown (lags shop from machine jobs) ≡ least (lags shop from machine jobs)
+least-lags shop from machine jobs limits low up high some =
     (least-below-cap unknown (most_machines * greatest_time) (λ job. time_between shop job from (machine - 1)) jobs some
-    (λ job. head-small shop job from machine limits low up high) (omega arith)).0
+    (λ job. lag-small shop job from machine limits low up high) (omega arith)).0
 
 -- the release for the jobs left of a list
-pub own-release : (shop : Shop) (list : List ℕ) (node : Node) (left machine : ℕ) (two : Heads) → IsWithinLimits shop →
-    IsNode shop list node (suc left) → machine ≤ shop.machines → AreHeads shop list machine two →
+pub own-release : (shop : Shop) (list : List ℕ) (node : Node) (left machine : ℕ) (two : Lags) → IsWithinLimits shop →
+    IsNode shop list node (suc left) → machine ≤ shop.machines → AreLags shop list machine two →
     greatest (map (λ from. slice_index node.front (from - 1) + slice_index two.least (from - 1)) (numbers 1 machine))
     ≡ release shop (front_of shop list) (jobs_left shop.jobs list) machine
 own-release shop list node left machine two limits is high are =
     greatest-same (λ from. slice_index node.front (from - 1) + slice_index two.least (from - 1))
-    (λ from. slice_index (front_of shop list) (from - 1) + least (heads shop from machine (jobs_left shop.jobs list)))
+    (λ from. slice_index (front_of shop list) (from - 1) + least (lags shop from machine (jobs_left shop.jobs list)))
     machine (λ from low up.
     let within : from ≤ shop.machines = omega (arith, up, high) in
     let front = is.times from low within ∙ sym (front_of-is shop list from low within) in
-    let head = (are from low up).0
-    ∙ least-heads shop from machine (jobs_left shop.jobs list) limits low up high (omega (arith, is.some)) in
-    ap₂ (λ a b. a + b) front head)
+    let lag = (are from low up).0
+    ∙ least-lags shop from machine (jobs_left shop.jobs list) limits low up high (omega (arith, is.some)) in
+    ap₂ (λ a b. a + b) front lag)
 
 -- the greatest that is found for a list is the release, which is at least the front
-pub own-late : (shop : Shop) (list : List ℕ) (node : Node) (left machine : ℕ) (two : Heads) (late end : ℕ) →
+pub own-late : (shop : Shop) (list : List ℕ) (node : Node) (left machine : ℕ) (two : Lags) (late end : ℕ) →
     IsWithinLimits shop → IsNode shop list node (suc left) → 1 ≤ machine → machine ≤ shop.machines →
-    AreHeads shop list machine two → late ≡ greatest (map (λ from. slice_index node.front (from - 1)
+    AreLags shop list machine two → late ≡ greatest (map (λ from. slice_index node.front (from - 1)
     + slice_index two.least (from - 1)) (numbers 1 end)) → end ≡ machine →
     (late ≡ release shop (front_of shop list) (jobs_left shop.jobs list) machine)
     × (slice_index node.front (machine - 1) ≡ slice_index (front_of shop list) (machine - 1))
@@ -143,31 +143,31 @@ own-late shop list node left machine two late end limits is low high are found w
 pub child-release : (shop : Shop) (list : List ℕ) (node : Node) (left job machine : ℕ) →
     IsNode shop list node left → machine ≤ shop.machines →
     greatest (map (λ from. after shop (free_at node.front) job from
-    + least (heads shop from machine (jobs_left shop.jobs (list ++ job ∷ [])))) (numbers 1 machine))
+    + least (lags shop from machine (jobs_left shop.jobs (list ++ job ∷ [])))) (numbers 1 machine))
     ≡ release shop (front_of shop (list ++ job ∷ [])) (jobs_left shop.jobs (list ++ job ∷ [])) machine
 child-release shop list node left job machine is high =
     let jobs : List ℕ = jobs_left shop.jobs (list ++ job ∷ []) in
-    greatest-same (λ from. after shop (free_at node.front) job from + least (heads shop from machine jobs))
-    (λ from. slice_index (front_of shop (list ++ job ∷ [])) (from - 1) + least (heads shop from machine jobs))
+    greatest-same (λ from. after shop (free_at node.front) job from + least (lags shop from machine jobs))
+    (λ from. slice_index (front_of shop (list ++ job ∷ [])) (from - 1) + least (lags shop from machine jobs))
     machine (λ from low up.
     let within : from ≤ shop.machines = omega (arith, up, high) in
-    ap (λ a. a + least (heads shop from machine jobs))
+    ap (λ a. a + least (lags shop from machine jobs))
     (child-completion shop list node.front job from within is.times
     ∙ sym (front_of-is shop (list ++ job ∷ []) from low within)))
 
--- the least head of the jobs left of a list's child
-pub child-head : (shop : Shop) (list : List ℕ) (node : Node) (left job from machine y m : ℕ) (two : Heads) →
+-- the least lag of the jobs left of a list's child
+pub child-lag : (shop : Shop) (list : List ℕ) (node : Node) (left job from machine y m : ℕ) (two : Lags) →
     IsWithinLimits shop → IsNode shop list node (suc (suc left)) → 1 ≤ job → job ≤ shop.jobs →
-    has list job ≡ false → AreHeads shop list machine two → 1 ≤ from → from ≤ machine → machine ≤ shop.machines →
+    has list job ≡ false → AreLags shop list machine two → 1 ≤ from → from ≤ machine → machine ≤ shop.machines →
     y ≡ time_between shop job from (machine - 1) →
     Without y (slice_index two.least (from - 1)) (slice_index two.second (from - 1)) m →
-    m ≡ least (heads shop from machine (jobs_left shop.jobs (list ++ job ∷ [])))
-child-head shop list node left job from machine y m two limits is first last fresh are low up high head picked =
+    m ≡ least (lags shop from machine (jobs_left shop.jobs (list ++ job ∷ [])))
+child-lag shop list node left job from machine y m two limits is first last fresh are low up high lag picked =
     let here = are from low up in
     let count = left-count shop.jobs list job first last fresh in
     without-left (λ j. time_between shop j from (machine - 1)) shop.jobs list job y (slice_index two.least (from - 1))
-    (slice_index two.second (from - 1)) m first last fresh here.0 here.1 head picked
-    ∙ least-heads shop from machine (jobs_left shop.jobs (list ++ job ∷ [])) limits low up high (omega
+    (slice_index two.second (from - 1)) m first last fresh here.0 here.1 lag picked
+    ∙ least-lags shop from machine (jobs_left shop.jobs (list ++ job ∷ [])) limits low up high (omega
     (arith, is.some, count))
 
 -- what the release adds to the machine bound

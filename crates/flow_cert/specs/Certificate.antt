@@ -3,7 +3,7 @@
 use Rattle.std.specs.Prelude.{ℕ, zero, suc, ◌≡◌, ◌-◌, ◌^◌, ◌<◌, ◌≤◌, ◌⊎◌, List, [], ◌∷◌, ◌++◌, map, codes}
 use Rattle.std.specs.Fmt.{decimal}
 use Rattle.std.specs.List.{AllZip, concat, flat_map, join_with_byte}
-use Rattle.flow_core.specs.Limits.{greatest_depth}
+use Rattle.flow_core.specs.Limits.{greatest_depth, least_version, greatest_version}
 use Rattle.flow_core.specs.Shop.{Shop}
 use Rattle.flow_core.specs.Paths.{span}
 use Rattle.flow_core.specs.Sequences.{IsSequence, IsLeastMakespan, jobs_left, cut}
@@ -29,7 +29,7 @@ spaced ns = join_with_byte 32 (map decimal ns)
 
 -- the versions of certificates
 abbrev pub IsVersion : ℕ → Type 0
-IsVersion version = (1 ≤ version) × (version ≤ 2)
+IsVersion version = (least_version ≤ version) × (version ≤ greatest_version)
 
 -- the first line
 abbrev pub title : ℕ → List ℕ

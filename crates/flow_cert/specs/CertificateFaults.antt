@@ -5,9 +5,9 @@ use Rattle.std.specs.Option.{option_map, option_map_or}
 use Rattle.std.specs.List.{find, list_all, slice_split}
 use Rattle.std.specs.Str.{bytes_eq}
 use Rattle.std.specs.Str.Parse.{digits_value}
-use Rattle.flow_core.specs.Limits.{greatest_depth}
+use Rattle.flow_core.specs.Limits.{greatest_depth, least_version, greatest_version}
 use Rattle.flow_core.specs.Lines.{is_digit}
-use Rattle.flow_core.specs.Shop.{Shop, IsWithinLimits}
+use Rattle.flow_core.specs.Shop.{Shop, IsWithinLimits, numbers}
 use Rattle.flow_core.specs.Paths.{span}
 use Rattle.flow_core.specs.Sequences.{jobs_left, cut}
 use Rattle.flow_core.specs.SequenceFaults.{sequence_fault}
@@ -120,7 +120,7 @@ size_value shop version rest other = Err Size
 
 -- the version whose first line a text is
 abbrev pub version_of : List ℕ → Option ℕ
-version_of text = find (λ version. bytes_eq text (title version)) (1 ∷ 2 ∷ [])
+version_of text = find (λ version. bytes_eq text (title version)) (numbers least_version greatest_version)
 
 -- the first line, and the lines behind it
 abbrev pub header_value : Shop → List ℕ → List ℕ → Result ℕ CheckFault

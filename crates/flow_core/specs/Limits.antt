@@ -1,4 +1,5 @@
--- The limits of instances, of texts, and of the depth of a cut. Contracts name these numbers.
+-- The limits of instances, of texts, of the depth of a cut, and of the version of a certificate. Contracts name these
+-- numbers.
 use Rattle.std.specs.Prelude.{ℕ}
 
 -- the most jobs of an instance
@@ -25,3 +26,11 @@ greatest_number = 4294967295
 -- the greatest depth of a cut
 abbrev pub greatest_depth : ℕ
 greatest_depth = 3
+
+-- the least version of a certificate
+abbrev pub least_version : ℕ
+least_version = 1
+
+-- the greatest version of a certificate
+abbrev pub greatest_version : ℕ
+greatest_version = 2

@@ -12,8 +12,10 @@ ghost use Rattle.flow_core.specs.Bound.{BoundIsAdmissible, ReleasedBoundIsAdmiss
 ghost use Rattle.flow_core.specs.Text.{Reads};
 ghost use Rattle.flow_core.specs.TextFaults.{text_fault};
 ghost use Rattle.flow_core.specs.Limits.{most_jobs, most_machines, greatest_time, greatest_number, greatest_depth};
+ghost use Rattle.flow_core.specs.Limits.{least_version, greatest_version};
 ghost use Rattle.flow_core.specs.declared.text.block.Block.{Block};
 ghost use Rattle.flow_core.specs.declared.limits.TheConstants.{MAX_JOBS, MAX_MACHINES, MAX_TIME, MAX_NUMBER, MAX_DEPTH};
+ghost use Rattle.flow_core.specs.declared.limits.TheConstants.{MIN_VERSION, MAX_VERSION};
 
 /// The constants of the code are the limits that the contracts name.
 pub fn limits_are_those_stated()
@@ -22,6 +24,8 @@ pub fn limits_are_those_stated()
     ensures time { MAX_TIME ≡ greatest_time }
     ensures number { MAX_NUMBER ≡ greatest_number }
     ensures depth { MAX_DEPTH ≡ greatest_depth }
+    ensures least_version { MIN_VERSION ≡ least_version }
+    ensures greatest_version { MAX_VERSION ≡ greatest_version }
 {}
 
 /// A completion time is the weight of a heaviest staircase path.

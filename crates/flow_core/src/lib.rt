@@ -27,7 +27,9 @@ pub use laws::{
     released_bound_is_admissible, released_bound_is_stronger, sequences_have_no_fault,
     texts_have_no_fault,
 };
-pub use limits::{MAX_DEPTH, MAX_JOBS, MAX_MACHINES, MAX_NUMBER, MAX_TIME};
+pub use limits::{
+    MAX_DEPTH, MAX_JOBS, MAX_MACHINES, MAX_NUMBER, MAX_TIME, MAX_VERSION, MIN_VERSION,
+};
 pub use row::{Row, rows};
 pub use sequence::{Sequence, SequenceFault};
 pub use text::{Block, TextFault, block_text, read_blocks};

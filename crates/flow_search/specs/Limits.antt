@@ -12,11 +12,3 @@ most_prefixes = 100000
 -- the greatest budget: how many bytes the tree of a prefix may have
 abbrev pub greatest_budget : ℕ
 greatest_budget = 100000000
-
--- the least version of a certificate
-abbrev pub least_version : ℕ
-least_version = 1
-
--- the greatest version of a certificate
-abbrev pub greatest_version : ℕ
-greatest_version = 2

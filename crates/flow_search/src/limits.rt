@@ -8,9 +8,3 @@ pub const MAX_PREFIXES: u32 = 100_000;
 
 /// The greatest budget: how many bytes the tree of a prefix may have.
 pub const MAX_BUDGET: u32 = 100_000_000;
-
-/// The least version of a certificate.
-pub const MIN_VERSION: u32 = 1;
-
-/// The greatest version of a certificate.
-pub const MAX_VERSION: u32 = 2;

@@ -6,7 +6,7 @@ use Rattle.flow_core.specs.Shop.{Shop}
 use Rattle.flow_core.specs.Bound.{bound_of}
 use Rattle.flow_core.specs.Sequences.{has, jobs_left, extensions}
 use Rattle.flow_cert.specs.CertificateFaults.{read_tree, each_tree, then_read, after_tree, trees_value}
-use Rattle.flow_cert.specs.internal.Heads.{AreKept, AreUnknown}
+use Rattle.flow_cert.specs.internal.Lags.{AreKept, AreUnknown}
 use Rattle.flow_cert.specs.internal.Links.{children, IsPlace}
 use Rattle.flow_cert.specs.internal.Nodes.{IsNode, IsAt}
 use Rattle.flow_cert.specs.declared.fault.CheckFault.{CheckFault}
@@ -30,11 +30,11 @@ abbrev pub above : List Frame → ℕ → ℕ → List Frame
 above frames place zero = []
 above frames place (suc count) = frame_at frames (place + 1) ∷ above frames (place + 1) count
 
--- a reader stands at a list: it has the list's node, its jobs left are linked, and the heads that it keeps are theirs
+-- a reader stands at a list: it has the list's node, its jobs left are linked, and the lags that it keeps are theirs
 pub record Stands (shop : Shop) (list : List ℕ) (reader : TreeReader) : Type 0 where
   pub at : IsAt shop list (here reader) reader.links.items (suc reader.below)
   pub room : length reader.frames.items ≡ shop.jobs
-  pub heads : AreKept shop list reader.heads.items
+  pub lags : AreKept shop list reader.lags.items
 
 -- a reader is back at its list. The node may know more tails; the frames above are as they were
 pub record IsBack (shop : Shop) (old new : TreeReader) : Type 0 where
@@ -53,14 +53,14 @@ pub record Opened (shop : Shop) (last job : ℕ) (old new : TreeReader) : Type 0
   pub others : (place : ℕ) → old.below < place → frame_at new.frames.items place ≡ frame_at old.frames.items place
   pub child : (list : List ℕ) → IsNode shop list (here old) (suc old.below) → has list job ≡ false →
       IsNode shop (list ++ job ∷ []) (here new) (suc new.below)
-  pub heads : AreUnknown new.heads.items
+  pub lags : AreUnknown new.lags.items
 
 -- a reader went back to the list above, whose frame is this one
 pub record Closed (frame : Frame) (old new : TreeReader) : Type 0 where
   pub below : new.below ≡ suc old.below
   pub links : new.links.items ≡ slice_set old.links.items frame.last frame.job
   pub frames : new.frames.items ≡ old.frames.items
-  pub heads : AreUnknown new.heads.items
+  pub lags : AreUnknown new.lags.items
 
 -- what the byte at a place says: that the trees of the children follow, or that the tree is whole, or its fault
 abbrev pub LetterGives : Shop → ℕ → ℕ → ℕ → ℕ → List ℕ → ℕ → List ℕ → Result Bool CheckFault → Type 0

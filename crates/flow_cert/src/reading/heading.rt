@@ -10,13 +10,10 @@ ghost use Rattle.flow_cert.specs.internal.Heading.{BeginsWithJob, BeginsWithSize
 
 use crate::fault::CheckFault;
 use crate::reading::number::read_number;
-use flow_core::{Front, Instance, JobSet, MAX_DEPTH, front_push};
+use flow_core::{Front, Instance, JobSet, MAX_DEPTH, MAX_VERSION, MIN_VERSION, front_push};
 
 /// The first line, up to the version.
 const TITLE: &[u8] = b"flowshop certificate ";
-
-/// The newest version of certificates.
-const NEWEST: u64 = 2;
 
 /// What the four lines before the trees say, where they have no fault. The sequence is not kept, since its makespan is
 /// the value.
@@ -40,7 +37,7 @@ fn read_title(text: &[u8]) -> Option<(u32, &[u8])>
 {
     let number = text.strip_prefix(TITLE)?;
     let (version, rest) = read_number(number, b'\n')?;
-    if version < 1 || version > NEWEST {
+    if version < u64::from(MIN_VERSION) || version > u64::from(MAX_VERSION) {
         return None;
     }
     Some((version as u32, rest))

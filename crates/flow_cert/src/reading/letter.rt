@@ -66,7 +66,7 @@ impl TreeReader {
         if machine > claim.instance.machines() {
             return Err(CheckFault::Tree(spot.line));
         }
-        if !reaches(claim, node, &mut self.heads, &self.links, child, machine) {
+        if !reaches(claim, node, &mut self.lags, &self.links, child, machine) {
             return Err(CheckFault::Weak(spot.line));
         }
         Ok(false)

@@ -8,7 +8,7 @@ ghost use Rattle.flow_core.specs.Limits.{most_jobs};
 
 use crate::reading::claim::Claim;
 use crate::reading::node::Node;
-use crate::reading::release::{Heads, forget, unknown_heads};
+use crate::reading::release::{Lags, forget, unknown_lags};
 use flow_core::Instance;
 use std::alloc::{AllocError, Global};
 
@@ -41,9 +41,9 @@ pub(crate) struct TreeReader {
     /// The frames of the list and of the lists above it: at place `k` that of the list whose children have `k` jobs
     /// left.
     pub(crate) frames: Vec<Frame>,
-    /// In version 2 the two least heads of the list's jobs left before each machine, where they are found; in version 1
+    /// In version 2 the two least lags of the list's jobs left to each machine, where they are found; in version 1
     /// there are none.
-    pub(crate) heads: Vec<Option<Heads>>,
+    pub(crate) lags: Vec<Option<Lags>>,
     /// How many jobs are left at each child of the list: the place of the list's frame.
     pub(crate) below: usize,
 }
@@ -91,11 +91,11 @@ impl TreeReader {
         let jobs = instance.jobs();
         let links = all_links(alloc, jobs)?;
         let frames = all_frames(alloc, jobs, &Node::root(instance))?;
-        let heads = unknown_heads(alloc, if version == 2 { instance.machines() } else { 0 })?;
+        let lags = unknown_lags(alloc, if version == 2 { instance.machines() } else { 0 })?;
         Ok(TreeReader {
             links,
             frames,
-            heads,
+            lags,
             below: jobs as usize - 1,
         })
     }
@@ -118,7 +118,7 @@ impl TreeReader {
         frame.last = last;
         lower[below - 1].node.become_child(claim, &frame.node, job);
         self.below = below - 1;
-        forget(self.heads.as_mut_slice());
+        forget(self.lags.as_mut_slice());
     }
 
     /// Goes back to the list above, once the child is read. Returns the job that the child had at its end.
@@ -132,7 +132,7 @@ impl TreeReader {
         let frame = &self.frames[self.below];
         let job = frame.job;
         self.links[frame.last as usize] = job;
-        forget(self.heads.as_mut_slice());
+        forget(self.lags.as_mut_slice());
         job
     }
 }

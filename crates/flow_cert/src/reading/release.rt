@@ -11,47 +11,47 @@ ghost use Rattle.flow_core.specs.Rows.{AreRows};
 ghost use Rattle.flow_core.proofs.TwoLeast.{Without};
 ghost use Rattle.flow_cert.specs.internal.Links.{AreLinks};
 ghost use Rattle.flow_cert.specs.internal.Nodes.{IsNode, IsAt, IsChild, grown, left_before};
-ghost use Rattle.flow_cert.specs.internal.Heads.{AreHeads, AreKept, AreUnknown, TakesIn};
+ghost use Rattle.flow_cert.specs.internal.Lags.{AreLags, AreKept, AreUnknown, TakesIn};
 
 use crate::reading::claim::Claim;
 use crate::reading::node::{Node, bound};
 use flow_core::MAX_MACHINES;
 use std::alloc::{AllocError, Global};
 
-/// The two least heads of the jobs left before one machine, from each machine up to it. A job's head from a machine is
-/// its time on the machines from there to the one before. Where two jobs have the least head, both are the same. The
-/// greatest number stands for a head where there is no such job.
+/// The two least lags of the jobs left to one machine, from each machine up to it. A job's lag from a machine to another
+/// is its time on the machines from there to the one before the other. Where two jobs have the least lag, both are the
+/// same. The greatest number stands for a lag where there is no such job.
 #[derive(Clone, Copy)]
-pub(crate) struct Heads {
+pub(crate) struct Lags {
     /// The least, from machine 1 on.
     least: [u32; MAX_MACHINES],
-    /// The second least. The child that takes the job with the least head needs it.
+    /// The second least. The child that takes the job with the least lag needs it.
     second: [u32; MAX_MACHINES],
 }
 
-/// So many places for heads, none of them known.
-pub(crate) fn unknown_heads(alloc: Global, count: u16) -> Result<Vec<Option<Heads>>, AllocError>
-    ensures { IfOk result (λ heads. AreUnknown heads.items) }
+/// So many places for lags, none of them known.
+pub(crate) fn unknown_lags(alloc: Global, count: u16) -> Result<Vec<Option<Lags>>, AllocError>
+    ensures { IfOk result (λ lags. AreUnknown lags.items) }
 {
-    let mut heads = Vec::with_capacity(alloc, count as usize)?;
-    'heads: while heads.len() < count as usize {
-        heads.push(None)?;
+    let mut lags = Vec::with_capacity(alloc, count as usize)?;
+    'lags: while lags.len() < count as usize {
+        lags.push(None)?;
     }
-    Ok(heads)
+    Ok(lags)
 }
 
-/// Forgets all heads that are known.
-pub(crate) fn forget(heads: &mut [Option<Heads>])
-    ensures size { length heads.new ≡ length heads.old }
-    ensures none { AreUnknown heads.new }
+/// Forgets all lags that are known.
+pub(crate) fn forget(lags: &mut [Option<Lags>])
+    ensures size { length lags.new ≡ length lags.old }
+    ensures none { AreUnknown lags.new }
 {
-    for place in 0..heads.len() {
-        heads[place] = None;
+    for place in 0..lags.len() {
+        lags[place] = None;
     }
 }
 
-/// A job's head before a machine, from a machine up to it.
-fn head(claim: &Claim, job: u16, from: u16, machine: u16) -> u32
+/// A job's lag from a machine to another.
+fn lag(claim: &Claim, job: u16, from: u16, machine: u16) -> u32
     requires rows { AreRows claim.now.instance.now claim.now.rows.now }
     requires job_from { 1 ≤ job }
     requires job_to { job ≤ claim.now.instance.now.jobs }
@@ -66,8 +66,8 @@ fn head(claim: &Claim, job: u16, from: u16, machine: u16) -> u32
     row.times[first] + row.tails[first] - (row.times[last] + row.tails[last])
 }
 
-impl Heads {
-    /// Takes in the heads of one more job.
+impl Lags {
+    /// Takes in the lags of one more job.
     fn take_in(&mut self, claim: &Claim, job: u16, machine: u16)
         requires rows { AreRows claim.now.instance.now claim.now.rows.now }
         requires job_from { 1 ≤ job }
@@ -77,20 +77,20 @@ impl Heads {
     {
         for from in 1..machine + 1 {
             let place = from as usize - 1;
-            let head = head(claim, job, from, machine);
-            self.second[place] = self.second[place].min(self.least[place].max(head));
-            self.least[place] = self.least[place].min(head);
+            let lag = lag(claim, job, from, machine);
+            self.second[place] = self.second[place].min(self.least[place].max(lag));
+            self.least[place] = self.least[place].min(lag);
         }
     }
 
-    /// The least head from a machine, once a job with this head from there is taken.
-    fn without(&self, from: u16, head: u32) -> u32
+    /// The least lag from a machine, once a job with this lag from there is taken.
+    fn without(&self, from: u16, lag: u32) -> u32
         requires from { 1 ≤ from }
         requires to { from ≤ most_machines }
-        ensures { Without head (slice_index self.now.least (from - 1)) (slice_index self.now.second (from - 1)) result }
+        ensures { Without lag (slice_index self.now.least (from - 1)) (slice_index self.now.second (from - 1)) result }
     {
         let place = from as usize - 1;
-        if head == self.least[place] {
+        if lag == self.least[place] {
             self.second[place]
         } else {
             self.least[place]
@@ -98,15 +98,15 @@ impl Heads {
     }
 }
 
-/// Finds the two least heads of the jobs left before a machine.
-fn heads_before(claim: &Claim, links: &[u16], machine: u16) -> Heads
+/// Finds the two least lags of the jobs left to a machine.
+fn lags_to(claim: &Claim, links: &[u16], machine: u16) -> Lags
     requires rows { AreRows claim.now.instance.now claim.now.rows.now }
     requires links { (list : List ℕ) × AreLinks claim.now.instance.now.jobs list links.now }
     requires to { machine ≤ claim.now.instance.now.machines }
     ensures { (list : List ℕ) → AreLinks claim.now.instance.now.jobs list links.now →
-        AreHeads claim.now.instance.now list machine result }
+        AreLags claim.now.instance.now list machine result }
 {
-    let mut heads = Heads {
+    let mut lags = Lags {
         least: [u32::MAX; MAX_MACHINES],
         second: [u32::MAX; MAX_MACHINES],
     };
@@ -114,48 +114,48 @@ fn heads_before(claim: &Claim, links: &[u16], machine: u16) -> Heads
     'jobs: loop {
         let job = links[last as usize];
         if job == 0 {
-            return heads;
+            return lags;
         }
-        heads.take_in(claim, job, machine);
+        lags.take_in(claim, job, machine);
         last = job;
     }
 }
 
-/// The two least heads of the jobs left before a machine: those that are kept, or else they are found, and kept where
+/// The two least lags of the jobs left to a machine: those that are kept, or else they are found, and kept where
 /// there is a place for them.
-fn heads_of(claim: &Claim, kept: &mut [Option<Heads>], links: &[u16], machine: u16) -> Heads
+fn lags_of(claim: &Claim, kept: &mut [Option<Lags>], links: &[u16], machine: u16) -> Lags
     requires rows { AreRows claim.now.instance.now claim.now.rows.now }
     requires at { (list : List ℕ) × AreLinks claim.now.instance.now.jobs list links.now
         × AreKept claim.now.instance.now list kept.old }
     requires from { 1 ≤ machine }
     requires to { machine ≤ claim.now.instance.now.machines }
     ensures size { length kept.new ≡ length kept.old }
-    ensures heads { (list : List ℕ) → AreLinks claim.now.instance.now.jobs list links.now →
-        AreKept claim.now.instance.now list kept.old → AreHeads claim.now.instance.now list machine result }
+    ensures lags { (list : List ℕ) → AreLinks claim.now.instance.now.jobs list links.now →
+        AreKept claim.now.instance.now list kept.old → AreLags claim.now.instance.now list machine result }
     ensures kept { (list : List ℕ) → AreLinks claim.now.instance.now.jobs list links.now →
         AreKept claim.now.instance.now list kept.old → AreKept claim.now.instance.now list kept.new }
 {
     let place = machine as usize - 1;
     if place >= kept.len() {
-        return heads_before(claim, links, machine);
+        return lags_to(claim, links, machine);
     }
     if let Some(known) = kept[place] {
         return known;
     }
-    let heads = heads_before(claim, links, machine);
-    kept[place] = Some(heads);
-    heads
+    let lags = lags_to(claim, links, machine);
+    kept[place] = Some(lags);
+    lags
 }
 
 /// How much later than its front a machine is released for the jobs left of a list.
-fn own_gain(claim: &Claim, node: &Node, heads: &Heads, machine: u16) -> u64
+fn own_gain(claim: &Claim, node: &Node, lags: &Lags, machine: u16) -> u64
     requires rows { AreRows claim.now.instance.now claim.now.rows.now }
     requires at { (list : List ℕ) × (left : ℕ) × IsNode claim.now.instance.now list node.now (suc left)
-        × AreHeads claim.now.instance.now list machine heads.now }
+        × AreLags claim.now.instance.now list machine lags.now }
     requires from { 1 ≤ machine }
     requires to { machine ≤ claim.now.instance.now.machines }
     ensures { (list : List ℕ) (left : ℕ) → IsNode claim.now.instance.now list node.now (suc left) →
-        AreHeads claim.now.instance.now list machine heads.now →
+        AreLags claim.now.instance.now list machine lags.now →
         slice_index (front_of claim.now.instance.now list) (machine - 1) + result
         ≡ release claim.now.instance.now (front_of claim.now.instance.now list)
         (jobs_left claim.now.instance.now.jobs list) machine }
@@ -163,22 +163,22 @@ fn own_gain(claim: &Claim, node: &Node, heads: &Heads, machine: u16) -> u64
     let mut release: u64 = 0;
     for from in 1..machine + 1 {
         let place = from as usize - 1;
-        release = release.max(node.front[place] + u64::from(heads.least[place]));
+        release = release.max(node.front[place] + u64::from(lags.least[place]));
     }
     release - node.front[machine as usize - 1]
 }
 
 /// How much later than its front a machine is released for the jobs left of a list's child that has this job at its
 /// end.
-fn child_gain(claim: &Claim, node: &Node, heads: &Heads, job: u16, machine: u16) -> u64
+fn child_gain(claim: &Claim, node: &Node, lags: &Lags, job: u16, machine: u16) -> u64
     requires rows { AreRows claim.now.instance.now claim.now.rows.now }
     requires at { (list : List ℕ) × (left : ℕ) × IsNode claim.now.instance.now list node.now (suc (suc left))
-        × AreHeads claim.now.instance.now list machine heads.now
+        × AreLags claim.now.instance.now list machine lags.now
         × IsChild claim.now.instance.now.jobs list (Some job) }
     requires from { 1 ≤ machine }
     requires to { machine ≤ claim.now.instance.now.machines }
     ensures { (list : List ℕ) (left : ℕ) → IsNode claim.now.instance.now list node.now (suc (suc left)) →
-        AreHeads claim.now.instance.now list machine heads.now →
+        AreLags claim.now.instance.now list machine lags.now →
         IsChild claim.now.instance.now.jobs list (Some job) →
         slice_index (front_of claim.now.instance.now (list ++ job ∷ [])) (machine - 1) + result
         ≡ release claim.now.instance.now (front_of claim.now.instance.now (list ++ job ∷ []))
@@ -190,8 +190,8 @@ fn child_gain(claim: &Claim, node: &Node, heads: &Heads, job: u16, machine: u16)
     for from in 1..machine + 1 {
         let place = from as usize - 1;
         free = node.front[place].max(free) + u64::from(row.times[place]);
-        let head = heads.without(from, head(claim, job, from, machine));
-        release = release.max(free + u64::from(head));
+        let lag = lags.without(from, lag(claim, job, from, machine));
+        release = release.max(free + u64::from(lag));
     }
     release - free
 }
@@ -200,7 +200,7 @@ fn child_gain(claim: &Claim, node: &Node, heads: &Heads, job: u16, machine: u16)
 fn gain(
     claim: &Claim,
     node: &Node,
-    kept: &mut [Option<Heads>],
+    kept: &mut [Option<Lags>],
     links: &[u16],
     child: Option<u16>,
     machine: u16,
@@ -225,10 +225,10 @@ fn gain(
     if claim.version != 2 {
         return 0;
     }
-    let heads = heads_of(claim, kept, links, machine);
+    let lags = lags_of(claim, kept, links, machine);
     match child {
-        None => own_gain(claim, node, &heads, machine),
-        Some(job) => child_gain(claim, node, &heads, job, machine),
+        None => own_gain(claim, node, &lags, machine),
+        Some(job) => child_gain(claim, node, &lags, job, machine),
     }
 }
 
@@ -237,7 +237,7 @@ fn gain(
 pub(crate) fn reaches(
     claim: &Claim,
     node: &mut Node,
-    kept: &mut [Option<Heads>],
+    kept: &mut [Option<Lags>],
     links: &[u16],
     child: Option<u16>,
     machine: u16,

@@ -12,7 +12,7 @@ returns-clause-found c =
     ∙ ap (λ t. t ++ drop 21 c.args.text.now) ((bytes_decides (take 21 c.args.text.now)
     (codes "flowshop certificate ")).0 c.in_ok-number.ensures.cases.0)
     ∙ ap (λ r. codes "flowshop certificate " ++ r) (sym c.in_ok-number.ensures.cases.1) in (
-      (omega (arith, c.if-version-lt1.false), omega (arith, c.if-version-gt-NEWEST.false)),
+      (omega (arith, c.if-version-from.false), omega (arith, c.if-version-from-2.false)),
       stem ∙ ap (λ xs. codes "flowshop certificate " ++ xs) c.in_ok-version.ensures.found.1
           ∙ sym (title-parts c.in_ok-version.version c.in_ok-version.rest.now),
     )

@@ -8,9 +8,9 @@ use Rattle.flow_core.specs.Sequences.{jobs_left}
 use Rattle.flow_core.proofs.Admissible.{front_of-is}
 use Rattle.flow_core.proofs.Recurrence.{after}
 use Rattle.flow_core.proofs.Fronts.{free_at, after-step, time-small}
-use Rattle.flow_cert.specs.internal.Heads.{heads}
+use Rattle.flow_cert.specs.internal.Lags.{lags}
 use Rattle.flow_cert.proofs.NodeSteps.{node-within, child-completion}
-use Rattle.flow_cert.proofs.Releases.{greatest-more, child-head, child-release}
+use Rattle.flow_cert.proofs.Releases.{greatest-more, child-lag, child-release}
 use Rattle.flow_cert.proofs.reading.release.child_gain.Goals as goal
 use Rattle.flow_cert.proofs.reading.release.child_gain.Goals.{After-from}
 
@@ -77,14 +77,14 @@ loop-from-preserved c =
       release = λ list left is are kid.
           let jobs : List ℕ = jobs_left shop.jobs (list ++ c.args.job ∷ []) in
           let f : ℕ → ℕ = λ from. after shop (free_at c.args.node.now.front) c.args.job from
-          + least (heads shop from c.args.machine jobs) in
+          + least (lags shop from c.args.machine jobs) in
           let most : c.max-release.result ≡ max c.loop-from.release (free + c.from-in-loop-from.result) =
           omega (arith, c.max-release.ensures) in
-          let head = child-head shop list c.args.node.now left c.args.job c.loop-from.from c.args.machine c.head.result
-          c.without-head.result c.args.heads.now c.requires.rows.limits is kid.0 kid.1 kid.2 are at.0 at.1
-          c.requires.to c.head.ensures c.without-head.ensures in
+          let lag = child-lag shop list c.args.node.now left c.args.job c.loop-from.from c.args.machine c.lag.result
+          c.without-lag.result c.args.lags.now c.requires.rows.limits is kid.0 kid.1 kid.2 are at.0 at.1
+          c.requires.to c.lag.ensures c.without-lag.ensures in
           let value : free + c.from-in-loop-from.result ≡ f c.loop-from.from =
-          ap₂ (λ a b. a + b) at.2 (c.from-in-loop-from.ensures ∙ head) in
+          ap₂ (λ a b. a + b) at.2 (c.from-in-loop-from.ensures ∙ lag) in
           most ∙ ap₂ max (c.loop-from.invariant.release list left is are kid) value
           ∙ sym (greatest-more f c.loop-from.from at.0);
     }
@@ -94,7 +94,7 @@ returns c list left is are kid =
     let shop = c.args.claim.now.instance.now in
     let jobs : List ℕ = jobs_left shop.jobs (list ++ c.args.job ∷ []) in
     let f : ℕ → ℕ = λ from. after shop (free_at c.args.node.now.front) c.args.job from
-    + least (heads shop from c.args.machine jobs) in
+    + least (lags shop from c.args.machine jobs) in
     let end : c.loop-from.from - 1 ≡ c.args.machine =
     omega (arith, c.loop-from-test.false, c.loop-from.auto.from, c.loop-from.auto.from-end) in
     let i = c.loop-from.invariant in

@@ -3,6 +3,6 @@ use Rattle.flow_cert.proofs.reading.release.forget.Given as goal
 
 abbrev pub invariant-loop-place : goal.invariant-loop-place
 invariant-loop-place l = record {
-  size : length l.heads ≡ length l.fn.heads;
-  none : (place : ℕ) → place < l.place → slice_index_or l.heads place None ≡ None;
+  size : length l.lags ≡ length l.fn.lags;
+  none : (place : ℕ) → place < l.place → slice_index_or l.lags place None ≡ None;
 }

@@ -10,8 +10,8 @@ returns-then-claim-ne2-clause-value c list left at kept kid =
     plain-gains c.args.claim.now.instance.now (grown list c.args.child) c.args.machine c.args.claim.now.version
     c.if-claim-ne2.true
 
-pub heads_of-heads-requires-clause-at : goal.heads_of-heads-requires-clause-at
-heads_of-heads-requires-clause-at c = (c.requires.at.0, c.requires.at.2.are_links, c.requires.at.3)
+pub lags_of-lags-requires-clause-at : goal.lags_of-lags-requires-clause-at
+lags_of-lags-requires-clause-at c = (c.requires.at.0, c.requires.at.2.are_links, c.requires.at.3)
 
 pub own_gain-requires-clause-at : goal.own_gain-requires-clause-at
 own_gain-requires-clause-at c =
@@ -19,7 +19,7 @@ own_gain-requires-clause-at c =
     let list : List ℕ = c.requires.at.0 in
     let at = subst (λ o. IsAt shop list c.args.node.now c.args.links.now (left_before o (suc c.requires.at.1)))
     c.in-None.is c.requires.at.2 in
-    (list, c.requires.at.1, at.is_node, c.heads_of-heads.ensures.heads list at.are_links c.requires.at.3)
+    (list, c.requires.at.1, at.is_node, c.lags_of-lags.ensures.lags list at.are_links c.requires.at.3)
 
 pub child_gain-requires-clause-at : goal.child_gain-requires-clause-at
 child_gain-requires-clause-at c =
@@ -27,14 +27,14 @@ child_gain-requires-clause-at c =
     let list : List ℕ = c.requires.at.0 in
     let at = subst (λ o. IsAt shop list c.args.node.now c.args.links.now (left_before o (suc c.requires.at.1)))
     c.in-Some.is c.requires.at.2 in
-    let two = c.heads_of-heads.ensures.heads list at.are_links c.requires.at.3 in
+    let two = c.lags_of-lags.ensures.lags list at.are_links c.requires.at.3 in
     (list, c.requires.at.1, at.is_node, two, subst (IsChild shop.jobs list) c.in-Some.is c.requires.at.4)
 
 pub returns-in-None-clause-value : goal.returns-in-None-clause-value
 returns-in-None-clause-value c list left at kept kid =
     let shop = c.args.claim.now.instance.now in
     let was = subst (λ o. IsAt shop list c.args.node.now c.args.links.now (left_before o (suc left))) c.in-None.is at in
-    let gains = c.own_gain.ensures list left was.is_node (c.heads_of-heads.ensures.heads list was.are_links kept) in
+    let gains = c.own_gain.ensures list left was.is_node (c.lags_of-lags.ensures.lags list was.are_links kept) in
     release-gains shop (grown list c.args.child) c.args.machine c.own_gain.result c.args.claim.now.version
     c.if-claim-ne2.false
     (subst (λ o. slice_index (front_of shop (grown list o)) (c.args.machine - 1) + c.own_gain.result
@@ -45,7 +45,7 @@ pub returns-in-Some-clause-value : goal.returns-in-Some-clause-value
 returns-in-Some-clause-value c list left at kept kid =
     let shop = c.args.claim.now.instance.now in
     let was = subst (λ o. IsAt shop list c.args.node.now c.args.links.now (left_before o (suc left))) c.in-Some.is at in
-    let gains = c.child_gain.ensures list left was.is_node (c.heads_of-heads.ensures.heads list was.are_links kept)
+    let gains = c.child_gain.ensures list left was.is_node (c.lags_of-lags.ensures.lags list was.are_links kept)
     (subst
     (IsChild shop.jobs list) c.in-Some.is kid) in
     release-gains shop (grown list c.args.child) c.args.machine c.child_gain.result c.args.claim.now.version

@@ -15,7 +15,7 @@ overflow_add-node c =
 pub loop-from-preserved : goal.loop-from-preserved
 loop-from-preserved c =
     let f : ℕ → ℕ =
-    λ from. slice_index c.args.node.now.front (from - 1) + slice_index c.args.heads.now.least (from - 1) in
+    λ from. slice_index c.args.node.now.front (from - 1) + slice_index c.args.lags.now.least (from - 1) in
     let most : c.max-release.result
     ≡ max c.loop-from.release (slice_index c.args.node.now.front (c.loop-from.from - 1) + c.from.result) =
     omega (arith, c.max-release.ensures) in
@@ -26,14 +26,14 @@ loop-from-preserved c =
 pub overflow_sub-result-2 : goal.overflow_sub-result-2
 overflow_sub-result-2 c =
     let is = own-late c.args.claim.now.instance.now c.requires.at.0 c.args.node.now c.requires.at.1 c.args.machine
-    c.args.heads.now c.loop-from.release (c.loop-from.from - 1) c.requires.rows.limits c.requires.at.2 c.requires.from
+    c.args.lags.now c.loop-from.release (c.loop-from.from - 1) c.requires.rows.limits c.requires.at.2 c.requires.from
     c.requires.to c.requires.at.3 c.loop-from.invariant (omega
     (arith, c.loop-from-test.false, c.loop-from.auto.from, c.loop-from.auto.from-end)) in
     omega (arith, is.1, is.2)
 
 pub returns : goal.returns
 returns c list left is are =
-    let at = own-late c.args.claim.now.instance.now list c.args.node.now left c.args.machine c.args.heads.now
+    let at = own-late c.args.claim.now.instance.now list c.args.node.now left c.args.machine c.args.lags.now
     c.loop-from.release (c.loop-from.from - 1) c.requires.rows.limits is c.requires.from c.requires.to are
     c.loop-from.invariant (omega
     (arith, c.loop-from-test.false, c.loop-from.auto.from, c.loop-from.auto.from-end)) in

@@ -6,4 +6,4 @@ use Rattle.flow_cert.proofs.reading.release.own_gain.Given as goal
 abbrev pub invariant-loop-from : goal.invariant-loop-from
 invariant-loop-from l =
     l.release ≡ greatest (map
-    (λ from. slice_index l.node.front (from - 1) + slice_index l.heads.least (from - 1)) (numbers 1 (l.from - 1)))
+    (λ from. slice_index l.node.front (from - 1) + slice_index l.lags.least (from - 1)) (numbers 1 (l.from - 1)))

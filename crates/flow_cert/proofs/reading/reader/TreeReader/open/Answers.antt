@@ -3,7 +3,7 @@ use Rattle.std.proofs.Common.{arith}
 use Rattle.std.specs.Vec.{with_item, with_items}
 use Rattle.std.proofs.lemmas.List.{length-set, with_items_is}
 use Rattle.std.proofs.lemmas.Grind.{get_or_default_zero}
-use Rattle.flow_cert.specs.internal.Heads.{AreUnknown}
+use Rattle.flow_cert.specs.internal.Lags.{AreUnknown}
 use Rattle.flow_cert.specs.internal.Links.{IsNext}
 use Rattle.flow_cert.specs.internal.Nodes.{IsNode}
 use Rattle.flow_cert.specs.internal.Reader.{frame_at}
@@ -48,7 +48,7 @@ returns c =
       links = with_item c.args.self.now.links c.args.last c.index.result.now;
       frames =
           with_items c.args.self.now.frames (set lower (below - 1) kid ++ set upper 0 f);
-      heads = with_items c.args.self.now.heads c.forget.new.heads;
+      lags = with_items c.args.self.now.lags c.forget.new.lags;
       below = below - 1;
     }) f kid
     one refl (c.index.ensures ∙ get_or_default_zero c.args.self.now.links.items c.args.job c.index.result.now room)
@@ -58,5 +58,5 @@ returns c =
     subst (IsNode c.args.claim.now.instance.now (list ++ c.args.job ∷ []) c.become_child.new.self) (sym one)
     (c.become_child.ensures list below (subst (λ (g : Frame). IsNode c.args.claim.now.instance.now list g.node
     (suc below)) (sym first) node) fresh))
-    (subst AreUnknown (sym (with_items_is c.args.self.now.heads c.forget.new.heads (c.forget.ensures.size
+    (subst AreUnknown (sym (with_items_is c.args.self.now.lags c.forget.new.lags (c.forget.ensures.size
     ∙ c.as_mut_slice-2.ensures.len))) c.forget.ensures.none)

@@ -1,7 +1,7 @@
 use Rattle.std.proofs.Common.{◌≡◌, ◌≢◌, ℕ, suc, ◌+◌, ◌-◌, ◌<◌, ◌≤◌, List, [], ◌∷◌, ◌++◌, length, drop, slice_index}
 use Rattle.std.proofs.Common.{Bool, Some, Ok, Err, true, false, refl, sym, ap, subst, ◌∙◌, arith}
 use Rattle.std.proofs.lemmas.Grind.{get_or_default_zero}
-use Rattle.flow_cert.specs.internal.Heads.{AreKept}
+use Rattle.flow_cert.specs.internal.Lags.{AreKept}
 use Rattle.flow_cert.specs.internal.Nodes.{IsAt, IsChild}
 use Rattle.flow_cert.specs.internal.Reader.{children_read, put_back, path, frame_at, here, Stands, IsStack, Opened}
 use Rattle.flow_cert.specs.internal.Reader.{LetterGives}
@@ -31,9 +31,9 @@ children-init c =
       reading = λ root stands. reads-start c.args.claim.now.instance.now c.args.claim.now.version c.args.claim.now.value
           c.args.spot.line root
           c.args.self.now c.args.spot.at c.args.claim.now.bytes.now stands;
-      heads = λ root stands. subst (λ fs. AreKept c.args.claim.now.instance.now (path root fs)
-          c.args.self.now.heads.items) (sym (none-above c.args.self.now.frames.items c.args.self.now.below
-          (c.args.self.now.below - c.args.self.now.below) none)) stands.heads;
+      lags = λ root stands. subst (λ fs. AreKept c.args.claim.now.instance.now (path root fs)
+          c.args.self.now.lags.items) (sym (none-above c.args.self.now.frames.items c.args.self.now.below
+          (c.args.self.now.below - c.args.self.now.below) none)) stands.lags;
     }
 
 -- the job that is read is where the link leads
@@ -59,8 +59,8 @@ returns-then-self-base-clause-back c =
             (here c.children.self) c.children.self.links.items (suc c.children.self.below)) empty
             (c.children.invariant.reading list stands).here;
         room = c.children.invariant.size ∙ stands.room;
-        heads = subst (λ fs. AreKept c.args.claim.now.instance.now (path list fs) c.children.self.heads.items) empty
-            (c.children.invariant.heads list stands);
+        lags = subst (λ fs. AreKept c.args.claim.now.instance.now (path list fs) c.children.self.lags.items) empty
+            (c.children.invariant.lags list stands);
       };
     }
 
@@ -113,8 +113,8 @@ children-preserved-then-job-eq0 c =
           root (drop c.args.spot.at c.args.claim.now.bytes.now)) c.args.self.now.below c.children.self
           c.close-last.new.self c.children.last c.children.at c.args.claim.now.bytes.now
           (c.children.invariant.reading root stands) none deep is);
-      heads = λ root stands. none-kept c.args.claim.now.instance.now (reached root c.args.self.now.below
-          c.close-last.new.self) c.close-last.new.self.heads.items is.heads;
+      lags = λ root stands. none-kept c.args.claim.now.instance.now (reached root c.args.self.now.below
+          c.close-last.new.self) c.close-last.new.self.lags.items is.lags;
     }
 
 -- the list is reached, and the job that is read is its next child's
@@ -130,7 +130,7 @@ child c some root stands =
         at = i.here;
         room = c.children.invariant.size
             ∙ stands.room;
-        heads = c.children.invariant.heads root stands;
+        lags = c.children.invariant.lags root stands;
       },
       subst (λ j. IsChild c.args.claim.now.instance.now.jobs
           (reached root c.args.self.now.below c.children.self) (Some j)) (sym (leads c)) (next.1, next.2, next.3),
@@ -177,7 +177,7 @@ letter c some root stands =
     (c.children.invariant.reading root stands) (record {
       at = (c.children.invariant.reading root stands).here;
       room = c.children.invariant.size ∙ stands.room;
-      heads = c.children.invariant.heads root stands;
+      lags = c.children.invariant.lags root stands;
     }) c.read_letter.ensures.back
 
 pub open-requires-clause-at : goal.open-requires-clause-at
@@ -267,8 +267,8 @@ children-preserved-then-open c =
           root (drop c.args.spot.at c.args.claim.now.bytes.now)) c.args.self.now.below c.read_letter.new.self
           c.open.new.self c.children.last c.children.at c.args.claim.now.bytes.now
           (letter at.After-branch-open c.if-job-eq0.false root stands) some there.2 deep is;
-      heads = λ root stands. none-kept c.args.claim.now.instance.now (reached root c.args.self.now.below
-          c.open.new.self) c.open.new.self.heads.items is.heads;
+      lags = λ root stands. none-kept c.args.claim.now.instance.now (reached root c.args.self.now.below
+          c.open.new.self) c.open.new.self.lags.items is.lags;
     }
 
 -- a letter or a point was read
@@ -341,9 +341,9 @@ children-preserved c =
           c.read_letter.new.self (slice_index c.children.self.links.items c.children.last) (c.children.at
           + 1) c.args.claim.now.bytes.now
           read (child at.After-index-job c.if-job-eq0.false root stands).0 back);
-      heads = λ root stands.
+      lags = λ root stands.
           let was = child at.After-index-job c.if-job-eq0.false root stands in
-          subst (λ list. AreKept c.args.claim.now.instance.now list c.read_letter.new.self.heads.items) (sym
+          subst (λ list. AreKept c.args.claim.now.instance.now list c.read_letter.new.self.lags.items) (sym
           (reached-back c.args.claim.now.instance.now root c.args.self.now.below c.children.self
-          c.read_letter.new.self back)) (back.kept (reached root c.args.self.now.below c.children.self) was.0).heads;
+          c.read_letter.new.self back)) (back.kept (reached root c.args.self.now.below c.children.self) was.0).lags;
     }

@@ -1,5 +1,5 @@
 use Rattle.std.proofs.Common.{◌≡◌, ℕ, ◌+◌, ◌-◌, ◌*◌, ◌<◌, ◌≤◌, List, length, drop}
-use Rattle.flow_cert.specs.internal.Heads.{AreKept}
+use Rattle.flow_cert.specs.internal.Lags.{AreKept}
 use Rattle.flow_cert.specs.internal.Reader.{Stands, children_read, put_back, frame_at, above}
 use Rattle.flow_cert.proofs.ReaderSteps.{Reads, reached}
 use Rattle.flow_cert.proofs.reading.reader.TreeReader.read_children.Given as goal
@@ -18,8 +18,8 @@ invariant-children l = record {
       Reads l.claim.instance.now l.claim.version l.claim.value l.line root
       (children_read l.claim.instance.now l.claim.version l.claim.value l.line l.fn.self.below root
       (drop l.fn.spot.at l.claim.bytes.now)) l.base l.self l.last l.at l.claim.bytes.now;
-  heads : (root : List ℕ) → Stands l.claim.instance.now root l.fn.self →
-      AreKept l.claim.instance.now (reached root l.base l.self) l.self.heads.items;
+  lags : (root : List ℕ) → Stands l.claim.instance.now root l.fn.self →
+      AreKept l.claim.instance.now (reached root l.base l.self) l.self.lags.items;
 }
 
 abbrev pub decreases-children : goal.decreases-children

@@ -4,7 +4,7 @@ use Rattle.std.specs.Vec.{with_items}
 use Rattle.std.proofs.lemmas.List.{with_items_is}
 use Rattle.flow_core.specs.Bound.{bound_of}
 use Rattle.flow_cert.specs.CertificateFaults.{read_tree}
-use Rattle.flow_cert.specs.internal.Heads.{AreKept}
+use Rattle.flow_cert.specs.internal.Lags.{AreKept}
 use Rattle.flow_cert.specs.internal.Links.{AreLinks}
 use Rattle.flow_cert.specs.internal.Nodes.{IsAt, IsChild, grown, left_before, left_here}
 use Rattle.flow_cert.specs.internal.Reader.{here, Stands}
@@ -108,11 +108,11 @@ asked c list at some =
     (suc c.args.self.now.below) refl c.deref.ensures.value
     (before-here c.args.child c.args.self.now.below (c.left_here.result - 1) (sym c.left_here.ensures ∙ more)) at
 
--- the heads that are kept are the list's
+-- the lags that are kept are the list's
 lent : (c : After-deref) (list : List ℕ) → Stands c.args.claim.now.instance.now list c.args.self.now →
     AreKept c.args.claim.now.instance.now list c.deref_mut.result.now
 lent c list stands =
-    subst (AreKept c.args.claim.now.instance.now list) (sym c.deref_mut.ensures.value) stands.heads
+    subst (AreKept c.args.claim.now.instance.now list) (sym c.deref_mut.ensures.value) stands.lags
 
 pub reaches-requires-clause-at : goal.reaches-requires-clause-at
 reaches-requires-clause-at c = (
@@ -141,11 +141,11 @@ known c list at =
 -- and so are those that are kept then
 left : (c : After-reaches) (list : List ℕ) → Stands c.args.claim.now.instance.now list c.args.self.now →
     AreKept c.args.claim.now.instance.now list c.deref_mut.result.now →
-    AreKept c.args.claim.now.instance.now list (with_items c.args.self.now.heads c.reaches.new.kept).items
+    AreKept c.args.claim.now.instance.now list (with_items c.args.self.now.lags c.reaches.new.kept).items
 left c list stands kept =
     let links : AreLinks c.args.claim.now.instance.now.jobs list c.deref.result.now =
     subst (AreLinks c.args.claim.now.instance.now.jobs list) (sym c.deref.ensures.value) stands.at.are_links in
-    subst (AreKept c.args.claim.now.instance.now list) (sym (with_items_is c.args.self.now.heads c.reaches.new.kept
+    subst (AreKept c.args.claim.now.instance.now list) (sym (with_items_is c.args.self.now.lags c.reaches.new.kept
     (c.reaches.ensures.size ∙ c.deref_mut.ensures.len))) (c.reaches.ensures.kept list links kept)
 
 pub returns-then-not-reaches-clause-back : goal.returns-then-not-reaches-clause-back

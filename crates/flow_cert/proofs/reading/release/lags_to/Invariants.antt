@@ -2,9 +2,9 @@ use Rattle.std.proofs.Common.{◌≡◌, ℕ, ◌+◌, ◌-◌, ◌≤◌, List,
 use Rattle.flow_core.specs.Sequences.{jobs_left}
 use Rattle.flow_core.specs.internal.TwoLeast.{least_below, second_below}
 use Rattle.flow_cert.specs.internal.Nodes.{unknown}
-use Rattle.flow_cert.specs.internal.Heads.{heads}
+use Rattle.flow_cert.specs.internal.Lags.{lags}
 use Rattle.flow_cert.specs.internal.Links.{AreLinks, IsPlace, children}
-use Rattle.flow_cert.proofs.reading.release.heads_before.Given as goal
+use Rattle.flow_cert.proofs.reading.release.lags_to.Given as goal
 
 abbrev pub invariant-jobs : goal.invariant-jobs
 invariant-jobs l = record {
@@ -12,15 +12,15 @@ invariant-jobs l = record {
       IsPlace l.claim.instance.now.jobs list l.last;
   least : (list : List ℕ) → AreLinks l.claim.instance.now.jobs list l.links → (from : ℕ) → 1 ≤ from →
       from ≤ l.machine →
-      least_below unknown (heads l.claim.instance.now from l.machine (jobs_left l.claim.instance.now.jobs list))
-      ≡ least_below (slice_index l.heads.least (from - 1)) (heads l.claim.instance.now from l.machine
+      least_below unknown (lags l.claim.instance.now from l.machine (jobs_left l.claim.instance.now.jobs list))
+      ≡ least_below (slice_index l.lags.least (from - 1)) (lags l.claim.instance.now from l.machine
       (children l.claim.instance.now.jobs list (l.last + 1)));
   second : (list : List ℕ) → AreLinks l.claim.instance.now.jobs list l.links → (from : ℕ) → 1 ≤ from →
       from ≤ l.machine →
-      second_below unknown unknown (heads l.claim.instance.now from l.machine (jobs_left l.claim.instance.now.jobs
+      second_below unknown unknown (lags l.claim.instance.now from l.machine (jobs_left l.claim.instance.now.jobs
       list))
-      ≡ second_below (slice_index l.heads.least (from - 1)) (slice_index l.heads.second (from - 1))
-      (heads l.claim.instance.now from l.machine (children l.claim.instance.now.jobs list (l.last + 1)));
+      ≡ second_below (slice_index l.lags.least (from - 1)) (slice_index l.lags.second (from - 1))
+      (lags l.claim.instance.now from l.machine (children l.claim.instance.now.jobs list (l.last + 1)));
 }
 
 abbrev pub decreases-jobs : goal.decreases-jobs

@@ -1,7 +1,7 @@
 use Rattle.std.proofs.Common.{◌≡◌, ℕ, ◌-◌, ◌<◌, ◌≤◌, min, max, length, slice_index}
 use Rattle.flow_core.specs.Limits.{most_machines}
 use Rattle.flow_core.specs.Shop.{time_between}
-use Rattle.flow_cert.proofs.reading.release.Heads.take_in.Given as goal
+use Rattle.flow_cert.proofs.reading.release.Lags.take_in.Given as goal
 
 abbrev pub invariant-loop-from : goal.invariant-loop-from
 invariant-loop-from l = record {
