@@ -11,7 +11,7 @@ ghost use Rattle.flow_core.specs.declared.text.fault.TextFault.TheVariants.{Memo
 use crate::text::block::Block;
 use crate::text::fault::TextFault;
 use crate::text::line::first_line;
-use crate::text::steps::{after_any_line, begin, finish};
+use crate::text::steps::{begin, finish, take_line};
 use std::alloc::Global;
 
 /// The blocks of a text in order; or its first fault; or `Memory`.
@@ -37,9 +37,8 @@ fn walk_text(alloc: Global, text: &[u8]) -> Result<Vec<Block>, TextFault>
     while !rest.is_empty() {
         let (line, behind) = first_line(rest);
         count += 1;
-        match after_any_line(alloc, progress, line, &mut numbers) {
-            Ok(next) => progress = next,
-            Err(fault) => return Err(fault.at(count)),
+        if let Err(fault) = take_line(alloc, &mut progress, line, &mut numbers) {
+            return Err(fault.at(count));
         }
         rest = behind;
     }

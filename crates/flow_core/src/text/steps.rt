@@ -57,31 +57,32 @@ fn head_of(numbers: &[u32]) -> Option<Head>
     }
 }
 
-/// The progress after a label line; or the line's fault.
+/// Takes a label line in; or returns the line's fault.
 #[tactic(auto, unfolding(crate::specs::internal::TextWalk::after_label))]
-fn after_label_line(mut progress: Progress) -> Result<Progress, LineFault>
-    ensures { LineGives state_of result (after_label (state_of progress)) }
+fn take_label(progress: &mut Progress) -> Result<(), LineFault>
+    ensures { LineGives (λ _. state_of progress.new) result (after_label (state_of progress.old)) }
 {
     match progress.want {
         Want::FirstLabel => {
             progress.want = Want::HeadNumbers;
             progress.numbers.clear();
-            Ok(progress)
+            Ok(())
         }
         Want::HeadNumbers => Err(LineFault::Head),
         Want::SecondLabel => {
             progress.want = Want::Times;
             progress.numbers.clear();
-            Ok(progress)
+            Ok(())
         }
         Want::Times => Err(LineFault::Times),
     }
 }
 
-/// The progress after more numbers of a head; or the fault of their line.
+/// Takes more numbers of a head in; or returns the fault of their line.
 #[tactic(auto, unfolding(crate::specs::internal::TextWalk::after_head_numbers))]
-fn with_head_numbers(mut progress: Progress, new: &[u32]) -> Result<Progress, LineFault>
-    ensures { LineGives state_of result (after_head_numbers (state_of progress) (progress.numbers.items ++ new.now)) }
+fn take_head_numbers(progress: &mut Progress, new: &[u32]) -> Result<(), LineFault>
+    ensures { LineGives (λ _. state_of progress.new) result
+        (after_head_numbers (state_of progress.old) (progress.old.numbers.items ++ new.now)) }
 {
     progress.numbers.extend_from_slice(new)?;
     let count = progress.numbers.len();
@@ -89,14 +90,14 @@ fn with_head_numbers(mut progress: Progress, new: &[u32]) -> Result<Progress, Li
         return Err(LineFault::Head);
     }
     if count < 5 {
-        return Ok(progress);
+        return Ok(());
     }
     match head_of(progress.numbers.as_slice()) {
         Some(head) => {
             progress.want = Want::SecondLabel;
             progress.head = head;
             progress.numbers.clear();
-            Ok(progress)
+            Ok(())
         }
         None => Err(LineFault::Limits),
     }
@@ -109,12 +110,13 @@ fn are_within_limit(times: &[u32]) -> bool
     times.iter().all(|time| *time <= MAX_TIME)
 }
 
-/// The progress after more times of a block; or the fault of their line.
+/// Takes more times of a block in; or returns the fault of their line.
 #[tactic(auto, unfolding(crate::specs::internal::TextWalk::after_times))]
-fn with_times(alloc: Global, mut progress: Progress, new: &[u32]) -> Result<Progress, LineFault>
-    requires head { SizesFit (sizes progress.head) }
-    requires times { are_times progress.numbers.items ≡ true }
-    ensures { LineGives state_of result (after_times (state_of progress) new.now (progress.numbers.items ++ new.now)) }
+fn take_times(alloc: Global, progress: &mut Progress, new: &[u32]) -> Result<(), LineFault>
+    requires head { SizesFit (sizes progress.old.head) }
+    requires times { are_times progress.old.numbers.items ≡ true }
+    ensures { LineGives (λ _. state_of progress.new) result
+        (after_times (state_of progress.old) new.now (progress.old.numbers.items ++ new.now)) }
 {
     let head = progress.head;
     let wanted = head.jobs as usize * head.machines as usize;
@@ -127,7 +129,7 @@ fn with_times(alloc: Global, mut progress: Progress, new: &[u32]) -> Result<Prog
         return Err(LineFault::Limits);
     }
     if count < wanted {
-        return Ok(progress);
+        return Ok(());
     }
     let times = progress.numbers.as_slice();
     progress.blocks.push(Block {
@@ -138,52 +140,52 @@ fn with_times(alloc: Global, mut progress: Progress, new: &[u32]) -> Result<Prog
     })?;
     progress.numbers.clear();
     progress.want = Want::FirstLabel;
-    Ok(progress)
+    Ok(())
 }
 
-/// The progress after a number line; or the line's fault. `numbers` is a buffer for the line's numbers.
+/// Takes a number line in; or returns the line's fault. `numbers` is a buffer for the line's numbers.
 #[tactic(auto, unfolding(crate::specs::internal::TextWalk::after_numbers))]
-fn after_number_line(
+fn take_numbers(
     alloc: Global,
-    progress: Progress,
+    progress: &mut Progress,
     line: &[u8],
     numbers: &mut Vec<u32>,
-) -> Result<Progress, LineFault>
-    requires { Keeps (state_of progress) }
-    ensures { LineGives state_of result (after_numbers (state_of progress) line.now) }
+) -> Result<(), LineFault>
+    requires { Keeps (state_of progress.old) }
+    ensures { LineGives (λ _. state_of progress.new) result (after_numbers (state_of progress.old) line.now) }
 {
     match progress.want {
         Want::FirstLabel => Err(LineFault::Label),
         Want::HeadNumbers => {
             numbers_in(line, numbers)?;
-            with_head_numbers(progress, numbers.as_slice())
+            take_head_numbers(progress, numbers.as_slice())
         }
         Want::SecondLabel => Err(LineFault::Label),
         Want::Times => {
             numbers_in(line, numbers)?;
-            with_times(alloc, progress, numbers.as_slice())
+            take_times(alloc, progress, numbers.as_slice())
         }
     }
 }
 
-/// The progress after a line; or the line's fault. `numbers` is a buffer for the line's numbers.
+/// Takes a line in; or returns its fault. `numbers` is a buffer for the line's numbers.
 #[tactic(auto, unfolding(crate::specs::internal::TextWalk::after_line))]
-pub(crate) fn after_any_line(
+pub(crate) fn take_line(
     alloc: Global,
-    progress: Progress,
+    progress: &mut Progress,
     line: &[u8],
     numbers: &mut Vec<u32>,
-) -> Result<Progress, LineFault>
-    requires { Keeps (state_of progress) }
-    ensures { LineGives state_of result (after_line (state_of progress) line.now) }
+) -> Result<(), LineFault>
+    requires { Keeps (state_of progress.old) }
+    ensures { LineGives (λ _. state_of progress.new) result (after_line (state_of progress.old) line.now) }
 {
     match first_solid(line) {
-        None => Ok(progress),
+        None => Ok(()),
         Some(byte) => {
             if byte.is_ascii_digit() {
-                after_number_line(alloc, progress, line, numbers)
+                take_numbers(alloc, progress, line, numbers)
             } else {
-                after_label_line(progress)
+                take_label(progress)
             }
         }
     }

@@ -8,9 +8,9 @@ loop-rest-preserved c =
     let before = c.loop-rest.invariant in
     let state = state_of c.loop-rest.progress in
     record {
-      answer = walk-more state (state_of c.in-Ok.next) c.loop-rest.count c.first_line.result.0.now _ c.in-Ok.ensures
+      answer = walk-more state _ c.loop-rest.count c.first_line.result.0.now _ c.in_default.ensures
           ∙ ap (walk state c.loop-rest.count) (sym c.first_line.ensures.lines)
           ∙ before.answer;
-      keeps = line-keeps state (state_of c.in-Ok.next) c.first_line.result.0.now before.keeps c.in-Ok.ensures;
+      keeps = line-keeps state _ c.first_line.result.0.now before.keeps c.in_default.ensures;
       few = omega (arith, before.few, c.first_line.ensures.shorter);
     }
