@@ -1,16 +1,17 @@
 -- The numbers of a line, read byte by byte.
 use Rattle.std.proofs.Common.{◌≡◌, ◌∙◌, ap, ◌<◌, ◌≤◌, ◌+◌, ◌*◌, ℕ, Bool, true, false, cond, nat_lt, nat_le, List}
 use Rattle.std.proofs.Common.{Option, Some, None, Err, ◌++◌, ◌∷◌, [], length, map, filter, drop, get_or, unwrap_or}
-use Rattle.std.proofs.Common.{arith, refl, sym, append_assoc}
+use Rattle.std.proofs.Common.{arith, refl, sym, append_assoc, ◌||◌}
 use Rattle.std.specs.List.{onto_first, slice_split}
 use Rattle.std.specs.Char.{digit_value}
 use Rattle.std.specs.Str.Parse.{digits_value, digits_value_after}
 use Rattle.std.proofs.lemmas.Bool.Decides.{nat_tests}
 use Rattle.std.proofs.lemmas.List.{at_drop_more}
 use Rattle.std.proofs.lemmas.List.Folds.{list_all-append}
-use Rattle.flow_core.specs.Lines.{is_blank, is_plain, numbers_of, are_small}
-use Rattle.flow_core.specs.internal.TextWalk.{line_numbers}
+use Rattle.flow_core.specs.Lines.{is_blank, is_digit, is_plain, numbers_of, are_small}
+use Rattle.flow_core.specs.internal.TextWalk.{line_numbers, LineFails}
 use Rattle.flow_core.specs.Limits.{greatest_number}
+use Rattle.flow_core.specs.declared.text.fault.LineFault.{LineFault}
 use Rattle.flow_core.specs.declared.text.fault.LineFault.TheVariants as line
 
 -- the numbers of the rest of a line, where a number may have begun
@@ -120,3 +121,33 @@ pub line_numbers-large : (l : List ℕ) → is_plain l ≡ true → are_small (n
     line_numbers l ≡ Err line.Number
 unfolding line_numbers
 line_numbers-large l p q = rw (p, q) refl
+
+line_numbers-other : (l : List ℕ) → is_plain l ≡ false → line_numbers l ≡ Err line.Byte
+unfolding line_numbers
+line_numbers-other l p = rw p refl
+
+-- a line with a number that is too large has the fault of another byte, where it has one, before the number's
+pub line_numbers-great : (l : List ℕ) (fault : LineFault) → are_small (numbers_of l) ≡ false →
+    (is_plain l ≡ true → fault ≡ line.Number) → (is_plain l ≡ false → fault ≡ line.Byte) →
+    LineFails fault (line_numbers l)
+line_numbers-great l fault q plain other = go (is_plain l) refl
+  where
+    go : (p : Bool) → is_plain l ≡ p → LineFails fault (line_numbers l)
+    go true e = rw (plain e) (line_numbers-large l e q)
+    go false e = rw (other e) (line_numbers-other l e)
+
+-- one byte on, in a line that has digits and blanks alone so far
+pub plain-more : (line : List ℕ) (i : ℕ) → i < length line →
+    (is_digit (get_or line i 0) || is_blank (get_or line i 0)) ≡ true → is_plain line ≡ is_plain (drop i line) →
+    is_plain line ≡ is_plain (drop (i + 1) line)
+plain-more line i h ok e =
+    let step = at_drop_more is_plain line i 0 h in
+    grind (arith, step, ok, e)
+
+-- a line with another byte
+pub other-byte : (l : List ℕ) (i : ℕ) → i < length l →
+    (is_digit (get_or l i 0) || is_blank (get_or l i 0)) ≡ false → is_plain l ≡ is_plain (drop i l) →
+    line_numbers l ≡ Err line.Byte
+other-byte l i h bad e =
+    let step = at_drop_more is_plain l i 0 h in
+    line_numbers-other l (grind (arith, step, bad, e))

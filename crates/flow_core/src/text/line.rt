@@ -1,11 +1,12 @@
 //! One line of a text: where it ends, its first byte that is not blank, and its numbers.
 
-ghost use Rattle.std.specs.Prelude.{◌≡◌, ◌+◌, ◌-◌, ◌*◌, ◌<◌, ◌≤◌, ◌∷◌, length, IsTrue};
+ghost use Rattle.std.specs.Prelude.{◌≡◌, ◌+◌, ◌-◌, ◌*◌, ◌<◌, ◌≤◌, ◌∷◌, true, false, length, IsTrue};
 ghost use Rattle.std.specs.Char.{digit_value};
 ghost use Rattle.std.specs.Option.{SomeIff};
 ghost use Rattle.flow_core.specs.Lines.{lines_of, is_blank, is_digit, is_plain, after_blanks};
 ghost use Rattle.flow_core.specs.internal.TextWalk.{line_numbers, LineGives, first};
 ghost use Rattle.flow_core.specs.Limits.{greatest_number};
+ghost use Rattle.flow_core.specs.declared.text.fault.LineFault.TheVariants.{Byte, Number};
 
 use crate::limits::MAX_NUMBER;
 use crate::text::fault::LineFault;
@@ -65,14 +66,23 @@ fn with_digit(number: u32, byte: u8) -> Option<u32>
     }
 }
 
-/// Replaces `numbers` by the line's numbers. `Byte` comes before `Number`.
+/// The fault of a line that has a number above `MAX_NUMBER`: `Byte` comes before `Number`.
+fn fault_of_great(line: &[u8]) -> LineFault
+    ensures plain { is_plain line.now ≡ true → result ≡ Number }
+    ensures other { is_plain line.now ≡ false → result ≡ Byte }
+{
+    if is_plain_line(line) {
+        LineFault::Number
+    } else {
+        LineFault::Byte
+    }
+}
+
+/// Replaces `numbers` by the line's numbers.
 #[tactic(auto, unfolding(crate::specs::internal::TextWalk::line_numbers))]
 pub(crate) fn numbers_in(line: &[u8], numbers: &mut Vec<u32>) -> Result<(), LineFault>
     ensures { LineGives (λ _. numbers.new.items) result (line_numbers line.now) }
 {
-    if !is_plain_line(line) {
-        return Err(LineFault::Byte);
-    }
     numbers.clear();
     let mut begun: Option<u32> = None;
     for byte in line {
@@ -84,11 +94,13 @@ pub(crate) fn numbers_in(line: &[u8], numbers: &mut Vec<u32>) -> Result<(), Line
                 }
                 None => {}
             }
-        } else {
+        } else if byte.is_ascii_digit() {
             match with_digit(begun.unwrap_or(0), *byte) {
                 Some(number) => begun = Some(number),
-                None => return Err(LineFault::Number),
+                None => return Err(fault_of_great(line)),
             }
+        } else {
+            return Err(LineFault::Byte);
         }
     }
     if let Some(number) = begun {
