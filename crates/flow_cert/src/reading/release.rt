@@ -18,9 +18,9 @@ use crate::reading::node::{Node, bound};
 use flow_core::MAX_MACHINES;
 use std::alloc::{AllocError, Global};
 
-/// The two least lags of the jobs left to one machine, from each machine up to it. A job's lag from a machine to another
-/// is its time on the machines from there to the one before the other. Where two jobs have the least lag, both are the
-/// same. The greatest number stands for a lag where there is no such job.
+/// The two least lags of the jobs left to one machine, from each machine up to it. A job's lag from a machine to
+/// another is its time on the machines from there to the one before the other. Where two jobs have the least lag, both
+/// are the same. The greatest number stands for a lag where there is no such job.
 #[derive(Clone, Copy)]
 pub(crate) struct Lags {
     /// The least, from machine 1 on.
