@@ -12,9 +12,6 @@ const TITLE: &[u8] = b"flowshop certificate 1\n";
 /// The first line of version 2.
 const TITLE_2: &[u8] = b"flowshop certificate 2\n";
 
-/// The certificate of the instance with three machines at depth 0.
-const AT_DEPTH_0: [u8; 50] = *b"flowshop certificate 1\n3 3 0\n12\n3 1 2\n+BC++.B\nend\n";
-
 /// The text of these parts.
 fn joined(alloc: Global, parts: &[&[u8]]) -> Result<Vec<u8>, Fail> {
     let mut text = Vec::new(alloc);
@@ -115,6 +112,32 @@ fn checker_reads_certificates_of_three_machines_in_version_2(rt: HostRuntime) ->
     Ok(())
 }
 
+/// A certificate of the instance with three machines, whose trees are single letters.
+const LETTERS: [u8; 54] = *b"flowshop certificate 1\n3 3 2\n12\n3 1 2\nB\nB\nC\nB\nA\nB\nend\n";
+
+#[test]
+fn checker_tests_each_single_letter(rt: HostRuntime) -> Result<(), Fail> {
+    let alloc = rt.alloc();
+    let instance = three_machines(alloc)?;
+    // The machines whose bound is at least 12, worked out by hand, at 1 2, 1 3, 2 1, 2 3, 3 1 and 3 2.
+    let strong: [&[u8]; 6] = [b"BC", b"AB", b"C", b"BC", b"AB", b"BC"];
+    for index in 0..6usize {
+        for letter in b'A'..=b'D' {
+            let mut text = LETTERS;
+            text[38 + 2 * index] = letter;
+            let answer = if letter == b'D' {
+                Err(CheckFault::Tree(5 + index))
+            } else if strong[index].contains(&letter) {
+                Ok(12)
+            } else {
+                Err(CheckFault::Weak(5 + index))
+            };
+            assert_eq!(rt; check(alloc, &instance, &text), answer);
+        }
+    }
+    Ok(())
+}
+
 #[test]
 fn checker_reads_more_trees_than_a_plan_may_have(rt: HostRuntime) -> Result<(), Fail> {
     let alloc = rt.alloc();
@@ -124,14 +147,15 @@ fn checker_reads_more_trees_than_a_plan_may_have(rt: HostRuntime) -> Result<(), 
         heading.extend_from_slice(format!(in alloc; " {}", job)?.as_bytes())?;
     }
     // 48 jobs have 48 * 47 * 46 lists of three.
-    let rows = [
-        (103_776, Ok(0)),
-        (103_775, Err(CheckFault::Tree(103_780))),
-        (103_777, Err(CheckFault::End)),
+    let rows: [(usize, &[u8], Result<u64, CheckFault>); 4] = [
+        (103_776, b"\nend\n", Ok(0)),
+        (103_776, b"\n", Err(CheckFault::End)),
+        (103_775, b"\nend\n", Err(CheckFault::Tree(103_780))),
+        (103_777, b"\nend\n", Err(CheckFault::End)),
     ];
-    for (count, answer) in rows {
+    for (count, end, answer) in rows {
         let trees = b"\nA".repeat(alloc, count)?;
-        let parts: [&[u8]; 3] = [heading.as_slice(), trees.as_slice(), b"\nend\n"];
+        let parts: [&[u8]; 3] = [heading.as_slice(), trees.as_slice(), end];
         assert_eq!(rt; checked(alloc, &instance, &parts)?, answer);
     }
     Ok(())

@@ -7,13 +7,19 @@ mod bounds;
 #[cfg(test)]
 mod bytes;
 #[cfg(test)]
+mod changed_certificate;
+#[cfg(test)]
 mod changed_text;
+#[cfg(test)]
+mod changes;
 #[cfg(test)]
 mod checker;
 #[cfg(test)]
 mod greatest;
 mod instances;
 mod outcomes;
+#[cfg(test)]
+mod plain;
 #[cfg(test)]
 mod search;
 #[cfg(test)]
