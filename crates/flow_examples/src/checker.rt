@@ -46,23 +46,20 @@ fn checked(
 fn checker_accepts_lawful_certificates(rt: HostRuntime) -> Result<(), Fail> {
     let alloc = rt.alloc();
     let three = three_machines(alloc)?;
-    let rows: [&[u8]; 5] = [
-        b"3 3 0\n12\n3 1 2\n+BC++.B\nend\n",
-        b"3 3 1\n12\n3 1 2\nB\nC\n++.B\nend\n",
-        b"3 3 2\n12\n3 1 2\nB\nB\nC\nB\n+.\nB\nend\n",
-        b"3 3 3\n12\n3 1 2\n.\n.\n.\n.\n.\n.\nend\n",
-        b"3 3 0\n12\n3 1 2\n+B+CB+AB\nend\n",
-    ];
-    for rest in rows {
-        assert_eq!(rt; checked(alloc, &three, &[rest])?, Ok(12));
-    }
     let two = two_machines(alloc)?;
-    assert_eq!(rt;
-        checked(alloc, &two, &[b"3 2 0\n9\n2 3 1\n+BBB\nend\n"])?,
-        Ok(9)
-    );
     let one = Instance::new(alloc, 1, 1, &[0])?;
-    assert_eq!(rt; checked(alloc, &one, &[b"1 1 0\n0\n1\nA\nend\n"])?, Ok(0));
+    let rows: [(&Instance, &[u8], u64); 7] = [
+        (&three, b"3 3 0\n12\n3 1 2\n+BC++.B\nend\n", 12),
+        (&three, b"3 3 1\n12\n3 1 2\nB\nC\n++.B\nend\n", 12),
+        (&three, b"3 3 2\n12\n3 1 2\nB\nB\nC\nB\n+.\nB\nend\n", 12),
+        (&three, b"3 3 3\n12\n3 1 2\n.\n.\n.\n.\n.\n.\nend\n", 12),
+        (&three, b"3 3 0\n12\n3 1 2\n+B+CB+AB\nend\n", 12),
+        (&two, b"3 2 0\n9\n2 3 1\n+BBB\nend\n", 9),
+        (&one, b"1 1 0\n0\n1\nA\nend\n", 0),
+    ];
+    for (instance, rest, value) in rows {
+        assert_eq!(rt; checked(alloc, instance, &[rest])?, Ok(value));
+    }
     Ok(())
 }
 
@@ -72,13 +69,16 @@ fn checker_tests_letters_by_the_bound_of_the_version(rt: HostRuntime) -> Result<
     let two = two_machines(alloc)?;
     // At the empty list machine 2 has the bound 8, and once it is released by machine 1 the bound 9.
     let short = b"3 2 0\n9\n2 3 1\nB\nend\n";
-    assert_eq!(rt; checked_behind(alloc, &two, TITLE_2, short)?, Ok(9));
-    let found = checked_behind(alloc, &two, TITLE, short)?;
-    assert_eq!(rt; found, Err(CheckFault::Weak(5)));
     let long = b"3 2 0\n9\n2 3 1\n+BBB\nend\n";
-    assert_eq!(rt; checked_behind(alloc, &two, TITLE_2, long)?, Ok(9));
-    let found = checked_behind(alloc, &two, b"flowshop certificate 3\n", long)?;
-    assert_eq!(rt; found, Err(CheckFault::Header));
+    let rows: [(&[u8], &[u8], Result<u64, CheckFault>); 4] = [
+        (TITLE_2, short, Ok(9)),
+        (TITLE, short, Err(CheckFault::Weak(5))),
+        (TITLE_2, long, Ok(9)),
+        (b"flowshop certificate 3\n", long, Err(CheckFault::Header)),
+    ];
+    for (title, rest, answer) in rows {
+        assert_eq!(rt; checked_behind(alloc, &two, title, rest)?, answer);
+    }
     Ok(())
 }
 
@@ -86,15 +86,10 @@ fn checker_tests_letters_by_the_bound_of_the_version(rt: HostRuntime) -> Result<
 fn checker_reads_certificates_of_three_machines_in_version_2(rt: HostRuntime) -> Result<(), Fail> {
     let alloc = rt.alloc();
     let three = three_machines(alloc)?;
-    let lawful: [&[u8]; 2] = [
-        b"3 3 0\n12\n3 1 2\n+BC++.B\nend\n",
-        b"3 3 1\n12\n3 1 2\nB\nC\n++.B\nend\n",
-    ];
-    for rest in lawful {
-        assert_eq!(rt; checked_behind(alloc, &three, TITLE_2, rest)?, Ok(12));
-    }
     // The released bounds are 7, 10 and 7 at the empty list, 8, 10 and 8 at 3, and 12, 12 and 12 at 3 1.
-    let rows: [(&[u8], Result<u64, CheckFault>); 7] = [
+    let rows: [(&[u8], Result<u64, CheckFault>); 9] = [
+        (b"3 3 0\n12\n3 1 2\n+BC++.B\nend\n", Ok(12)),
+        (b"3 3 1\n12\n3 1 2\nB\nC\n++.B\nend\n", Ok(12)),
         (b"3 3 0\n12\n3 1 2\nA\nend\n", Err(CheckFault::Weak(5))),
         (b"3 3 0\n12\n3 1 2\nB\nend\n", Err(CheckFault::Weak(5))),
         (b"3 3 0\n12\n3 1 2\nC\nend\n", Err(CheckFault::Weak(5))),

@@ -140,13 +140,13 @@ fn conclude_takes_the_outcomes_of_all_prefixes(rt: HostRuntime) -> Result<(), Fa
 fn solve_plain_gives_the_worked_verdicts(rt: HostRuntime) -> Result<(), Fail> {
     let alloc = rt.alloc();
     let three = three_machines(alloc)?;
-    let rows: [&[&[u8]]; 4] = [
-        &[b"+BC++.B"],
-        &TREES_AT_DEPTH_1,
-        &[b"B", b"B", b"C", b"B", b"+.", b"B"],
-        &[b".", b".", b".", b".", b".", b"."],
+    let rows: [(u32, &[&[u8]]); 4] = [
+        (0, &[b"+BC++.B"]),
+        (1, &TREES_AT_DEPTH_1),
+        (2, &[b"B", b"B", b"C", b"B", b"+.", b"B"]),
+        (3, &[b".", b".", b".", b".", b".", b"."]),
     ];
-    for (depth, trees) in (0..4u32).zip(rows) {
+    for (depth, trees) in rows {
         let plan = prepare(alloc, &three, Options::new(1, depth, AMPLE)?)?;
         let verdict = solve_plain(alloc, &plan)?;
         assert!(rt;
@@ -184,8 +184,8 @@ fn solve_plain_keeps_to_the_budget(rt: HostRuntime) -> Result<(), Fail> {
 fn version_2_has_the_same_trees_on_three_machines(rt: HostRuntime) -> Result<(), Fail> {
     let alloc = rt.alloc();
     let instance = three_machines(alloc)?;
-    let rows: [&[&[u8]]; 2] = [&[b"+BC++.B"], &[b"B", b"C", b"++.B"]];
-    for (depth, trees) in (0..2u32).zip(rows) {
+    let rows: [(u32, &[&[u8]]); 2] = [(0, &[b"+BC++.B"]), (1, &[b"B", b"C", b"++.B"])];
+    for (depth, trees) in rows {
         let options = Options::new(1, depth, AMPLE)?.with_version(2)?;
         let plan = prepare(alloc, &instance, options)?;
         let verdict = solve_plain(alloc, &plan)?;
