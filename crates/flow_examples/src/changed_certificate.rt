@@ -10,7 +10,7 @@ use std::test::Fail;
 /// The times of four jobs on three machines.
 const FOUR_JOBS: [u32; 12] = [6, 2, 8, 7, 7, 6, 9, 1, 6, 1, 4, 7];
 
-/// A certificate of these jobs. It was made by a script from the definitions alone.
+/// A certificate of these jobs, as `bench/plain.rs` writes it, which shares nothing with the crates.
 const LAWFUL: &[u8] = b"flowshop certificate 1\n4 3 2\n35\n1 3 4 2\n\
 +BA\n+B+.\n+AB\n+CA\nC\nA\nC\nB\n++.A\nB\nA\nB\nend\n";
 
@@ -225,7 +225,7 @@ fn accepted(alloc: Global, instance: &Instance, texts: &[Vec<u8>]) -> Result<usi
 fn changed_certificates_are_read_as_by_the_plain_reading(rt: HostRuntime) -> Result<(), Fail> {
     let alloc = rt.alloc();
     let instance = Instance::new(alloc, 4, 3, &FOUR_JOBS)?;
-    // These numbers were counted by the same script.
+    // These numbers were counted by another reading, a script over the words of `docs/formats.md`.
     let texts = changed(alloc, LAWFUL)?;
     assert_eq!(rt; accepted(alloc, &instance, texts.as_slice())?, 9);
     for text in [LAWFUL, LOW] {
