@@ -155,44 +155,46 @@ fn checker_reads_more_trees_than_a_plan_may_have(rt: HostRuntime) -> Result<(), 
     Ok(())
 }
 
+/// What stands behind a first line for the instance with three machines, and its first fault.
+const FIRST_FAULTS: [(&[u8], CheckFault); 19] = [
+    (b"3 3\n012\n3 1\nx\nEND\n", CheckFault::Size),
+    (b"3 3 0\n012\n3 1\nx\nEND\n", CheckFault::Value),
+    (b"3 3 0\n12\n3 1\nx\nEND\n", CheckFault::Sequence),
+    (b"3 3 0\n12\n1 2 3\nx\nEND\n", CheckFault::NotAttained),
+    (b"3 3 0\n12\n3 1 2\nx\nEND\n", CheckFault::Tree(5)),
+    // The sequence 3 1 2 has the makespan 12, which is below 13, and machine 1 has the bound 12 at 3 1.
+    (b"3 3 0\n13\n2 1 3\n+BC++.B\nend\n", CheckFault::Low(5)),
+    (b"3 3 0\n13\n2 1 3\n+BC++.x\nEND\n", CheckFault::Low(5)),
+    (b"3 3 0\n13\n2 1 3\n+BC++x.\nEND\n", CheckFault::Tree(5)),
+    (b"3 3 0\n13\n2 1 3\n+BC+A.B\nEND\n", CheckFault::Weak(5)),
+    // At depth 3 the sequences stand in lexicographic order, and 3 1 2 is the fifth.
+    (
+        b"3 3 3\n13\n2 1 3\n.\n.\n.\n.\n.\n.\nend\n",
+        CheckFault::Low(9),
+    ),
+    // A tree that is weak, missing, or one too many.
+    (b"3 3 1\n12\n3 1 2\nB\nC\n++.A\nend\n", CheckFault::Weak(7)),
+    (b"3 3 1\n12\n3 1 2\n+BC++.B\nend\n", CheckFault::Weak(5)),
+    (b"3 3 1\n12\n3 1 2\nB\nC\nend\n", CheckFault::Tree(7)),
+    (
+        b"3 3 1\n12\n3 1 2\nB\nC\n++.B\n++.B\nend\n",
+        CheckFault::End,
+    ),
+    (b"3 3 1\n12\n3 1 2\nB\nC\n++.B\nend\nx", CheckFault::End),
+    // Line ends that are missing.
+    (b"3 3 1\n12\n3 1 2\nBC\n++.B\nend\n", CheckFault::Tree(5)),
+    (b"3 3 1\n12\n3 1 2\nB\nC\n++.Bend\n", CheckFault::Tree(7)),
+    (b"3 3 1\n12\n3 1 2\nB\nC\n++.B", CheckFault::Tree(7)),
+    (b"3 3 1\n12\n3 1 2\nB\nC\n++.B\nend", CheckFault::End),
+];
+
 #[test]
 fn checker_names_first_fault(rt: HostRuntime) -> Result<(), Fail> {
     let alloc = rt.alloc();
     let instance = three_machines(alloc)?;
     let found = check(alloc, &instance, b"flowshop\n3 3\n012\n3 1\nx\nEND\n");
     assert_eq!(rt; found, Err(CheckFault::Header));
-    let rows: [(&[u8], CheckFault); 19] = [
-        (b"3 3\n012\n3 1\nx\nEND\n", CheckFault::Size),
-        (b"3 3 0\n012\n3 1\nx\nEND\n", CheckFault::Value),
-        (b"3 3 0\n12\n3 1\nx\nEND\n", CheckFault::Sequence),
-        (b"3 3 0\n12\n1 2 3\nx\nEND\n", CheckFault::NotAttained),
-        (b"3 3 0\n12\n3 1 2\nx\nEND\n", CheckFault::Tree(5)),
-        // The sequence 3 1 2 has the makespan 12, which is below 13, and machine 1 has the bound 12 at 3 1.
-        (b"3 3 0\n13\n2 1 3\n+BC++.B\nend\n", CheckFault::Low(5)),
-        (b"3 3 0\n13\n2 1 3\n+BC++.x\nEND\n", CheckFault::Low(5)),
-        (b"3 3 0\n13\n2 1 3\n+BC++x.\nEND\n", CheckFault::Tree(5)),
-        (b"3 3 0\n13\n2 1 3\n+BC+A.B\nEND\n", CheckFault::Weak(5)),
-        // At depth 3 the sequences stand in lexicographic order, and 3 1 2 is the fifth.
-        (
-            b"3 3 3\n13\n2 1 3\n.\n.\n.\n.\n.\n.\nend\n",
-            CheckFault::Low(9),
-        ),
-        // A tree that is weak, missing, or one too many.
-        (b"3 3 1\n12\n3 1 2\nB\nC\n++.A\nend\n", CheckFault::Weak(7)),
-        (b"3 3 1\n12\n3 1 2\n+BC++.B\nend\n", CheckFault::Weak(5)),
-        (b"3 3 1\n12\n3 1 2\nB\nC\nend\n", CheckFault::Tree(7)),
-        (
-            b"3 3 1\n12\n3 1 2\nB\nC\n++.B\n++.B\nend\n",
-            CheckFault::End,
-        ),
-        (b"3 3 1\n12\n3 1 2\nB\nC\n++.B\nend\nx", CheckFault::End),
-        // Line ends that are missing.
-        (b"3 3 1\n12\n3 1 2\nBC\n++.B\nend\n", CheckFault::Tree(5)),
-        (b"3 3 1\n12\n3 1 2\nB\nC\n++.Bend\n", CheckFault::Tree(7)),
-        (b"3 3 1\n12\n3 1 2\nB\nC\n++.B", CheckFault::Tree(7)),
-        (b"3 3 1\n12\n3 1 2\nB\nC\n++.B\nend", CheckFault::End),
-    ];
-    for (rest, fault) in rows {
+    for (rest, fault) in FIRST_FAULTS {
         assert_eq!(rt; checked(alloc, &instance, &[rest])?, Err(fault));
     }
     Ok(())

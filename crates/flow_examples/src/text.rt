@@ -51,29 +51,31 @@ fn lenient_texts_are_read(rt: HostRuntime) -> Result<(), Fail> {
     Ok(())
 }
 
+/// Texts, and the first fault of each.
+const FIRST_FAULTS: [(&[u8], TextFault); 15] = [
+    (b"", TextFault::NoBlock),
+    (b"3 2 0 0 0\n", TextFault::Label(1)),
+    (b"a\n3 2 7 9 9 9\n", TextFault::Head(2)),
+    (b"a\n3 2 7 9 9\n9\n", TextFault::Label(3)),
+    (b"a\n3 x 7\n", TextFault::Byte(2)),
+    (b"a\n4294967296\n", TextFault::Number(2)),
+    (b"a\n4294967296 x\n", TextFault::Byte(2)),
+    (b"a\n4294967295 4294967295 1 1 1\n", TextFault::Limits(2)),
+    (b"a\n501 1 1 1 1\n", TextFault::Label(3)),
+    (b"a\n801 1 1 1 1\n", TextFault::Limits(2)),
+    (b"a\n1 27 1 1 1\n", TextFault::Limits(2)),
+    (b"a\n1 1 1 1 1\nb\n1000000\n", TextFault::Limits(4)),
+    (b"a\n1 1 1 1 1\nb\n5 6\n", TextFault::Times(4)),
+    (b"a\n1 1 1 1 1\nb\n5\nc\n", TextFault::Head(6)),
+    (
+        b"number of jobs :\r\n  3\t2 7 9\r\n9\r\n\r\nprocessing times :\r\n3 1\r\n2 2\r\n4\r\n",
+        TextFault::Times(9),
+    ),
+];
+
 #[test]
 fn first_fault_of_a_text_is_named(rt: HostRuntime) -> Result<(), Fail> {
-    let rows: [(&[u8], TextFault); 15] = [
-        (b"", TextFault::NoBlock),
-        (b"3 2 0 0 0\n", TextFault::Label(1)),
-        (b"a\n3 2 7 9 9 9\n", TextFault::Head(2)),
-        (b"a\n3 2 7 9 9\n9\n", TextFault::Label(3)),
-        (b"a\n3 x 7\n", TextFault::Byte(2)),
-        (b"a\n4294967296\n", TextFault::Number(2)),
-        (b"a\n4294967296 x\n", TextFault::Byte(2)),
-        (b"a\n4294967295 4294967295 1 1 1\n", TextFault::Limits(2)),
-        (b"a\n501 1 1 1 1\n", TextFault::Label(3)),
-        (b"a\n801 1 1 1 1\n", TextFault::Limits(2)),
-        (b"a\n1 27 1 1 1\n", TextFault::Limits(2)),
-        (b"a\n1 1 1 1 1\nb\n1000000\n", TextFault::Limits(4)),
-        (b"a\n1 1 1 1 1\nb\n5 6\n", TextFault::Times(4)),
-        (b"a\n1 1 1 1 1\nb\n5\nc\n", TextFault::Head(6)),
-        (
-            b"number of jobs :\r\n  3\t2 7 9\r\n9\r\n\r\nprocessing times :\r\n3 1\r\n2 2\r\n4\r\n",
-            TextFault::Times(9),
-        ),
-    ];
-    for (text, fault) in rows {
+    for (text, fault) in FIRST_FAULTS {
         assert_eq!(rt; fault_of(rt.alloc(), text)?, fault);
     }
     Ok(())

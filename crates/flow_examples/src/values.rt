@@ -88,7 +88,7 @@ fn sequence_names_first_fault(rt: HostRuntime) -> Result<(), Fail> {
 /// The makespan of these jobs in this order.
 fn span(alloc: Global, instance: &Instance, jobs: &[u16]) -> Result<u64, Fail> {
     let sequence = Sequence::new(alloc, instance, jobs)?;
-    if sequence.jobs() != jobs || jobs.len() != instance.jobs() as usize {
+    if sequence.jobs().len() != instance.jobs() as usize || sequence.jobs() != jobs {
         return Err(Fail::from("another sequence"));
     }
     Ok(makespan(instance, &sequence))
