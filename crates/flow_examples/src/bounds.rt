@@ -60,47 +60,29 @@ fn table_row(alloc: Global, instance: &Instance, jobs: &[u16]) -> Result<Vec<(u6
 }
 
 #[test]
-fn bounds_of_three_machines_are_the_worked_ones(rt: HostRuntime) -> Result<(), Fail> {
+fn bounds_are_the_worked_ones(rt: HostRuntime) -> Result<(), Fail> {
     let alloc = rt.alloc();
-    let instance = three_machines(alloc)?;
-    let rows: [(&[u16], &[(u64, u64)]); 10] = [
-        (&[], &[(0, 7), (0, 10), (0, 5)]),
-        (&[1], &[(4, 7), (4, 14), (8, 9)]),
-        (&[2], &[(0, 7), (8, 11), (8, 13)]),
-        (&[3], &[(0, 8), (2, 10), (3, 7)]),
-        (&[1, 2], &[(4, 7), (12, 15), (12, 13)]),
-        (&[1, 3], &[(4, 12), (6, 14), (9, 9)]),
-        (&[2, 1], &[(4, 7), (8, 11), (12, 13)]),
-        (&[2, 3], &[(0, 8), (10, 14), (11, 15)]),
-        (&[3, 1], &[(4, 12), (4, 12), (8, 8)]),
-        (&[3, 2], &[(0, 8), (10, 14), (10, 14)]),
+    let three = three_machines(alloc)?;
+    let two = two_machines(alloc)?;
+    let rows: [(&Instance, &[u16], &[(u64, u64)]); 14] = [
+        (&three, &[], &[(0, 7), (0, 10), (0, 5)]),
+        (&three, &[1], &[(4, 7), (4, 14), (8, 9)]),
+        (&three, &[2], &[(0, 7), (8, 11), (8, 13)]),
+        (&three, &[3], &[(0, 8), (2, 10), (3, 7)]),
+        (&three, &[1, 2], &[(4, 7), (12, 15), (12, 13)]),
+        (&three, &[1, 3], &[(4, 12), (6, 14), (9, 9)]),
+        (&three, &[2, 1], &[(4, 7), (8, 11), (12, 13)]),
+        (&three, &[2, 3], &[(0, 8), (10, 14), (11, 15)]),
+        (&three, &[3, 1], &[(4, 12), (4, 12), (8, 8)]),
+        (&three, &[3, 2], &[(0, 8), (10, 14), (10, 14)]),
+        (&two, &[], &[(0, 8), (0, 8)]),
+        (&two, &[1], &[(3, 8), (5, 11)]),
+        (&two, &[2], &[(1, 8), (5, 9)]),
+        (&two, &[3], &[(2, 8), (4, 10)]),
     ];
-    for (jobs, row) in rows {
-        assert_eq!(rt;
-            table_row(alloc, &instance, jobs)?.as_slice(),
-            row,
-            "at {jobs:?}"
-        );
-    }
-    Ok(())
-}
-
-#[test]
-fn bounds_of_two_machines_are_the_worked_ones(rt: HostRuntime) -> Result<(), Fail> {
-    let alloc = rt.alloc();
-    let instance = two_machines(alloc)?;
-    let rows: [(&[u16], &[(u64, u64)]); 4] = [
-        (&[], &[(0, 8), (0, 8)]),
-        (&[1], &[(3, 8), (5, 11)]),
-        (&[2], &[(1, 8), (5, 9)]),
-        (&[3], &[(2, 8), (4, 10)]),
-    ];
-    for (jobs, row) in rows {
-        assert_eq!(rt;
-            table_row(alloc, &instance, jobs)?.as_slice(),
-            row,
-            "at {jobs:?}"
-        );
+    for (instance, jobs, row) in rows {
+        let found = table_row(alloc, instance, jobs)?;
+        assert_eq!(rt; found.as_slice(), row, "at {jobs:?}");
     }
     Ok(())
 }
@@ -279,6 +261,7 @@ fn taillard_bounds_are_the_worked_ones(rt: HostRuntime) -> Result<(), Fail> {
     assert_eq!(rt; taillard_bound(&three_machines(alloc)?), 10);
     assert_eq!(rt; taillard_bound(&two_machines(alloc)?), 9);
     assert_eq!(rt; taillard_bound(&generate(alloc, 2, 2, 1)?), 122);
+    // The lower bound that was published with this instance.
     assert_eq!(rt;
         taillard_bound(&generate(alloc, 20, 5, 873_654_221)?),
         1_232

@@ -12,24 +12,18 @@ use std::io::{self, ErrorKind, Read, Write};
 use std::test::Fail;
 
 #[test]
-fn put_all_stops_at_a_full_sink(rt: HostRuntime) -> Result<(), Fail> {
-    let mut sink = MemorySink::new(rt.alloc(), 10);
-    assert!(rt; !sink.failed());
-    assert_eq!(rt;
-        put_all(&mut sink, TWO_MACHINES_TEXT),
-        Err(WriteFault::Device)
-    );
-    assert_eq!(rt; sink.bytes(), b"number of ".as_slice());
-    assert!(rt; sink.failed());
-    Ok(())
-}
-
-#[test]
-fn put_all_puts_all(rt: HostRuntime) -> Result<(), Fail> {
-    let mut sink = MemorySink::new(rt.alloc(), 200);
-    assert!(rt; !sink.failed());
-    assert_eq!(rt; put_all(&mut sink, TWO_MACHINES_TEXT), Ok(()));
-    assert_eq!(rt; sink.bytes(), TWO_MACHINES_TEXT);
+fn put_all_puts_what_the_sink_takes(rt: HostRuntime) -> Result<(), Fail> {
+    let rows: [(usize, Result<(), WriteFault>, &[u8]); 2] = [
+        (10, Err(WriteFault::Device), b"number of "),
+        (200, Ok(()), TWO_MACHINES_TEXT),
+    ];
+    for (limit, answer, bytes) in rows {
+        let mut sink = MemorySink::new(rt.alloc(), limit);
+        assert!(rt; !sink.failed());
+        assert_eq!(rt; put_all(&mut sink, TWO_MACHINES_TEXT), answer);
+        assert_eq!(rt; sink.bytes(), bytes);
+        assert_eq!(rt; sink.failed(), answer.is_err());
+    }
     Ok(())
 }
 

@@ -1,12 +1,12 @@
 //! Texts that differ in a byte or two from one with two blocks, beside a plain reading of each.
 
+use crate::changes::{changed, doubled, lost, swapped};
 use flow_core::{Block, TextFault, read_blocks};
 use std::alloc::{AllocError, Global};
 use std::test::Fail;
 
 /// Two blocks, whose numbers are spread over lines. The seed is the greatest number, and one time is near the limit.
-const TWO_BLOCKS: [u8; 57] =
-    *b"a\n2 1 4294967295\t9\n8\r\n\nb c\n899999 06\n d\n1 2 0 10 3\ne\n3\n4\n";
+const TWO_BLOCKS: &[u8] = b"a\n2 1 4294967295\t9\n8\r\n\nb c\n899999 06\n d\n1 2 0 10 3\ne\n3\n4\n";
 
 /// What the next line that is not blank should bring.
 #[derive(Clone, Copy, PartialEq, Drop)]
@@ -189,48 +189,25 @@ fn is_read(alloc: Global, text: &[u8]) -> Result<bool, Fail> {
     }
 }
 
-#[test]
-fn changed_bytes_are_read_as_by_the_plain_reading(rt: HostRuntime) -> Result<(), Fail> {
-    let alloc = rt.alloc();
-    assert!(rt; is_read(alloc, &TWO_BLOCKS)?);
+/// How many of these texts are read.
+fn read(alloc: Global, texts: &[Vec<u8>]) -> Result<usize, Fail> {
     let mut count: usize = 0;
-    for place in 0..57 {
-        for change in 1..=255u8 {
-            let mut text = TWO_BLOCKS;
-            text[place] ^= change;
-            if is_read(alloc, &text)? {
-                count = count.saturating_add(1);
-            }
+    for text in texts {
+        if is_read(alloc, text.as_slice())? {
+            count = count.saturating_add(1);
         }
     }
-    assert_eq!(rt; count, 2_259);
-    Ok(())
+    Ok(count)
 }
 
 #[test]
-fn lost_doubled_and_swapped_bytes_are_read_as_by_the_plain_reading(
-    rt: HostRuntime,
-) -> Result<(), Fail> {
+fn changed_texts_are_read_as_by_the_plain_reading(rt: HostRuntime) -> Result<(), Fail> {
     let alloc = rt.alloc();
-    let mut counts = [0usize; 3];
-    for place in 0..57 {
-        let (before, from) = TWO_BLOCKS.split_at(place);
-        let mut lost = Vec::from_slice(alloc, before)?;
-        lost.extend_from_slice(&from[1..])?;
-        let mut doubled = Vec::from_slice(alloc, before)?;
-        doubled.push(from[0])?;
-        doubled.extend_from_slice(from)?;
-        let mut swapped = TWO_BLOCKS;
-        swapped.swap(place, (place + 1) % 57);
-        for (count, text) in counts
-            .iter_mut()
-            .zip([lost.as_slice(), doubled.as_slice(), &swapped])
-        {
-            if is_read(alloc, text)? {
-                *count = count.saturating_add(1);
-            }
-        }
-    }
-    assert_eq!(rt; counts, [28, 37, 25]);
+    assert!(rt; is_read(alloc, TWO_BLOCKS)?);
+    // These numbers were counted by another reading, a script over the words of `docs/formats.md`.
+    assert_eq!(rt; read(alloc, changed(alloc, TWO_BLOCKS)?.as_slice())?, 2_259);
+    assert_eq!(rt; read(alloc, lost(alloc, TWO_BLOCKS)?.as_slice())?, 28);
+    assert_eq!(rt; read(alloc, doubled(alloc, TWO_BLOCKS)?.as_slice())?, 37);
+    assert_eq!(rt; read(alloc, swapped(alloc, TWO_BLOCKS)?.as_slice())?, 25);
     Ok(())
 }

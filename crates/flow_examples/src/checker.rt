@@ -12,9 +12,6 @@ const TITLE: &[u8] = b"flowshop certificate 1\n";
 /// The first line of version 2.
 const TITLE_2: &[u8] = b"flowshop certificate 2\n";
 
-/// The certificate of the instance with three machines at depth 0.
-const AT_DEPTH_0: [u8; 50] = *b"flowshop certificate 1\n3 3 0\n12\n3 1 2\n+BC++.B\nend\n";
-
 /// The text of these parts.
 fn joined(alloc: Global, parts: &[&[u8]]) -> Result<Vec<u8>, Fail> {
     let mut text = Vec::new(alloc);
@@ -49,23 +46,20 @@ fn checked(
 fn checker_accepts_lawful_certificates(rt: HostRuntime) -> Result<(), Fail> {
     let alloc = rt.alloc();
     let three = three_machines(alloc)?;
-    let rows: [&[u8]; 5] = [
-        b"3 3 0\n12\n3 1 2\n+BC++.B\nend\n",
-        b"3 3 1\n12\n3 1 2\nB\nC\n++.B\nend\n",
-        b"3 3 2\n12\n3 1 2\nB\nB\nC\nB\n+.\nB\nend\n",
-        b"3 3 3\n12\n3 1 2\n.\n.\n.\n.\n.\n.\nend\n",
-        b"3 3 0\n12\n3 1 2\n+B+CB+AB\nend\n",
-    ];
-    for rest in rows {
-        assert_eq!(rt; checked(alloc, &three, &[rest])?, Ok(12));
-    }
     let two = two_machines(alloc)?;
-    assert_eq!(rt;
-        checked(alloc, &two, &[b"3 2 0\n9\n2 3 1\n+BBB\nend\n"])?,
-        Ok(9)
-    );
     let one = Instance::new(alloc, 1, 1, &[0])?;
-    assert_eq!(rt; checked(alloc, &one, &[b"1 1 0\n0\n1\nA\nend\n"])?, Ok(0));
+    let rows: [(&Instance, &[u8], u64); 7] = [
+        (&three, b"3 3 0\n12\n3 1 2\n+BC++.B\nend\n", 12),
+        (&three, b"3 3 1\n12\n3 1 2\nB\nC\n++.B\nend\n", 12),
+        (&three, b"3 3 2\n12\n3 1 2\nB\nB\nC\nB\n+.\nB\nend\n", 12),
+        (&three, b"3 3 3\n12\n3 1 2\n.\n.\n.\n.\n.\n.\nend\n", 12),
+        (&three, b"3 3 0\n12\n3 1 2\n+B+CB+AB\nend\n", 12),
+        (&two, b"3 2 0\n9\n2 3 1\n+BBB\nend\n", 9),
+        (&one, b"1 1 0\n0\n1\nA\nend\n", 0),
+    ];
+    for (instance, rest, value) in rows {
+        assert_eq!(rt; checked(alloc, instance, &[rest])?, Ok(value));
+    }
     Ok(())
 }
 
@@ -75,13 +69,16 @@ fn checker_tests_letters_by_the_bound_of_the_version(rt: HostRuntime) -> Result<
     let two = two_machines(alloc)?;
     // At the empty list machine 2 has the bound 8, and once it is released by machine 1 the bound 9.
     let short = b"3 2 0\n9\n2 3 1\nB\nend\n";
-    assert_eq!(rt; checked_behind(alloc, &two, TITLE_2, short)?, Ok(9));
-    let found = checked_behind(alloc, &two, TITLE, short)?;
-    assert_eq!(rt; found, Err(CheckFault::Weak(5)));
     let long = b"3 2 0\n9\n2 3 1\n+BBB\nend\n";
-    assert_eq!(rt; checked_behind(alloc, &two, TITLE_2, long)?, Ok(9));
-    let found = checked_behind(alloc, &two, b"flowshop certificate 3\n", long)?;
-    assert_eq!(rt; found, Err(CheckFault::Header));
+    let rows: [(&[u8], &[u8], Result<u64, CheckFault>); 4] = [
+        (TITLE_2, short, Ok(9)),
+        (TITLE, short, Err(CheckFault::Weak(5))),
+        (TITLE_2, long, Ok(9)),
+        (b"flowshop certificate 3\n", long, Err(CheckFault::Header)),
+    ];
+    for (title, rest, answer) in rows {
+        assert_eq!(rt; checked_behind(alloc, &two, title, rest)?, answer);
+    }
     Ok(())
 }
 
@@ -89,15 +86,10 @@ fn checker_tests_letters_by_the_bound_of_the_version(rt: HostRuntime) -> Result<
 fn checker_reads_certificates_of_three_machines_in_version_2(rt: HostRuntime) -> Result<(), Fail> {
     let alloc = rt.alloc();
     let three = three_machines(alloc)?;
-    let lawful: [&[u8]; 2] = [
-        b"3 3 0\n12\n3 1 2\n+BC++.B\nend\n",
-        b"3 3 1\n12\n3 1 2\nB\nC\n++.B\nend\n",
-    ];
-    for rest in lawful {
-        assert_eq!(rt; checked_behind(alloc, &three, TITLE_2, rest)?, Ok(12));
-    }
     // The released bounds are 7, 10 and 7 at the empty list, 8, 10 and 8 at 3, and 12, 12 and 12 at 3 1.
-    let rows: [(&[u8], Result<u64, CheckFault>); 7] = [
+    let rows: [(&[u8], Result<u64, CheckFault>); 9] = [
+        (b"3 3 0\n12\n3 1 2\n+BC++.B\nend\n", Ok(12)),
+        (b"3 3 1\n12\n3 1 2\nB\nC\n++.B\nend\n", Ok(12)),
         (b"3 3 0\n12\n3 1 2\nA\nend\n", Err(CheckFault::Weak(5))),
         (b"3 3 0\n12\n3 1 2\nB\nend\n", Err(CheckFault::Weak(5))),
         (b"3 3 0\n12\n3 1 2\nC\nend\n", Err(CheckFault::Weak(5))),
@@ -111,6 +103,32 @@ fn checker_reads_certificates_of_three_machines_in_version_2(rt: HostRuntime) ->
     ];
     for (rest, answer) in rows {
         assert_eq!(rt; checked_behind(alloc, &three, TITLE_2, rest)?, answer);
+    }
+    Ok(())
+}
+
+/// A certificate of the instance with three machines, whose trees are single letters.
+const LETTERS: [u8; 54] = *b"flowshop certificate 1\n3 3 2\n12\n3 1 2\nB\nB\nC\nB\nA\nB\nend\n";
+
+#[test]
+fn checker_tests_each_single_letter(rt: HostRuntime) -> Result<(), Fail> {
+    let alloc = rt.alloc();
+    let instance = three_machines(alloc)?;
+    // The machines whose bound is at least 12, worked out by hand, at 1 2, 1 3, 2 1, 2 3, 3 1 and 3 2.
+    let strong: [&[u8]; 6] = [b"BC", b"AB", b"C", b"BC", b"AB", b"BC"];
+    for index in 0..6usize {
+        for letter in b'A'..=b'D' {
+            let mut text = LETTERS;
+            text[38 + 2 * index] = letter;
+            let answer = if letter == b'D' {
+                Err(CheckFault::Tree(5 + index))
+            } else if strong[index].contains(&letter) {
+                Ok(12)
+            } else {
+                Err(CheckFault::Weak(5 + index))
+            };
+            assert_eq!(rt; check(alloc, &instance, &text), answer);
+        }
     }
     Ok(())
 }
@@ -137,44 +155,46 @@ fn checker_reads_more_trees_than_a_plan_may_have(rt: HostRuntime) -> Result<(), 
     Ok(())
 }
 
+/// What stands behind a first line for the instance with three machines, and its first fault.
+const FIRST_FAULTS: [(&[u8], CheckFault); 19] = [
+    (b"3 3\n012\n3 1\nx\nEND\n", CheckFault::Size),
+    (b"3 3 0\n012\n3 1\nx\nEND\n", CheckFault::Value),
+    (b"3 3 0\n12\n3 1\nx\nEND\n", CheckFault::Sequence),
+    (b"3 3 0\n12\n1 2 3\nx\nEND\n", CheckFault::NotAttained),
+    (b"3 3 0\n12\n3 1 2\nx\nEND\n", CheckFault::Tree(5)),
+    // The sequence 3 1 2 has the makespan 12, which is below 13, and machine 1 has the bound 12 at 3 1.
+    (b"3 3 0\n13\n2 1 3\n+BC++.B\nend\n", CheckFault::Low(5)),
+    (b"3 3 0\n13\n2 1 3\n+BC++.x\nEND\n", CheckFault::Low(5)),
+    (b"3 3 0\n13\n2 1 3\n+BC++x.\nEND\n", CheckFault::Tree(5)),
+    (b"3 3 0\n13\n2 1 3\n+BC+A.B\nEND\n", CheckFault::Weak(5)),
+    // At depth 3 the sequences stand in lexicographic order, and 3 1 2 is the fifth.
+    (
+        b"3 3 3\n13\n2 1 3\n.\n.\n.\n.\n.\n.\nend\n",
+        CheckFault::Low(9),
+    ),
+    // A tree that is weak, missing, or one too many.
+    (b"3 3 1\n12\n3 1 2\nB\nC\n++.A\nend\n", CheckFault::Weak(7)),
+    (b"3 3 1\n12\n3 1 2\n+BC++.B\nend\n", CheckFault::Weak(5)),
+    (b"3 3 1\n12\n3 1 2\nB\nC\nend\n", CheckFault::Tree(7)),
+    (
+        b"3 3 1\n12\n3 1 2\nB\nC\n++.B\n++.B\nend\n",
+        CheckFault::End,
+    ),
+    (b"3 3 1\n12\n3 1 2\nB\nC\n++.B\nend\nx", CheckFault::End),
+    // Line ends that are missing.
+    (b"3 3 1\n12\n3 1 2\nBC\n++.B\nend\n", CheckFault::Tree(5)),
+    (b"3 3 1\n12\n3 1 2\nB\nC\n++.Bend\n", CheckFault::Tree(7)),
+    (b"3 3 1\n12\n3 1 2\nB\nC\n++.B", CheckFault::Tree(7)),
+    (b"3 3 1\n12\n3 1 2\nB\nC\n++.B\nend", CheckFault::End),
+];
+
 #[test]
 fn checker_names_first_fault(rt: HostRuntime) -> Result<(), Fail> {
     let alloc = rt.alloc();
     let instance = three_machines(alloc)?;
     let found = check(alloc, &instance, b"flowshop\n3 3\n012\n3 1\nx\nEND\n");
     assert_eq!(rt; found, Err(CheckFault::Header));
-    let rows: [(&[u8], CheckFault); 19] = [
-        (b"3 3\n012\n3 1\nx\nEND\n", CheckFault::Size),
-        (b"3 3 0\n012\n3 1\nx\nEND\n", CheckFault::Value),
-        (b"3 3 0\n12\n3 1\nx\nEND\n", CheckFault::Sequence),
-        (b"3 3 0\n12\n1 2 3\nx\nEND\n", CheckFault::NotAttained),
-        (b"3 3 0\n12\n3 1 2\nx\nEND\n", CheckFault::Tree(5)),
-        // The sequence 3 1 2 has the makespan 12, which is below 13, and machine 1 has the bound 12 at 3 1.
-        (b"3 3 0\n13\n2 1 3\n+BC++.B\nend\n", CheckFault::Low(5)),
-        (b"3 3 0\n13\n2 1 3\n+BC++.x\nEND\n", CheckFault::Low(5)),
-        (b"3 3 0\n13\n2 1 3\n+BC++x.\nEND\n", CheckFault::Tree(5)),
-        (b"3 3 0\n13\n2 1 3\n+BC+A.B\nEND\n", CheckFault::Weak(5)),
-        // At depth 3 the sequences stand in lexicographic order, and 3 1 2 is the fifth.
-        (
-            b"3 3 3\n13\n2 1 3\n.\n.\n.\n.\n.\n.\nend\n",
-            CheckFault::Low(9),
-        ),
-        // A tree that is weak, missing, or one too many.
-        (b"3 3 1\n12\n3 1 2\nB\nC\n++.A\nend\n", CheckFault::Weak(7)),
-        (b"3 3 1\n12\n3 1 2\n+BC++.B\nend\n", CheckFault::Weak(5)),
-        (b"3 3 1\n12\n3 1 2\nB\nC\nend\n", CheckFault::Tree(7)),
-        (
-            b"3 3 1\n12\n3 1 2\nB\nC\n++.B\n++.B\nend\n",
-            CheckFault::End,
-        ),
-        (b"3 3 1\n12\n3 1 2\nB\nC\n++.B\nend\nx", CheckFault::End),
-        // Line ends that are missing.
-        (b"3 3 1\n12\n3 1 2\nBC\n++.B\nend\n", CheckFault::Tree(5)),
-        (b"3 3 1\n12\n3 1 2\nB\nC\n++.Bend\n", CheckFault::Tree(7)),
-        (b"3 3 1\n12\n3 1 2\nB\nC\n++.B", CheckFault::Tree(7)),
-        (b"3 3 1\n12\n3 1 2\nB\nC\n++.B\nend", CheckFault::End),
-    ];
-    for (rest, fault) in rows {
+    for (rest, fault) in FIRST_FAULTS {
         assert_eq!(rt; checked(alloc, &instance, &[rest])?, Err(fault));
     }
     Ok(())

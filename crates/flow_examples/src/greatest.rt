@@ -54,6 +54,7 @@ fn greatest_times_of_the_most_jobs_on_the_most_machines(rt: HostRuntime) -> Resu
     }
     let sequence = Sequence::new(alloc, &instance, jobs.as_slice())?;
     assert_eq!(rt; sequence.jobs().len(), instance.jobs() as usize);
+    // Each job leaves a machine one time after the job before it: 800 + 26 - 1 times.
     assert_eq!(rt; makespan(&instance, &sequence), 824_999_175);
     match prepare(alloc, &instance, Options::new(1, 2, 1)?) {
         Ok(_) => Err(Fail::from("a plan was made")),

@@ -1,5 +1,6 @@
 //! Worked examples: two instances with what they should give, for other crates too, and tests of the public calls of
-//! the libraries.
+//! the libraries. What the tests expect was worked out by hand, and computed again by a script from the definitions;
+//! where it has another source, a comment says which.
 #![tactic(auto)]
 
 #[cfg(test)]
@@ -7,13 +8,19 @@ mod bounds;
 #[cfg(test)]
 mod bytes;
 #[cfg(test)]
+mod changed_certificate;
+#[cfg(test)]
 mod changed_text;
+#[cfg(test)]
+mod changes;
 #[cfg(test)]
 mod checker;
 #[cfg(test)]
 mod greatest;
 mod instances;
 mod outcomes;
+#[cfg(test)]
+mod plain;
 #[cfg(test)]
 mod search;
 #[cfg(test)]

@@ -6,6 +6,7 @@ use flow_core::Instance;
 use flow_search::{
     OptionFault, Options, Outcome, PlanFault, RunFault, answer, conclude, prepare, solve_plain,
 };
+use std::alloc::Global;
 use std::test::Fail;
 
 #[test]
@@ -136,32 +137,47 @@ fn conclude_takes_the_outcomes_of_all_prefixes(rt: HostRuntime) -> Result<(), Fa
     Ok(())
 }
 
+/// What `solve_plain` gives: the value, the sequence, and the trees with an LF behind each.
+fn solved(
+    alloc: Global,
+    instance: &Instance,
+    options: Options,
+) -> Result<(u64, Vec<u16>, Vec<u8>), Fail> {
+    let plan = prepare(alloc, instance, options)?;
+    let verdict = solve_plain(alloc, &plan)?;
+    let jobs = Vec::from_slice(alloc, verdict.sequence.jobs())?;
+    let mut trees = Vec::new(alloc);
+    for tree in &verdict.trees {
+        trees.extend_from_slice(tree.as_slice())?;
+        trees.push(b'\n')?;
+    }
+    Ok((verdict.value, jobs, trees))
+}
+
 #[test]
 fn solve_plain_gives_the_worked_verdicts(rt: HostRuntime) -> Result<(), Fail> {
     let alloc = rt.alloc();
     let three = three_machines(alloc)?;
-    let rows: [&[&[u8]]; 4] = [
-        &[b"+BC++.B"],
-        &TREES_AT_DEPTH_1,
-        &[b"B", b"B", b"C", b"B", b"+.", b"B"],
-        &[b".", b".", b".", b".", b".", b"."],
-    ];
-    for (depth, trees) in (0..4u32).zip(rows) {
-        let plan = prepare(alloc, &three, Options::new(1, depth, AMPLE)?)?;
-        let verdict = solve_plain(alloc, &plan)?;
-        assert!(rt;
-            is_verdict(&verdict, 12, &[3, 1, 2], trees),
-            "at depth {depth}"
-        );
-    }
     let two = two_machines(alloc)?;
-    let plan = prepare(alloc, &two, Options::new(1, 0, AMPLE)?)?;
-    let verdict = solve_plain(alloc, &plan)?;
-    assert!(rt; is_verdict(&verdict, 9, &[2, 3, 1], &[b"+BBB"]));
     let one = Instance::new(alloc, 1, 1, &[0])?;
-    let plan = prepare(alloc, &one, Options::new(1, 0, AMPLE)?)?;
-    let verdict = solve_plain(alloc, &plan)?;
-    assert!(rt; is_verdict(&verdict, 0, &[1], &[b"A"]));
+    // Instance, depth and version; value, sequence and trees.
+    let rows: [(&Instance, u32, u32, u64, &[u16], &[u8]); 8] = [
+        (&three, 0, 1, 12, &[3, 1, 2], b"+BC++.B\n"),
+        (&three, 1, 1, 12, &[3, 1, 2], b"B\nC\n++.B\n"),
+        (&three, 2, 1, 12, &[3, 1, 2], b"B\nB\nC\nB\n+.\nB\n"),
+        (&three, 3, 1, 12, &[3, 1, 2], b".\n.\n.\n.\n.\n.\n"),
+        (&three, 0, 2, 12, &[3, 1, 2], b"+BC++.B\n"),
+        (&three, 1, 2, 12, &[3, 1, 2], b"B\nC\n++.B\n"),
+        (&two, 0, 1, 9, &[2, 3, 1], b"+BBB\n"),
+        (&one, 0, 1, 0, &[1], b"A\n"),
+    ];
+    for (instance, depth, version, value, jobs, trees) in rows {
+        let options = Options::new(1, depth, AMPLE)?.with_version(version)?;
+        let found = solved(alloc, instance, options)?;
+        assert_eq!(rt; found.0, value);
+        assert_eq!(rt; found.1.as_slice(), jobs);
+        assert_eq!(rt; found.2.as_slice(), trees);
+    }
     Ok(())
 }
 
@@ -177,23 +193,6 @@ fn solve_plain_keeps_to_the_budget(rt: HostRuntime) -> Result<(), Fail> {
     let enough = prepare(alloc, &instance, Options::new(1, 1, TIGHT + 1)?)?;
     let verdict = solve_plain(alloc, &enough)?;
     assert!(rt; is_verdict(&verdict, 12, &[3, 1, 2], &TREES_AT_DEPTH_1));
-    Ok(())
-}
-
-#[test]
-fn version_2_has_the_same_trees_on_three_machines(rt: HostRuntime) -> Result<(), Fail> {
-    let alloc = rt.alloc();
-    let instance = three_machines(alloc)?;
-    let rows: [&[&[u8]]; 2] = [&[b"+BC++.B"], &[b"B", b"C", b"++.B"]];
-    for (depth, trees) in (0..2u32).zip(rows) {
-        let options = Options::new(1, depth, AMPLE)?.with_version(2)?;
-        let plan = prepare(alloc, &instance, options)?;
-        let verdict = solve_plain(alloc, &plan)?;
-        assert!(rt;
-            is_verdict(&verdict, 12, &[3, 1, 2], trees),
-            "at depth {depth}"
-        );
-    }
     Ok(())
 }
 

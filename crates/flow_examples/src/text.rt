@@ -23,70 +23,70 @@ fn fault_of(alloc: Global, text: &[u8]) -> Result<TextFault, Fail> {
 }
 
 #[test]
-fn lenient_text_is_read(rt: HostRuntime) -> Result<(), Fail> {
+fn lenient_texts_are_read(rt: HostRuntime) -> Result<(), Fail> {
     let alloc = rt.alloc();
-    let text =
-        b"number of jobs :\r\n  3\t2 7 9\r\n9\r\n\r\nprocessing times :\r\n3 1\r\n2 2\r\n4 2\r\n";
-    let block = only_block(alloc, text)?;
-    assert_eq!(rt; (block.seed, block.upper, block.lower), (7, 9, 9));
-    assert!(rt; block.instance == two_machines(alloc)?);
+    let two = two_machines(alloc)?;
+    let five = Instance::new(alloc, 1, 1, &[5])?;
+    let large = Instance::new(alloc, 1, 1, &[100_000])?;
+    let rows: [(&[u8], (u32, u32, u32), &Instance); 4] = [
+        (
+            b"number of jobs :\r\n  3\t2 7 9\r\n9\r\n\r\nprocessing times :\r\n3 1\r\n2 2\r\n4 2\r\n",
+            (7, 9, 9),
+            &two,
+        ),
+        // Leading zeros and a missing line end.
+        (b"a\n1 1 1 1 1\nb\n05", (1, 1, 1), &five),
+        (b"a\n1 1 1 1 1\nb\n100000\n", (1, 1, 1), &large),
+        (
+            b"a\n1 1 4294967295 4294967295 4294967295\nb\n5\n",
+            (u32::MAX, u32::MAX, u32::MAX),
+            &five,
+        ),
+    ];
+    for (text, numbers, instance) in rows {
+        let block = only_block(alloc, text)?;
+        assert_eq!(rt; (block.seed, block.upper, block.lower), numbers);
+        assert!(rt; block.instance == *instance);
+    }
     Ok(())
 }
 
+/// Texts, and the first fault of each.
+const FIRST_FAULTS: [(&[u8], TextFault); 15] = [
+    (b"", TextFault::NoBlock),
+    (b"3 2 0 0 0\n", TextFault::Label(1)),
+    (b"a\n3 2 7 9 9 9\n", TextFault::Head(2)),
+    (b"a\n3 2 7 9 9\n9\n", TextFault::Label(3)),
+    (b"a\n3 x 7\n", TextFault::Byte(2)),
+    (b"a\n4294967296\n", TextFault::Number(2)),
+    (b"a\n4294967296 x\n", TextFault::Byte(2)),
+    (b"a\n4294967295 4294967295 1 1 1\n", TextFault::Limits(2)),
+    (b"a\n501 1 1 1 1\n", TextFault::Label(3)),
+    (b"a\n801 1 1 1 1\n", TextFault::Limits(2)),
+    (b"a\n1 27 1 1 1\n", TextFault::Limits(2)),
+    (b"a\n1 1 1 1 1\nb\n1000000\n", TextFault::Limits(4)),
+    (b"a\n1 1 1 1 1\nb\n5 6\n", TextFault::Times(4)),
+    (b"a\n1 1 1 1 1\nb\n5\nc\n", TextFault::Head(6)),
+    (
+        b"number of jobs :\r\n  3\t2 7 9\r\n9\r\n\r\nprocessing times :\r\n3 1\r\n2 2\r\n4\r\n",
+        TextFault::Times(9),
+    ),
+];
+
 #[test]
 fn first_fault_of_a_text_is_named(rt: HostRuntime) -> Result<(), Fail> {
-    let rows: [(&[u8], TextFault); 13] = [
-        (b"", TextFault::NoBlock),
-        (b"3 2 0 0 0\n", TextFault::Label(1)),
-        (b"a\n3 2 7 9 9 9\n", TextFault::Head(2)),
-        (b"a\n3 2 7 9 9\n9\n", TextFault::Label(3)),
-        (b"a\n3 x 7\n", TextFault::Byte(2)),
-        (b"a\n4294967296\n", TextFault::Number(2)),
-        (b"a\n501 1 1 1 1\n", TextFault::Label(3)),
-        (b"a\n801 1 1 1 1\n", TextFault::Limits(2)),
-        (b"a\n1 27 1 1 1\n", TextFault::Limits(2)),
-        (b"a\n1 1 1 1 1\nb\n1000000\n", TextFault::Limits(4)),
-        (b"a\n1 1 1 1 1\nb\n5 6\n", TextFault::Times(4)),
-        (b"a\n1 1 1 1 1\nb\n5\nc\n", TextFault::Head(6)),
-        (
-            b"number of jobs :\r\n  3\t2 7 9\r\n9\r\n\r\nprocessing times :\r\n3 1\r\n2 2\r\n4\r\n",
-            TextFault::Times(9),
-        ),
-    ];
-    for (text, fault) in rows {
+    for (text, fault) in FIRST_FAULTS {
         assert_eq!(rt; fault_of(rt.alloc(), text)?, fault);
     }
     Ok(())
 }
 
 #[test]
-fn wild_numbers_are_named(rt: HostRuntime) -> Result<(), Fail> {
+fn number_of_a_thousand_digits_is_named(rt: HostRuntime) -> Result<(), Fail> {
     let alloc = rt.alloc();
     let mut great = Vec::from_slice(alloc, b"a\n1")?;
-    for _ in 0..1_000u32 {
-        great.push(b'0')?;
-    }
+    great.extend_from_slice(b"0".repeat(alloc, 1_000)?.as_slice())?;
     assert_eq!(rt; fault_of(alloc, great.as_slice())?, TextFault::Number(2));
-    assert_eq!(rt; fault_of(alloc, b"a\n4294967296 x\n")?, TextFault::Byte(2));
-    let large_time = only_block(alloc, b"a\n1 1 1 1 1\nb\n100000\n")?;
-    assert_eq!(rt; large_time.instance.time(1, 1), 100_000);
-    let limits = b"a\n4294967295 4294967295 1 1 1\n";
-    assert_eq!(rt; fault_of(alloc, limits)?, TextFault::Limits(2));
-    let block = only_block(alloc, b"a\n1 1 4294967295 4294967295 4294967295\nb\n5\n")?;
-    assert_eq!(rt;
-        (block.seed, block.upper, block.lower),
-        (u32::MAX, u32::MAX, u32::MAX)
-    );
-    assert!(rt; block.instance == Instance::new(alloc, 1, 1, &[5])?);
-    Ok(())
-}
-
-#[test]
-fn leading_zeros_and_a_missing_line_end_are_read(rt: HostRuntime) -> Result<(), Fail> {
-    let alloc = rt.alloc();
-    let block = only_block(alloc, b"a\n1 1 1 1 1\nb\n05")?;
-    assert_eq!(rt; (block.seed, block.upper, block.lower), (1, 1, 1));
-    assert!(rt; block.instance == Instance::new(alloc, 1, 1, &[5])?);
     Ok(())
 }
 

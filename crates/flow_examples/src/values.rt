@@ -5,6 +5,7 @@ use flow_core::{
     Front, Instance, InstanceFault, JobSet, Sequence, SequenceFault, Taillard, front_push,
     generate, makespan, rows,
 };
+use std::alloc::Global;
 use std::test::Fail;
 
 #[test]
@@ -50,28 +51,19 @@ fn rows_have_times_and_tails(rt: HostRuntime) -> Result<(), Fail> {
         ([1, 4], [4, 0]),
         ([2, 2], [2, 0]),
     ];
-    for (row, (times, tails)) in rows.iter().zip(expected) {
-        assert_eq!(rt; (row.times[0], row.times[1]), (times[0], times[1]));
-        assert_eq!(rt; (row.tails[0], row.tails[1]), (tails[0], tails[1]));
+    for index in 0..3usize {
+        let row = &rows[index];
+        let found = ([row.times[0], row.times[1]], [row.tails[0], row.tails[1]]);
+        assert_eq!(rt; found, expected[index]);
     }
     Ok(())
 }
 
 #[test]
-fn mirrored_instance_takes_as_long_the_other_way_round(rt: HostRuntime) -> Result<(), Fail> {
+fn mirrored_instance_has_its_machines_in_reverse_order(rt: HostRuntime) -> Result<(), Fail> {
     let alloc = rt.alloc();
     let mirrored = two_machines(alloc)?.mirrored(alloc)?;
-    assert_eq!(rt; mirrored.jobs(), 3);
-    assert_eq!(rt; mirrored.machines(), 2);
-    assert_eq!(rt; mirrored.time(2, 1), 4);
-    assert_eq!(rt; mirrored.time(1, 2), 3);
-    // The makespans of the reversed sequences on the instance itself.
-    let rows: [(&[u16], u64); 3] = [(&[1, 2, 3], 10), (&[1, 3, 2], 9), (&[3, 1, 2], 9)];
-    for (jobs, value) in rows {
-        let sequence = Sequence::new(alloc, &mirrored, jobs)?;
-        assert!(rt; sequence.jobs().len() == mirrored.jobs() as usize);
-        assert_eq!(rt; makespan(&mirrored, &sequence), value, "at {jobs:?}");
-    }
+    assert!(rt; mirrored == Instance::new(alloc, 3, 2, &[2, 4, 2, 3, 1, 2])?);
     Ok(())
 }
 
@@ -93,43 +85,41 @@ fn sequence_names_first_fault(rt: HostRuntime) -> Result<(), Fail> {
     Ok(())
 }
 
-#[test]
-fn makespan_is_that_of_the_worked_sequences(rt: HostRuntime) -> Result<(), Fail> {
-    let alloc = rt.alloc();
-    let three = three_machines(alloc)?;
-    let rows: [(&[u16], u64); 6] = [
-        (&[1, 2, 3], 15),
-        (&[1, 3, 2], 14),
-        (&[2, 1, 3], 13),
-        (&[2, 3, 1], 15),
-        (&[3, 1, 2], 12),
-        (&[3, 2, 1], 14),
-    ];
-    for (jobs, value) in rows {
-        let sequence = Sequence::new(alloc, &three, jobs)?;
-        assert_eq!(rt; sequence.jobs(), jobs);
-        assert!(rt; sequence.jobs().len() == three.jobs() as usize);
-        assert_eq!(rt; makespan(&three, &sequence), value, "at {jobs:?}");
+/// The makespan of these jobs in this order.
+fn span(alloc: Global, instance: &Instance, jobs: &[u16]) -> Result<u64, Fail> {
+    let sequence = Sequence::new(alloc, instance, jobs)?;
+    if sequence.jobs().len() != instance.jobs() as usize || sequence.jobs() != jobs {
+        return Err(Fail::from("another sequence"));
     }
-    let two = two_machines(alloc)?;
-    let rows: [(&[u16], u64); 3] = [(&[3, 2, 1], 10), (&[2, 3, 1], 9), (&[2, 1, 3], 9)];
-    for (jobs, value) in rows {
-        let sequence = Sequence::new(alloc, &two, jobs)?;
-        assert!(rt; sequence.jobs().len() == two.jobs() as usize);
-        assert_eq!(rt; makespan(&two, &sequence), value, "at {jobs:?}");
-    }
-    Ok(())
+    Ok(makespan(instance, &sequence))
 }
 
 #[test]
-fn generated_jobs_take_longer_the_other_way_round(rt: HostRuntime) -> Result<(), Fail> {
+fn makespans_are_those_of_the_worked_sequences(rt: HostRuntime) -> Result<(), Fail> {
     let alloc = rt.alloc();
-    let instance = generate(alloc, 2, 2, 1)?;
-    let rows: [(&[u16], u64); 2] = [(&[1, 2], 122), (&[2, 1], 135)];
-    for (jobs, value) in rows {
-        let sequence = Sequence::new(alloc, &instance, jobs)?;
-        assert!(rt; sequence.jobs().len() == instance.jobs() as usize);
-        assert_eq!(rt; makespan(&instance, &sequence), value, "at {jobs:?}");
+    let three = three_machines(alloc)?;
+    let two = two_machines(alloc)?;
+    // On the mirrored instance a sequence takes as long as the reversed one on the instance itself.
+    let mirrored = two.mirrored(alloc)?;
+    let generated = generate(alloc, 2, 2, 1)?;
+    let rows: [(&Instance, &[u16], u64); 14] = [
+        (&three, &[1, 2, 3], 15),
+        (&three, &[1, 3, 2], 14),
+        (&three, &[2, 1, 3], 13),
+        (&three, &[2, 3, 1], 15),
+        (&three, &[3, 1, 2], 12),
+        (&three, &[3, 2, 1], 14),
+        (&two, &[3, 2, 1], 10),
+        (&two, &[2, 3, 1], 9),
+        (&two, &[2, 1, 3], 9),
+        (&mirrored, &[1, 2, 3], 10),
+        (&mirrored, &[1, 3, 2], 9),
+        (&mirrored, &[3, 1, 2], 9),
+        (&generated, &[1, 2], 122),
+        (&generated, &[2, 1], 135),
+    ];
+    for (instance, jobs, value) in rows {
+        assert_eq!(rt; span(alloc, instance, jobs)?, value, "at {jobs:?}");
     }
     Ok(())
 }

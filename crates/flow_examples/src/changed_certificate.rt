@@ -1,0 +1,243 @@
+//! Certificates that differ in a byte or two from one at depth 2, beside a plain reading of each.
+
+use crate::changes::{changed, doubled, lost, swapped};
+use crate::plain::{bound, completion, has};
+use flow_cert::{CheckFault, check};
+use flow_core::Instance;
+use std::alloc::{AllocError, Global};
+use std::test::Fail;
+
+/// The times of four jobs on three machines.
+const FOUR_JOBS: [u32; 12] = [6, 2, 8, 7, 7, 6, 9, 1, 6, 1, 4, 7];
+
+/// A certificate of these jobs, as `bench/plain.rs` writes it, which shares nothing with the crates.
+const LAWFUL: &[u8] = b"flowshop certificate 1\n4 3 2\n35\n1 3 4 2\n\
++BA\n+B+.\n+AB\n+CA\nC\nA\nC\nB\n++.A\nB\nA\nB\nend\n";
+
+/// The same with a greater value, that of another sequence: the point on line 6 is below it.
+const LOW: &[u8] = b"flowshop certificate 1\n4 3 2\n36\n2 4 1 3\n\
++BA\n+B+.\n+AB\n+CA\nC\nA\nC\nB\n++.A\nB\nA\nB\nend\n";
+
+/// What the first lines of a certificate say of its trees.
+#[derive(Clone, Copy, Drop)]
+struct Heading {
+    version: u32,
+    depth: u64,
+    value: u64,
+}
+
+/// The numbers of a line, in decimal and with one space between them; this fault where it is not of that form.
+fn numbers_of(alloc: Global, line: &[u8], fault: CheckFault) -> Result<Vec<u64>, CheckFault> {
+    let mut numbers = Vec::new(alloc);
+    for word in line.split(|byte| *byte == b' ') {
+        let text = str::from_utf8(word).unwrap_or("");
+        let Ok(number) = text.parse::<u64>() else {
+            return Err(fault);
+        };
+        if format!(in alloc; "{number}")?.as_str() != text {
+            return Err(fault);
+        }
+        numbers.push(number)?;
+    }
+    Ok(numbers)
+}
+
+/// The depth on a certificate's second line.
+fn depth_of(alloc: Global, instance: &Instance, line: &[u8]) -> Result<u64, CheckFault> {
+    let jobs = u64::from(instance.jobs());
+    let machines = u64::from(instance.machines());
+    match numbers_of(alloc, line, CheckFault::Size)?.as_slice() {
+        [first, second, depth] if *first == jobs && *second == machines && *depth <= jobs.min(3) =>
+            { Ok(*depth) }
+        _ => Err(CheckFault::Size),
+    }
+}
+
+/// The value on a certificate's third line.
+fn value_of(alloc: Global, line: &[u8]) -> Result<u64, CheckFault> {
+    match numbers_of(alloc, line, CheckFault::Value)?.as_slice() {
+        [value] => Ok(*value),
+        _ => Err(CheckFault::Value),
+    }
+}
+
+/// The sequence on a certificate's fourth line, which has each job once.
+fn sequence_of(alloc: Global, instance: &Instance, line: &[u8]) -> Result<Vec<u16>, CheckFault> {
+    let mut jobs = Vec::new(alloc);
+    for number in &numbers_of(alloc, line, CheckFault::Sequence)? {
+        let Ok(job) = u16::try_from(*number) else {
+            return Err(CheckFault::Sequence);
+        };
+        jobs.push(job)?;
+    }
+    for job in 1..instance.jobs() + 1 {
+        if !has(jobs.as_slice(), job) {
+            return Err(CheckFault::Sequence);
+        }
+    }
+    if jobs.len() != instance.jobs() as usize {
+        return Err(CheckFault::Sequence);
+    }
+    Ok(jobs)
+}
+
+/// The heading of a certificate with these lines.
+fn heading_of(alloc: Global, instance: &Instance, lines: &[&[u8]]) -> Result<Heading, CheckFault> {
+    let version = match lines.first() {
+        Some(line) if *line == b"flowshop certificate 1".as_slice() => 1,
+        Some(line) if *line == b"flowshop certificate 2".as_slice() => 2,
+        _ => return Err(CheckFault::Header),
+    };
+    let depth = depth_of(alloc, instance, lines.get(1).ok_or(CheckFault::Size)?)?;
+    let value = value_of(alloc, lines.get(2).ok_or(CheckFault::Value)?)?;
+    let sequence = sequence_of(alloc, instance, lines.get(3).ok_or(CheckFault::Sequence)?)?;
+    if completion(instance, sequence.as_slice(), instance.machines()) != value {
+        return Err(CheckFault::NotAttained);
+    }
+    Ok(Heading {
+        version,
+        depth,
+        value,
+    })
+}
+
+/// The lists with one job more than a list, in increasing order of this job.
+fn children(alloc: Global, instance: &Instance, jobs: &[u16]) -> Result<Vec<Vec<u16>>, AllocError> {
+    let mut lists = Vec::new(alloc);
+    for job in 1..instance.jobs() + 1 {
+        if !has(jobs, job) {
+            let mut longer = Vec::from_slice(alloc, jobs)?;
+            longer.push(job)?;
+            lists.push(longer)?;
+        }
+    }
+    Ok(lists)
+}
+
+/// The lists of so many distinct jobs, in lexicographic order.
+fn cut(alloc: Global, instance: &Instance, depth: u64) -> Result<Vec<Vec<u16>>, AllocError> {
+    let mut lists = Vec::new(alloc);
+    lists.push(Vec::new(alloc))?;
+    for _ in 0..depth {
+        let mut longer = Vec::new(alloc);
+        for jobs in &lists {
+            longer.append(&mut children(alloc, instance, jobs.as_slice())?)?;
+        }
+        lists = longer;
+    }
+    Ok(lists)
+}
+
+/// Reads a byte that is a whole tree of a list.
+fn read_leaf(
+    instance: &Instance,
+    heading: Heading,
+    jobs: &[u16],
+    byte: u8,
+    line: usize,
+) -> Result<(), CheckFault> {
+    let machine = u16::from(byte.saturating_sub(b'@'));
+    if jobs.len() == instance.jobs() as usize {
+        if byte != b'.' {
+            return Err(CheckFault::Tree(line));
+        }
+        if completion(instance, jobs, instance.machines()) < heading.value {
+            return Err(CheckFault::Low(line));
+        }
+    } else if machine < 1 || machine > instance.machines() {
+        return Err(CheckFault::Tree(line));
+    } else if bound(instance, heading.version, jobs, machine) < heading.value {
+        return Err(CheckFault::Weak(line));
+    }
+    Ok(())
+}
+
+/// Reads the line with the tree of a list.
+fn read_tree(
+    alloc: Global,
+    instance: &Instance,
+    heading: Heading,
+    prefix: &[u16],
+    bytes: &[u8],
+    line: usize,
+) -> Result<(), CheckFault> {
+    // The lists whose trees are still to come, the next one last.
+    let mut open = Vec::new(alloc);
+    open.push(Vec::from_slice(alloc, prefix)?)?;
+    for byte in bytes {
+        let Some(jobs) = open.pop() else {
+            return Err(CheckFault::Tree(line));
+        };
+        if *byte == b'+' && jobs.len() < instance.jobs() as usize {
+            let mut next = children(alloc, instance, jobs.as_slice())?;
+            next.as_mut_slice().reverse();
+            open.append(&mut next)?;
+        } else {
+            read_leaf(instance, heading, jobs.as_slice(), *byte, line)?;
+        }
+    }
+    if open.is_empty() {
+        Ok(())
+    } else {
+        Err(CheckFault::Tree(line))
+    }
+}
+
+/// Reads a certificate line by line.
+fn plain_reading(alloc: Global, instance: &Instance, text: &[u8]) -> Result<u64, CheckFault> {
+    let lines: Vec<&[u8]> = text.split(|byte| *byte == b'\n').collect(alloc)?;
+    // What stands behind the last LF is no line.
+    let Some((_rest, whole)) = lines.as_slice().split_last() else {
+        return Err(CheckFault::Header);
+    };
+    let heading = heading_of(alloc, instance, whole)?;
+    let mut line: usize = 4;
+    for prefix in &cut(alloc, instance, heading.depth)? {
+        let bytes = lines.get(line).copied().unwrap_or(b"");
+        line = line.saturating_add(1);
+        read_tree(alloc, instance, heading, prefix.as_slice(), bytes, line)?;
+        if line > whole.len() {
+            return Err(CheckFault::Tree(line));
+        }
+    }
+    match lines.get(line..) {
+        Some([last, rest]) if *last == b"end".as_slice() && rest.is_empty() => Ok(heading.value),
+        _ => Err(CheckFault::End),
+    }
+}
+
+/// How many of these texts the checker accepts; an error where it answers otherwise than the plain reading.
+fn accepted(alloc: Global, instance: &Instance, texts: &[Vec<u8>]) -> Result<usize, Fail> {
+    let mut count: usize = 0;
+    for text in texts {
+        let found = check(alloc, instance, text.as_slice());
+        if found != plain_reading(alloc, instance, text.as_slice()) {
+            return Err(Fail::from("another answer than the plain reading's"));
+        }
+        if found.is_ok() {
+            count = count.saturating_add(1);
+        }
+    }
+    Ok(count)
+}
+
+#[test]
+fn changed_certificates_are_read_as_by_the_plain_reading(rt: HostRuntime) -> Result<(), Fail> {
+    let alloc = rt.alloc();
+    let instance = Instance::new(alloc, 4, 3, &FOUR_JOBS)?;
+    // These numbers were counted by another reading, a script over the words of `docs/formats.md`.
+    let texts = changed(alloc, LAWFUL)?;
+    assert_eq!(rt; accepted(alloc, &instance, texts.as_slice())?, 9);
+    for text in [LAWFUL, LOW] {
+        let texts = lost(alloc, text)?;
+        assert_eq!(rt; accepted(alloc, &instance, texts.as_slice())?, 0);
+        let texts = doubled(alloc, text)?;
+        assert_eq!(rt; accepted(alloc, &instance, texts.as_slice())?, 0);
+    }
+    // Line 13 begins with two bytes that are the same.
+    let texts = swapped(alloc, LAWFUL)?;
+    assert_eq!(rt; accepted(alloc, &instance, texts.as_slice())?, 1);
+    let texts = swapped(alloc, LOW)?;
+    assert_eq!(rt; accepted(alloc, &instance, texts.as_slice())?, 0);
+    Ok(())
+}
