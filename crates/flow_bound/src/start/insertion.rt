@@ -13,7 +13,7 @@ use flow_core::{Instance, MAX_MACHINES, Row, rows};
 use std::alloc::{AllocError, Global};
 
 /// A time for each machine, that of machine 1 first.
-pub(crate) type Times = [u32; MAX_MACHINES];
+pub type Times = [u32; MAX_MACHINES];
 
 /// Turns the heads of a list, its completion times, into those of the list with one more job at its end.
 fn push_heads(instance: &Instance, rows: &[Row], heads: &mut Times, job: u16)
