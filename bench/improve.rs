@@ -67,11 +67,20 @@ impl Instance {
         loads.chain(totals).max().unwrap_or(0)
     }
 
+    /// The tails of a list with a job before it.
+    fn push_tails(&self, job: usize, tails: &Row, longer: &mut Row) {
+        let times = &self.times[job][..self.machines];
+        let mut behind = 0;
+        for ((at, &tail), &time) in longer.iter_mut().zip(tails).zip(times).rev() {
+            behind = tail.max(behind) + time;
+            *at = behind;
+        }
+    }
+
     /// The makespan with a job put in between the heads of the jobs before it and the tails of those behind it.
     fn span_between(&self, heads: &Row, job: usize, tails: &Row) -> u32 {
-        let mut head = 0;
-        let mut most = 0;
         let times = &self.times[job][..self.machines];
+        let (mut head, mut most) = (0, 0);
         for ((&free, &time), &tail) in heads.iter().zip(times).zip(tails) {
             head = free.max(head) + time;
             most = most.max(head + tail);
@@ -79,33 +88,40 @@ impl Instance {
         most
     }
 
+    /// The same; and the heads become those with the next job behind them.
+    fn span_and_push(&self, heads: &mut Row, job: usize, tails: &Row, next: usize) -> u32 {
+        let times = &self.times[job][..self.machines];
+        let next_times = &self.times[next][..self.machines];
+        let (mut head, mut most, mut free) = (0, 0, 0);
+        let times = times.iter().zip(next_times);
+        for ((at, &tail), (&time, &next_time)) in heads.iter_mut().zip(tails).zip(times) {
+            head = head.max(*at) + time;
+            most = most.max(head + tail);
+            free = free.max(*at) + next_time;
+            *at = free;
+        }
+        most
+    }
+
     /// Puts a job in at the earliest place of least makespan, and returns that makespan.
     fn place(&self, list: &mut Vec<usize>, job: usize, tails: &mut [Row]) -> u32 {
-        let mut tail = [0; MAX_MACHINES];
-        tails[list.len()] = tail;
+        let last = list.len();
+        tails[last] = [0; MAX_MACHINES];
         for (place, &next) in list.iter().enumerate().rev() {
-            let mut behind = 0;
-            let times = &self.times[next][..self.machines];
-            for (at, &time) in tail.iter_mut().zip(times).rev() {
-                behind = behind.max(*at) + time;
-                *at = behind;
-            }
-            tails[place] = tail;
+            let (before, behind) = tails.split_at_mut(place + 1);
+            self.push_tails(next, &behind[0], &mut before[place]);
         }
         let mut heads = [0; MAX_MACHINES];
         let mut best = (0, u32::MAX);
-        for (place, tails) in tails[..=list.len()].iter().enumerate() {
-            let makespan = self.span_between(&heads, job, tails);
+        for (place, (&next, tails)) in list.iter().zip(&tails[..last]).enumerate() {
+            let makespan = self.span_and_push(&mut heads, job, tails, next);
             if makespan < best.1 {
                 best = (place, makespan);
             }
-            if let Some(&next) = list.get(place) {
-                let mut free = 0;
-                for (at, &time) in heads.iter_mut().zip(&self.times[next][..self.machines]) {
-                    free = free.max(*at) + time;
-                    *at = free;
-                }
-            }
+        }
+        let makespan = self.span_between(&heads, job, &tails[last]);
+        if makespan < best.1 {
+            best = (last, makespan);
         }
         list.insert(best.0, job);
         best.1
