@@ -1,8 +1,10 @@
-//! The starting sequence.
+//! The starting sequence, and one that is improved.
 
 use crate::trouble::{Trouble, confirm};
 use flow_bound::{insertion_spans, neh};
+use flow_core::generate;
 use flow_examples::three_machines;
+use flow_improve::improve;
 use std::alloc::Global;
 
 /// `neh`.
@@ -21,4 +23,13 @@ pub(crate) fn insertions_are_tried(alloc: Global) -> Result<(), Trouble> {
         spans.as_slice() == [14, 15, 13].as_slice(),
         "insertion_spans",
     )
+}
+
+/// `improve`. The values are those of the plain program bench/improve.rs.
+pub(crate) fn start_is_improved(alloc: Global) -> Result<(), Trouble> {
+    let instance = generate(alloc, 3, 4, 1)?;
+    let (start, _) = neh(alloc, &instance)?;
+    let (sequence, makespan) = improve(alloc, &instance, &start, 6, 5)?;
+    let right = makespan == 272 && sequence.jobs() == [1, 3, 2].as_slice();
+    confirm(right, "improve")
 }

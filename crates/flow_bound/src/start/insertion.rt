@@ -13,39 +13,23 @@ use flow_core::{Instance, MAX_MACHINES, Row, rows};
 use std::alloc::{AllocError, Global};
 
 /// A time for each machine, that of machine 1 first.
-pub(crate) type Times = [u32; MAX_MACHINES];
+pub type Times = [u32; MAX_MACHINES];
 
-/// Turns the heads of a list, its completion times, into those of the list with one more job at its end.
-fn push_heads(instance: &Instance, rows: &[Row], heads: &mut Times, job: u16)
-    requires rows { AreRows instance.now rows.now }
-    requires job_from { 1 ≤ job }
-    requires job_to { job ≤ instance.now.jobs }
-    requires within { IsWithinFront instance.now heads.old }
-    ensures { (jobs : List ℕ) → IsFrontOf instance.now jobs heads.old →
-        IsFrontOf instance.now (jobs ++ job ∷ []) heads.new }
-{
-    let times = &rows[job as usize - 1].times;
-    let mut free = 0;
-    for machine in 1..instance.machines() + 1 {
-        let place = machine as usize - 1;
-        free = heads[place].max(free) + times[place];
-        heads[place] = free;
-    }
-}
-
-/// Turns the tails of a list into those of the list with one more job before it.
-fn push_tails(instance: &Instance, rows: &[Row], tails: &mut Times, job: u16)
+/// Turns the tails of a list into those of the list with one more job before it, and writes them into a row too.
+fn push_tails(instance: &Instance, rows: &[Row], tails: &mut Times, job: u16, row: &mut Times)
     requires rows { AreRows instance.now rows.now }
     requires job_from { 1 ≤ job }
     requires job_to { job ≤ instance.now.jobs }
     requires within { IsWithinFront instance.now tails.old }
-    ensures { (jobs : List ℕ) → AreTails instance.now jobs tails.old → AreTails instance.now (job ∷ jobs) tails.new }
+    ensures tails { (jobs : List ℕ) → AreTails instance.now jobs tails.old → AreTails instance.now (job ∷ jobs) tails.new }
+    ensures row { (jobs : List ℕ) → AreTails instance.now jobs tails.old → AreTails instance.now (job ∷ jobs) row.new }
 {
     let times = &rows[job as usize - 1].times;
     let mut behind = 0;
     for place in (0..instance.machines() as usize).rev() {
         behind = tails[place].max(behind) + times[place];
         tails[place] = behind;
+        row[place] = behind;
     }
 }
 
@@ -70,6 +54,44 @@ fn span_between(instance: &Instance, rows: &[Row], heads: &Times, job: u16, tail
     u64::from(most)
 }
 
+/// The makespan with a job between two lists, from the heads of the first and the tails of the second. Turns the heads
+/// into those of the first list with its own next job at its end.
+fn span_and_push(
+    instance: &Instance,
+    rows: &[Row],
+    heads: &mut Times,
+    job: u16,
+    tails: &Times,
+    next: u16,
+) -> u64
+    requires rows { AreRows instance.now rows.now }
+    requires job_from { 1 ≤ job }
+    requires job_to { job ≤ instance.now.jobs }
+    requires next_from { 1 ≤ next }
+    requires next_to { next ≤ instance.now.jobs }
+    requires heads { IsWithinFront instance.now heads.old }
+    requires tails { IsWithinFront instance.now tails.now }
+    ensures span { (front back : List ℕ) → IsFrontOf instance.now front heads.old → AreTails instance.now back tails.now →
+        result ≡ span instance.now (front ++ job ∷ back) }
+    ensures heads { (jobs : List ℕ) → IsFrontOf instance.now jobs heads.old →
+        IsFrontOf instance.now (jobs ++ next ∷ []) heads.new }
+{
+    let times = &rows[job as usize - 1].times;
+    let next_times = &rows[next as usize - 1].times;
+    let mut head: u32 = 0;
+    let mut most: u32 = 0;
+    let mut free: u32 = 0;
+    for machine in 1..instance.machines() + 1 {
+        let place = machine as usize - 1;
+        let before = heads[place];
+        head = before.max(head) + times[place];
+        most = most.max(head + tails[place]);
+        free = before.max(free) + next_times[place];
+        heads[place] = free;
+    }
+    u64::from(most)
+}
+
 /// Writes the tails of the jobs behind each place of a partial sequence.
 fn fill_tails(instance: &Instance, rows: &[Row], partial: &[u16], tails: &mut [Times])
     requires rows { AreRows instance.now rows.now }
@@ -82,8 +104,13 @@ fn fill_tails(instance: &Instance, rows: &[Row], partial: &[u16], tails: &mut [T
     let mut behind = [0; MAX_MACHINES];
     tails[partial.len()] = behind;
     for place in (0..partial.len()).rev() {
-        push_tails(instance, rows, &mut behind, partial[place]);
-        tails[place] = behind;
+        push_tails(
+            instance,
+            rows,
+            &mut behind,
+            partial[place],
+            &mut tails[place],
+        );
     }
 }
 
@@ -108,11 +135,11 @@ pub(crate) fn fill_spans(
 {
     fill_tails(instance, rows, partial, tails);
     let mut heads = [0; MAX_MACHINES];
-    spans[0] = span_between(instance, rows, &heads, job, &tails[0]);
-    for (index, earlier) in partial.iter().enumerate() {
-        push_heads(instance, rows, &mut heads, *earlier);
-        spans[index + 1] = span_between(instance, rows, &heads, job, &tails[index + 1]);
+    for (index, next) in partial.iter().enumerate() {
+        spans[index] = span_and_push(instance, rows, &mut heads, job, &tails[index], *next);
     }
+    let last = partial.len();
+    spans[last] = span_between(instance, rows, &heads, job, &tails[last]);
 }
 
 /// The makespan of a partial sequence with a job put in at each place; entry `i`: put in behind the first `i` jobs.

@@ -13,9 +13,11 @@ use std::alloc::{AllocError, Global};
 
 /// A place in a list, counted from 0, and the makespan with a job put in there.
 #[derive(Clone, Copy, Debug)]
-struct Place {
-    index: usize,
-    makespan: u64,
+pub struct Place {
+    /// How many jobs stand before it.
+    pub index: usize,
+    /// The makespan with the job put in.
+    pub makespan: u64,
 }
 
 /// The earliest place of the least of several makespans.
@@ -35,8 +37,9 @@ fn earliest_least(spans: &[u64]) -> usize
     best
 }
 
-/// The earliest place at which a job put in among others gives the least makespan.
-fn best_place(
+/// The earliest place at which a job put in among others gives the least makespan. `tails` and `spans` are room to
+/// compute in, an entry for each place.
+pub fn best_place(
     instance: &Instance,
     rows: &[Row],
     jobs: &[u16],

@@ -1,4 +1,4 @@
-use Rattle.std.proofs.Common.{◌≡◌, ℕ, ◌≤◌, take, slice_index}
+use Rattle.std.proofs.Common.{◌≡◌, ℕ, ◌<◌, take, slice_index}
 use Rattle.std.specs.List.{insert}
 use Rattle.flow_core.specs.Front.{IsFrontOf}
 use Rattle.flow_core.specs.Paths.{span}
@@ -8,5 +8,5 @@ use Rattle.flow_bound.proofs.start.insertion.fill_spans.Given as goal
 abbrev pub invariant-loop-index : goal.invariant-loop-index
 invariant-loop-index l = record {
   heads : IsFrontOf l.instance (take l.index l.partial) l.heads;
-  done : (place : ℕ) → place ≤ l.index → slice_index l.spans place ≡ span l.instance (insert l.partial place l.job);
+  done : (place : ℕ) → place < l.index → slice_index l.spans place ≡ span l.instance (insert l.partial place l.job);
 }

@@ -38,14 +38,17 @@ loop-place-preserved c =
     drop_more partial (place - 1) 0 (omega (arith, before.within))
     ∙ ap (λ n. slice_index_or partial (place - 1) 0 ∷ drop n partial) here in
     let behind : AreTails shop (drop (place - 1) partial) c.push_tails.new.tails =
-    subst (λ jobs. AreTails shop jobs c.push_tails.new.tails) (sym split) (c.push_tails.ensures
+    subst (λ jobs. AreTails shop jobs c.push_tails.new.tails) (sym split) (c.push_tails.ensures.tails
+    (drop place partial) before.behind) in
+    let row : AreTails shop (drop (place - 1) partial) c.push_tails.new.row =
+    subst (λ jobs. AreTails shop jobs c.push_tails.new.row) (sym split) (c.push_tails.ensures.row
     (drop place partial) before.behind) in
     record {
       within = omega (arith, before.within);
       behind = behind;
       done = λ j low high.
           row-written (λ place row. AreTails shop (drop place partial) row) c.loop-place.tails
-          (place - 1) c.push_tails.new.tails j
+          (place - 1) c.push_tails.new.row j
           (omega (
             arith,
             before.within,
@@ -54,5 +57,5 @@ loop-place-preserved c =
             length-set c.args.tails.now
                 (length partial) (replicate most_machines 0),
           ))
-          behind (λ apart. before.done j (omega (arith, apart)) high);
+          row (λ apart. before.done j (omega (arith, apart)) high);
     }

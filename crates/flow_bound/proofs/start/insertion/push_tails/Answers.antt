@@ -14,11 +14,13 @@ use Rattle.flow_bound.proofs.start.insertion.push_tails.Goals as goal
 pub loop-place-init : goal.loop-place-init
 loop-place-init c = record {
   within = omega (arith, c.machines-place.ensures.value);
+  row_length = grind (arith, common_steps);
   length = grind (arith, common_steps);
   small = omega (arith, c.machines-place.ensures.value);
   behind = λ jobs are. sym (ap (λ n. tail c.args.instance.now (c.args.job ∷ jobs) (n
       + 1)) c.machines-place.ensures.value ∙ tail-past c.args.instance.now c.args.job jobs);
   done = λ jobs are machine low high. absurd (omega (arith, c.machines-place.ensures.value));
+  written = λ jobs are machine low high. absurd (omega (arith, c.machines-place.ensures.value));
   others = λ place low. refl;
 }
 
@@ -72,6 +74,7 @@ loop-place-preserved c =
     let here : place - 1 + 1 ≡ place = omega arith in
     record {
       within = omega (arith, before.within);
+      row_length = grind (arith, common_steps);
       length = grind (arith, common_steps);
       small = omega (
         arith,
@@ -94,8 +97,21 @@ loop-place-preserved c =
             + from_time) 0 (omega (arith, before.length, before.within))
             ∙ value jobs are ∙ ap (tail shop (c.args.job ∷ jobs)) (sym same)
       ];
+      written = λ jobs are machine low high. elim (cases_lt place machine) [
+        | inl later ↦ let other : machine - 1 ≢ place - 1 = omega arith in
+            rw get_or-set_other (before.written jobs are machine later high)
+        | inr not_later ↦
+            let same : machine ≡ place = omega arith in
+            ap (λ n. slice_index (slice_set c.loop-place.row (place - 1) (c.max.result + from_time)) (n - 1)) same
+            ∙ get_or-set_same c.loop-place.row (place - 1) (c.max.result
+            + from_time) 0 (omega (arith, before.row_length, before.within))
+            ∙ value jobs are ∙ ap (tail shop (c.args.job ∷ jobs)) (sym same)
+      ];
       others = λ k low. let other : k ≢ place - 1 = omega arith in rw get_or-set_other (before.others k (omega arith));
     }
 
-pub returns : goal.returns
-returns c jobs are machine low high = c.loop-place.invariant.done jobs are machine (omega arith) high
+pub returns-clause-tails : goal.returns-clause-tails
+returns-clause-tails c jobs are machine low high = c.loop-place.invariant.done jobs are machine (omega arith) high
+
+pub returns-clause-row : goal.returns-clause-row
+returns-clause-row c jobs are machine low high = c.loop-place.invariant.written jobs are machine (omega arith) high

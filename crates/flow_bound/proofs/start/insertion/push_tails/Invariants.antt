@@ -8,11 +8,14 @@ use Rattle.flow_bound.proofs.start.insertion.push_tails.Given as goal
 abbrev pub invariant-loop-place : goal.invariant-loop-place
 invariant-loop-place l = record {
   within : l.place ≤ l.instance.machines;
+  row_length : length l.row ≡ most_machines;
   length : length l.tails ≡ most_machines;
   small : l.behind + l.place * greatest_time ≤ greatest_completion + l.instance.machines * greatest_time;
   behind : (jobs : List ℕ) → AreTails l.instance jobs l.initial.tails →
       l.behind ≡ tail l.instance (l.job ∷ jobs) (l.place + 1);
   done : (jobs : List ℕ) → AreTails l.instance jobs l.initial.tails → (machine : ℕ) → l.place < machine →
       machine ≤ l.instance.machines → slice_index l.tails (machine - 1) ≡ tail l.instance (l.job ∷ jobs) machine;
+  written : (jobs : List ℕ) → AreTails l.instance jobs l.initial.tails → (machine : ℕ) → l.place < machine →
+      machine ≤ l.instance.machines → slice_index l.row (machine - 1) ≡ tail l.instance (l.job ∷ jobs) machine;
   others : (place : ℕ) → place < l.place → slice_index l.tails place ≡ slice_index l.initial.tails place;
 }

@@ -1,0 +1,80 @@
+//! Jobs placed in a list.
+
+ghost use Rattle.std.specs.Prelude.{◌≡◌, ◌+◌, ◌<◌, ◌≤◌, length, take, IfOk};
+ghost use Rattle.flow_core.specs.Paths.{span};
+ghost use Rattle.flow_core.specs.Sequences.{IsSequence};
+ghost use Rattle.flow_improve.specs.internal.Rooms.{IsRoomFor};
+
+use crate::list::{place_of, put_in, take_out};
+use flow_bound::{Times, best_place};
+use flow_core::{Instance, MAX_MACHINES, Row, rows};
+use std::alloc::{AllocError, Global};
+
+/// What the makespans of insertions are computed from, and room to compute them in. It is made once for all rounds.
+#[derive(Drop)]
+pub(crate) struct Room {
+    rows: Vec<Row>,
+    tails: Vec<Times>,
+    spans: Vec<u64>,
+}
+
+impl Room {
+    /// The room for the lists of an instance's jobs.
+    pub(crate) fn new(alloc: Global, instance: &Instance) -> Result<Room, AllocError>
+        ensures { IfOk result (IsRoomFor instance.now) }
+    {
+        let jobs = usize::from(instance.jobs());
+        Ok(Room {
+            rows: rows(alloc, instance)?,
+            tails: vec![in alloc; [0; MAX_MACHINES]; jobs]?,
+            spans: vec![in alloc; 0; jobs]?,
+        })
+    }
+
+    /// Places the job at index `count` among the `count` jobs before it: at the earliest place of least makespan.
+    /// Returns this makespan.
+    pub(crate) fn place(&mut self, instance: &Instance, list: &mut [u16], count: usize) -> u64
+        requires room { IsRoomFor instance.now self.old }
+        requires list { IsSequence instance.now.jobs list.old }
+        requires count { count < instance.now.jobs }
+        ensures room { IsRoomFor instance.now self.new }
+        ensures list { IsSequence instance.now.jobs list.new }
+        ensures makespan { result ≡ span instance.now (take (count + 1) list.new) }
+    {
+        let (before, rest) = list.split_at(count);
+        let best = best_place(
+            instance,
+            self.rows.as_slice(),
+            before,
+            rest[0],
+            self.tails.as_mut_slice(),
+            self.spans.as_mut_slice(),
+        );
+        put_in(&mut list[..count + 1], best.index);
+        best.makespan
+    }
+    /// Takes each job of an order out of the list and places it again. `before` is the makespan of the list; returns that
+    /// of the new one.
+    pub(crate) fn place_each(
+        &mut self,
+        instance: &Instance,
+        list: &mut [u16],
+        order: &[u16],
+        before: u64,
+    ) -> u64
+        requires room { IsRoomFor instance.now self.old }
+        requires list { IsSequence instance.now.jobs list.old }
+        requires before { before ≡ span instance.now list.old }
+        ensures room { IsRoomFor instance.now self.new }
+        ensures list { IsSequence instance.now.jobs list.new }
+        ensures makespan { result ≡ span instance.now list.new }
+    {
+        let last = list.len() - 1;
+        let mut makespan = before;
+        for &job in order {
+            take_out(list, place_of(list, job));
+            makespan = self.place(instance, list, last);
+        }
+        makespan
+    }
+}

@@ -1,0 +1,93 @@
+//! How the rounds go, which no contract says.
+
+ghost use Rattle.std.specs.Prelude.{◌<◌, ◌≤◌};
+ghost use Rattle.flow_core.specs.Generator.{modulus};
+
+use crate::improve;
+use flow_bound::neh;
+use flow_core::{Instance, Sequence, generate, makespan};
+use std::alloc::Global;
+use std::test::Fail;
+
+/// The sequence after so many rounds from the starting sequence of an instance, and its makespan.
+fn improved(
+    alloc: Global,
+    instance: &Instance,
+    rounds: u32,
+    seed: u32,
+) -> Result<(Sequence, u64), Fail>
+    requires seed_from { 1 ≤ seed }
+    requires seed_to { seed < modulus }
+{
+    let (start, _) = neh(alloc, instance)?;
+    Ok(improve(alloc, instance, &start, rounds, seed)?)
+}
+
+// Worked out apart from the program, with the task.
+#[test]
+fn twenty_rounds_improve_the_start(rt: HostRuntime) -> Result<(), Fail> {
+    let instance = generate(rt.alloc(), 20, 10, 587_595_453)?;
+    let (sequence, makespan) = improved(rt.alloc(), &instance, 20, 3)?;
+    assert_eq!(rt; makespan, 1596);
+    let jobs = [
+        18, 5, 9, 12, 17, 3, 15, 4, 6, 19, 8, 2, 20, 10, 11, 14, 13, 7, 1, 16,
+    ];
+    assert_eq!(rt; sequence.jobs(), jobs.as_slice());
+    Ok(())
+}
+
+// Worked out apart from the program, with the task. A round that takes a worse list for the best returns another.
+#[test]
+fn five_rounds_leave_the_start(rt: HostRuntime) -> Result<(), Fail> {
+    let instance = generate(rt.alloc(), 20, 5, 873_654_221)?;
+    let (start, _) = neh(rt.alloc(), &instance)?;
+    let (sequence, makespan) = improved(rt.alloc(), &instance, 5, 7)?;
+    assert_eq!(rt; makespan, 1286);
+    assert_eq!(rt; sequence.jobs(), start.jobs());
+    Ok(())
+}
+
+// The values are those of the plain program bench/improve.rs. The seed is the greatest.
+#[test]
+fn twelve_rounds_with_the_greatest_seed(rt: HostRuntime) -> Result<(), Fail> {
+    let instance = generate(rt.alloc(), 15, 7, 4)?;
+    let (sequence, makespan) = improved(rt.alloc(), &instance, 12, 2_147_483_646)?;
+    assert_eq!(rt; makespan, 969);
+    let jobs = [3, 1, 14, 12, 2, 10, 13, 6, 5, 15, 7, 9, 8, 4, 11];
+    assert_eq!(rt; sequence.jobs(), jobs.as_slice());
+    Ok(())
+}
+
+// The values are those of the plain program bench/improve.rs. All jobs leave the list in each round.
+#[test]
+fn three_jobs_are_improved(rt: HostRuntime) -> Result<(), Fail> {
+    let instance = generate(rt.alloc(), 3, 4, 1)?;
+    let (sequence, makespan) = improved(rt.alloc(), &instance, 6, 5)?;
+    assert_eq!(rt; makespan, 272);
+    assert_eq!(rt; sequence.jobs(), [1, 3, 2].as_slice());
+    Ok(())
+}
+
+// One job has one sequence; its makespan is the sum of its times, which are the generator's first three numbers.
+#[test]
+fn one_job_stays(rt: HostRuntime) -> Result<(), Fail> {
+    let instance = generate(rt.alloc(), 1, 3, 5)?;
+    let (sequence, makespan) = improved(rt.alloc(), &instance, 4, 9)?;
+    assert_eq!(rt; makespan, 145);
+    assert_eq!(rt; sequence.jobs(), [1].as_slice());
+    Ok(())
+}
+
+// With no round, and where the start has Taillard's lower bound, as each sequence has on one machine.
+#[test]
+fn start_stays_without_rounds(rt: HostRuntime) -> Result<(), Fail> {
+    for (machines, rounds) in [(4, 0), (1, 9)] {
+        let instance = generate(rt.alloc(), 6, machines, 8)?;
+        assert_eq!(rt; instance.jobs(), 6);
+        let start = Sequence::new(rt.alloc(), &instance, &[6, 5, 4, 3, 2, 1])?;
+        let (sequence, value) = improve(rt.alloc(), &instance, &start, rounds, 3)?;
+        assert_eq!(rt; sequence.jobs(), start.jobs());
+        assert_eq!(rt; value, makespan(&instance, &start));
+    }
+    Ok(())
+}
