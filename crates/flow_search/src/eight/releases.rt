@@ -12,36 +12,48 @@ use crate::eight::group::{Group, LaneFrame};
 use crate::eight::numbers::{above, are_zeros, below, differences, greater, others, sums};
 use flow_core::Instance;
 
-/// For each child, the release of the machine at a place, before which no job that the child leaves starts there.
+/// Computes for each child the release of the machine at a place, before which no job that the child leaves starts
+/// there. It stands in memory, since the compiler packs the lanes of a loop that stores them.
 #[inline(always)]
-fn releases(instance: &Instance, group: &Group, frame: &LaneFrame, place: usize) -> [u32; 8]
+fn releases(
+    instance: &Instance,
+    group: &Group,
+    frame: &LaneFrame,
+    place: usize,
+    late: &mut [u32; 8],
+)
     requires opened { (list : List ℕ) × IsOpened instance.now list group.now frame.now }
     requires small { AreSmallFrees instance.now frame.now }
     requires to { place < instance.now.machines }
-    ensures small { (lane : ℕ) → lane < 8 → slice_index result lane
+    ensures small { (lane : ℕ) → lane < 8 → slice_index late.new lane
         ≤ greatest_completion + most_machines * greatest_time + greatest_time + GONE }
     ensures each { (list : List ℕ) (lane other : ℕ) → IsOpened instance.now list group.now frame.now →
-        IsLaneLeft frame.now lane → IsLaneLeft frame.now other → other ≢ lane → slice_index result lane
+        IsLaneLeft frame.now lane → IsLaneLeft frame.now other → other ≢ lane → slice_index late.new lane
         ≡ release instance.now (front_of instance.now (child list group.now lane))
         (jobs_left instance.now.jobs (child list group.now lane)) (place + 1) }
 {
     prove!(place < instance.machines() as usize);
     let here = &group.rows[place];
     let needs = sums(&here.time, &here.tail);
-    let mut made = frame.free[place];
+    *late = frame.free[place];
     for earlier in 0..place {
         let row = &group.rows[earlier];
         let between = differences(&sums(&row.time, &row.tail), &needs);
         let least = others(&greater(&between, &frame.gone));
-        made = greater(&made, &sums(&frame.free[earlier], &least));
+        *late = greater(late, &sums(&frame.free[earlier], &least));
     }
-    made
 }
 
 /// For each child, how many machines there are before the first whose released bound reaches the value against which the
 /// machine bounds were tested. Each of these cuts no later, since no machine bound is greater than the released one.
+/// What `late` holds does not matter.
 #[inline(never)]
-fn uncut_by_releases(instance: &Instance, group: &Group, frame: &LaneFrame) -> [u32; 8]
+fn uncut_by_releases(
+    instance: &Instance,
+    group: &Group,
+    frame: &LaneFrame,
+    late: &mut [u32; 8],
+) -> [u32; 8]
     requires tested { (list : List ℕ) × IsTested instance.now bound_at list group.now frame.now }
     requires small { AreSmallFrees instance.now frame.now }
     ensures { (list : List ℕ) (lane other : ℕ) → IsTested instance.now bound_at list group.now frame.now →
@@ -60,7 +72,8 @@ fn uncut_by_releases(instance: &Instance, group: &Group, frame: &LaneFrame) -> [
         }
         let row = &group.rows[place];
         let room = limit.saturating_sub(frame.sum[place]);
-        let start = differences(&releases(instance, group, frame, place), &row.time);
+        releases(instance, group, frame, place, late);
+        let start = differences(late, &row.time);
         let behind = others(&greater(&row.tail, &frame.gone));
         flags = below(&still, &sums(&start, &behind), room);
         uncut = sums(&uncut, &flags);
@@ -80,5 +93,6 @@ pub fn test_releases(instance: &Instance, group: &Group, frame: &mut LaneFrame)
     ensures tested { (list : List ℕ) → IsTested instance.now bound_at list group.now frame.old →
         IsTested instance.now released_bound_at list group.now frame.new }
 {
-    frame.uncut = uncut_by_releases(instance, group, frame);
+    let mut late = [0u32; 8];
+    frame.uncut = uncut_by_releases(instance, group, frame, &mut late);
 }

@@ -117,7 +117,7 @@ loop-place-preserved c =
       passed = λ list lane other tested here there differ.
           let opened = tested.opened in
           let bound = released-is shop list c.args.group.now c.args.frame.now none lane other place
-          (slice_index c.releases.result lane) (slice_index c.differences-start.result lane)
+          (slice_index c.releases.new.late lane) (slice_index c.differences-start.result lane)
           (slice_index c.others-behind.result lane) c.greater.result opened here there differ to
           (c.releases.ensures.each list lane other opened here there differ)
           (c.differences-start.ensures.each lane here.within) c.greater.ensures.each
