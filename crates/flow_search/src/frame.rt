@@ -107,7 +107,11 @@ impl Frame {
             let place = machine as usize - 1;
             let start = self.front.at(machine).max(leaves);
             let time = u64::from(row.times[place]);
-            let tail = without(row.tails[place], self.rest.tail(machine), self.second[place]);
+            let tail = without(
+                row.tails[place],
+                self.rest.tail(machine),
+                self.second[place],
+            );
             let work = u64::from(self.rest.sum(machine)) + u64::from(tail);
             // The released bound is at least the machine bound.
             if value <= start + work {

@@ -235,7 +235,7 @@ walk-preserved-then-branch c =
     (subst (AreLoadsOf shop (members c.enter.new.self.unscheduled))
     (sym c.new-here.ensures.rest) c.step-rest.ensures.loads)
     c.new-here.ensures.second c.new-here.ensures.next) in
-    record { walking = down; lags = c.renew_lags-then-branch.ensures; }
+    record { walking = down; lags = c.renew_lags-then-branch.ensures }
 
 -- the child's subtree that was walked
 whole : (c : goal.Else-branch) → Gave c.args.setting.now.budget

@@ -9,9 +9,9 @@ use Rattle.flow_search.proofs.subtree.walk_children.Given as goal
 abbrev pub invariant-walk : goal.invariant-walk
 invariant-walk l = record {
   walking : IsWalking l.setting.instance.now (bound_of l.setting.version) l.setting.budget l.fn.search.node.items
-    (children_walked l.setting.instance.now (bound_of l.setting.version) l.fn.below l.fn.search) l.fn.search l.here
-    l.below
-    (reverse l.stack.items) l.search;
+      (children_walked l.setting.instance.now (bound_of l.setting.version) l.fn.below l.fn.search) l.fn.search l.here
+      l.below
+      (reverse l.stack.items) l.search;
   lags : l.setting.version ≡ 2 → AreLags l.setting.instance.now (members l.search.unscheduled) l.lags;
 }
 

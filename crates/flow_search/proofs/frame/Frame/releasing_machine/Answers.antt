@@ -1,9 +1,9 @@
 use Rattle.std.proofs.Common.{rules, ◌≡◌, ℕ, ◌+◌, ◌-◌, ◌*◌, ◌<◌, ◌≤◌, suc, Bool, true, false, max, nat_le, List, [], ◌∷◌}
-use Rattle.std.proofs.Common.{◌++◌, length, set, slice_index, slice_index_or, refl, ap, sym, subst, ◌∙◌, arith}
+use Rattle.std.proofs.Common.{◌++◌, set, slice_index, slice_index_or, refl, ap, sym, ◌∙◌, arith}
 use Rattle.std.proofs.lemmas.Bool.{le-leb, lt-leb}
 use Rattle.std.proofs.lemmas.List.{get_or-set_same, length-set}
 use Rattle.flow_core.specs.Limits.{most_machines, greatest_time, greatest_completion}
-use Rattle.flow_core.specs.Shop.{Shop, time, time_between}
+use Rattle.flow_core.specs.Shop.{Shop, time}
 use Rattle.flow_core.specs.Paths.{completion}
 use Rattle.flow_core.specs.Sequences.{jobs_left}
 use Rattle.flow_core.specs.Bound.{bound_at, released_bound_at, front_of}
