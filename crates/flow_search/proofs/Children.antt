@@ -9,7 +9,7 @@ use Rattle.flow_core.specs.Shop.{Shop, numbers, time, time_between, IsWithinLimi
 use Rattle.flow_core.specs.Paths.{completion}
 use Rattle.flow_core.specs.Front.{IsFrontOf, IsWithinFront}
 use Rattle.flow_core.specs.Sequences.{jobs_left}
-use Rattle.flow_core.specs.Bound.{bound_at, front_of}
+use Rattle.flow_core.specs.Bound.{bound_at, front_of, release, released_bound_at}
 use Rattle.flow_core.proofs.Recurrence.{after, completed, completion-is, completion-after, after-same}
 use Rattle.flow_core.proofs.Fronts.{free_at, front-within}
 use Rattle.flow_core.proofs.JobsLeft.{filter-more}
@@ -18,6 +18,7 @@ use Rattle.flow_core.specs.internal.TwoLeast.{tails, least_below, second_below}
 use Rattle.flow_search.specs.internal.Lows.{unknown}
 use Rattle.flow_search.specs.internal.Frames.{IsFrame, IsChild, left_from}
 use Rattle.flow_search.specs.declared.frame.Frame.{Frame}
+use Rattle.flow_core.proofs.Extremes.{map-map-append}
 use Rattle.flow_core.proofs.Taken.{left-sum, left-count, left-split, left-without, left_under}
 use Rattle.flow_core.proofs.TwoLeast.{Without, without-one, least-below-cap}
 use Rattle.flow_core.proofs.Fronts.{tail-small}
@@ -37,11 +38,32 @@ child-completion shop node front job machine to is =
     (λ k low high. is k low (omega (arith, high, to)) ∙ completion-is shop node k)
     ∙ sym (completion-after shop node job machine)
 
-tails-append : (shop : Shop) (machine : ℕ) (us vs : List ℕ) →
-    tails shop machine (us ++ vs) ≡ tails shop machine us ++ tails shop machine vs
-tails-append shop machine [] vs = refl
-tails-append shop machine (u ∷ us) vs =
-    ap (λ xs. time_between shop u (machine + 1) shop.machines ∷ xs) (tails-append shop machine us vs)
+-- the least number of the jobs that a child leaves: the second least where its job has the least, else the least
+pub child-least : (f : ℕ → ℕ) (n : ℕ) (node : List ℕ) (job own least second value : ℕ) → IsChild n node job →
+    own ≡ f job → least ≡ least_below unknown (map f (jobs_left n node)) →
+    second ≡ second_below unknown unknown (map f (jobs_left n node)) → Without own least second value →
+    value ≡ least_below unknown (map f (jobs_left n (node ++ job ∷ [])))
+child-least f n node job own least second value kid own_is least_is second_is picked =
+    let us : List ℕ = left_under node job in
+    let vs : List ℕ = left_from n node (job + 1) in
+    let whole : map f (jobs_left n node) ≡ map f us ++ f job ∷ map f vs =
+    ap (map f) (left-split n node job kid.from kid.to kid.fresh) ∙ map-map-append f us (job ∷ vs) in
+    let rest : map f (jobs_left n (node ++ job ∷ [])) ≡ map f us ++ map f vs =
+    ap (map f) (left-without n node job kid.from kid.to) ∙ map-map-append f us vs in
+    let one : Without (f job) (least_below unknown (map f us ++ f job ∷ map f vs))
+    (second_below unknown unknown (map f us ++ f job ∷ map f vs)) (least_below unknown (map f us ++ map f vs)) =
+    without-one (f job) unknown unknown (map f us) (map f vs) (omega arith) in
+    same-without own (f job) least (least_below unknown (map f us ++ f job ∷ map f vs)) second
+    (second_below unknown unknown (map f us ++ f job ∷ map f vs)) value
+    (least_below unknown (map f us ++ map f vs)) own_is (least_is ∙ ap (least_below unknown) whole)
+    (second_is ∙ ap (second_below unknown unknown) whole) picked one
+    ∙ sym (ap (least_below unknown) rest)
+  where
+    same-without : (y z p q r s m n : ℕ) → y ≡ z → p ≡ q → r ≡ s → Without y p r m → Without z q s n → m ≡ n
+    same-without y z p q r s m n yz pq rs a b = elim (eqb_tells y p) [
+      | inl same ↦ omega (arith, a.0 same.1, b.0 (sym yz ∙ same.1 ∙ pq), rs)
+      | inr other ↦ omega (arith, a.1 other.1, b.1 (λ e. other.1 (yz ∙ e ∙ sym pq)), pq)
+    ]
 
 -- what stands behind a machine at a child: the second least tail where its job has the least, else the least
 pub child-tail : (shop : Shop) (node : List ℕ) (left job machine tail behind : ℕ) (frame : Frame) →
@@ -53,40 +75,13 @@ pub child-tail : (shop : Shop) (node : List ℕ) (left job machine tail behind :
 child-tail shop node left job machine tail behind frame limits is kid from to is_tail picked =
     let most : shop.machines ≤ most_machines = limits.machines in
     let f : ℕ → ℕ = λ j. time_between shop j (machine + 1) shop.machines in
-    let us : List ℕ = left_under node job in
-    let vs : List ℕ = left_from shop.jobs node (job + 1) in
-    let whole : tails shop machine (jobs_left shop.jobs node) ≡ tails shop machine us ++ f job ∷ tails shop machine vs =
-    ap (tails shop machine) (left-split shop.jobs node job kid.from kid.to kid.fresh)
-    ∙ tails-append shop machine us (job ∷ vs) in
-    let rest : tails shop machine (jobs_left shop.jobs (node ++ job ∷ [])) ≡ tails shop machine us
-    ++ tails shop machine vs =
-    ap (tails shop machine) (left-without shop.jobs node job kid.from kid.to) ∙ tails-append shop machine us vs in
-    let one : Without (f job) (least_below unknown (tails shop machine us ++ f job ∷ tails shop machine vs))
-    (second_below unknown unknown (tails shop machine us ++ f job ∷ tails shop machine vs))
-    (least_below unknown (tails shop machine us ++ tails shop machine vs)) =
-    without-one (f job) unknown unknown (tails shop machine us) (tails shop machine vs) (omega arith) in
     let cap = least-below-cap unknown (most_machines * greatest_time) f (jobs_left shop.jobs node) (omega
     (arith, is.some))
     (λ j. omega (arith, tail-small shop j (shop.machines - machine) machine limits (omega (arith, to)), most))
     (omega arith) in
-    let least_is : slice_index frame.rest.tails (machine - 1)
-    ≡ least_below unknown (tails shop machine us ++ f job ∷ tails shop machine vs) =
-    is.rest_is.tails_are machine from to ∙ sym cap.0 ∙ ap (least_below unknown) whole in
-    let second_is : slice_index frame.second (machine - 1)
-    ≡ second_below unknown unknown (tails shop machine us ++ f job ∷ tails shop machine vs) =
-    is.second_is machine from to ∙ ap (second_below unknown unknown) whole in
-    same-without tail (f job) (slice_index frame.rest.tails (machine - 1))
-    (least_below unknown (tails shop machine us ++ f job
-    ∷ tails shop machine vs)) (slice_index frame.second (machine - 1))
-    (second_below unknown unknown (tails shop machine us ++ f job ∷ tails shop machine vs)) behind
-    (least_below unknown (tails shop machine us ++ tails shop machine vs)) is_tail least_is second_is picked one
-    ∙ sym (ap (least_below unknown) rest)
-  where
-    same-without : (y z p q r s m n : ℕ) → y ≡ z → p ≡ q → r ≡ s → Without y p r m → Without z q s n → m ≡ n
-    same-without y z p q r s m n yz pq rs a b = elim (eqb_tells y p) [
-      | inl same ↦ omega (arith, a.0 same.1, b.0 (sym yz ∙ same.1 ∙ pq), rs)
-      | inr other ↦ omega (arith, a.1 other.1, b.1 (λ e. other.1 (yz ∙ e ∙ sym pq)), pq)
-    ]
+    child-least f shop.jobs node job tail (slice_index frame.rest.tails (machine - 1))
+    (slice_index frame.second (machine - 1)) behind kid is_tail (is.rest_is.tails_are machine from to ∙ sym cap.0)
+    (is.second_is machine from to) picked
 
 -- the bound of a child with jobs left: when its job starts, the time owed at the node, and what stands behind
 pub child-bound : (shop : Shop) (node : List ℕ) (left job machine start t tail behind : ℕ) (frame : Frame) →
@@ -113,6 +108,29 @@ child-bound shop node left job machine start t tail behind frame limits is kid f
       omega (arith, is_free, front, is.rest_is.sums_are machine from to, sum, is_t, behind_is, cap.0),
       omega (arith, behind_is, cap.0, cap.1),
     )
+
+-- the released bound of a child with jobs left: the release without its job's time, the time owed at the node, and what
+-- stands behind
+pub child-released : (shop : Shop) (node : List ℕ) (left job machine late t tail behind : ℕ) (frame : Frame) →
+    IsWithinLimits shop →
+    IsFrame shop node (suc (suc left)) frame → IsChild shop.jobs node job → 1 ≤ machine → machine ≤ shop.machines →
+    late ≡ release shop (front_of shop (node ++ job ∷ [])) (jobs_left shop.jobs (node ++ job ∷ [])) machine →
+    t ≤ late → t ≡ time shop job machine →
+    tail ≡ time_between shop job (machine + 1) shop.machines →
+    Without tail (slice_index frame.rest.tails (machine - 1)) (slice_index frame.second (machine - 1)) behind →
+    late - t + (slice_index frame.rest.sums (machine - 1) + behind) ≡ released_bound_at shop (node ++ job ∷ []) machine
+child-released shop node left job machine late t tail behind frame limits is kid from to is_late low is_t is_tail
+    picked =
+    let most : shop.machines ≤ most_machines = limits.machines in
+    let f : ℕ → ℕ = λ j. time_between shop j (machine + 1) shop.machines in
+    let behind_is = child-tail shop node left job machine tail behind frame limits is kid from to is_tail picked in
+    let count = left-count shop.jobs node job kid.from kid.to kid.fresh in
+    let cap = least-below-cap unknown (most_machines * greatest_time) f (jobs_left shop.jobs (node ++ job ∷ []))
+    (omega (arith, is.some, count))
+    (λ j. omega (arith, tail-small shop j (shop.machines - machine) machine limits (omega (arith, to)), most))
+    (omega arith) in
+    let sum = left-sum (λ j. time shop j machine) shop.jobs node job kid.from kid.to kid.fresh in
+    omega (arith, is_late, low, is.rest_is.sums_are machine from to, sum, is_t, behind_is, cap.0)
 
 pub map-push : (f : ℕ → ℕ) (jobs : List ℕ) (job : ℕ) → map f (jobs ++ job ∷ []) ≡ map f jobs ++ f job ∷ []
 map-push f [] job = refl

@@ -3,12 +3,15 @@
 ghost use Rattle.std.specs.Prelude.{◌≡◌, ℕ, suc, ◌-◌, ◌<◌, ◌≤◌, false, nat_le, List, [], ◌∷◌, ◌++◌, slice_index, find};
 ghost use Rattle.flow_core.specs.Shop.{Shop, IsWithinLimits, numbers};
 ghost use Rattle.flow_core.specs.JobSet.{contains, members};
-ghost use Rattle.flow_core.specs.Bound.{bound_at};
+ghost use Rattle.flow_core.specs.Bound.{bound_at, released_bound_at};
+ghost use Rattle.flow_core.specs.Sequences.{jobs_left};
 ghost use Rattle.flow_core.specs.Rows.{AreRows, IsRow};
 ghost use Rattle.flow_search.specs.internal.Lows.{AreLows, second_tail};
+ghost use Rattle.flow_search.specs.internal.Lags.{AreLags};
 ghost use Rattle.flow_search.specs.internal.Frames.{IsFrame, IsChild};
 
-use crate::lows::lows_of;
+use crate::lows::{Lags, lows_of, without};
+use crate::release::release_at_child;
 use crate::setting::Setting;
 use flow_bound::Loads;
 use flow_core::{Front, JobSet, MAX_MACHINES};
@@ -73,6 +76,53 @@ impl Frame {
                 return Some(machine);
             }
             free = start + u64::from(row.times[place]);
+        }
+        None
+    }
+
+    /// The first machine whose released bound at a child reaches a value, by the lags of the jobs left.
+    #[inline(never)]
+    pub fn releasing_machine(
+        &self,
+        setting: &Setting,
+        lags: &Lags,
+        job: u16,
+        value: u64,
+    ) -> Option<u16>
+        requires rows { AreRows setting.now.instance.now setting.now.rows.now }
+        requires at { (node : List ℕ) × (left : ℕ) × IsFrame setting.now.instance.now node (suc (suc left)) self.now
+            × IsChild setting.now.instance.now.jobs node job
+            × AreLags setting.now.instance.now (jobs_left setting.now.instance.now.jobs node) lags.now }
+        ensures { (node : List ℕ) (left : ℕ) → IsFrame setting.now.instance.now node (suc (suc left)) self.now →
+            IsChild setting.now.instance.now.jobs node job →
+            AreLags setting.now.instance.now (jobs_left setting.now.instance.now.jobs node) lags.now →
+            result ≡ find (λ machine. nat_le value
+            (released_bound_at setting.now.instance.now (node ++ job ∷ []) machine))
+            (numbers 1 setting.now.instance.now.machines) }
+    {
+        let row = &setting.rows[job as usize - 1];
+        let mut free = [0u32; MAX_MACHINES];
+        let mut leaves = 0;
+        for machine in 1..setting.instance.machines() + 1 {
+            let place = machine as usize - 1;
+            let start = self.front.at(machine).max(leaves);
+            let time = u64::from(row.times[place]);
+            let tail = without(
+                row.tails[place],
+                self.rest.tail(machine),
+                self.second[place],
+            );
+            let work = u64::from(self.rest.sum(machine)) + u64::from(tail);
+            // The released bound is at least the machine bound.
+            if value <= start + work {
+                return Some(machine);
+            }
+            leaves = start + time;
+            free[place] = leaves as u32;
+            let release = u64::from(release_at_child(row, &lags[place], &free, machine));
+            if value <= release - time + work {
+                return Some(machine);
+            }
         }
         None
     }

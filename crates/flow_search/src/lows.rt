@@ -1,18 +1,19 @@
 //! The two least numbers of some jobs, side by side: their tails, or what they need between two machines.
 
-ghost use Rattle.std.specs.Prelude.{◌≡◌, ℕ, ◌+◌, ◌-◌, ◌<◌, ◌≤◌, false, List, [], ◌∷◌, ◌++◌, length, slice_index};
+ghost use Rattle.std.specs.Prelude.{◌≡◌, ◌≢◌, ℕ, ◌+◌, ◌-◌, ◌<◌, ◌≤◌, false, List, [], ◌∷◌, ◌++◌, slice_index};
 ghost use Rattle.flow_core.specs.Limits.{most_machines};
 ghost use Rattle.flow_core.specs.Shop.{Shop, IsWithinLimits};
 ghost use Rattle.flow_core.specs.JobSet.{contains, members};
 ghost use Rattle.flow_core.specs.Rows.{AreRows, IsRow};
 ghost use Rattle.flow_search.specs.internal.Lows.{AreLows, tail_at, time_to};
+ghost use Rattle.flow_search.specs.internal.Lags.{AreLags};
 
 use crate::setting::Setting;
 use flow_core::{Instance, JobSet, MAX_MACHINES, Row};
 
 /// The two least of some jobs' numbers at each place, each the greatest number where there is no such job. Where two
 /// jobs have the least, both are the same.
-#[derive(Drop)]
+#[derive(Clone, Copy)]
 pub struct Lows {
     /// The least.
     pub least: [u32; MAX_MACHINES],
@@ -20,9 +21,21 @@ pub struct Lows {
     pub second: [u32; MAX_MACHINES],
 }
 
+/// The two least times that some jobs need to before each machine, from each earlier one; those to machine 1 first.
+pub type Lags = [Lows; MAX_MACHINES];
+
+/// The least number of some jobs without one of them, by its own number and the two least.
+#[inline(always)]
+pub fn without(own: u32, least: u32, second: u32) -> u32
+    ensures least { own ≡ least → result ≡ second }
+    ensures other { own ≢ least → result ≡ least }
+{
+    if own == least { second } else { least }
+}
+
 impl Lows {
     /// Those of no job.
-    fn none() -> Lows
+    pub fn none() -> Lows
         ensures { (number : ℕ → ℕ → ℕ) (count : ℕ) → count ≤ most_machines → AreLows number count [] result }
     {
         Lows {
@@ -99,4 +112,18 @@ pub fn lows_to(setting: &Setting, set: &JobSet, machine: u16) -> Lows
         }
     }
     lows
+}
+
+/// Makes the lags those of a set of jobs, where the bound of the version has releases.
+pub fn renew_lags(setting: &Setting, set: &JobSet, lags: &mut Lags)
+    requires rows { AreRows setting.now.instance.now setting.now.rows.now }
+    requires jobs { (job : ℕ) → setting.now.instance.now.jobs < job → contains set.now job ≡ false }
+    ensures { setting.now.version ≡ 2 → AreLags setting.now.instance.now (members set.now) lags.new }
+{
+    if setting.version != 2 {
+        return;
+    }
+    for machine in 1..setting.instance.machines() + 1 {
+        lags[machine as usize - 1] = lows_to(setting, set, machine);
+    }
 }

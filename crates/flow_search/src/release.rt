@@ -1,20 +1,23 @@
-//! Released bounds at a node with more than eight jobs left.
+//! Releases at a node with more than eight jobs left, and at its children.
 
-ghost use Rattle.std.specs.Prelude.{◌≡◌, ℕ, ◌+◌, ◌-◌, ◌<◌, ◌≤◌, false, nat_le, List, length, map, slice_index, find};
-ghost use Rattle.flow_core.specs.Limits.{most_machines, greatest_completion};
+ghost use Rattle.std.specs.Prelude.{◌≡◌, ℕ, ◌+◌, ◌-◌, ◌*◌, ◌<◌, ◌≤◌, false, nat_le, List, [], ◌∷◌, ◌++◌, length};
+ghost use Rattle.std.specs.Prelude.{map, slice_index, find};
+ghost use Rattle.flow_core.specs.Limits.{most_machines, greatest_time, greatest_completion};
 ghost use Rattle.flow_core.specs.Shop.{Shop, numbers};
 ghost use Rattle.flow_core.specs.Least.{least};
 ghost use Rattle.flow_core.specs.Front.{IsWithinFront};
 ghost use Rattle.flow_core.specs.JobSet.{contains, members};
 ghost use Rattle.flow_core.specs.Bound.{release, released_bound};
 ghost use Rattle.flow_core.specs.Rows.{AreRows};
+ghost use Rattle.flow_core.specs.Sequences.{jobs_left};
 ghost use Rattle.flow_bound.specs.Loads.{AreLoadsOf};
 ghost use Rattle.flow_search.specs.internal.Lows.{time_to, unknown};
+ghost use Rattle.flow_search.specs.internal.Lags.{IsLagged};
 
-use crate::lows::lows_to;
+use crate::lows::{Lows, lows_to, without};
 use crate::setting::Setting;
 use flow_bound::Loads;
-use flow_core::{Front, JobSet, MAX_MACHINES};
+use flow_core::{Front, JobSet, MAX_MACHINES, Row};
 
 /// The release of a machine, by the least time that the jobs left need from each earlier machine to before it.
 fn release_by(front: &Front, times: &[u32; MAX_MACHINES], machine: u16) -> u64
@@ -58,4 +61,31 @@ pub fn releasing_machine(
         }
     }
     None
+}
+
+/// The release of a machine at a child, by when its job leaves the machines up to this one, its row, and the two least
+/// times that the node's jobs need to before the machine.
+#[inline(always)]
+pub fn release_at_child(row: &Row, lows: &Lows, free: &[u32; MAX_MACHINES], machine: u16) -> u32
+    requires from { 1 ≤ machine }
+    requires child { (shop : Shop) × (node : List ℕ) × (left : ℕ) × (job : ℕ) ×
+        IsLagged shop node left job machine row.now lows.now }
+    requires small { (place : ℕ) → place < machine →
+        slice_index free.now place ≤ greatest_completion + most_machines * greatest_time }
+    ensures least { slice_index free.now (machine - 1) ≤ result }
+    ensures limit { result ≤ greatest_completion + 2 * most_machines * greatest_time }
+    ensures value { (shop : Shop) (node front : List ℕ) (left job : ℕ) →
+        IsLagged shop node left job machine row.now lows.now →
+        ((place : ℕ) → place < machine → slice_index free.now place ≡ slice_index front place) →
+        result ≡ release shop front (jobs_left shop.jobs (node ++ job ∷ [])) machine }
+{
+    let last = machine as usize - 1;
+    let needs = row.times[last] + row.tails[last];
+    let mut made = free[last];
+    for place in 0..last {
+        let own = (row.times[place] + row.tails[place]).saturating_sub(needs);
+        let least = without(own, lows.least[place], lows.second[place]);
+        made = made.max(free[place] + least);
+    }
+    made
 }

@@ -6,11 +6,12 @@ ghost use Rattle.flow_core.specs.Limits.{most_jobs};
 ghost use Rattle.flow_core.specs.Shop.{numbers};
 ghost use Rattle.flow_core.specs.Front.{IsWithinFront};
 ghost use Rattle.flow_core.specs.JobSet.{contains, members};
-ghost use Rattle.flow_core.specs.Bound.{machine_bound, released_bound_at, bound_of};
+ghost use Rattle.flow_core.specs.Bound.{machine_bound, bound_of};
 ghost use Rattle.flow_bound.specs.Loads.{AreLoadsOf};
 ghost use Rattle.flow_search.specs.Walk.{walk};
 ghost use Rattle.flow_core.specs.Rows.{AreRows};
 ghost use Rattle.flow_search.specs.internal.Frames.{IsFrame};
+ghost use Rattle.flow_search.specs.internal.Lags.{AreLags};
 ghost use Rattle.flow_search.specs.internal.Nodes.{IsAt, IsFresh, Wrote, Saw, Entered, Left, incumbent_of};
 ghost use Rattle.flow_search.specs.internal.Nodes.{Gave, Opens, Walked, walked, children_walked};
 ghost use Rattle.flow_search.specs.declared.subtree.Stop.TheVariants.{Memory};
@@ -18,10 +19,11 @@ ghost use Rattle.flow_search.specs.declared.subtree.Stop.TheVariants.{Memory};
 use crate::eight::Lanes;
 use crate::few::walk_few;
 use crate::frame::Frame;
+use crate::lows::{Lags, Lows, renew_lags};
 use crate::release::releasing_machine;
 use crate::setting::Setting;
 use flow_bound::Loads;
-use flow_core::{Front, Instance, JobSet, front_push};
+use flow_core::{Front, Instance, JobSet, MAX_MACHINES, front_push};
 use std::alloc::{AllocError, AllocFailed, Global};
 
 /// Why a search ended early.
@@ -167,37 +169,22 @@ fn cutting_machine(
     }
 }
 
-/// The first machine whose released bound at a child reaches the makespan of the incumbent.
-#[inline(never)]
-fn releasing_child(setting: &Setting, here: &Frame, job: u16, search: &Search) -> Option<u16>
-    requires rows { AreRows setting.now.instance.now setting.now.rows.now }
-    requires at { (left : ℕ) ×
-        IsAt setting.now.instance.now search.now.node.items here.now.front search.now.unscheduled (suc (suc left)) ×
-        IsFrame setting.now.instance.now search.now.node.items (suc (suc left)) here.now }
-    requires from { 1 ≤ job }
-    requires to { job ≤ setting.now.instance.now.jobs }
-    requires left { contains search.now.unscheduled job ≡ true }
-    ensures { result ≡ find (λ machine. nat_le search.now.value
-        (released_bound_at setting.now.instance.now (search.now.node.items ++ job ∷ []) machine))
-        (numbers 1 setting.now.instance.now.machines) }
-{
-    let instance = setting.instance;
-    let mut set = search.unscheduled;
-    set.remove(job);
-    let mut front = here.front;
-    front_push(instance, &mut front, job);
-    let rest = here.rest.step(instance, &set, job);
-    releasing_machine(setting, &rest, &front, &set, search.value)
-}
-
 /// The first machine whose bound at a child reaches the makespan of the incumbent, where the bound is that of the
 /// version.
 #[inline(always)]
-fn cutting_child(setting: &Setting, here: &Frame, job: u16, search: &Search) -> Option<u16>
+fn cutting_child(
+    setting: &Setting,
+    here: &Frame,
+    lags: &Lags,
+    job: u16,
+    search: &Search,
+) -> Option<u16>
     requires rows { AreRows setting.now.instance.now setting.now.rows.now }
     requires at { (left : ℕ) ×
         IsAt setting.now.instance.now search.now.node.items here.now.front search.now.unscheduled (suc (suc left)) ×
         IsFrame setting.now.instance.now search.now.node.items (suc (suc left)) here.now }
+    requires lags { setting.now.version ≡ 2 →
+        AreLags setting.now.instance.now (members search.now.unscheduled) lags.now }
     requires from { 1 ≤ job }
     requires to { job ≤ setting.now.instance.now.jobs }
     requires left { contains search.now.unscheduled job ≡ true }
@@ -206,7 +193,7 @@ fn cutting_child(setting: &Setting, here: &Frame, job: u16, search: &Search) -> 
         (numbers 1 setting.now.instance.now.machines) }
 {
     if setting.version == 2 {
-        releasing_child(setting, here, job, search)
+        here.releasing_machine(setting, lags, job, search.value)
     } else {
         here.cutting_machine(setting, job, search.value)
     }
@@ -266,6 +253,7 @@ fn walk_small(
 fn visit(
     setting: &Setting,
     here: &Frame,
+    lags: &Lags,
     job: u16,
     below: u16,
     lanes: &mut Lanes,
@@ -275,6 +263,8 @@ fn visit(
     requires at { let shop = setting.now.instance.now in
         IsAt shop search.old.node.items here.now.front search.old.unscheduled (suc below) }
     requires frame { IsFrame setting.now.instance.now search.old.node.items (suc below) here.now }
+    requires lags { setting.now.version ≡ 2 →
+        AreLags setting.now.instance.now (members search.old.unscheduled) lags.now }
     requires from { 1 ≤ job }
     requires to { job ≤ setting.now.instance.now.jobs }
     requires left { contains search.old.unscheduled job ≡ true }
@@ -290,7 +280,7 @@ fn visit(
         (walk setting.now.instance.now (bound_of setting.now.version)
         below (search.old.node.items ++ job ∷ []) (incumbent_of search.old)).0 }
 {
-    if let Some(machine) = cutting_child(setting, here, job, search) {
+    if let Some(machine) = cutting_child(setting, here, lags, job, search) {
         search.write(setting.budget, b'@' + machine as u8)?;
         return Ok(false);
     }
@@ -327,6 +317,8 @@ fn walk_children(
 {
     let instance = setting.instance;
     let jobs = instance.jobs();
+    let mut lags = [Lows::none(); MAX_MACHINES];
+    renew_lags(setting, &search.unscheduled, &mut lags);
     'walk: loop {
         let Some(job) = first_of(&search.unscheduled, here.next, jobs) else {
             let Some(parent) = stack.pop() else {
@@ -335,10 +327,11 @@ fn walk_children(
             search.leave(parent.next - 1);
             here = parent;
             below += 1;
+            renew_lags(setting, &search.unscheduled, &mut lags);
             continue 'walk;
         };
         here.next = job + 1;
-        if visit(setting, &here, job, below, lanes, search)? {
+        if visit(setting, &here, &lags, job, below, lanes, search)? {
             search.enter(job)?;
             let rest = here.rest.step(instance, &search.unscheduled, job);
             let mut front = here.front;
@@ -346,6 +339,7 @@ fn walk_children(
             stack.push(here)?;
             here = Frame::new(setting, front, rest, &search.unscheduled);
             below -= 1;
+            renew_lags(setting, &search.unscheduled, &mut lags);
         }
     }
 }

@@ -1,6 +1,6 @@
 //! Eight numbers side by side. The loops are short, so that the compiler packs them.
 
-ghost use Rattle.std.specs.Prelude.{◌≡◌, ℕ, ◌+◌, ◌-◌, ◌<◌, ◌≤◌, max, length, slice_index};
+ghost use Rattle.std.specs.Prelude.{◌≡◌, ℕ, ◌+◌, ◌-◌, ◌<◌, ◌≤◌, true, max, length, slice_index};
 ghost use Rattle.flow_search.specs.internal.Lanes.{IsLeastOfOthers};
 
 /// For each lane the least number of the other lanes.
@@ -121,4 +121,35 @@ pub(crate) fn below(flags: &[u32; 8], numbers: &[u32; 8], limit: u32) -> [u32; 8
         };
     }
     made
+}
+
+/// The flags, without those of the lanes whose number is no greater than a limit.
+#[inline(always)]
+pub(crate) fn above(flags: &[u32; 8], numbers: &[u32; 8], limit: u32) -> [u32; 8]
+    ensures size { length result ≡ 8 }
+    ensures kept { (lane : ℕ) → lane < 8 → limit < slice_index numbers.now lane →
+        slice_index result lane ≡ slice_index flags.now lane }
+    ensures cut { (lane : ℕ) → lane < 8 → slice_index numbers.now lane ≤ limit → slice_index result lane ≡ 0 }
+{
+    let mut made = [0u32; 8];
+    for lane in 0..8usize {
+        made[lane] = if numbers[lane] > limit {
+            flags[lane]
+        } else {
+            0
+        };
+    }
+    made
+}
+
+/// Whether each number is 0.
+#[inline(always)]
+pub(crate) fn are_zeros(numbers: &[u32; 8]) -> bool
+    ensures { result ≡ true → (lane : ℕ) → lane < 8 → slice_index numbers.now lane ≡ 0 }
+{
+    let mut most = 0u32;
+    for lane in 0..8usize {
+        most = most.max(numbers[lane]);
+    }
+    most == 0
 }

@@ -4,64 +4,95 @@ ghost use Rattle.std.specs.Prelude.{◌≡◌, ◌≢◌, ℕ, ◌+◌, ◌*◌,
 ghost use Rattle.flow_core.specs.Limits.{most_machines, greatest_time, greatest_completion};
 ghost use Rattle.flow_core.specs.Shop.{Shop, IsWithinLimits};
 ghost use Rattle.flow_core.specs.Sequences.{jobs_left};
-ghost use Rattle.flow_core.specs.Bound.{released_bound_at, release, front_of};
-ghost use Rattle.flow_search.specs.internal.Lanes.{IsOpened, IsTested, IsLaneLeft, AreSmallFrees, child};
+ghost use Rattle.flow_core.specs.Bound.{bound_at, released_bound_at, release, front_of};
+ghost use Rattle.flow_search.specs.internal.Lanes.{IsOpened, IsTested, IsUncutCount, IsLaneLeft, AreSmallFrees, child};
 ghost use Rattle.flow_search.specs.declared.eight.group.TheConstants.{GONE};
 
 use crate::eight::group::{Group, LaneFrame};
-use crate::eight::numbers::{below, differences, greater, others, sums};
+use crate::eight::numbers::{above, are_zeros, below, differences, greater, others, sums};
 use flow_core::Instance;
 
-/// For each child, the release of the machine at a place, before which no job that the child leaves starts there.
+/// Computes for each child the release of the machine at a place, before which no job that the child leaves starts
+/// there. It stands in memory, since the compiler packs the lanes of a loop that stores them.
 #[inline(always)]
-fn releases(instance: &Instance, group: &Group, frame: &LaneFrame, place: usize) -> [u32; 8]
+fn releases(
+    instance: &Instance,
+    group: &Group,
+    frame: &LaneFrame,
+    place: usize,
+    late: &mut [u32; 8],
+)
     requires opened { (list : List ℕ) × IsOpened instance.now list group.now frame.now }
     requires small { AreSmallFrees instance.now frame.now }
     requires to { place < instance.now.machines }
-    ensures small { (lane : ℕ) → lane < 8 → slice_index result lane
+    ensures small { (lane : ℕ) → lane < 8 → slice_index late.new lane
         ≤ greatest_completion + most_machines * greatest_time + greatest_time + GONE }
     ensures each { (list : List ℕ) (lane other : ℕ) → IsOpened instance.now list group.now frame.now →
-        IsLaneLeft frame.now lane → IsLaneLeft frame.now other → other ≢ lane → slice_index result lane
+        IsLaneLeft frame.now lane → IsLaneLeft frame.now other → other ≢ lane → slice_index late.new lane
         ≡ release instance.now (front_of instance.now (child list group.now lane))
         (jobs_left instance.now.jobs (child list group.now lane)) (place + 1) }
 {
     prove!(place < instance.machines() as usize);
     let here = &group.rows[place];
     let needs = sums(&here.time, &here.tail);
-    let mut made = frame.free[place];
+    *late = frame.free[place];
     for earlier in 0..place {
         let row = &group.rows[earlier];
         let between = differences(&sums(&row.time, &row.tail), &needs);
         let least = others(&greater(&between, &frame.gone));
-        made = greater(&made, &sums(&frame.free[earlier], &least));
+        *late = greater(late, &sums(&frame.free[earlier], &least));
     }
-    made
+}
+
+/// For each child, how many machines there are before the first whose released bound reaches the value against which the
+/// machine bounds were tested. Each of these cuts no later, since no machine bound is greater than the released one.
+/// What `late` holds does not matter.
+#[inline(never)]
+fn uncut_by_releases(
+    instance: &Instance,
+    group: &Group,
+    frame: &LaneFrame,
+    late: &mut [u32; 8],
+) -> [u32; 8]
+    requires tested { (list : List ℕ) × IsTested instance.now bound_at list group.now frame.now }
+    requires small { AreSmallFrees instance.now frame.now }
+    ensures { (list : List ℕ) (lane other : ℕ) → IsTested instance.now bound_at list group.now frame.now →
+        IsLaneLeft frame.now lane → IsLaneLeft frame.now other → other ≢ lane →
+        IsUncutCount instance.now released_bound_at (child list group.now lane) frame.now.value instance.now.machines
+        (slice_index result lane) }
+{
+    // No bound is so great.
+    let limit = frame.value.min(u64::from(u32::MAX)) as u32;
+    let mut flags = below(&[1u32; 8], &frame.gone, 1);
+    let mut uncut = [0u32; 8];
+    for place in 0..instance.machines() as usize {
+        let still = above(&flags, &frame.uncut, place as u32);
+        if are_zeros(&still) {
+            return uncut;
+        }
+        let row = &group.rows[place];
+        let room = limit.saturating_sub(frame.sum[place]);
+        releases(instance, group, frame, place, late);
+        let start = differences(late, &row.time);
+        let behind = others(&greater(&row.tail, &frame.gone));
+        flags = below(&still, &sums(&start, &behind), room);
+        uncut = sums(&uncut, &flags);
+    }
+    uncut
 }
 
 /// Computes how many machines there are before the first whose released bound reaches the value against which the
-/// children were tested.
-#[inline(never)]
+/// children's machine bounds were tested.
 pub fn test_releases(instance: &Instance, group: &Group, frame: &mut LaneFrame)
-    requires opened { (list : List ℕ) × IsOpened instance.now list group.now frame.old }
+    requires tested { (list : List ℕ) × IsTested instance.now bound_at list group.now frame.old }
     requires small { AreSmallFrees instance.now frame.old }
     ensures gone { frame.new.gone ≡ frame.old.gone }
     ensures lanes { frame.new.lanes ≡ frame.old.lanes }
     ensures next { frame.new.next ≡ frame.old.next }
     ensures value { frame.new.value ≡ frame.old.value }
-    ensures tested { (list : List ℕ) → IsOpened instance.now list group.now frame.old →
+    ensures tested { (list : List ℕ) → IsTested instance.now bound_at list group.now frame.old →
         IsTested instance.now released_bound_at list group.now frame.new }
 {
-    // No bound is so great.
-    let limit = frame.value.min(u64::from(u32::MAX)) as u32;
-    let mut flags = [1u32; 8];
-    let mut uncut = [0u32; 8];
-    for place in 0..instance.machines() as usize {
-        let row = &group.rows[place];
-        let room = limit.saturating_sub(frame.sum[place]);
-        let start = differences(&releases(instance, group, frame, place), &row.time);
-        let behind = others(&greater(&row.tail, &frame.gone));
-        flags = below(&flags, &sums(&start, &behind), room);
-        uncut = sums(&uncut, &flags);
-    }
-    frame.uncut = uncut;
+    let mut late = [0u32; 8];
+    frame.uncut = uncut_by_releases(instance, group, frame, &mut late);
 }

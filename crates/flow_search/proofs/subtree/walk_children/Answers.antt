@@ -11,6 +11,7 @@ use Rattle.flow_search.specs.Walk.{walk}
 use Rattle.flow_bound.specs.Loads.{AreLoadsOf}
 use Rattle.flow_search.specs.internal.Nodes.{IsAt, Left, Gave, Opens, children_walked, incumbent_of}
 use Rattle.flow_search.specs.internal.Frames.{IsWalking, IsChild, path}
+use Rattle.flow_search.specs.internal.Lags.{AreLags}
 use Rattle.flow_search.specs.declared.subtree.Stop.{Stop}
 use Rattle.flow_search.specs.declared.subtree.Stop.TheVariants.{OverBudget}
 use Rattle.flow_search.proofs.Nodes.{left-count, within-front}
@@ -39,7 +40,7 @@ returns-in_default-pop-clause-done c =
     c.in_default-pop.ensures.items
     ∙ ap (λ xs. xs ++ []) (c.in_default-pop.ensures.rest
     ∙ ap (λ n. take (n - 1) c.walk.stack.items) c.in_default-pop.ensures.cases.0) in
-    walking-done c.walk.invariant c.args.here.front (suc c.args.below)
+    walking-done c.walk.invariant.walking c.args.here.front (suc c.args.below)
     (sym c.in_default.is ∙ found (goal.at.returns-in_default-pop-clause-done c).After-first_of)
     (ap reverse empty) c.requires.at refl
 
@@ -53,27 +54,46 @@ above c =
     c.in-Some-pop.ensures.items in (
       popped,
       c.leave.ensures (path c.args.search.now.node.items (reverse c.pop.new.self.items))
-          (c.walk.invariant.node ∙ ap (path c.args.search.now.node.items) popped),
+          (c.walk.invariant.walking.node ∙ ap (path c.args.search.now.node.items) popped),
     )
 
 pub walk-smaller-in_default : goal.walk-smaller-in_default
 walk-smaller-in_default c =
-    let left = (above c).1 in
+    let left = (above (goal.at.walk-smaller-in_default c).After-leave).1 in
     let tree : length c.leave.new.self.tree.items ≡ length c.walk.search.tree.items = ap length left.tree in
     let stack : length c.walk.stack.items ≡ length (c.pop.new.self.items ++ c.in-Some-pop.parent ∷ []) =
     ap length c.in-Some-pop.ensures.items in
     omega (arith, tree, stack, length-append c.pop.new.self.items (c.in-Some-pop.parent ∷ []))
 
-pub walk-preserved-in_default : goal.walk-preserved-in_default
-walk-preserved-in_default c =
+-- the walk goes on in the frame above
+up : (c : After-leave) →
+    IsWalking c.args.setting.now.instance.now (bound_of c.args.setting.now.version) c.args.setting.now.budget
+    c.args.search.now.node.items
+    (children_walked c.args.setting.now.instance.now (bound_of c.args.setting.now.version) c.args.below
+    c.args.search.now) c.args.search.now c.in-Some-pop.parent (c.walk.below + 1) (reverse c.pop.new.self.items)
+    c.leave.new.self
+up c =
     let shop = c.args.setting.now.instance.now in
     let old = c.args.search.now in
-    let up = walking-up c.walk.invariant c.in-Some-pop.parent (reverse c.pop.new.self.items) c.leave.new.self
-    (sym c.in_default.is ∙ found (goal.at.walk-preserved-in_default c).After-first_of) (above c).0 (above c).1 in
+    let up = walking-up c.walk.invariant.walking c.in-Some-pop.parent (reverse c.pop.new.self.items) c.leave.new.self
+    (sym c.in_default.is ∙ found (goal.at.After-leave c).After-first_of) (above c).0 (above c).1 in
     let more : suc c.walk.below ≡ c.walk.below + 1 = omega arith in
     subst (λ n. IsWalking shop (bound_of c.args.setting.now.version) c.args.setting.now.budget old.node.items
     (children_walked shop (bound_of c.args.setting.now.version) c.args.below old) old c.in-Some-pop.parent n
     (reverse c.pop.new.self.items) c.leave.new.self) more up
+
+pub renew_lags-requires-in_default-clause-jobs : goal.renew_lags-requires-in_default-clause-jobs
+renew_lags-requires-in_default-clause-jobs c =
+    (up (goal.at.renew_lags-requires-in_default-clause-jobs c).After-leave).at.none
+
+pub walk-preserved-in_default : goal.walk-preserved-in_default
+walk-preserved-in_default c = record {
+  walking = up (goal.at.walk-preserved-in_default c).After-leave;
+  lags = c.renew_lags-in_default.ensures;
+}
+
+pub visit-requires-clause-lags : goal.visit-requires-clause-lags
+visit-requires-clause-lags c = c.walk.invariant.lags
 
 -- the child's job
 kid : (c : In-Some) →
@@ -81,7 +101,7 @@ kid : (c : In-Some) →
     (reverse c.walk.stack.items)) c.in-Some.job
     × (contains c.walk.search.unscheduled c.in-Some.job ≡ true)
     × (c.args.setting.now.instance.now.jobs ≤ most_jobs)
-kid c = let next = walking-child c.walk.invariant c.in-Some.job (found-job c) in
+kid c = let next = walking-child c.walk.invariant.walking c.in-Some.job (found-job c) in
     (next.1, next.2, c.requires.rows.limits.jobs)
 
 pub overflow_add-here : goal.overflow_add-here
@@ -103,7 +123,7 @@ returns-in_err-visit-clause-over c e =
     let put_bool : Stop → Result Bool Stop = λ stop. Err stop in
     let was : p.0 ≡ OverBudget = let r : put p.0 ≡ put OverBudget = sym p.1 ∙ e in cc in
     let same : put_bool c.in_err-visit.field-0.0 ≡ put_bool OverBudget = ap put_bool (sym p.2 ∙ was) in
-    walking-over c.walk.invariant c.in-Some.job (found-job (goal.at.returns-in_err-visit-clause-over c).In-Some)
+    walking-over c.walk.invariant.walking c.in-Some.job (found-job (goal.at.returns-in_err-visit-clause-over c).In-Some)
     (c.in_err-visit.ensures.over same)
 
 pub enter-requires-clause-from : goal.enter-requires-clause-from
@@ -136,7 +156,7 @@ entered c =
     ≡ find (contains c.walk.search.unscheduled) (numbers c.walk.here.next c.args.setting.now.instance.now.jobs) =
     sym c.in-Some.is ∙ c.first_of.ensures
     ∙ ap (λ n. find (contains c.walk.search.unscheduled) (numbers c.walk.here.next n)) c.jobs-jobs.ensures.value in
-    let is = walking-entered c.walk.invariant c.in-Some.job c.visit.new.search c.enter.new.self found o
+    let is = walking-entered c.walk.invariant.walking c.in-Some.job c.visit.new.search c.enter.new.self found o
     c.in_ok-enter.ensures in
     (is.0, is.1, omega (arith, c.in_ok-visit.ensures.more (ap put c.if-branch.true)))
 
@@ -166,7 +186,7 @@ front_push-requires-clause-job_to c = (kid (goal.at.front_push-requires-clause-j
 pub front_push-requires-clause-within : goal.front_push-requires-clause-within
 front_push-requires-clause-within c =
     within-front c.args.setting.now.instance.now c.walk.search.node.items c.walk.here.front c.walk.search.unscheduled
-    (suc c.walk.below) c.walk.invariant.at
+    (suc c.walk.below) c.walk.invariant.walking.at
 
 pub new-here-requires-clause-jobs : goal.new-here-requires-clause-jobs
 new-here-requires-clause-jobs c = (entered (goal.at.new-here-requires-clause-jobs c).In_ok-enter).0.none
@@ -191,6 +211,10 @@ walk-smaller-then-branch c =
       length-append c.walk.stack.items (moved c.walk.here (c.in-Some.job + 1) ∷ []),
     )
 
+pub renew_lags-requires-then-branch-clause-jobs : goal.renew_lags-requires-then-branch-clause-jobs
+renew_lags-requires-then-branch-clause-jobs c =
+    (entered (goal.at.renew_lags-requires-then-branch-clause-jobs c).In_ok-enter).0.none
+
 pub walk-preserved-then-branch : goal.walk-preserved-then-branch
 walk-preserved-then-branch c =
     let shop = c.args.setting.now.instance.now in
@@ -199,18 +223,19 @@ walk-preserved-then-branch c =
     let pushed : reverse c.push.new.self.items ≡ moved c.walk.here (c.in-Some.job + 1) ∷ reverse c.walk.stack.items =
     reverse-push c.walk.stack.items c.push.new.self.items (moved c.walk.here (c.in-Some.job
     + 1)) c.in_ok-push.ensures.items in
-    subst (λ xs. IsWalking shop (bound_of c.args.setting.now.version) c.args.setting.now.budget old.node.items
+    let down = subst (λ xs. IsWalking shop (bound_of c.args.setting.now.version) c.args.setting.now.budget old.node.items
     (children_walked shop (bound_of c.args.setting.now.version) c.args.below old) old c.new-here.result (c.walk.below
     - 1) xs c.enter.new.self)
     (sym pushed)
-    (walking-down c.walk.invariant c.in-Some.job c.visit.new.search c.enter.new.self c.new-here.result
+    (walking-down c.walk.invariant.walking c.in-Some.job c.visit.new.search c.enter.new.self c.new-here.result
     (found-job (goal.at.walk-preserved-then-branch c).In-Some) opened.1 opened.0 c.in_ok-enter.ensures
     (subst (IsFrontOf shop (c.walk.search.node.items ++ c.in-Some.job
     ∷ [])) (sym c.new-here.ensures.front)
-    (c.front_push.ensures.front c.walk.search.node.items c.walk.invariant.at.is_front))
+    (c.front_push.ensures.front c.walk.search.node.items c.walk.invariant.walking.at.is_front))
     (subst (AreLoadsOf shop (members c.enter.new.self.unscheduled))
     (sym c.new-here.ensures.rest) c.step-rest.ensures.loads)
-    c.new-here.ensures.second c.new-here.ensures.next)
+    c.new-here.ensures.second c.new-here.ensures.next) in
+    record { walking = down; lags = c.renew_lags-then-branch.ensures }
 
 -- the child's subtree that was walked
 whole : (c : goal.Else-branch) → Gave c.args.setting.now.budget
@@ -233,6 +258,9 @@ walk-smaller c =
     omega (arith, some, tree, g.within, length-append c.walk.search.tree.items text)
 
 pub walk-preserved : goal.walk-preserved
-walk-preserved c =
-    walking-whole c.walk.invariant c.in-Some.job c.visit.new.search (found-job (goal.at.walk-preserved c).In-Some)
-    (whole c)
+walk-preserved c = record {
+  walking = walking-whole c.walk.invariant.walking c.in-Some.job c.visit.new.search
+      (found-job (goal.at.walk-preserved c).In-Some) (whole c);
+  lags = λ two. subst (λ set. AreLags c.args.setting.now.instance.now (members set) c.walk.lags)
+      (sym (whole c).unscheduled) (c.walk.invariant.lags two);
+}

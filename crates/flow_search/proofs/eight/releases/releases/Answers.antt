@@ -70,7 +70,7 @@ loop-earlier-preserved c = record {
   small = λ lane low.
       omega (
         arith,
-        c.greater-made.ensures.each lane low,
+        c.greater-in-loop-earlier.ensures.each lane low,
         c.sums-in-loop-earlier.ensures.each lane low,
         sum-small (goal.at.loop-earlier-preserved c).After-others-least lane low,
         c.loop-earlier.invariant.small lane low,
@@ -90,10 +90,10 @@ loop-earlier-preserved c = record {
       need-more shop (front_of shop (child list c.args.group.now lane))
       (jobs_left shop.jobs (child list c.args.group.now lane)) (c.args.place + 1) c.loop-earlier.earlier
       (slice_index (slice_index_or c.args.frame.now.free c.args.place []) lane)
-      (slice_index c.loop-earlier.made lane) (slice_index c.greater-made.result lane)
+      (slice_index c.loop-earlier.late lane) (slice_index c.greater-in-loop-earlier.result lane)
       (c.loop-earlier.invariant.each list lane other opened here there differ)
-      (c.greater-made.ensures.each lane here.within
-      ∙ ap (max (slice_index c.loop-earlier.made lane))
+      (c.greater-in-loop-earlier.ensures.each lane here.within
+      ∙ ap (max (slice_index c.loop-earlier.late lane))
       (c.sums-in-loop-earlier.ensures.each lane here.within ∙ step));
 }
 

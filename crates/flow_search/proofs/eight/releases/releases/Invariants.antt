@@ -13,10 +13,10 @@ use Rattle.flow_search.proofs.eight.releases.releases.Given as goal
 abbrev pub invariant-loop-earlier : goal.invariant-loop-earlier
 invariant-loop-earlier l = record {
   small : (lane : ℕ) → lane < 8 →
-      slice_index l.made lane ≤ greatest_completion + most_machines * greatest_time + greatest_time + GONE;
+      slice_index l.late lane ≤ greatest_completion + most_machines * greatest_time + greatest_time + GONE;
   each : (list : List ℕ) (lane other : ℕ) → IsOpened l.instance list l.group l.frame → IsLaneLeft l.frame lane →
       IsLaneLeft l.frame other → other ≢ lane →
-      slice_index l.made lane ≡ max (slice_index (slice_index_or l.frame.free l.place []) lane)
+      slice_index l.late lane ≡ max (slice_index (slice_index_or l.frame.free l.place []) lane)
       (greatest (map (need l.instance (front_of l.instance (child list l.group lane))
       (jobs_left l.instance.jobs (child list l.group lane)) (l.place + 1)) (numbers 1 l.earlier)));
 }

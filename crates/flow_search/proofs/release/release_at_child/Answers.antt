@@ -1,0 +1,96 @@
+use Rattle.std.proofs.Common.{◌≡◌, ℕ, ◌+◌, ◌-◌, ◌*◌, ◌<◌, ◌≤◌, max, List, [], ◌∷◌, ◌++◌, map, slice_index, ap, sym, ◌∙◌}
+use Rattle.std.proofs.Common.{arith}
+use Rattle.flow_core.specs.Limits.{most_machines, greatest_time}
+use Rattle.flow_core.specs.Shop.{Shop, numbers}
+use Rattle.flow_core.specs.Least.{least, greatest}
+use Rattle.flow_core.specs.Sequences.{jobs_left}
+use Rattle.flow_core.specs.Bound.{release}
+use Rattle.flow_search.specs.internal.Lows.{time_to}
+use Rattle.flow_search.specs.internal.Lags.{IsLagged}
+use Rattle.flow_search.proofs.LanesReleased.{need, need-more, release-is}
+use Rattle.flow_search.proofs.Needs.{row-needs-small, child-need}
+use Rattle.flow_search.proofs.release.release_at_child.Goals as goal
+use Rattle.flow_search.proofs.release.release_at_child.Goals.{After-without-least}
+
+pub overflow_add-needs : goal.overflow_add-needs
+overflow_add-needs c =
+    let is = c.requires.child.4 in
+    omega (
+      arith,
+      row-needs-small c.requires.child.0 c.requires.child.3 c.args.row.now (c.args.machine - 1) is.limits is.row_is
+          (omega (arith, c.requires.from, is.to)),
+    )
+
+pub loop-place-init : goal.loop-place-init
+loop-place-init c = record {
+  least = omega arith;
+  limit = omega (arith, c.requires.small (c.args.machine - 1) (omega (arith, c.requires.from)));
+  value = λ shop node front left job is same.
+      omega (arith, same (c.args.machine - 1) (omega (arith, c.requires.from)));
+}
+
+pub overflow_add-row : goal.overflow_add-row
+overflow_add-row c =
+    let is = c.requires.child.4 in
+    omega (
+      arith,
+      row-needs-small c.requires.child.0 c.requires.child.3 c.args.row.now c.loop-place.place is.limits is.row_is
+          (omega (arith, c.loop-place-test.true, is.to)),
+    )
+
+-- the least time that the jobs which the child leaves need
+least-is : (c : After-without-least) (shop : Shop) (node : List ℕ) (left job : ℕ) →
+    IsLagged shop node left job c.args.machine c.args.row.now c.args.lows.now →
+    (c.without-least.result
+    ≡ least (map (time_to shop c.args.machine c.loop-place.place) (jobs_left shop.jobs (node ++ job ∷ []))))
+    × (c.without-least.result ≤ most_machines * greatest_time)
+least-is c shop node left job is =
+    child-need shop node left job c.args.machine c.loop-place.place c.saturating_sub-own.result
+    c.without-least.result c.args.row.now c.args.lows.now is c.requires.from
+    (omega (arith, c.loop-place-test.true)) c.saturating_sub-own.ensures
+    (c.without-least.ensures.least, c.without-least.ensures.other)
+
+pub overflow_add-free : goal.overflow_add-free
+overflow_add-free c =
+    let small = least-is (goal.at.overflow_add-free c).After-without-least c.requires.child.0 c.requires.child.1
+    c.requires.child.2 c.requires.child.3 c.requires.child.4 in
+    omega (arith, small.1, c.requires.small c.loop-place.place (omega (arith, c.loop-place-test.true)))
+
+pub loop-place-preserved : goal.loop-place-preserved
+loop-place-preserved c =
+    let place : ℕ = c.loop-place.place in
+    let within : place < c.args.machine = omega (arith, c.loop-place-test.true) in
+    let i = c.loop-place.invariant in
+    let small = least-is (goal.at.loop-place-preserved c).After-without-least c.requires.child.0 c.requires.child.1
+    c.requires.child.2 c.requires.child.3 c.requires.child.4 in
+    record {
+      least = omega (arith, i.least, c.max-made.ensures);
+      limit = omega (arith, i.limit, c.max-made.ensures, small.1, c.requires.small place within);
+      value = λ shop node front left job is same.
+          let step = least-is (goal.at.loop-place-preserved c).After-without-least shop node left job is in
+          let e : place + 1 - 1 ≡ place = omega arith in
+          need-more shop front (jobs_left shop.jobs (node ++ job ∷ [])) c.args.machine place
+          (slice_index front (c.args.machine - 1)) c.loop-place.made c.max-made.result
+          (i.value shop node front left job is same)
+          (omega (
+            arith,
+            c.max-made.ensures,
+            step.0,
+            same place within,
+            ap (slice_index front) e,
+          ));
+    }
+
+pub returns-clause-value : goal.returns-clause-value
+returns-clause-value c shop node front left job is same =
+    let jobs : List ℕ = jobs_left shop.jobs (node ++ job ∷ []) in
+    let e : c.args.machine - 1 + 1 ≡ c.args.machine = omega (arith, c.requires.from) in
+    let last : c.loop-place.place ≡ c.args.machine - 1 = omega
+    (arith, c.loop-place-test.false, c.loop-place.auto.place-end, c.requires.from) in
+    c.loop-place.invariant.value shop node front left job is same
+    ∙ ap (λ n. max (slice_index front (c.args.machine - 1))
+    (greatest (map (need shop front jobs c.args.machine) (numbers 1 n)))) last
+    ∙ ap (λ k. max (slice_index front (c.args.machine - 1))
+    (greatest (map (need shop front jobs k) (numbers 1 (c.args.machine - 1))))) (sym e)
+    ∙ sym (release-is shop front jobs (c.args.machine - 1))
+    ∙ ap (release shop front jobs) e
