@@ -11,15 +11,38 @@ ghost use Rattle.flow_commands.specs.Limits.{most_text};
 
 use crate::block::read_block;
 use crate::fault::ToolFault;
+use crate::limits::MAX_TEXT;
 use flow_cert::write_certificate;
-use flow_core::{Instance, Sink, Source};
+use flow_core::{
+    Instance, Sequence, Sink, Source, StartFault, makespan, read_all, read_start,
+};
 use flow_pool::{Gate, solve};
-use flow_search::{OptionFault, Options, prepare};
+use flow_search::{OptionFault, Options, Plan, prepare, prepare_from};
 use std::alloc::{AllocError, Global};
 use std::sync::Wait;
 use std::thread::Threads;
 
-/// Solves an instance, and writes the certificate of its plan.
+/// Solves a plan, and writes its certificate.
+fn solve_plan<R: Threads + Wait + Sync, G: Gate + Sync, K: Sink>(
+    rt: &R,
+    alloc: Global,
+    plan: &Plan,
+    gate: &G,
+    out: &mut K,
+) -> Result<(), ToolFault>
+    requires { K.has_failed out.old ≡ false }
+    ensures written { OnOk result (Wrote (AnswersRun plan.now) (K.taken out.old) (K.taken out.new)) }
+    ensures lawful { OnOk result (WroteCertificate plan.now.shop (K.taken out.old) (K.taken out.new)) }
+    ensures ended { IfErr result (EndsAlone (out.new ≡ out.old) (AnswersRun plan.now)
+        (K.taken out.old) (K.taken out.new)) }
+    ensures write_device { IsErrOf result (ToolFault.Write write.Device) ↔ (K.has_failed out.new ≡ true) }
+{
+    let report = solve(rt, alloc, plan, gate)?;
+    write_certificate(plan, &report.verdict, out)?;
+    Ok(())
+}
+
+/// Solves an instance from the starting sequence of Nawaz, Enscore and Ham, and writes the certificate of its plan.
 fn solve_instance<R: Threads + Wait + Sync, G: Gate + Sync, K: Sink>(
     rt: &R,
     alloc: Global,
@@ -29,16 +52,38 @@ fn solve_instance<R: Threads + Wait + Sync, G: Gate + Sync, K: Sink>(
     out: &mut K,
 ) -> Result<(), ToolFault>
     requires { K.has_failed out.old ≡ false }
-    ensures written { OnOk result (Wrote (AnswersPlan instance.now options) (K.taken out.old) (K.taken out.new)) }
+    ensures written { OnOk result (Wrote (AnswersPlan (IsNeh instance.now) instance.now options)
+        (K.taken out.old) (K.taken out.new)) }
     ensures lawful { OnOk result (WroteCertificate instance.now (K.taken out.old) (K.taken out.new)) }
-    ensures ended { IfErr result (EndsAlone (out.new ≡ out.old) (AnswersPlan instance.now options)
+    ensures ended { IfErr result (EndsAlone (out.new ≡ out.old) (AnswersPlan (IsNeh instance.now) instance.now options)
         (K.taken out.old) (K.taken out.new)) }
     ensures write_device { IsErrOf result (ToolFault.Write write.Device) ↔ (K.has_failed out.new ≡ true) }
 {
     let plan = prepare(alloc, instance, options)?;
-    let report = solve(rt, alloc, &plan, gate)?;
-    write_certificate(&plan, &report.verdict, out)?;
-    Ok(())
+    solve_plan(rt, alloc, &plan, gate, out)
+}
+
+/// Solves an instance from a sequence of it, and writes the certificate of its plan.
+fn solve_instance_from<R: Threads + Wait + Sync, G: Gate + Sync, K: Sink>(
+    rt: &R,
+    alloc: Global,
+    instance: &Instance,
+    start: Sequence,
+    options: Options,
+    gate: &G,
+    out: &mut K,
+) -> Result<(), ToolFault>
+    requires out_works { K.has_failed out.old ≡ false }
+    requires is_sequence { IsSequence instance.now.jobs start }
+    ensures written { OnOk result (Wrote (AnswersPlan (λ jobs. jobs ≡ start) instance.now options)
+        (K.taken out.old) (K.taken out.new)) }
+    ensures lawful { OnOk result (WroteCertificate instance.now (K.taken out.old) (K.taken out.new)) }
+    ensures ended { IfErr result (EndsAlone (out.new ≡ out.old)
+        (AnswersPlan (λ jobs. jobs ≡ start) instance.now options) (K.taken out.old) (K.taken out.new)) }
+    ensures write_device { IsErrOf result (ToolFault.Write write.Device) ↔ (K.has_failed out.new ≡ true) }
+{
+    let plan = prepare_from(alloc, instance, start, options)?;
+    solve_plan(rt, alloc, &plan, gate, out)
 }
 
 /// The options of four numbers; or the first fault, that of the version last.
@@ -95,4 +140,97 @@ pub fn run_solve<R: Threads + Wait + Sync, S: Source, G: Gate + Sync, K: Sink>(
     let options = options_of(workers, depth, budget, version)?;
     let instance = turned(alloc, block.instance, mirror)?;
     solve_instance(rt, alloc, &instance, options, gate, out)
+}
+
+/// The sequence that a start text gives for an instance; or the first fault of the text, of its jobs, or of its
+/// makespan.
+fn given_sequence(
+    alloc: Global,
+    instance: &Instance,
+    text: &[u8],
+) -> Result<Sequence, ToolFault>
+    ensures value { IfOk result (λ sequence. given_start instance.now text.now ≡ Ok sequence) }
+    ensures each { IfOk result (λ sequence. IsSequence instance.now.jobs sequence) }
+    ensures refused { IfErr result (λ fault. fault ≢ Memory → given_start instance.now text.now ≡ Err fault) }
+{
+    let start = read_start(alloc, text)?;
+    let sequence = Sequence::new(alloc, instance, start.jobs.as_slice())?;
+    if let Some(claim) = start.claim {
+        if u64::from(claim.makespan) != makespan(instance, &sequence) {
+            return Err(ToolFault::Start(StartFault::Line(claim.line)));
+        }
+    }
+    Ok(sequence)
+}
+
+/// The sequence, or the reversed one where the mirrored instance is asked for.
+fn turned_start(start: Sequence, mirror: bool) -> Sequence
+    ensures value { result ≡ reversed_if mirror start }
+    ensures each { IsSequence (length start) result }
+{
+    if mirror {
+        return start.reversed();
+    }
+    start
+}
+
+/// Solves an instance from the sequence that a start text gives, or with `mirror` the mirrored instance from the
+/// reversed sequence, and writes the certificate of its plan.
+fn solve_given<R: Threads + Wait + Sync, G: Gate + Sync, K: Sink>(
+    rt: &R,
+    alloc: Global,
+    instance: Instance,
+    text: &[u8],
+    workers: u32,
+    depth: u32,
+    budget: u32,
+    version: u32,
+    mirror: bool,
+    gate: &G,
+    out: &mut K,
+) -> Result<(), ToolFault>
+    requires { K.has_failed out.old ≡ false }
+{
+    let start = given_sequence(alloc, &instance, text)?;
+    let options = options_of(workers, depth, budget, version)?;
+    let instance = turned(alloc, instance, mirror)?;
+    let start = turned_start(start, mirror);
+    solve_instance_from(rt, alloc, &instance, start, options, gate, out)
+}
+
+/// Solves the block that an index names from a starting sequence, and writes the certificate of its plan, in a
+/// version; with `mirror` that of the mirrored instance, from the reversed sequence.
+pub fn run_solve_from<R: Threads + Wait + Sync, S: Source, T: Source, G: Gate + Sync, K: Sink>(
+    rt: &R,
+    alloc: Global,
+    file: &mut S,
+    index: u32,
+    start: &mut T,
+    workers: u32,
+    depth: u32,
+    budget: u32,
+    version: u32,
+    mirror: bool,
+    gate: &G,
+    out: &mut K,
+) -> Result<(), ToolFault>
+    requires file_works { S.has_failed file.old ≡ false }
+    requires start_works { T.has_failed start.old ≡ false }
+    requires out_works { K.has_failed out.old ≡ false }
+{
+    let block = read_block(alloc, file, index)?;
+    let text = read_all(alloc, start, MAX_TEXT)?;
+    solve_given(
+        rt,
+        alloc,
+        block.instance,
+        text.as_slice(),
+        workers,
+        depth,
+        budget,
+        version,
+        mirror,
+        gate,
+        out,
+    )
 }

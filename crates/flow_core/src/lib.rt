@@ -30,4 +30,4 @@ pub use laws::{
 pub use limits::{MAX_DEPTH, MAX_JOBS, MAX_MACHINES, MAX_NUMBER, MAX_TIME};
 pub use row::{Row, rows};
 pub use sequence::{Sequence, SequenceFault};
-pub use text::{Block, TextFault, block_text, read_blocks};
+pub use text::{Block, Claim, Start, StartFault, TextFault, block_text, read_blocks, read_start};

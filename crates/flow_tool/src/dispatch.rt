@@ -11,10 +11,12 @@ use crate::inputs::Inputs;
 use crate::stop::Stop;
 use clap::Error;
 use clap::error::ErrorKind;
-use flow_commands::{ToolFault, run_check, run_gen, run_mirror, run_neh, run_solve, run_span};
+use flow_commands::{
+    ToolFault, run_check, run_gen, run_mirror, run_neh, run_solve, run_solve_from, run_span,
+};
 use flow_core::{Sink, Source, put_all};
 use flow_pool::Open;
-use flow_words::{OfBlock, Order, make_command, order_of};
+use flow_words::{OfBlock, Order, Run, make_command, order_of};
 use std::alloc::Global;
 use std::convert::AsStr;
 use std::sync::Wait;
@@ -83,6 +85,19 @@ fn obey<R: Threads + Wait + Sync, I: Inputs, K: Sink>(
             let mut text = inputs.open(*file).ok_or(Stop::Open)?;
             Ok(obey_for_block(rt, alloc, &mut text, *index, what, out)?)
         }
+        Order::SolveFrom {
+            file,
+            index,
+            start,
+            run,
+        } => {
+            if *file == STANDARD {
+                let mut text = inputs.standard();
+                return solve_named(rt, alloc, inputs, &mut text, *index, *start, *run, out);
+            }
+            let mut text = inputs.open(*file).ok_or(Stop::Open)?;
+            solve_named(rt, alloc, inputs, &mut text, *index, *start, *run, out)
+        }
         Order::Check {
             file,
             index,
@@ -120,16 +135,51 @@ fn obey_for_block<R: Threads + Wait + Sync, S: Source, K: Sink>(
         OfBlock::Span { jobs } => run_span(alloc, text, index, jobs.as_slice(), out),
         OfBlock::Neh => run_neh(alloc, text, index, out),
         OfBlock::Mirror => run_mirror(alloc, text, index, out),
-        OfBlock::Solve {
-            workers,
-            depth,
-            budget,
-            version,
-            mirror,
-        } => run_solve(
-            rt, alloc, text, index, *workers, *depth, *budget, *version, *mirror, &Open, out,
+        OfBlock::Solve { run } => run_solve(
+            rt,
+            alloc,
+            text,
+            index,
+            run.workers,
+            run.depth,
+            run.budget,
+            run.version,
+            run.mirror,
+            &Open,
+            out,
         ),
     }
+}
+
+/// Solves a block from the starting sequence in the file of this name.
+fn solve_named<R: Threads + Wait + Sync, I: Inputs, S: Source, K: Sink>(
+    rt: &R,
+    alloc: Global,
+    inputs: &I,
+    text: &mut S,
+    index: u32,
+    start: &str,
+    run: Run,
+    out: &mut K,
+) -> Result<(), Stop>
+    requires text_works { S.has_failed text.old ≡ false }
+    requires out_works { K.has_failed out.old ≡ false }
+{
+    let mut start = inputs.open(start).ok_or(Stop::Open)?;
+    Ok(run_solve_from(
+        rt,
+        alloc,
+        text,
+        index,
+        &mut start,
+        run.workers,
+        run.depth,
+        run.budget,
+        run.version,
+        run.mirror,
+        &Open,
+        out,
+    )?)
 }
 
 /// Checks the certificate in the file of this name.
