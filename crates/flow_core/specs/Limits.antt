@@ -25,7 +25,3 @@ greatest_number = 4294967295
 -- the greatest depth of a cut
 abbrev pub greatest_depth : ℕ
 greatest_depth = 3
-
--- the greatest number that is read as a job of a start
-abbrev pub greatest_job_number : ℕ
-greatest_job_number = 65535

@@ -1,10 +1,9 @@
 -- Start text: what a text says as a start, or the line at which it is at fault.
-use Rattle.std.specs.Prelude.{ℕ, ◌+◌, Bool, true, false, ◌&&◌, nat_le, if◌then◌else◌, List, [], ◌∷◌, length, take, drop}
+use Rattle.std.specs.Prelude.{ℕ, ◌+◌, Bool, true, ◌&&◌, nat_le, if◌then◌else◌, List, [], ◌∷◌, length, take, drop}
 use Rattle.std.specs.Prelude.{Option, None, Some, Result, Ok, Err, codes}
 use Rattle.std.specs.List.{list_all}
 use Rattle.std.specs.Str.{bytes_eq}
 use Rattle.flow_core.specs.Lines.{lines_of, is_blank, is_blank_line, after_blanks, is_plain, numbers_of, are_small}
-use Rattle.flow_core.specs.Limits.{greatest_job_number}
 use Rattle.flow_core.specs.declared.text.start.Claim.{Claim}
 use Rattle.flow_core.specs.declared.text.start.StartFault.{StartFault}
 use Rattle.flow_core.specs.declared.text.start.StartFault.TheVariants.{Line}
@@ -35,6 +34,10 @@ numbers_on rest = if is_plain rest && are_small (numbers_of rest) then Some (num
 -- the numbers behind a word
 abbrev pub numbers_behind : List ℕ → List ℕ → Option (List ℕ)
 numbers_behind word line = elim (behind word line) [ None ↦ None | Some rest ↦ numbers_on rest ]
+
+-- the greatest number that is read as a job
+abbrev pub greatest_job_number : ℕ
+greatest_job_number = 65535
 
 -- whether each number may be read as a job
 abbrev pub are_jobs : List ℕ → Bool
