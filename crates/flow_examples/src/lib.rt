@@ -17,6 +17,8 @@ mod outcomes;
 #[cfg(test)]
 mod search;
 #[cfg(test)]
+mod start_text;
+#[cfg(test)]
 mod starts;
 #[cfg(test)]
 mod text;

@@ -3,7 +3,7 @@
 ghost use Rattle.std.specs.Prelude.{◌≡◌, ◌≤◌, List, ℕ, length, false, Ok, OnOk, IfErr};
 ghost use Rattle.flow_core.specs.declared.text.block.Block.{Block};
 ghost use Rattle.flow_commands.specs.Commands.{AnswersCheck, AnswersFor, Picks};
-ghost use Rattle.flow_tool.specs.internal.Asked.{AnswersAsked, WroteOrdered};
+ghost use Rattle.flow_tool.specs.internal.Asked.{AnswersAsked, AnswersRunFrom, WroteOrdered};
 ghost use Rattle.flow_commands.specs.Limits.{most_certificate, most_text};
 ghost use Rattle.flow_commands.specs.Runs.{Came, Ends, Wrote, WroteLeast};
 
@@ -60,7 +60,7 @@ fn write_help<K: Sink>(alloc: Global, help: &Error, out: &mut K) -> Result<(), T
 }
 
 /// Runs the command that was asked for. All files are opened before a byte is read: first that of the text, then that
-/// of the certificate.
+/// of the certificate or the start.
 fn obey<R: Threads + Wait + Sync, I: Inputs, K: Sink>(
     rt: &R,
     alloc: Global,
@@ -164,6 +164,10 @@ fn solve_named<R: Threads + Wait + Sync, I: Inputs, S: Source, K: Sink>(
 ) -> Result<(), Stop>
     requires text_works { S.has_failed text.old ≡ false }
     requires out_works { K.has_failed out.old ≡ false }
+    ensures written { OnOk result (Came most_text (λ bytes. (start : List ℕ) × (length start ≤ most_text)
+        × Wrote (AnswersFor index (λ block. AnswersRunFrom run block.instance start) bytes)
+        (K.taken out.old) (K.taken out.new))
+        (S.given text.old) (S.given text.new) (S.has_ended text.new)) }
 {
     let mut start = inputs.open(start).ok_or(Stop::Open)?;
     Ok(run_solve_from(
