@@ -1,5 +1,6 @@
 -- A run of `solve`, from the plan up to the bytes that were read.
-use Rattle.std.proofs.Common.{◌≡◌, refl, inl, inr, subst, None, ℕ, Bool, List, Option, Result, Ok, Err}
+use Rattle.std.proofs.Common.{◌≡◌, refl, inl, inr, subst, sym, None, ℕ, Bool, List, Option}
+use Rattle.std.proofs.Common.{Result, Ok, Err}
 use Rattle.flow_core.specs.Shop.{Shop}
 use Rattle.flow_bound.specs.Neh.{IsNeh}
 use Rattle.flow_core.specs.declared.text.block.Block.{Block}
@@ -81,17 +82,21 @@ for-block index workers depth budget version mirror block options given gives en
   ),
 )
 
--- for a start text that gives a sequence
-pub from-start : (mirror : Bool) (shop : Shop) (read : Result Choices OptionFault) (jobs text : List ℕ) →
-    given_start shop text ≡ Ok jobs →
-    Weaker (AnswersOptions (λ start. start ≡ reversed_if mirror jobs) (mirrored_if mirror shop) read)
-    (AnswersFrom mirror shop read text)
-from-start mirror shop read jobs text gives answer answers = rw gives answers
+-- the answer from what a start text gives
+abbrev given-answer : Bool → Shop → Result Choices OptionFault → Answer → Result (List ℕ) ToolFault → Type 0
+given-answer mirror shop read answer given = elim given [
+  | Ok jobs ↦ AnswersOptions (λ start. start ≡ reversed_if mirror jobs) (mirrored_if mirror shop) read answer
+  | Err fault ↦ answer ≡ Err fault
+]
 
--- for one that gives none
-pub from-fault : (mirror : Bool) (shop : Shop) (read : Result Choices OptionFault) (text : List ℕ) (fault : ToolFault) →
-    given_start shop text ≡ Err fault → AnswersFrom mirror shop read text (Err fault)
-from-fault mirror shop read text fault gives = rw gives refl
+-- for a start text that gives a sequence
+pub from-start : (mirror : Bool) (shop : Shop) (read : Result Choices OptionFault) (options : Choices)
+    (jobs text : List ℕ) → Ok options ≡ read → given_start shop text ≡ Ok jobs →
+    Weaker (AnswersPlan (λ start. start ≡ reversed_if mirror jobs) (mirrored_if mirror shop) options)
+    (AnswersFrom mirror shop read text)
+from-start mirror shop read options jobs text is gives answer answers =
+    subst (given-answer mirror shop read answer) (sym gives)
+    (with-options (λ start. start ≡ reversed_if mirror jobs) (mirrored_if mirror shop) read options is answer answers)
 
 -- a run of a plan that was refused
 pub run-ended : (Untouched : Type 0) → Untouched → (plan : Planned) (taken takes : Option (List ℕ))

@@ -17,9 +17,7 @@ use crate::block::read_block;
 use crate::fault::ToolFault;
 use crate::limits::MAX_TEXT;
 use flow_cert::write_certificate;
-use flow_core::{
-    Instance, Sequence, Sink, Source, StartFault, makespan, read_all, read_start,
-};
+use flow_core::{Instance, Sequence, Sink, Source, StartFault, makespan, read_all, read_start};
 use flow_pool::{Gate, solve};
 use flow_search::{OptionFault, Options, Plan, prepare, prepare_from};
 use std::alloc::{AllocError, Global};
@@ -149,11 +147,7 @@ pub fn run_solve<R: Threads + Wait + Sync, S: Source, G: Gate + Sync, K: Sink>(
 
 /// The sequence that a start text gives for an instance; or the first fault of the text, of its jobs, or of its
 /// makespan.
-fn given_sequence(
-    alloc: Global,
-    instance: &Instance,
-    text: &[u8],
-) -> Result<Sequence, ToolFault>
+fn given_sequence(alloc: Global, instance: &Instance, text: &[u8]) -> Result<Sequence, ToolFault>
     ensures value { IfOk result (λ sequence. given_start instance.now text.now ≡ Ok sequence) }
     ensures each { IfOk result (λ sequence. IsSequence instance.now.jobs sequence) }
     ensures refused { IfErr result (λ fault. (fault ≡ ToolFault.Memory)

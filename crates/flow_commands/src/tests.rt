@@ -321,11 +321,22 @@ fn solve_searches_from_the_given_start(rt: HostRuntime) -> Result<(), Fail> {
     for (start, certificate, mirrored) in FROM_STARTS {
         let own = solved_from(&rt, alloc, THREE_MACHINES, start, false);
         assert!(rt; wrote(&own, certificate));
-        assert!(rt; wrote(&checked(alloc, THREE_MACHINES, certificate), b"optimal 12\n"));
+        assert!(rt;
+            wrote(
+                &checked(alloc, THREE_MACHINES, certificate),
+                b"optimal 12\n"
+            )
+        );
         let turned = solved_from(&rt, alloc, THREE_MACHINES, start, true);
         assert!(rt; wrote(&turned, mirrored));
     }
-    let ran = solved_from(&rt, alloc, THREE_MACHINES, b"sequence 2 1 3\nmakespan 13\n", false);
+    let ran = solved_from(
+        &rt,
+        alloc,
+        THREE_MACHINES,
+        b"sequence 2 1 3\nmakespan 13\n",
+        false,
+    );
     assert!(rt; wrote(&ran, DEPTH_0));
     let ran = solved_from(&rt, alloc, ONE_JOB, b"sequence 1\nmakespan 0\n", true);
     assert!(rt; wrote(&ran, b"flowshop certificate 1\n1 1 0\n0\n1\nA\nend\n"));
@@ -704,10 +715,7 @@ const FAULT_LINES: [(ToolFault, &str); 35] = [
     ),
     (ToolFault::Text(TextFault::Times(9)), "refused text Times 9"),
     (ToolFault::Index, "refused index"),
-    (
-        ToolFault::Start(StartFault::Line(2)),
-        "refused start 2",
-    ),
+    (ToolFault::Start(StartFault::Line(2)), "refused start 2"),
     (
         ToolFault::Sequence(SequenceFault::Length),
         "refused sequence Length",

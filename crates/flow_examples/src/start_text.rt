@@ -116,7 +116,10 @@ fn plain_reading(alloc: Global, text: &[u8]) -> Result<Plain, Fail> {
     let mut count = 0usize;
     for line in text.split(|byte| *byte == b'\n') {
         count = count.saturating_add(1);
-        if line.iter().all(|byte| *byte == b' ' || *byte == b'\t' || *byte == b'\r') {
+        if line
+            .iter()
+            .all(|byte| *byte == b' ' || *byte == b'\t' || *byte == b'\r')
+        {
             continue;
         }
         if jobs.is_none() {
@@ -141,18 +144,24 @@ fn plain_reading(alloc: Global, text: &[u8]) -> Result<Plain, Fail> {
 
 /// Whether a text is read as a plain reading reads it.
 fn is_read_alike(alloc: Global, text: &[u8]) -> Result<bool, Fail> {
-    Ok(match (read_start(alloc, text), plain_reading(alloc, text)?) {
-        (Ok(start), Ok((jobs, makespan, line))) => {
-            let claim = match start.claim {
-                Some(claim) => (u64::from(claim.makespan), claim.line),
-                None => (0, 0),
-            };
-            claim == (makespan, line)
-                && start.jobs.iter().map(|job| u64::from(*job)).eq(jobs.iter().copied())
-        }
-        (Err(StartFault::Line(found)), Err(line)) => found == line,
-        _ => false,
-    })
+    Ok(
+        match (read_start(alloc, text), plain_reading(alloc, text)?) {
+            (Ok(start), Ok((jobs, makespan, line))) => {
+                let claim = match start.claim {
+                    Some(claim) => (u64::from(claim.makespan), claim.line),
+                    None => (0, 0),
+                };
+                claim == (makespan, line)
+                    && start
+                        .jobs
+                        .iter()
+                        .map(|job| u64::from(*job))
+                        .eq(jobs.iter().copied())
+            }
+            (Err(StartFault::Line(found)), Err(line)) => found == line,
+            _ => false,
+        },
+    )
 }
 
 #[test]
@@ -170,7 +179,10 @@ fn cut_and_changed_starts_are_read_alike(rt: HostRuntime) -> Result<(), Fail> {
             if let Some(byte) = text.get_mut(place) {
                 *byte = *other;
             }
-            assert!(rt; is_read_alike(alloc, text.as_slice())?, "{other} at {place}");
+            assert!(rt;
+                is_read_alike(alloc, text.as_slice())?,
+                "{other} at {place}"
+            );
         }
     }
     Ok(())

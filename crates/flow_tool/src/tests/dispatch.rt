@@ -49,8 +49,7 @@ const OF_MIRROR: &[u8] = b"flowshop certificate 1\n3 3 0\n12\n2 1 3\n+BC+AB\nend
 const FROM_START: &[u8] = b"flowshop certificate 1\n3 3 0\n12\n3 1 2\n++B+.++.B++.B\nend\n";
 
 /// The same of the mirrored instance, from the reversed start.
-const MIRRORED_FROM_START: &[u8] =
-    b"flowshop certificate 1\n3 3 0\n12\n2 1 3\n+++.B++.B+AB\nend\n";
+const MIRRORED_FROM_START: &[u8] = b"flowshop certificate 1\n3 3 0\n12\n2 1 3\n+++.B++.B+AB\nend\n";
 
 /// What each file holds. One that is broken refuses each call.
 const FILES: [(&str, &[u8]); 12] = [
@@ -394,7 +393,10 @@ fn words_are_read_as_orders(rt: HostRuntime) -> Result<(), Fail> {
         },
     };
     assert_eq!(rt; ordered(alloc, words.as_slice()), Ok(Some(wanted)));
-    let words = words_of(alloc, "solve FILE 1 --mirrored --start SEQUENCE --workers 3")?;
+    let words = words_of(
+        alloc,
+        "solve FILE 1 --mirrored --start SEQUENCE --workers 3",
+    )?;
     let wanted = Order::SolveFrom {
         file: "FILE",
         index: 1,

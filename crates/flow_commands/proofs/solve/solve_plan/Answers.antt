@@ -13,6 +13,14 @@ returns-clause-lawful g c =
     wrote-certificate _ c.args.plan.now c.in_ok-report.report.verdict _ _ refl
     c.requires.is_plan c.in_ok-report.ensures.verdict c.in_ok-write_certificate.ensures.ok
 
+pub returns-clause-written : goal.returns-clause-written
+returns-clause-written g c = (
+  certificate_of c.args.plan.now,
+  (c.in_ok-report.ensures.within, refl),
+  rw (text-of-plan c.args.plan.now c.in_ok-report.report.verdict c.in_ok-report.ensures.verdict)
+      at c.in_ok-write_certificate.ensures.ok,
+)
+
 pub returns-in_err-write_certificate-clause-ended : goal.returns-in_err-write_certificate-clause-ended
 returns-in_err-write_certificate-clause-ended g c =
     let p =
@@ -26,5 +34,5 @@ returns-in_err-write_certificate-clause-ended g c =
 
 pub returns-in_err-report-clause-ended : goal.returns-in_err-report-clause-ended
 returns-in_err-report-clause-ended g c =
-    let p = err_from_is_err_and c.from_residual-in_err-report.result c.from_residual-in_err-report.ensures.1 in
+    let p = err_from_is_err_and c.from_residual.result c.from_residual.ensures.1 in
     rw (p.1, p.2) (run-ended _ refl c.args.plan.now _ _ _ c.in_err-report.ensures.fault)
