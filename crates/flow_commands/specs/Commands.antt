@@ -1,7 +1,7 @@
 -- What each command answers for the bytes and numbers that it is given: the text that it writes, or its first fault.
 -- That memory runs out and that a device fails is said in Runs.
 use Rattle.std.specs.Prelude.{◌≡◌, ℕ, ◌-◌, ◌≤◌, ◌<◌, ◌⊎◌, ◌++◌, List, [], ◌∷◌, length, codes, decimal, Some, None}
-use Rattle.std.specs.Prelude.{Bool, true, cond, Result, Ok, Err, slice_get}
+use Rattle.std.specs.Prelude.{Bool, true, cond, Result, Ok, Err, slice_get, Option, reverse, ◌==◌, if◌then◌else◌}
 use Rattle.std.specs.List.{flat_map}
 use Rattle.flow_core.specs.Shop.{Shop}
 use Rattle.flow_core.specs.Paths.{span}
@@ -10,9 +10,12 @@ use Rattle.flow_core.specs.TextFaults.{text_fault}
 use Rattle.flow_core.specs.Text.{Reads}
 use Rattle.flow_core.specs.Generator.{generated, generator_fault}
 use Rattle.flow_core.specs.Mirror.{mirrored}
+use Rattle.flow_core.specs.StartText.{start_of}
 use Rattle.flow_core.specs.Written.{written}
 use Rattle.flow_core.specs.declared.instance.InstanceFault.{InstanceFault}
 use Rattle.flow_core.specs.declared.text.block.Block.{Block}
+use Rattle.flow_core.specs.declared.text.start.Claim.{Claim}
+use Rattle.flow_core.specs.declared.text.start.StartFault.TheVariants.{Line}
 use Rattle.flow_bound.specs.Neh.{IsNeh}
 use Rattle.flow_bound.specs.Taillard.{taillard_bound}
 use Rattle.flow_search.specs.Choices.{Choices, options_or_fault, version_or_fault}
@@ -132,11 +135,11 @@ AnswersRun plan (Err fault) =
     (fault ≡ tool.Run Threads)
     ⊎ ((number : ℕ) × (first_over_budget plan ≡ Some number) × (fault ≡ tool.Run (OverBudget number)))
 
--- what it answers for an instance and options: the answer for their plan from the starting sequence of Nawaz, Enscore
--- and Ham, or why they have none
-abbrev pub AnswersPlan : Shop → Choices → Answer → Type 0
-AnswersPlan shop options answer =
-    ((plan : Planned) × IsPlan plan × IsNeh plan.shop plan.start.sequence × (plan.shop ≡ shop)
+-- what it answers for an instance and options: the answer for their plan from a starting sequence of this kind, or why
+-- they have none
+abbrev pub AnswersPlan : (List ℕ → Type 0) → Shop → Choices → Answer → Type 0
+AnswersPlan Starts shop options answer =
+    ((plan : Planned) × IsPlan plan × Starts plan.start.sequence × (plan.shop ≡ shop)
     × (plan.options ≡ options) × (plan_fault shop options ≡ None) × AnswersRun plan answer)
     ⊎ ((fault : PlanFault) × (plan_fault shop options ≡ Some fault) × (answer ≡ Err (tool.Plan fault)))
 
@@ -144,10 +147,10 @@ AnswersPlan shop options answer =
 abbrev pub mirrored_if : Bool → Shop → Shop
 mirrored_if asked shop = cond asked (mirrored shop) shop
 
--- what it answers for an instance, where the options are read
-abbrev pub AnswersOptions : Shop → Result Choices OptionFault → Answer → Type 0
-AnswersOptions shop (Ok options) answer = AnswersPlan shop options answer
-AnswersOptions shop (Err fault) answer = answer ≡ Err (tool.Choice fault)
+-- what it answers for an instance and a kind of starting sequence, where the options are read
+abbrev pub AnswersOptions : (List ℕ → Type 0) → Shop → Result Choices OptionFault → Answer → Type 0
+AnswersOptions Starts shop (Ok options) answer = AnswersPlan Starts shop options answer
+AnswersOptions Starts shop (Err fault) answer = answer ≡ Err (tool.Choice fault)
 
 -- the options of workers, depth, budget and version; or the first fault
 abbrev pub asked_options : ℕ → ℕ → ℕ → ℕ → Result Choices OptionFault
@@ -155,8 +158,40 @@ asked_options workers depth budget version =
     elim (options_or_fault workers depth budget)
     [ Ok options ↦ version_or_fault options version | Err fault ↦ Err fault ]
 
+-- what it answers for an instance, from the starting sequence of Nawaz, Enscore and Ham
+abbrev pub AnswersStarted : Shop → Result Choices OptionFault → Answer → Type 0
+AnswersStarted shop = AnswersOptions (IsNeh shop) shop
+
 -- what `solve` answers for a text
 abbrev pub AnswersSolve : ℕ → ℕ → ℕ → ℕ → ℕ → Bool → List ℕ → Answer → Type 0
 AnswersSolve index workers depth budget version mirror =
     AnswersFor index
-    (λ block. AnswersOptions (mirrored_if mirror block.instance) (asked_options workers depth budget version))
+    (λ block. AnswersStarted (mirrored_if mirror block.instance) (asked_options workers depth budget version))
+
+-- the jobs have the makespan that they are said to have; if not, the line that says it is at fault
+abbrev pub claimed : Shop → List ℕ → Option Claim → Result (List ℕ) ToolFault
+claimed shop jobs None = Ok jobs
+claimed shop jobs (Some claim) =
+    if claim.makespan == span shop jobs then Ok jobs else Err (tool.Start (Line claim.line))
+
+-- the sequence that a start text gives for a shop; or the first fault: of the text, of its jobs, of their makespan
+abbrev pub given_start : Shop → List ℕ → Result (List ℕ) ToolFault
+given_start shop text = elim (start_of text) [
+  | Err fault ↦ Err (tool.Start fault)
+  | Ok start ↦ elim (sequence_fault shop.jobs start.jobs) [
+    | Some fault ↦ Err (tool.Sequence fault)
+    | None ↦ claimed shop start.jobs start.claim
+  ]
+]
+
+-- the jobs, or the reversed list where the mirrored shop is asked for
+abbrev pub reversed_if : Bool → List ℕ → List ℕ
+reversed_if asked jobs = cond asked (reverse jobs) jobs
+
+-- what `solve` answers for a shop and a start text, where the options are read: that from the sequence of the text, or
+-- the fault of the text; with the mirrored shop from the reversed sequence
+abbrev pub AnswersFrom : Bool → Shop → Result Choices OptionFault → List ℕ → Answer → Type 0
+AnswersFrom mirror shop read text answer = elim (given_start shop text) [
+  | Ok jobs ↦ AnswersOptions (λ start. start ≡ reversed_if mirror jobs) (mirrored_if mirror shop) read answer
+  | Err fault ↦ answer ≡ Err fault
+]

@@ -3,16 +3,18 @@
 ghost use Rattle.std.specs.Prelude.{◌≡◌};
 ghost use Rattle.flow_core.specs.declared.bytes.fault.ReadFault.TheVariants as read;
 ghost use Rattle.flow_core.specs.declared.text.fault.TextFault.TheVariants as text;
+ghost use Rattle.flow_core.specs.declared.text.start.StartFault.TheVariants as start;
 ghost use Rattle.flow_core.specs.declared.sequence.SequenceFault.TheVariants as sequence;
 ghost use Rattle.flow_core.specs.declared.instance.InstanceFault.TheVariants as instance;
 ghost use Rattle.flow_search.specs.declared.plan.PlanFault.TheVariants as plan;
 ghost use Rattle.flow_pool.specs.declared.whole_run.SolveFault.TheVariants as solve;
 ghost use Rattle.flow_cert.specs.declared.fault.CheckFault.TheVariants as check;
-ghost use Rattle.flow_commands.specs.declared.fault.ToolFault.TheVariants.{Memory, Read, Text, Sequence, Instance};
-ghost use Rattle.flow_commands.specs.declared.fault.ToolFault.TheVariants.{Choice, Plan, Run, Certificate, Write};
+ghost use Rattle.flow_commands.specs.declared.fault.ToolFault.TheVariants.{Memory, Read, Text, Start, Sequence};
+ghost use Rattle.flow_commands.specs.declared.fault.ToolFault.TheVariants.{Instance, Choice, Plan, Run};
+ghost use Rattle.flow_commands.specs.declared.fault.ToolFault.TheVariants.{Certificate, Write};
 
 use flow_cert::CheckFault;
-use flow_core::{InstanceFault, ReadFault, SequenceFault, TextFault, WriteFault};
+use flow_core::{InstanceFault, ReadFault, SequenceFault, StartFault, TextFault, WriteFault};
 use flow_pool::SolveFault;
 use flow_search::{OptionFault, PlanFault};
 use std::alloc::AllocError;
@@ -33,6 +35,9 @@ pub enum ToolFault {
     /// The text has no block of this number.
     #[error("refused index")]
     Index,
+    /// The text is no start, or the jobs of a start have another makespan than the text says; at this line.
+    #[error("refused start {0}")]
+    Start(StartFault),
     /// The jobs are no sequence of the instance.
     #[error("refused sequence {0}")]
     Sequence(SequenceFault),
@@ -82,6 +87,17 @@ impl From<TextFault> for ToolFault {
         match fault {
             TextFault::Memory => ToolFault::Memory,
             _ => ToolFault::Text(fault),
+        }
+    }
+}
+
+impl From<StartFault> for ToolFault {
+    ghost from_gives = { λ fault given. given ≡ (elim fault [ start.Memory ↦ Memory | other ↦ Start other ]) };
+
+    fn from(fault: StartFault) -> ToolFault {
+        match fault {
+            StartFault::Memory => ToolFault::Memory,
+            _ => ToolFault::Start(fault),
         }
     }
 }

@@ -23,5 +23,5 @@ pub use fault::ToolFault;
 pub use generate::run_gen;
 pub use mirror::run_mirror;
 pub use neh::run_neh;
-pub use solve::run_solve;
+pub use solve::{run_solve, run_solve_from};
 pub use span::run_span;

@@ -1,25 +1,51 @@
 //! The command `solve`.
 
-ghost use Rattle.std.specs.Prelude.{◌≡◌, ◌↔◌, false, true, Ok, IfOk, OnOk, IfErr, IsErrOf};
+ghost use Rattle.std.specs.Prelude.{◌≡◌, ◌↔◌, ◌⊎◌, false, true, length, Ok, Err, IfOk, OnOk, IfErr, IsErrOf};
 ghost use Rattle.flow_core.specs.Bytes.{Grows};
+ghost use Rattle.flow_core.specs.Sequences.{IsSequence};
 ghost use Rattle.flow_core.specs.declared.bytes.fault.ReadFault.TheVariants as read;
 ghost use Rattle.flow_core.specs.declared.bytes.fault.WriteFault.TheVariants as write;
 ghost use Rattle.flow_core.specs.declared.text.block.Block.{Block};
-ghost use Rattle.flow_commands.specs.Commands.{AnswersPlan, AnswersSolve, Picks, asked_options, mirrored_if};
-ghost use Rattle.flow_commands.specs.Runs.{Came, Ends, EndsAlone, Wrote, WroteCertificate};
+ghost use Rattle.flow_bound.specs.Neh.{IsNeh};
+ghost use Rattle.flow_search.specs.Plans.{IsPlan};
+ghost use Rattle.flow_commands.specs.Commands.{AnswersFrom, AnswersPlan, AnswersRun, AnswersSolve, Picks};
+ghost use Rattle.flow_commands.specs.Commands.{asked_options, given_start, mirrored_if, reversed_if};
+ghost use Rattle.flow_commands.specs.Runs.{Came, Ends, EndsAlone, StopsAt, Wrote, WroteCertificate};
 ghost use Rattle.flow_commands.specs.Limits.{most_text};
 
 use crate::block::read_block;
 use crate::fault::ToolFault;
+use crate::limits::MAX_TEXT;
 use flow_cert::write_certificate;
-use flow_core::{Instance, Sink, Source};
+use flow_core::{Instance, Sequence, Sink, Source, StartFault, makespan, read_all, read_start};
 use flow_pool::{Gate, solve};
-use flow_search::{OptionFault, Options, prepare};
+use flow_search::{OptionFault, Options, Plan, prepare, prepare_from};
 use std::alloc::{AllocError, Global};
 use std::sync::Wait;
 use std::thread::Threads;
 
-/// Solves an instance, and writes the certificate of its plan.
+/// Solves a plan, and writes its certificate.
+fn solve_plan<R: Threads + Wait + Sync, G: Gate + Sync, K: Sink>(
+    rt: &R,
+    alloc: Global,
+    plan: &Plan,
+    gate: &G,
+    out: &mut K,
+) -> Result<(), ToolFault>
+    requires out_works { K.has_failed out.old ≡ false }
+    requires is_plan { IsPlan plan.now }
+    ensures written { OnOk result (Wrote (AnswersRun plan.now) (K.taken out.old) (K.taken out.new)) }
+    ensures lawful { OnOk result (WroteCertificate plan.now.shop (K.taken out.old) (K.taken out.new)) }
+    ensures ended { IfErr result (EndsAlone (out.new ≡ out.old) (AnswersRun plan.now)
+        (K.taken out.old) (K.taken out.new)) }
+    ensures write_device { IsErrOf result (ToolFault.Write write.Device) ↔ (K.has_failed out.new ≡ true) }
+{
+    let report = solve(rt, alloc, plan, gate)?;
+    write_certificate(plan, &report.verdict, out)?;
+    Ok(())
+}
+
+/// Solves an instance from the starting sequence of Nawaz, Enscore and Ham, and writes the certificate of its plan.
 fn solve_instance<R: Threads + Wait + Sync, G: Gate + Sync, K: Sink>(
     rt: &R,
     alloc: Global,
@@ -29,16 +55,38 @@ fn solve_instance<R: Threads + Wait + Sync, G: Gate + Sync, K: Sink>(
     out: &mut K,
 ) -> Result<(), ToolFault>
     requires { K.has_failed out.old ≡ false }
-    ensures written { OnOk result (Wrote (AnswersPlan instance.now options) (K.taken out.old) (K.taken out.new)) }
+    ensures written { OnOk result (Wrote (AnswersPlan (IsNeh instance.now) instance.now options)
+        (K.taken out.old) (K.taken out.new)) }
     ensures lawful { OnOk result (WroteCertificate instance.now (K.taken out.old) (K.taken out.new)) }
-    ensures ended { IfErr result (EndsAlone (out.new ≡ out.old) (AnswersPlan instance.now options)
+    ensures ended { IfErr result (EndsAlone (out.new ≡ out.old) (AnswersPlan (IsNeh instance.now) instance.now options)
         (K.taken out.old) (K.taken out.new)) }
     ensures write_device { IsErrOf result (ToolFault.Write write.Device) ↔ (K.has_failed out.new ≡ true) }
 {
     let plan = prepare(alloc, instance, options)?;
-    let report = solve(rt, alloc, &plan, gate)?;
-    write_certificate(&plan, &report.verdict, out)?;
-    Ok(())
+    solve_plan(rt, alloc, &plan, gate, out)
+}
+
+/// Solves an instance from a sequence of it, and writes the certificate of its plan.
+fn solve_instance_from<R: Threads + Wait + Sync, G: Gate + Sync, K: Sink>(
+    rt: &R,
+    alloc: Global,
+    instance: &Instance,
+    start: Sequence,
+    options: Options,
+    gate: &G,
+    out: &mut K,
+) -> Result<(), ToolFault>
+    requires out_works { K.has_failed out.old ≡ false }
+    requires is_sequence { IsSequence instance.now.jobs start }
+    ensures written { OnOk result (Wrote (AnswersPlan (λ jobs. jobs ≡ start) instance.now options)
+        (K.taken out.old) (K.taken out.new)) }
+    ensures lawful { OnOk result (WroteCertificate instance.now (K.taken out.old) (K.taken out.new)) }
+    ensures ended { IfErr result (EndsAlone (out.new ≡ out.old)
+        (AnswersPlan (λ jobs. jobs ≡ start) instance.now options) (K.taken out.old) (K.taken out.new)) }
+    ensures write_device { IsErrOf result (ToolFault.Write write.Device) ↔ (K.has_failed out.new ≡ true) }
+{
+    let plan = prepare_from(alloc, instance, start, options)?;
+    solve_plan(rt, alloc, &plan, gate, out)
 }
 
 /// The options of four numbers; or the first fault, that of the version last.
@@ -95,4 +143,172 @@ pub fn run_solve<R: Threads + Wait + Sync, S: Source, G: Gate + Sync, K: Sink>(
     let options = options_of(workers, depth, budget, version)?;
     let instance = turned(alloc, block.instance, mirror)?;
     solve_instance(rt, alloc, &instance, options, gate, out)
+}
+
+/// The sequence that a start text gives for an instance; or the first fault of the text, of its jobs, or of its
+/// makespan.
+fn given_sequence(alloc: Global, instance: &Instance, text: &[u8]) -> Result<Sequence, ToolFault>
+    ensures value { IfOk result (λ sequence. given_start instance.now text.now ≡ Ok sequence) }
+    ensures each { IfOk result (λ sequence. IsSequence instance.now.jobs sequence) }
+    ensures refused { IfErr result (λ fault. (fault ≡ ToolFault.Memory)
+        ⊎ (given_start instance.now text.now ≡ Err fault)) }
+    ensures reads_nothing { IsErrOf result (ToolFault.Read read.Device) → ⊥ }
+    ensures writes_nothing { IsErrOf result (ToolFault.Write write.Device) → ⊥ }
+{
+    let start = read_start(alloc, text)?;
+    let sequence = Sequence::new(alloc, instance, start.jobs.as_slice())?;
+    if let Some(claim) = start.claim {
+        if u64::from(claim.makespan) != makespan(instance, &sequence) {
+            return Err(ToolFault::Start(StartFault::Line(claim.line)));
+        }
+    }
+    Ok(sequence)
+}
+
+/// The sequence, or the reversed one where the mirrored instance is asked for.
+fn turned_start(start: Sequence, mirror: bool) -> Sequence
+    ensures value { result ≡ reversed_if mirror start }
+    ensures each { IsSequence (length start) result }
+{
+    if mirror {
+        return start.reversed();
+    }
+    start
+}
+
+/// Solves an instance from the sequence that a start text gives, or with `mirror` the mirrored instance from the
+/// reversed sequence, and writes the certificate of its plan.
+fn solve_given<R: Threads + Wait + Sync, G: Gate + Sync, K: Sink>(
+    rt: &R,
+    alloc: Global,
+    instance: Instance,
+    text: &[u8],
+    workers: u32,
+    depth: u32,
+    budget: u32,
+    version: u32,
+    mirror: bool,
+    gate: &G,
+    out: &mut K,
+) -> Result<(), ToolFault>
+    requires { K.has_failed out.old ≡ false }
+    ensures written { OnOk result
+        (Wrote (AnswersFrom mirror instance (asked_options workers depth budget version) text.now)
+        (K.taken out.old) (K.taken out.new)) }
+    ensures lawful { OnOk result (WroteCertificate (mirrored_if mirror instance) (K.taken out.old) (K.taken out.new)) }
+    ensures ended { IfErr result (EndsAlone (out.new ≡ out.old)
+        (AnswersFrom mirror instance (asked_options workers depth budget version) text.now)
+        (K.taken out.old) (K.taken out.new)) }
+    ensures write_device { IsErrOf result (ToolFault.Write write.Device) ↔ (K.has_failed out.new ≡ true) }
+    ensures reads_nothing { IsErrOf result (ToolFault.Read read.Device) → ⊥ }
+{
+    let start = given_sequence(alloc, &instance, text)?;
+    let options = options_of(workers, depth, budget, version)?;
+    let instance = turned(alloc, instance, mirror)?;
+    let start = turned_start(start, mirror);
+    solve_instance_from(rt, alloc, &instance, start, options, gate, out)
+}
+
+/// Reads a start text, and solves an instance from its sequence, or with `mirror` the mirrored instance from the
+/// reversed sequence; writes the certificate of its plan.
+fn solve_started<R: Threads + Wait + Sync, T: Source, G: Gate + Sync, K: Sink>(
+    rt: &R,
+    alloc: Global,
+    instance: Instance,
+    start: &mut T,
+    workers: u32,
+    depth: u32,
+    budget: u32,
+    version: u32,
+    mirror: bool,
+    gate: &G,
+    out: &mut K,
+) -> Result<(), ToolFault>
+    requires start_works { T.has_failed start.old ≡ false }
+    requires out_works { K.has_failed out.old ≡ false }
+    ensures written { OnOk result (Came most_text (λ bytes.
+        Wrote (AnswersFrom mirror instance (asked_options workers depth budget version) bytes)
+        (K.taken out.old) (K.taken out.new))
+        (T.given start.old) (T.given start.new) (T.has_ended start.new)) }
+    ensures lawful { OnOk result (WroteCertificate (mirrored_if mirror instance) (K.taken out.old) (K.taken out.new)) }
+    ensures ended { IfErr result (Ends (out.new ≡ out.old) most_text
+        (AnswersFrom mirror instance (asked_options workers depth budget version))
+        (T.given start.old) (T.given start.new) (T.has_ended start.new) (K.taken out.old) (K.taken out.new)) }
+    ensures read_device { IsErrOf result (ToolFault.Read read.Device) ↔ (T.has_failed start.new ≡ true) }
+    ensures write_device { IsErrOf result (ToolFault.Write write.Device) ↔ (K.has_failed out.new ≡ true) }
+    ensures stands { Grows (T.given start.old) (T.given start.new) }
+{
+    let text = read_all(alloc, start, MAX_TEXT)?;
+    solve_given(
+        rt,
+        alloc,
+        instance,
+        text.as_slice(),
+        workers,
+        depth,
+        budget,
+        version,
+        mirror,
+        gate,
+        out,
+    )
+}
+
+/// Solves the block that an index names from a starting sequence, and writes the certificate of its plan, in a
+/// version; with `mirror` that of the mirrored instance, from the reversed sequence.
+pub fn run_solve_from<R: Threads + Wait + Sync, S: Source, T: Source, G: Gate + Sync, K: Sink>(
+    rt: &R,
+    alloc: Global,
+    file: &mut S,
+    index: u32,
+    start: &mut T,
+    workers: u32,
+    depth: u32,
+    budget: u32,
+    version: u32,
+    mirror: bool,
+    gate: &G,
+    out: &mut K,
+) -> Result<(), ToolFault>
+    requires file_works { S.has_failed file.old ≡ false }
+    requires start_works { T.has_failed start.old ≡ false }
+    requires out_works { K.has_failed out.old ≡ false }
+    ensures written { OnOk result (Came most_text (λ text. (block : Block) × Picks text index (Ok block)
+        × Came most_text (λ bytes.
+        Wrote (AnswersFrom mirror block.instance (asked_options workers depth budget version) bytes)
+        (K.taken out.old) (K.taken out.new))
+        (T.given start.old) (T.given start.new) (T.has_ended start.new))
+        (S.given file.old) (S.given file.new) (S.has_ended file.new)) }
+    ensures lawful { OnOk result (Came most_text (λ text.
+        (block : Block) × Picks text index (Ok block)
+        × WroteCertificate (mirrored_if mirror block.instance) (K.taken out.old) (K.taken out.new))
+        (S.given file.old) (S.given file.new) (S.has_ended file.new)) }
+    ensures ended { IfErr result (λ fault. ((out.new ≡ out.old) × (start.new ≡ start.old)
+        × StopsAt most_text (λ text refusal. Picks text index (Err refusal))
+        (S.given file.old) (S.given file.new) (S.has_ended file.new) fault)
+        ⊎ Came most_text (λ text. (block : Block) × Picks text index (Ok block)
+        × Ends (out.new ≡ out.old) most_text
+        (AnswersFrom mirror block.instance (asked_options workers depth budget version))
+        (T.given start.old) (T.given start.new) (T.has_ended start.new) (K.taken out.old) (K.taken out.new) fault)
+        (S.given file.old) (S.given file.new) (S.has_ended file.new)) }
+    ensures read_device { IsErrOf result (ToolFault.Read read.Device)
+        ↔ ((S.has_failed file.new ≡ true) ⊎ (T.has_failed start.new ≡ true)) }
+    ensures write_device { IsErrOf result (ToolFault.Write write.Device) ↔ (K.has_failed out.new ≡ true) }
+    ensures stands { Grows (S.given file.old) (S.given file.new) }
+    ensures start_stands { Grows (T.given start.old) (T.given start.new) }
+{
+    let block = read_block(alloc, file, index)?;
+    solve_started(
+        rt,
+        alloc,
+        block.instance,
+        start,
+        workers,
+        depth,
+        budget,
+        version,
+        mirror,
+        gate,
+        out,
+    )
 }

@@ -2,11 +2,11 @@
 
 ghost use Rattle.std.specs.Prelude.{◌≡◌, ◌<◌, ◌||◌, None, false, length, IfOk, is_err};
 
-use crate::{ToolFault, run_check, run_gen, run_neh, run_solve, run_span};
+use crate::{ToolFault, run_check, run_gen, run_neh, run_solve, run_solve_from, run_span};
 use flow_cert::CheckFault;
 use flow_core::{
-    InstanceFault, MemorySink, MemorySource, ReadFault, Refused, SequenceFault, Source, TextFault,
-    WriteFault,
+    InstanceFault, MemorySink, MemorySource, ReadFault, Refused, SequenceFault, Source, StartFault,
+    TextFault, WriteFault,
 };
 use flow_pool::{Gate, Open, SolveFault};
 use flow_search::{OptionFault, PlanFault};
@@ -101,6 +101,33 @@ fn solved_as<T: Threads + Wait + Sync>(
         depth,
         budget,
         version,
+        mirror,
+        &Open,
+        &mut out,
+    )?;
+    Ok(out)
+}
+
+/// A run of `solve` with one worker at depth 0 from a start text, for the instance or the mirrored one.
+fn solved_from<T: Threads + Wait + Sync>(
+    rt: &T,
+    alloc: Global,
+    text: &[u8],
+    start: &[u8],
+    mirror: bool,
+) -> Ran {
+    let mut out = MemorySink::new(alloc, ROOM);
+    let mut start = MemorySource::new(start, 5, None);
+    run_solve_from(
+        rt,
+        alloc,
+        &mut all_of(text),
+        1,
+        &mut start,
+        1,
+        0,
+        AMPLE,
+        1,
         mirror,
         &Open,
         &mut out,
@@ -265,6 +292,187 @@ fn solve_names_options_plan_and_budget(rt: HostRuntime) -> Result<(), Fail> {
     assert!(rt; refused(&ran, ToolFault::Choice(OptionFault::Budget)));
     let ran = solved(&rt, alloc, ONE_JOB, 1, 2, AMPLE);
     assert!(rt; refused(&ran, ToolFault::Plan(PlanFault::Depth)));
+    Ok(())
+}
+
+/// Certificates of the first text from three starts, and of its mirrored instance from the reversed starts. They were
+/// computed apart from the program, by the definitions.
+const FROM_STARTS: [(&[u8], &[u8], &[u8]); 3] = [
+    (
+        b"sequence 1 2 3\nmakespan 15\n",
+        b"flowshop certificate 1\n3 3 0\n12\n3 1 2\n++B+.++.B++.B\nend\n",
+        b"flowshop certificate 1\n3 3 0\n12\n2 1 3\n+++.B++.B+AB\nend\n",
+    ),
+    (
+        b"sequence 3 2 1",
+        b"flowshop certificate 1\n3 3 0\n12\n3 1 2\n+B++.B++.B\nend\n",
+        b"flowshop certificate 1\n3 3 0\n12\n2 1 3\n+B++.B+AB\nend\n",
+    ),
+    (
+        b"\r\n\tsequence  03 1\t2 \r\n\n makespan 12",
+        b"flowshop certificate 1\n3 3 0\n12\n3 1 2\n+BC+AB\nend\n",
+        b"flowshop certificate 1\n3 3 0\n12\n2 1 3\n+BC+AB\nend\n",
+    ),
+];
+
+#[test]
+fn solve_searches_from_the_given_start(rt: HostRuntime) -> Result<(), Fail> {
+    let alloc = rt.alloc();
+    for (start, certificate, mirrored) in FROM_STARTS {
+        let own = solved_from(&rt, alloc, THREE_MACHINES, start, false);
+        assert!(rt; wrote(&own, certificate));
+        assert!(rt;
+            wrote(
+                &checked(alloc, THREE_MACHINES, certificate),
+                b"optimal 12\n"
+            )
+        );
+        let turned = solved_from(&rt, alloc, THREE_MACHINES, start, true);
+        assert!(rt; wrote(&turned, mirrored));
+    }
+    let ran = solved_from(
+        &rt,
+        alloc,
+        THREE_MACHINES,
+        b"sequence 2 1 3\nmakespan 13\n",
+        false,
+    );
+    assert!(rt; wrote(&ran, DEPTH_0));
+    let ran = solved_from(&rt, alloc, ONE_JOB, b"sequence 1\nmakespan 0\n", true);
+    assert!(rt; wrote(&ran, b"flowshop certificate 1\n1 1 0\n0\n1\nA\nend\n"));
+    Ok(())
+}
+
+/// Start texts for three jobs, and their faults.
+const OTHER_STARTS: [(&[u8], ToolFault); 12] = [
+    (b"", ToolFault::Start(StartFault::Line(1))),
+    (b"2 1 3\n", ToolFault::Start(StartFault::Line(1))),
+    (
+        b"sequence 2 1 3\nmakespan x\n",
+        ToolFault::Start(StartFault::Line(2)),
+    ),
+    (
+        b"sequence 9 9\nmakespan x\n",
+        ToolFault::Start(StartFault::Line(2)),
+    ),
+    (
+        b"\nsequence 2 1 3\n\nmakespan 14\n",
+        ToolFault::Start(StartFault::Line(4)),
+    ),
+    (
+        b"sequence 2 1 3\nmakespan 12\n",
+        ToolFault::Start(StartFault::Line(2)),
+    ),
+    (
+        b"sequence 2 1 3\nmakespan 13\nend\n",
+        ToolFault::Start(StartFault::Line(3)),
+    ),
+    (b"sequence\n", ToolFault::Sequence(SequenceFault::Length)),
+    (
+        b"sequence 2 1\nmakespan 14\n",
+        ToolFault::Sequence(SequenceFault::Length),
+    ),
+    (
+        b"sequence 2 4 2\n",
+        ToolFault::Sequence(SequenceFault::Job(2)),
+    ),
+    (
+        b"sequence 2 1 65535\n",
+        ToolFault::Sequence(SequenceFault::Job(3)),
+    ),
+    (
+        b"sequence 2 2 4\nmakespan 13\n",
+        ToolFault::Sequence(SequenceFault::Twice(2)),
+    ),
+];
+
+#[test]
+fn solve_names_the_fault_of_a_start(rt: HostRuntime) -> Result<(), Fail> {
+    let alloc = rt.alloc();
+    for (start, fault) in OTHER_STARTS {
+        for mirror in [false, true] {
+            let ran = solved_from(&rt, alloc, THREE_MACHINES, start, mirror);
+            assert!(rt; refused(&ran, fault));
+        }
+    }
+    let ran = solved_from(&rt, alloc, b"", b"", false);
+    assert!(rt; refused(&ran, ToolFault::Text(TextFault::NoBlock)));
+    Ok(())
+}
+
+/// A run of `solve` from a start text that ends with this fault, with an index, options, and how many bytes the start
+/// gives before it refuses.
+fn fault_from<T: Threads + Wait + Sync>(
+    rt: &T,
+    alloc: Global,
+    index: u32,
+    start: &[u8],
+    most: Option<usize>,
+    workers: u32,
+    budget: u32,
+) -> Ran {
+    let mut out = MemorySink::new(alloc, ROOM);
+    let mut start = MemorySource::new(start, 5, most);
+    run_solve_from(
+        rt,
+        alloc,
+        &mut all_of(THREE_MACHINES),
+        index,
+        &mut start,
+        workers,
+        0,
+        budget,
+        1,
+        false,
+        &Open,
+        &mut out,
+    )?;
+    Ok(out)
+}
+
+#[test]
+fn solve_tests_the_start_in_its_place(rt: HostRuntime) -> Result<(), Fail> {
+    let alloc = rt.alloc();
+    let start: &[u8] = b"sequence 2 1 3\nmakespan 13\n";
+    let wrong: &[u8] = b"sequence 2 1 3\nmakespan 14\n";
+    let ran = fault_from(&rt, alloc, 2, start, Some(0), 65, 1);
+    assert!(rt; refused(&ran, ToolFault::Index));
+    let ran = fault_from(&rt, alloc, 1, start, Some(20), 65, 1);
+    assert!(rt; refused(&ran, ToolFault::Read(ReadFault::Device)));
+    let ran = fault_from(&rt, alloc, 1, wrong, None, 65, 1);
+    assert!(rt; refused(&ran, ToolFault::Start(StartFault::Line(2))));
+    let ran = fault_from(&rt, alloc, 1, start, None, 65, 1);
+    assert!(rt; refused(&ran, ToolFault::Choice(OptionFault::Workers)));
+    let ran = fault_from(&rt, alloc, 1, start, None, 1, 6);
+    assert!(rt; refused(&ran, ToolFault::Run(SolveFault::OverBudget(0))));
+    assert!(rt; wrote(&fault_from(&rt, alloc, 1, start, None, 64, 7), DEPTH_0));
+    Ok(())
+}
+
+#[test]
+fn solve_stops_an_endless_start(rt: HostRuntime) -> Result<(), Fail> {
+    let mut out = MemorySink::new(rt.alloc(), ROOM);
+    let mut start = Endless {
+        given: 0,
+        failed: false,
+    };
+    let mut file = all_of(THREE_MACHINES);
+    let ran = run_solve_from(
+        &rt,
+        rt.alloc(),
+        &mut file,
+        1,
+        &mut start,
+        1,
+        0,
+        AMPLE,
+        1,
+        false,
+        &Open,
+        &mut out,
+    );
+    assert_eq!(rt; ran, Err(ToolFault::Read(ReadFault::TooLong)));
+    assert!(rt; out.bytes().is_empty());
     Ok(())
 }
 
@@ -489,7 +697,7 @@ fn run_solve_starts_workers(rt: HostRuntime) -> Result<(), Fail> {
 }
 
 /// The line on standard error for each fault.
-const FAULT_LINES: [(ToolFault, &str); 34] = [
+const FAULT_LINES: [(ToolFault, &str); 35] = [
     (ToolFault::Memory, "refused memory"),
     (ToolFault::Read(ReadFault::Device), "failed read Device"),
     (ToolFault::Read(ReadFault::TooLong), "failed read TooLong"),
@@ -507,6 +715,7 @@ const FAULT_LINES: [(ToolFault, &str); 34] = [
     ),
     (ToolFault::Text(TextFault::Times(9)), "refused text Times 9"),
     (ToolFault::Index, "refused index"),
+    (ToolFault::Start(StartFault::Line(2)), "refused start 2"),
     (
         ToolFault::Sequence(SequenceFault::Length),
         "refused sequence Length",

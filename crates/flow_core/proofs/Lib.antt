@@ -22,3 +22,4 @@ pub mod RowSteps
 pub mod Mirrors
 pub mod ReversedSequence
 pub mod MirrorLemmas
+pub mod StartLemmas

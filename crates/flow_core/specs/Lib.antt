@@ -18,4 +18,5 @@ pub mod Lines
 pub mod Text
 pub mod TextFaults
 pub mod Written
+pub mod StartText
 pub mod internal

@@ -1,4 +1,5 @@
 pub mod TextWalk
+pub mod StartSteps
 pub mod Codes
 pub mod Turned
 pub mod Same

@@ -32,4 +32,4 @@ pub use limits::{
 };
 pub use row::{Row, rows};
 pub use sequence::{Sequence, SequenceFault};
-pub use text::{Block, TextFault, block_text, read_blocks};
+pub use text::{Block, Claim, Start, StartFault, TextFault, block_text, read_blocks, read_start};

@@ -24,6 +24,8 @@ mod plain;
 #[cfg(test)]
 mod search;
 #[cfg(test)]
+mod start_text;
+#[cfg(test)]
 mod starts;
 #[cfg(test)]
 mod text;

@@ -4,8 +4,10 @@ ghost use Rattle.std.specs.Prelude.{◌≡◌, false};
 
 use crate::trouble::{Trouble, confirm};
 use flow_cert::CheckFault;
-use flow_commands::{ToolFault, run_check, run_gen, run_mirror, run_neh, run_solve, run_span};
-use flow_core::{MemorySink, MemorySource};
+use flow_commands::{
+    ToolFault, run_check, run_gen, run_mirror, run_neh, run_solve, run_solve_from, run_span,
+};
+use flow_core::{MemorySink, MemorySource, StartFault};
 use flow_examples::{
     AMPLE, CERTIFICATE_AT_DEPTH_0, GENERATED_TEXT, THREE_MACHINES_TEXT, TIGHT, TWO_MACHINES_TEXT,
     WEAK_CERTIFICATE,
@@ -23,6 +25,10 @@ const MIRRORED_TEXT: &[u8] =
 /// The certificate of the mirrored instance of three machines at depth 0, in version 2. It was computed apart from the
 /// program, by the definitions.
 const MIRRORED_CERTIFICATE: &[u8] = b"flowshop certificate 2\n3 3 0\n12\n2 1 3\n+BC+AB\nend\n";
+
+/// The certificate of the mirrored instance of three machines at depth 0 from the reversed start `1 2 3`. It was
+/// computed apart from the program, by the definitions.
+const STARTED_CERTIFICATE: &[u8] = b"flowshop certificate 1\n3 3 0\n12\n2 1 3\n+++.B++.B+AB\nend\n";
 
 /// A source of all these bytes.
 fn all_of(bytes: &[u8]) -> MemorySource
@@ -152,6 +158,35 @@ pub(crate) fn mirrored_is_solved<T: Threads + Wait + Sync>(
         MIRRORED_CERTIFICATE,
         "run_solve of the mirrored instance",
     )
+}
+
+/// `run_solve_from` of the mirrored instance.
+pub(crate) fn start_is_solved<T: Threads + Wait + Sync>(
+    threads: &T,
+    alloc: Global,
+) -> Result<(), Trouble> {
+    let mut out = room(alloc);
+    let mut file = all_of(THREE_MACHINES_TEXT);
+    let mut start = all_of(b"sequence 1 2 3\nmakespan 15\n");
+    let ran = run_solve_from(
+        threads, alloc, &mut file, 1, &mut start, 2, 0, AMPLE, 1, true, &Open, &mut out,
+    );
+    confirm_written(ran, &out, STARTED_CERTIFICATE, "run_solve_from")
+}
+
+/// `run_solve_from` of a start with another makespan.
+pub(crate) fn start_is_refused<T: Threads + Wait + Sync>(
+    threads: &T,
+    alloc: Global,
+) -> Result<(), Trouble> {
+    let mut out = room(alloc);
+    let mut file = all_of(THREE_MACHINES_TEXT);
+    let mut start = all_of(b"sequence 1 2 3\nmakespan 14\n");
+    let ran = run_solve_from(
+        threads, alloc, &mut file, 1, &mut start, 2, 0, AMPLE, 1, false, &Open, &mut out,
+    );
+    let fault = ToolFault::Start(StartFault::Line(2));
+    confirm_refused(ran, &out, fault, "run_solve_from of another makespan")
 }
 
 /// `run_check` of a certificate.

@@ -34,7 +34,7 @@ const REFUSED: u8 = 1;
 const WRONG: u8 = 2;
 
 /// How many groups of calls there are.
-const GROUPS: usize = 28;
+const GROUPS: usize = 31;
 
 /// Makes all calls: each group, also where one before it did not return what it should.
 fn found<T: Threads + Wait + Sync>(threads: &T, alloc: Global) -> [Result<(), Trouble>; GROUPS] {
@@ -44,6 +44,7 @@ fn found<T: Threads + Wait + Sync>(threads: &T, alloc: Global) -> [Result<(), Tr
         instances::instance_is_mirrored(alloc),
         instances::rows_are_made(alloc),
         texts::text_is_read(alloc),
+        texts::start_is_read(alloc),
         texts::source_is_read(alloc),
         texts::sink_takes_all(alloc),
         bounds::starting_sequence_is_found(alloc),
@@ -64,6 +65,8 @@ fn found<T: Threads + Wait + Sync>(threads: &T, alloc: Global) -> [Result<(), Tr
         commands::solve_is_run(threads, alloc),
         commands::solve_is_refused(threads, alloc),
         commands::mirrored_is_solved(threads, alloc),
+        commands::start_is_solved(threads, alloc),
+        commands::start_is_refused(threads, alloc),
         commands::check_is_run(alloc),
         commands::check_is_refused(alloc),
         commands::mirrored_is_checked(alloc),

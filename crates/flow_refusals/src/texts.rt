@@ -1,7 +1,9 @@
-//! Benchmark text, sinks and sources.
+//! Benchmark text, start text, sinks and sources.
 
 use crate::trouble::{Trouble, confirm};
-use flow_core::{MemorySink, MemorySource, Sink, block_text, put_all, read_all, read_blocks};
+use flow_core::{
+    Claim, MemorySink, MemorySource, Sink, block_text, put_all, read_all, read_blocks, read_start,
+};
 use flow_examples::{TWO_MACHINES_TEXT, two_machines};
 use std::alloc::Global;
 
@@ -15,6 +17,18 @@ pub(crate) fn text_is_read(alloc: Global) -> Result<(), Trouble> {
     confirm(block.instance == expected, "read_blocks")?;
     let text = block_text(alloc, block)?;
     confirm(text.as_slice() == TWO_MACHINES_TEXT, "block_text")
+}
+
+/// `read_start`.
+pub(crate) fn start_is_read(alloc: Global) -> Result<(), Trouble> {
+    let start = read_start(alloc, b"sequence 2 3 1\nmakespan 9\n")?;
+    let right = start.jobs.as_slice() == [2, 3, 1].as_slice()
+        && start.claim
+            == Some(Claim {
+                makespan: 9,
+                line: 2,
+            });
+    confirm(right, "read_start")
 }
 
 /// `read_all`.

@@ -1,7 +1,7 @@
 //! Why a group of calls did not return what it should.
 
 use flow_cert::CheckFault;
-use flow_core::{InstanceFault, ReadFault, SequenceFault, TextFault};
+use flow_core::{InstanceFault, ReadFault, SequenceFault, StartFault, TextFault};
 use flow_pool::SolveFault;
 use flow_search::{OptionFault, PlanFault, RunFault};
 use std::alloc::{AllocError, AllocFailed};
@@ -59,6 +59,15 @@ impl From<TextFault> for Trouble {
         match fault {
             TextFault::Memory => Trouble::Refused,
             _ => Trouble::Wrong("the fault of a text"),
+        }
+    }
+}
+
+impl From<StartFault> for Trouble {
+    fn from(fault: StartFault) -> Trouble {
+        match fault {
+            StartFault::Memory => Trouble::Refused,
+            _ => Trouble::Wrong("the fault of a start"),
         }
     }
 }

@@ -3,7 +3,7 @@
 ghost use Rattle.std.specs.Prelude.{◌≡◌, ◌≤◌, List, ℕ, length, false, Ok, OnOk, IfErr};
 ghost use Rattle.flow_core.specs.declared.text.block.Block.{Block};
 ghost use Rattle.flow_commands.specs.Commands.{AnswersCheck, AnswersFor, Picks};
-ghost use Rattle.flow_tool.specs.internal.Asked.{AnswersAsked, WroteOrdered};
+ghost use Rattle.flow_tool.specs.internal.Asked.{AnswersAsked, AnswersRunFrom, WroteOrdered};
 ghost use Rattle.flow_commands.specs.Limits.{most_certificate, most_text};
 ghost use Rattle.flow_commands.specs.Runs.{Came, Ends, Wrote, WroteLeast};
 
@@ -11,10 +11,12 @@ use crate::inputs::Inputs;
 use crate::stop::Stop;
 use clap::Error;
 use clap::error::ErrorKind;
-use flow_commands::{ToolFault, run_check, run_gen, run_mirror, run_neh, run_solve, run_span};
+use flow_commands::{
+    ToolFault, run_check, run_gen, run_mirror, run_neh, run_solve, run_solve_from, run_span,
+};
 use flow_core::{Sink, Source, put_all};
 use flow_pool::Open;
-use flow_words::{OfBlock, Order, make_command, order_of};
+use flow_words::{OfBlock, Order, Run, make_command, order_of};
 use std::alloc::Global;
 use std::convert::AsStr;
 use std::sync::Wait;
@@ -58,7 +60,7 @@ fn write_help<K: Sink>(alloc: Global, help: &Error, out: &mut K) -> Result<(), T
 }
 
 /// Runs the command that was asked for. All files are opened before a byte is read: first that of the text, then that
-/// of the certificate.
+/// of the certificate or the start.
 fn obey<R: Threads + Wait + Sync, I: Inputs, K: Sink>(
     rt: &R,
     alloc: Global,
@@ -82,6 +84,19 @@ fn obey<R: Threads + Wait + Sync, I: Inputs, K: Sink>(
             }
             let mut text = inputs.open(*file).ok_or(Stop::Open)?;
             Ok(obey_for_block(rt, alloc, &mut text, *index, what, out)?)
+        }
+        Order::SolveFrom {
+            file,
+            index,
+            start,
+            run,
+        } => {
+            if *file == STANDARD {
+                let mut text = inputs.standard();
+                return solve_named(rt, alloc, inputs, &mut text, *index, *start, *run, out);
+            }
+            let mut text = inputs.open(*file).ok_or(Stop::Open)?;
+            solve_named(rt, alloc, inputs, &mut text, *index, *start, *run, out)
         }
         Order::Check {
             file,
@@ -120,16 +135,55 @@ fn obey_for_block<R: Threads + Wait + Sync, S: Source, K: Sink>(
         OfBlock::Span { jobs } => run_span(alloc, text, index, jobs.as_slice(), out),
         OfBlock::Neh => run_neh(alloc, text, index, out),
         OfBlock::Mirror => run_mirror(alloc, text, index, out),
-        OfBlock::Solve {
-            workers,
-            depth,
-            budget,
-            version,
-            mirror,
-        } => run_solve(
-            rt, alloc, text, index, *workers, *depth, *budget, *version, *mirror, &Open, out,
+        OfBlock::Solve { run } => run_solve(
+            rt,
+            alloc,
+            text,
+            index,
+            run.workers,
+            run.depth,
+            run.budget,
+            run.version,
+            run.mirror,
+            &Open,
+            out,
         ),
     }
+}
+
+/// Solves a block from the starting sequence in the file of this name.
+fn solve_named<R: Threads + Wait + Sync, I: Inputs, S: Source, K: Sink>(
+    rt: &R,
+    alloc: Global,
+    inputs: &I,
+    text: &mut S,
+    index: u32,
+    start: &str,
+    run: Run,
+    out: &mut K,
+) -> Result<(), Stop>
+    requires text_works { S.has_failed text.old ≡ false }
+    requires out_works { K.has_failed out.old ≡ false }
+    ensures written { OnOk result (Came most_text (λ bytes. (start : List ℕ) × (length start ≤ most_text)
+        × Wrote (AnswersFor index (λ block. AnswersRunFrom run block.instance start) bytes)
+        (K.taken out.old) (K.taken out.new))
+        (S.given text.old) (S.given text.new) (S.has_ended text.new)) }
+{
+    let mut start = inputs.open(start).ok_or(Stop::Open)?;
+    Ok(run_solve_from(
+        rt,
+        alloc,
+        text,
+        index,
+        &mut start,
+        run.workers,
+        run.depth,
+        run.budget,
+        run.version,
+        run.mirror,
+        &Open,
+        out,
+    )?)
 }
 
 /// Checks the certificate in the file of this name.

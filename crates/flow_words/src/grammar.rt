@@ -91,10 +91,11 @@ fn solve_command<'a>(alloc: Global) -> Result<Command<'a>, AllocError> {
         .arg(depth)?
         .arg(budget)?
         .arg(version)?
+        .arg(start(alloc))?
         .arg(flag(
             alloc,
             "mirrored",
-            "Solves the instance with its machines in reverse order",
+            "Solves the instance with its machines in reverse order, and from the reversed start",
         ))
 }
 
@@ -165,6 +166,15 @@ fn option<'a>(
         .default_value(default)
         .help(help)
         .value_parser(value_parser!(u32))
+}
+
+/// The file of a starting sequence, which may be left out.
+fn start<'a>(alloc: Global) -> Arg<'a> {
+    Arg::new(alloc, "start")
+        .long("start")
+        .value_name("SEQUENCE")
+        .action(ArgAction::Set)
+        .help("The file of a starting sequence, as neh prints it, for example: sequence 2 1 3")
 }
 
 /// A choice with a long name, which is taken or left out.

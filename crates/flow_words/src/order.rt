@@ -24,6 +24,17 @@ pub enum Order<'a> {
         /// What is asked for of the block.
         what: OfBlock,
     },
+    /// A certificate of the least makespan of a block of a text, from a starting sequence.
+    SolveFrom {
+        /// The name of the text's file.
+        file: &'a str,
+        /// The block's number in the text, from 1.
+        index: u32,
+        /// The name of the starting sequence's file.
+        start: &'a str,
+        /// How the block is solved.
+        run: Run,
+    },
     /// The value that a certificate proves least for a block of a text.
     Check {
         /// The name of the text's file.
@@ -51,17 +62,24 @@ pub enum OfBlock {
     Mirror,
     /// A certificate of the least makespan.
     Solve {
-        /// The number of workers.
-        workers: u32,
-        /// The number of jobs in a prefix.
-        depth: u32,
-        /// The most bytes of a tree.
-        budget: u32,
-        /// The version of the certificate.
-        version: u32,
-        /// Whether the mirrored instance is solved.
-        mirror: bool,
+        /// How the block is solved.
+        run: Run,
     },
+}
+
+/// How a block is solved.
+#[derive(Clone, Copy, Debug, PartialEq, Eq)]
+pub struct Run {
+    /// The number of workers.
+    pub workers: u32,
+    /// The number of jobs in a prefix.
+    pub depth: u32,
+    /// The most bytes of a tree.
+    pub budget: u32,
+    /// The version of the certificate.
+    pub version: u32,
+    /// Whether the mirrored instance is solved.
+    pub mirror: bool,
 }
 
 /// What the words ask for; none where a value is missing or does not read as its type.
@@ -110,21 +128,22 @@ fn block_order<'a>(given: &ArgMatches<'a>, what: OfBlock) -> Option<Order<'a>> {
 }
 
 fn solve_order<'a>(given: &ArgMatches<'a>) -> Option<Order<'a>> {
-    let workers = given.get_one::<u32>("workers")?;
-    let depth = given.get_one::<u32>("depth")?;
-    let budget = given.get_one::<u32>("budget")?;
-    let version = given.get_one::<u32>("certificate")?;
-    let mirror = given.get_flag("mirrored");
-    block_order(
-        given,
-        OfBlock::Solve {
-            workers,
-            depth,
-            budget,
-            version,
-            mirror,
-        },
-    )
+    let run = Run {
+        workers: given.get_one::<u32>("workers")?,
+        depth: given.get_one::<u32>("depth")?,
+        budget: given.get_one::<u32>("budget")?,
+        version: given.get_one::<u32>("certificate")?,
+        mirror: given.get_flag("mirrored"),
+    };
+    match given.get_str("start") {
+        Some(start) => Some(Order::SolveFrom {
+            file: given.get_str("FILE")?,
+            index: given.get_one::<u32>("INDEX")?,
+            start,
+            run,
+        }),
+        None => block_order(given, OfBlock::Solve { run }),
+    }
 }
 
 fn check_order<'a>(given: &ArgMatches<'a>) -> Option<Order<'a>> {

@@ -1,9 +1,11 @@
 //! One line of a text: where it ends, its first byte that is not blank, and its numbers.
 
-ghost use Rattle.std.specs.Prelude.{◌≡◌, ◌+◌, ◌-◌, ◌*◌, ◌<◌, ◌≤◌, ◌∷◌, true, false, length, IsTrue};
+ghost use Rattle.std.specs.Prelude.{◌≡◌, ◌+◌, ◌-◌, ◌*◌, ◌<◌, ◌≤◌, ◌∷◌, true, false, length, IsTrue, None, Some};
+ghost use Rattle.std.specs.Prelude.{MatchOption};
 ghost use Rattle.std.specs.Char.{digit_value};
 ghost use Rattle.std.specs.Option.{SomeIff};
 ghost use Rattle.flow_core.specs.Lines.{lines_of, is_blank, is_digit, is_plain, after_blanks};
+ghost use Rattle.flow_core.specs.StartText.{behind, ends_word};
 ghost use Rattle.flow_core.specs.internal.TextWalk.{line_numbers, LineGives, first};
 ghost use Rattle.flow_core.specs.Limits.{greatest_number};
 ghost use Rattle.flow_core.specs.declared.text.fault.LineFault.TheVariants.{Byte, Number};
@@ -51,6 +53,38 @@ pub(crate) fn first_solid(line: &[u8]) -> Option<u8>
         }
     }
     None
+}
+
+/// The line without the blanks at its front.
+fn without_blanks(line: &[u8]) -> &[u8]
+    ensures { result.now ≡ after_blanks line.now }
+{
+    for (i, byte) in line.iter().enumerate() {
+        if !is_blank_byte(*byte) {
+            return &line[i..];
+        }
+    }
+    &line[line.len()..]
+}
+
+/// Whether nothing follows, or a blank first.
+fn ends_word(rest: &[u8]) -> bool
+    ensures { result ≡ ends_word rest.now }
+{
+    match rest.first() {
+        Some(byte) => is_blank_byte(*byte),
+        None => true,
+    }
+}
+
+/// What stands behind a word, where the line begins with it after blanks, and a blank or the line's end follows.
+pub(crate) fn behind_word<'a>(line: &'a [u8], word: &[u8]) -> Option<&'a [u8]>
+    ensures { MatchOption result (behind word.now line.now ≡ None) (λ rest. behind word.now line.now ≡ Some rest.now) }
+{
+    match without_blanks(line).strip_prefix(word) {
+        Some(rest) if ends_word(rest) => Some(rest),
+        _ => None,
+    }
 }
 
 /// The number with one more digit; `None` where that is above `MAX_NUMBER`.

@@ -8,7 +8,7 @@ use crate::stop::Stop;
 use clap::error::ErrorKind;
 use flow_commands::ToolFault;
 use flow_core::{MemorySink, MemorySource, WriteFault};
-use flow_words::{OfBlock, Order, make_command, order_of};
+use flow_words::{OfBlock, Order, Run, make_command, order_of};
 use std::alloc::{AllocError, Global};
 use std::cell::Cell;
 use std::sync::Wait;
@@ -44,8 +44,15 @@ const OF_TWO_MACHINES: &[u8] = b"flowshop certificate 1\n3 2 0\n9\n2 3 1\n+BBB\n
 /// The certificate of the mirrored instance of three machines at depth 0, by the program in plain Rust.
 const OF_MIRROR: &[u8] = b"flowshop certificate 1\n3 3 0\n12\n2 1 3\n+BC+AB\nend\n";
 
+/// The certificate of the instance of three machines at depth 0 from the start `1 2 3`; it was computed apart from the
+/// program, by the definitions.
+const FROM_START: &[u8] = b"flowshop certificate 1\n3 3 0\n12\n3 1 2\n++B+.++.B++.B\nend\n";
+
+/// The same of the mirrored instance, from the reversed start.
+const MIRRORED_FROM_START: &[u8] = b"flowshop certificate 1\n3 3 0\n12\n2 1 3\n+++.B++.B+AB\nend\n";
+
 /// What each file holds. One that is broken refuses each call.
-const FILES: [(&str, &[u8]); 10] = [
+const FILES: [(&str, &[u8]); 12] = [
     ("text_three", THREE_MACHINES),
     ("text_both", BOTH),
     ("./stdin", THREE_MACHINES),
@@ -54,6 +61,8 @@ const FILES: [(&str, &[u8]); 10] = [
     ("of_two", OF_TWO_MACHINES),
     ("generated", GENERATED),
     ("of_mirror", OF_MIRROR),
+    ("start", b"sequence 1 2 3\nmakespan 15\n"),
+    ("other_start", b"sequence 1 2 3\nmakespan 14\n"),
     ("stdin", DEPTH_1),
     ("broken", b""),
 ];
@@ -273,6 +282,41 @@ fn the_mirrored_instance_has_its_certificate(rt: HostRuntime) -> Result<(), Fail
 }
 
 #[test]
+fn solve_takes_a_start_by_its_name(rt: HostRuntime) -> Result<(), Fail> {
+    let rows: [(&str, &[u8], &str); 14] = [
+        ("text_three 1 --depth 0 --start start", FROM_START, ""),
+        ("text_both 2 --start start --depth 0", FROM_START, ""),
+        ("stdin 2 --start start --depth 0", FROM_START, ""),
+        (
+            "text_three 1 --depth 0 --start start --mirrored",
+            MIRRORED_FROM_START,
+            "",
+        ),
+        (
+            "stdin 2 --depth 0 --mirrored --start start --workers 2",
+            MIRRORED_FROM_START,
+            "",
+        ),
+        ("stdin 2 --start other_start", b"", "refused start 2"),
+        ("stdin 2 --start generated", b"", "refused start 1"),
+        ("stdin 2 --start stdin", b"", "refused start 1"),
+        ("generated 1 --start start", b"", "refused sequence Length"),
+        ("stdin 3 --start other_start", b"", "refused index"),
+        ("stdin 2 --start missing", b"", "failed open"),
+        ("missing 2 --start start", b"", "failed open"),
+        ("text_broken 1 --start missing", b"", "failed open"),
+        ("text_three 1 --start broken", b"", "failed read Device"),
+    ];
+    for (words, bytes, refusal) in rows {
+        let line = format!(in rt.alloc(); "solve {words}")?;
+        let (out, said) = run_line(&rt, rt.alloc(), line.as_str())?;
+        assert_eq!(rt; said.as_str(), refusal, "after {line}");
+        assert!(rt; out.bytes() == bytes, "after {line}");
+    }
+    Ok(())
+}
+
+#[test]
 fn check_takes_each_file_by_its_name(rt: HostRuntime) -> Result<(), Fail> {
     let rows: [(&str, &[u8], &str); 25] = [
         ("check text_three 1 of_three", b"optimal 12\n", ""),
@@ -339,11 +383,30 @@ fn words_are_read_as_orders(rt: HostRuntime) -> Result<(), Fail> {
         file: "FILE",
         index: 1,
         what: OfBlock::Solve {
-            workers: 1,
-            depth: 2,
+            run: Run {
+                workers: 1,
+                depth: 2,
+                budget: 1_000_000,
+                version: 1,
+                mirror: false,
+            },
+        },
+    };
+    assert_eq!(rt; ordered(alloc, words.as_slice()), Ok(Some(wanted)));
+    let words = words_of(
+        alloc,
+        "solve FILE 1 --mirrored --start SEQUENCE --workers 3",
+    )?;
+    let wanted = Order::SolveFrom {
+        file: "FILE",
+        index: 1,
+        start: "SEQUENCE",
+        run: Run {
+            workers: 3,
+            depth: 1,
             budget: 1_000_000,
             version: 1,
-            mirror: false,
+            mirror: true,
         },
     };
     assert_eq!(rt; ordered(alloc, words.as_slice()), Ok(Some(wanted)));
@@ -363,6 +426,9 @@ fn other_words_are_refused(rt: HostRuntime) -> Result<(), Fail> {
         "solve FILE 1 --workers -1",
         "check FILE 1",
         "gen 20 5 1 1",
+        "solve FILE 1 --start",
+        "solve FILE 1 --start a --start b",
+        "neh FILE 1 --start a",
     ];
     for line in lines {
         let words = words_of(alloc, line)?;

@@ -1,41 +1,26 @@
-use Rattle.std.proofs.Common.{inl, refl}
-use Rattle.std.proofs.lemmas.Result.{err_from_is_err_and}
-use Rattle.flow_cert.specs.PlanCertificates.{certificate_of}
-use Rattle.flow_cert.proofs.Lawful.{text-of-plan}
-use Rattle.flow_commands.specs.Commands.{AnswersPlan}
-use Rattle.flow_commands.proofs.Certified.{wrote-certificate}
-use Rattle.flow_commands.proofs.Endings.{ends-alone-in-writing}
-use Rattle.flow_commands.proofs.Solved.{run-ended}
+use Rattle.std.proofs.Common.{◌≡◌}
+use Rattle.std.proofs.lemmas.Result.{on_ok_weaker, IfErr-weaker}
+use Rattle.flow_bound.specs.Neh.{IsNeh}
+use Rattle.flow_commands.proofs.Solved.{ends-weaker, planned, wrote-weaker}
 use Rattle.flow_commands.proofs.solve.solve_instance.Goals as goal
 
+pub returns-clause-written : goal.returns-clause-written
+returns-clause-written g c =
+    let made = c.in_ok-plan.ensures in
+    on_ok_weaker c.solve_plan.result
+    (wrote-weaker _ _ _ _
+    (planned (IsNeh c.args.instance.now) c.args.instance.now c.args.options c.in_ok-plan.plan made.plan
+    (rw made.shop at made.start) made.shop made.options made.accepted))
+    c.solve_plan.ensures.written
+
+pub returns-clause-ended : goal.returns-clause-ended
+returns-clause-ended g c =
+    let made = c.in_ok-plan.ensures in
+    IfErr-weaker c.solve_plan.result _ _
+    (λ fault. ends-weaker (c.solve_plan.new.out ≡ c.args.out.now) _ _ _ _ fault
+    (planned (IsNeh c.args.instance.now) c.args.instance.now c.args.options c.in_ok-plan.plan made.plan
+    (rw made.shop at made.start) made.shop made.options made.accepted))
+    c.solve_plan.ensures.ended
+
 pub returns-clause-lawful : goal.returns-clause-lawful
-returns-clause-lawful g c =
-    wrote-certificate _ c.in_ok-plan.plan c.in_ok-report.report.verdict _ _ c.in_ok-plan.ensures.shop
-    c.in_ok-plan.ensures.plan c.in_ok-report.ensures.verdict c.in_ok-write_certificate.ensures.ok
-
-pub returns-in_err-write_certificate-clause-ended : goal.returns-in_err-write_certificate-clause-ended
-returns-in_err-write_certificate-clause-ended g c =
-    let p =
-    err_from_is_err_and c.from_residual-in_err-write_certificate.result
-    c.from_residual-in_err-write_certificate.ensures.1 in
-    rw (p.1, p.2)
-    (ends-alone-in-writing (AnswersPlan c.args.instance.now c.args.options) _ _ _ (certificate_of c.in_ok-plan.plan)
-    (inl (
-      c.in_ok-plan.plan,
-      c.in_ok-plan.ensures.plan,
-      c.in_ok-plan.ensures.start,
-      c.in_ok-plan.ensures.shop,
-      c.in_ok-plan.ensures.options,
-      c.in_ok-plan.ensures.accepted,
-      (c.in_ok-report.ensures.within, refl),
-    ))
-    (rw (text-of-plan c.in_ok-plan.plan c.in_ok-report.report.verdict c.in_ok-report.ensures.verdict)
-    at c.in_err-write_certificate.ensures.err))
-
-pub returns-in_err-report-clause-ended : goal.returns-in_err-report-clause-ended
-returns-in_err-report-clause-ended g c =
-    let p = err_from_is_err_and c.from_residual-in_err-report.result c.from_residual-in_err-report.ensures.1 in
-    rw (p.1, p.2)
-    (run-ended _ refl _ _ c.in_ok-plan.plan c.in_ok-plan.ensures.plan c.in_ok-plan.ensures.start
-    c.in_ok-plan.ensures.shop c.in_ok-plan.ensures.options c.in_ok-plan.ensures.accepted _ _ _
-    c.in_err-report.ensures.fault)
+returns-clause-lawful g c = rw c.in_ok-plan.ensures.shop at c.solve_plan.ensures.lawful
