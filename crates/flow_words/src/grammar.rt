@@ -23,6 +23,7 @@ pub fn make_command<'a>(alloc: Global) -> Result<Command<'a>, AllocError> {
 fn span_command<'a>(alloc: Global) -> Result<Command<'a>, AllocError> {
     Command::new(alloc, "span")
         .about("Prints the makespan of jobs in the given order")
+        .after_help("Example: flowshop span examples/two_machines.txt 1 2 3 1")
         .arg(file(alloc))?
         .arg(index(alloc))?
         .arg(jobs(alloc))
@@ -31,6 +32,7 @@ fn span_command<'a>(alloc: Global) -> Result<Command<'a>, AllocError> {
 fn gen_command<'a>(alloc: Global) -> Result<Command<'a>, AllocError> {
     Command::new(alloc, "gen")
         .about("Writes the instance of a seed, with its bounds")
+        .after_help("Example: flowshop gen 20 5 873654221")
         .arg(number(alloc, "JOBS", "How many jobs there are, 1 to 800"))?
         .arg(number(alloc, "MACHINES", "How many machines there are, 1 to 26"))?
         .arg(number(
@@ -43,6 +45,7 @@ fn gen_command<'a>(alloc: Global) -> Result<Command<'a>, AllocError> {
 fn neh_command<'a>(alloc: Global) -> Result<Command<'a>, AllocError> {
     Command::new(alloc, "neh")
         .about("Prints the starting sequence and its makespan")
+        .after_help("Example: flowshop neh examples/three_machines.txt 1")
         .arg(file(alloc))?
         .arg(index(alloc))
 }
@@ -50,6 +53,7 @@ fn neh_command<'a>(alloc: Global) -> Result<Command<'a>, AllocError> {
 fn mirror_command<'a>(alloc: Global) -> Result<Command<'a>, AllocError> {
     Command::new(alloc, "mirror")
         .about("Writes a block with its machines in reverse order")
+        .after_help("Example: flowshop mirror examples/two_machines.txt 1")
         .arg(file(alloc))?
         .arg(index(alloc))
 }
@@ -85,6 +89,7 @@ fn solve_command<'a>(alloc: Global) -> Result<Command<'a>, AllocError> {
     );
     Command::new(alloc, "solve")
         .about("Finds the least makespan, and writes a certificate of it")
+        .after_help("Example: flowshop solve examples/three_machines.txt 1 --depth 0")
         .arg(file(alloc))?
         .arg(index(alloc))?
         .arg(workers)?
@@ -102,6 +107,7 @@ fn solve_command<'a>(alloc: Global) -> Result<Command<'a>, AllocError> {
 fn check_command<'a>(alloc: Global) -> Result<Command<'a>, AllocError> {
     Command::new(alloc, "check")
         .about("Checks a certificate, and prints the value that it proves least")
+        .after_help("Example: flowshop check examples/three_machines.txt 1 certificate")
         .arg(file(alloc))?
         .arg(index(alloc))?
         .arg(word(alloc, "CERT", "The file of the certificate"))?
