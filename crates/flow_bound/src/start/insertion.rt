@@ -21,7 +21,8 @@ fn push_tails(instance: &Instance, rows: &[Row], tails: &mut Times, job: u16, ro
     requires job_from { 1 ≤ job }
     requires job_to { job ≤ instance.now.jobs }
     requires within { IsWithinFront instance.now tails.old }
-    ensures tails { (jobs : List ℕ) → AreTails instance.now jobs tails.old → AreTails instance.now (job ∷ jobs) tails.new }
+    ensures tails { (jobs : List ℕ) → AreTails instance.now jobs tails.old →
+        AreTails instance.now (job ∷ jobs) tails.new }
     ensures row { (jobs : List ℕ) → AreTails instance.now jobs tails.old → AreTails instance.now (job ∷ jobs) row.new }
 {
     let times = &rows[job as usize - 1].times;
@@ -71,8 +72,8 @@ fn span_and_push(
     requires next_to { next ≤ instance.now.jobs }
     requires heads { IsWithinFront instance.now heads.old }
     requires tails { IsWithinFront instance.now tails.now }
-    ensures span { (front back : List ℕ) → IsFrontOf instance.now front heads.old → AreTails instance.now back tails.now →
-        result ≡ span instance.now (front ++ job ∷ back) }
+    ensures span { (front back : List ℕ) → IsFrontOf instance.now front heads.old →
+        AreTails instance.now back tails.now → result ≡ span instance.now (front ++ job ∷ back) }
     ensures heads { (jobs : List ℕ) → IsFrontOf instance.now jobs heads.old →
         IsFrontOf instance.now (jobs ++ next ∷ []) heads.new }
 {

@@ -44,8 +44,9 @@ fn releases(
     }
 }
 
-/// For each child, how many machines there are before the first whose released bound reaches the value against which the
-/// machine bounds were tested. Each of these cuts no later, since no machine bound is greater than the released one.
+/// For each child, how many machines there are before the first whose released bound reaches the value against which
+/// the machine bounds were tested. Each of these cuts no later, since no machine bound is greater than the released
+/// one.
 /// What `late` holds does not matter.
 #[inline(never)]
 fn uncut_by_releases(
