@@ -1,4 +1,5 @@
-//! Start text: what is read, the first fault, and each text that differs in a byte from a start, beside a plain reading.
+//! Start text: what is read, the first fault, and each text that differs in a byte from a start, beside a plain
+//! reading.
 
 use flow_core::{Claim, Instance, Sequence, Start, StartFault, read_start};
 use std::alloc::Global;

@@ -61,8 +61,8 @@ impl Rounds {
         self.room.place(instance, list, jobs - 1)
     }
 
-    /// A pass: takes each job out of the list and places it again, in an order that is drawn. `before` is the makespan of
-    /// the list; returns that of the new one.
+    /// A pass: takes each job out of the list and places it again, in an order that is drawn. `before` is the makespan
+    /// of the list; returns that of the new one.
     fn pass(&mut self, instance: &Instance, list: &mut [u16], before: u64) -> u64
         requires rounds { IsRoundsFor instance.now self.old }
         requires list { IsSequence instance.now.jobs list.old }
