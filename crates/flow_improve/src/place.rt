@@ -53,6 +53,7 @@ impl Room {
         put_in(&mut list[..count + 1], best.index);
         best.makespan
     }
+
     /// Takes each job of an order out of the list and places it again. `before` is the makespan of the list; returns
     /// that of the new one.
     pub(crate) fn place_each(
