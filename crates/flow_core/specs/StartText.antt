@@ -80,9 +80,10 @@ claim_before claim (line ∷ others) = Err (Line line.number)
 abbrev pub claim_of : List Numbered → Result (Option Claim) StartFault
 claim_of [] = Ok None
 claim_of (line ∷ others) =
-    elim (makespan_on line.bytes)
-    [ None ↦ Err (Line line.number)
-    | Some makespan ↦ claim_before (record { makespan = makespan; line = line.number }) others ]
+    elim (makespan_on line.bytes) [
+      | None ↦ Err (Line line.number)
+      | Some makespan ↦ claim_before (record { makespan = makespan; line = line.number }) others
+    ]
 
 -- what a start says: jobs in an order, and the makespan that they are said to have, if there is one
 pub record Said : Type 0 where
