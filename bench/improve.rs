@@ -195,9 +195,26 @@ impl Instance {
     }
 }
 
+/// The five numbers on the command line, each in its range.
+fn numbers_of(words: &[String]) -> Option<[u64; 5]> {
+    let greatest = [800, MAX_MACHINES as u64, 2_147_483_646, 100_000_000, 2_147_483_646];
+    let least = [1, 1, 1, 0, 1];
+    if words.len() != 5 {
+        return None;
+    }
+    let mut numbers = [0; 5];
+    for i in 0..5 {
+        numbers[i] = words[i].parse().ok()?;
+        if numbers[i] < least[i] || numbers[i] > greatest[i] {
+            return None;
+        }
+    }
+    Some(numbers)
+}
+
 fn main() -> ExitCode {
-    let numbers: Vec<u64> = env::args().skip(1).flat_map(|word| word.parse()).collect();
-    let &[jobs, machines, instance_seed, rounds, seed] = numbers.as_slice() else {
+    let words: Vec<String> = env::args().skip(1).collect();
+    let Some([jobs, machines, instance_seed, rounds, seed]) = numbers_of(&words) else {
         eprintln!("improve JOBS MACHINES INSTANCE_SEED ROUNDS SEED");
         return ExitCode::from(2);
     };

@@ -16,7 +16,7 @@ sequence_word = codes "sequence"
 unfoldable pub makespan_word : List ℕ
 makespan_word = codes "makespan"
 
--- whether nothing follows, or a blank first
+-- whether a rest is empty, or begins with a blank
 abbrev pub ends_word : List ℕ → Bool
 ends_word [] = true
 ends_word (b ∷ bs) = is_blank b
@@ -71,7 +71,7 @@ solid_lines number (line ∷ lines) =
     if is_blank_line line then solid_lines (number + 1) lines
     else record { number = number; bytes = line } ∷ solid_lines (number + 1) lines
 
--- nothing behind the line of a makespan is allowed
+-- the claim, where no line follows; or the fault of the first that does
 abbrev pub claim_before : Claim → List Numbered → Result (Option Claim) StartFault
 claim_before claim [] = Ok (Some claim)
 claim_before claim (line ∷ others) = Err (Line line.number)

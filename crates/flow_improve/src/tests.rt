@@ -23,7 +23,7 @@ fn improved(
     Ok(improve(alloc, instance, &start, rounds, seed)?)
 }
 
-// Worked out apart from the program, with the task.
+// Worked out apart from the program.
 #[test]
 fn twenty_rounds_improve_the_start(rt: HostRuntime) -> Result<(), Fail> {
     let instance = generate(rt.alloc(), 20, 10, 587_595_453)?;
@@ -36,7 +36,7 @@ fn twenty_rounds_improve_the_start(rt: HostRuntime) -> Result<(), Fail> {
     Ok(())
 }
 
-// Worked out apart from the program, with the task. A round that takes a worse list for the best returns another.
+// Worked out apart from the program. A round that takes a worse list for the best returns another.
 #[test]
 fn five_rounds_leave_the_start(rt: HostRuntime) -> Result<(), Fail> {
     let instance = generate(rt.alloc(), 20, 5, 873_654_221)?;
@@ -78,7 +78,7 @@ fn one_job_stays(rt: HostRuntime) -> Result<(), Fail> {
     Ok(())
 }
 
-// With no round, and where the start has Taillard's lower bound, as each sequence has on one machine.
+// With no round; and on one machine, where all sequences have one makespan and none is below that of the start.
 #[test]
 fn start_stays_without_rounds(rt: HostRuntime) -> Result<(), Fail> {
     for (machines, rounds) in [(4, 0), (1, 9)] {

@@ -1,4 +1,5 @@
-//! The two least numbers of some jobs, side by side: their tails, or what they need between two machines.
+//! The two least numbers of some jobs, side by side: their tails, or their lags. A job's lag from a machine to another
+//! is its time on the machines from there to the one before the other.
 
 ghost use Rattle.std.specs.Prelude.{◌≡◌, ◌≢◌, ℕ, ◌+◌, ◌-◌, ◌<◌, ◌≤◌, false, List, [], ◌∷◌, ◌++◌, slice_index};
 ghost use Rattle.flow_core.specs.Limits.{most_machines};
@@ -21,7 +22,7 @@ pub struct Lows {
     pub second: [u32; MAX_MACHINES],
 }
 
-/// The two least times that some jobs need to before each machine, from each earlier one; those to machine 1 first.
+/// The two least lags of some jobs to each machine, from each earlier one; those to machine 1 first.
 pub type Lags = [Lows; MAX_MACHINES];
 
 /// The least number of some jobs without one of them, by its own number and the two least.
@@ -77,7 +78,7 @@ pub fn lows_of(setting: &Setting, set: &JobSet) -> Lows
     lows
 }
 
-/// What a job needs from each earlier machine to before a machine, that from machine 1 first.
+/// A job's lags from each earlier machine to a machine, that from machine 1 first.
 fn times_to(row: &Row, machine: u16) -> [u32; MAX_MACHINES]
     requires from { 1 ≤ machine }
     requires row { (shop : Shop) × (job : ℕ) × IsWithinLimits shop × IsRow shop job row.now ×
@@ -94,7 +95,7 @@ fn times_to(row: &Row, machine: u16) -> [u32; MAX_MACHINES]
     made
 }
 
-/// The two least times that a set of jobs needs from each earlier machine to before a machine.
+/// The two least lags of a set of jobs from each earlier machine to a machine.
 pub fn lows_to(setting: &Setting, set: &JobSet, machine: u16) -> Lows
     requires rows { AreRows setting.now.instance.now setting.now.rows.now }
     requires jobs { (job : ℕ) → setting.now.instance.now.jobs < job → contains set.now job ≡ false }

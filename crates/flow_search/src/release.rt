@@ -19,7 +19,7 @@ use crate::setting::Setting;
 use flow_bound::Loads;
 use flow_core::{Front, JobSet, MAX_MACHINES, Row};
 
-/// The release of a machine, by the least time that the jobs left need from each earlier machine to before it.
+/// The release of a machine, by the least lag of the jobs left from each earlier machine to it.
 fn release_by(front: &Front, times: &[u32; MAX_MACHINES], machine: u16) -> u64
     requires from { 1 ≤ machine }
     requires to { machine ≤ most_machines }
@@ -64,7 +64,7 @@ pub fn releasing_machine(
 }
 
 /// The release of a machine at a child, by when its job leaves the machines up to this one, its row, and the two least
-/// times that the node's jobs need to before the machine.
+/// lags of the node's jobs to the machine.
 #[inline(always)]
 pub fn release_at_child(row: &Row, lows: &Lows, free: &[u32; MAX_MACHINES], machine: u16) -> u32
     requires from { 1 ≤ machine }

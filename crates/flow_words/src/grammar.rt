@@ -100,7 +100,7 @@ fn solve_command<'a>(alloc: Global) -> Result<Command<'a>, AllocError> {
         .arg(flag(
             alloc,
             "mirrored",
-            "Solves the instance with its machines in reverse order, and from the reversed start",
+            "Solves the instance with its machines in reverse order, from the reversed start if one is given",
         ))
 }
 
@@ -180,7 +180,7 @@ fn start<'a>(alloc: Global) -> Arg<'a> {
         .long("start")
         .value_name("SEQUENCE")
         .action(ArgAction::Set)
-        .help("The file of a starting sequence, as neh prints it, for example: sequence 2 1 3")
+        .help("A file with a starting sequence, in the form that neh prints")
 }
 
 /// A choice with a long name, which is taken or left out.

@@ -119,7 +119,8 @@ impl LineFault {
 /// The numbers behind a word on a line; or the fault of the line.
 fn numbers_behind(alloc: Global, word: &[u8], line: &Solid) -> Result<Vec<u32>, StartFault>
     ensures value { IfOk result (λ numbers. numbers_behind word.now line.now.bytes.now ≡ Some numbers.items) }
-    ensures refused { IfErr result (λ fault. IsOfLine (numbers_behind word.now line.now.bytes.now) line.now.number fault) }
+    ensures refused { IfErr result (λ fault.
+        IsOfLine (numbers_behind word.now line.now.bytes.now) line.now.number fault) }
 {
     let Some(rest) = behind_word(line.bytes, word) else {
         return Err(StartFault::Line(line.number));
@@ -166,7 +167,8 @@ fn makespan_on(alloc: Global, line: &Solid) -> Result<u32, StartFault>
 fn claim_in(alloc: Global, text: &[u8], from: usize) -> Result<Option<Claim>, StartFault>
     requires { from + length text.now ≤ 2 ^ 63 }
     ensures value { IfOk result (λ claim. claim_of (solid_lines from (lines_of text.now)) ≡ Ok claim) }
-    ensures refused { IfErr result (λ fault. fault ≢ Memory → claim_of (solid_lines from (lines_of text.now)) ≡ Err fault) }
+    ensures refused { IfErr result (λ fault. fault ≢ Memory →
+        claim_of (solid_lines from (lines_of text.now)) ≡ Err fault) }
 {
     let Ok(line) = first_solid_line(text, from) else {
         return Ok(None);

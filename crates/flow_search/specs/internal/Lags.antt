@@ -1,4 +1,5 @@
--- The two least times that some jobs need to before each machine.
+-- The two least lags of some jobs to each machine. A job's lag from a machine to another is its time on the machines
+-- from there to the one before the other.
 use Rattle.std.specs.Prelude.{ℕ, suc, ◌≡◌, ◌-◌, ◌≤◌, List, length, slice_index_or}
 use Rattle.flow_core.specs.Shop.{Shop, IsWithinLimits}
 use Rattle.flow_core.specs.Sequences.{jobs_left}
@@ -8,13 +9,13 @@ use Rattle.flow_search.specs.internal.Lows.{AreLows, time_to}
 use Rattle.flow_search.specs.internal.Frames.{IsChild}
 use Rattle.flow_search.specs.declared.lows.Lows.{Lows}
 
--- for each machine the two least times that some jobs need to before it, from each earlier one
+-- for each machine the two least lags of some jobs to it, from each earlier one
 abbrev pub AreLags : Shop → List ℕ → List Lows → Type 0
 AreLags shop jobs lags =
     (machine : ℕ) (other : Lows) → 1 ≤ machine → machine ≤ shop.machines →
     AreLows (time_to shop machine) (machine - 1) jobs (slice_index_or lags (machine - 1) other)
 
--- a job that a node leaves with others, its row, and the two least times that the jobs left need to before a machine
+-- a job that a node leaves with others, its row, and the two least lags of the jobs left to a machine
 pub record IsLagged (shop : Shop) (node : List ℕ) (left job machine : ℕ) (row : Row) (lows : Lows) : Type 0 where
   pub limits : IsWithinLimits shop
   pub to : machine ≤ shop.machines

@@ -15,7 +15,7 @@ AreLows number count jobs lows =
     (slice_index lows.least place ≡ least_below unknown (map (number place) jobs))
     × (slice_index lows.second place ≡ second_below unknown unknown (map (number place) jobs))
 
--- the time that a job needs from the machine at a place to before another machine
+-- the lag of a job from the machine at a place to another: its time on the machines from there to the one before
 abbrev pub time_to : Shop → ℕ → ℕ → ℕ → ℕ
 time_to shop machine place job = time_between shop job (place + 1) (machine - 1)
 

@@ -45,8 +45,8 @@ fn releases(
 }
 
 /// For each child, how many machines there are before the first whose released bound reaches the value against which
-/// the machine bounds were tested. Each of these cuts no later, since no machine bound is greater than the released
-/// one.
+/// the machine bounds were tested. There are never more than before the first whose machine bound does, since no
+/// released bound is less than the machine bound.
 /// What `late` holds does not matter.
 #[inline(never)]
 fn uncut_by_releases(
