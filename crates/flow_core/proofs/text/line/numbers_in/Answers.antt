@@ -1,7 +1,7 @@
 use Rattle.std.proofs.Common.{arith, ◌*◌, ◌+◌, unwrap_or, get_or, rules, sym, refl}
 use Rattle.std.specs.Char.{digit_value}
 use Rattle.flow_core.proofs.NumberLemmas.{numbers-close, numbers-skip, numbers-digit, small-push, large-all}
-use Rattle.flow_core.proofs.NumberLemmas.{line_numbers-great, numbers_of-after, plain-more, other-byte}
+use Rattle.flow_core.proofs.NumberLemmas.{line_numbers-great, numbers_of-after, plain-more}
 use Rattle.flow_core.proofs.text.line.numbers_in.Goals as goal
 use Rattle.flow_core.proofs.text.line.numbers_in.Goals.{then-is_blank_byte+in-Some+in_ok-push-in-Some}
 use Rattle.flow_core.proofs.text.line.numbers_in.Goals.{then-is_blank_byte+in-None}
