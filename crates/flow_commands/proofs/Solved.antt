@@ -17,8 +17,8 @@ use Rattle.flow_pool.specs.declared.whole_run.SolveFault.TheVariants as solve
 use Rattle.flow_commands.specs.declared.fault.ToolFault.{ToolFault}
 use Rattle.flow_commands.specs.declared.fault.ToolFault.TheVariants as tool
 use Rattle.flow_commands.specs.Limits.{budgets, most_text}
-use Rattle.flow_commands.specs.Better.{AnswersCertified, AnswersImproved, FromNeh, IsNoWorse, certify_fault, first_certificate}
-use Rattle.flow_commands.specs.Better.{improve_fault}
+use Rattle.flow_commands.specs.Better.{AnswersCertified, AnswersImproved, FromNeh, IsNoWorse, certify_fault}
+use Rattle.flow_commands.specs.Better.{first_certificate, improve_fault}
 
 -- one kind of answer is also one of another kind
 abbrev pub Weaker : (Answer → Type 0) → (Answer → Type 0) → Type 0
@@ -70,7 +70,8 @@ pub for-block : (index workers depth budget version : ℕ) (mirror : Bool) (bloc
     (given gives : Option (List ℕ)) (ended : Bool) →
     Ok options ≡ asked_options workers depth budget version →
     Came most_text (λ text. Picks text index (Ok block)) given gives ended →
-    Came most_text (λ text. Weaker (AnswersPlan (IsNeh (mirrored_if mirror block.instance)) (mirrored_if mirror block.instance) options)
+    Came most_text (λ text. Weaker
+    (AnswersPlan (IsNeh (mirrored_if mirror block.instance)) (mirrored_if mirror block.instance) options)
     (AnswersSolve index workers depth budget version mirror text)) given gives ended
 for-block index workers depth budget version mirror block options given gives ended is came = (
   came.0,
@@ -175,14 +176,16 @@ ended-from Early index Untouched Inner Answers block given gives ended start_giv
         block,
         picks,
         ends-for Untouched most_text Inner
-            (FromText (Answers block) block.instance) start_given start_gives start_ended taken takes fault weaker alone,
+            (FromText (Answers block) block.instance) start_given start_gives start_ended taken takes fault
+            weaker alone,
       ),
     )
 
 -- a run of a plan that was refused
 pub run-ended : (Untouched : Type 0) → Untouched → (plan : Planned) (taken takes : Option (List ℕ))
     (fault : SolveFault) → IsSolveFault plan fault →
-    EndsAlone Untouched (AnswersRun plan) taken takes (elim fault [ solve.Memory ↦ tool.Memory | other ↦ tool.Run other ])
+    EndsAlone Untouched (AnswersRun plan) taken takes
+    (elim fault [ solve.Memory ↦ tool.Memory | other ↦ tool.Run other ])
 run-ended Untouched untouched plan taken takes solve.Memory h = inl (untouched, inl refl)
 run-ended Untouched untouched plan taken takes solve.Threads h = inl (untouched, inr (inl refl))
 run-ended Untouched untouched plan taken takes (solve.OverBudget number) h =

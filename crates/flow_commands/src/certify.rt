@@ -174,8 +174,8 @@ fn certify_start<K: Sink>(
 }
 
 /// Improves the starting sequence of Nawaz, Enscore and Ham of the block that an index names, by so many rounds with
-/// the random numbers of a seed; writes the first certificate of a version from the better sequence whose tree is within
-/// its budget: with each budget that of the instance, and then that of the mirrored instance.
+/// the random numbers of a seed. Then writes the first certificate of a version from the better sequence whose tree is
+/// within its budget: with each budget that of the instance, and then that of the mirrored instance.
 pub fn run_certify<S: Source, K: Sink>(
     alloc: Global,
     file: &mut S,
@@ -205,7 +205,7 @@ pub fn run_certify<S: Source, K: Sink>(
 }
 
 /// Improves the sequence that a start text gives for the block that an index names, by so many rounds with the random
-/// numbers of a seed; writes the first certificate of a version from the better sequence whose tree is within its
+/// numbers of a seed. Then writes the first certificate of a version from the better sequence whose tree is within its
 /// budget: with each budget that of the instance, and then that of the mirrored instance.
 pub fn run_certify_from<S: Source, T: Source, K: Sink>(
     alloc: Global,

@@ -44,7 +44,8 @@ pub(crate) fn read_given<T: Source>(
     ensures given { IfOk result (λ sequence. Came most_text (λ text. given_start instance.now text ≡ Ok sequence)
         (T.given start.old) (T.given start.new) (T.has_ended start.new)) }
     ensures each { IfOk result (λ sequence. IsSequence instance.now.jobs sequence) }
-    ensures refused { IfErr result (λ fault. StopsAt most_text (λ text refusal. given_start instance.now text ≡ Err refusal)
+    ensures refused { IfErr result (λ fault. StopsAt most_text
+        (λ text refusal. given_start instance.now text ≡ Err refusal)
         (T.given start.old) (T.given start.new) (T.has_ended start.new) fault) }
     ensures device { IsErrOf result (ToolFault.Read read.Device) ↔ (T.has_failed start.new ≡ true) }
     ensures writes_nothing { IsErrOf result (ToolFault.Write write.Device) → ⊥ }

@@ -11,7 +11,8 @@ returns-clause-written g c =
     (wrote-for most_text
     (AnswersCertified c.args.rounds c.args.seed c.args.version c.in_ok-block.block.instance c.in_ok-start.start)
     (AnswersCertify c.args.index c.args.rounds c.args.seed c.args.version) _ _ _ _ _
-    (from-neh c.args.index (AnswersCertified c.args.rounds c.args.seed c.args.version) c.in_ok-block.block c.in_ok-start.start
+    (from-neh c.args.index (AnswersCertified c.args.rounds c.args.seed c.args.version) c.in_ok-block.block
+    c.in_ok-start.start
     _ _ _ c.in_ok-block.ensures.picked c.in_ok-start.ensures.start))
     c.certify_start.ensures.written
 
@@ -21,6 +22,7 @@ returns-clause-ended g c =
     (λ fault. ends-for (c.certify_start.new.out ≡ c.args.out.now) most_text
     (AnswersCertified c.args.rounds c.args.seed c.args.version c.in_ok-block.block.instance c.in_ok-start.start)
     (AnswersCertify c.args.index c.args.rounds c.args.seed c.args.version) _ _ _ _ _ fault
-    (from-neh c.args.index (AnswersCertified c.args.rounds c.args.seed c.args.version) c.in_ok-block.block c.in_ok-start.start
+    (from-neh c.args.index (AnswersCertified c.args.rounds c.args.seed c.args.version) c.in_ok-block.block
+    c.in_ok-start.start
     _ _ _ c.in_ok-block.ensures.picked c.in_ok-start.ensures.start))
     c.certify_start.ensures.ended

@@ -8,7 +8,8 @@ pub returns-in_err-start-clause-ended : goal.returns-in_err-start-clause-ended
 returns-in_err-start-clause-ended g c =
     let p = err_from_is_err_and c.from_residual-in_err-start.result c.from_residual-in_err-start.ensures.1 in
     rw (p.1, p.2)
-    (stopped-from _ c.args.index _ refl (λ block. AnswersCertified c.args.rounds c.args.seed c.args.version block.instance)
+    (stopped-from _ c.args.index _ refl
+    (λ block. AnswersCertified c.args.rounds c.args.seed c.args.version block.instance)
     c.in_ok-block.block _ _ _ _ _ _ _ _ _ c.in_ok-block.ensures.picked c.in_err-start.ensures.refused)
 
 pub returns-clause-ended : goal.returns-clause-ended
@@ -23,6 +24,7 @@ returns-clause-ended g c =
       given.2,
       given.3,
       from-text
-          (AnswersCertified c.args.rounds c.args.seed c.args.version c.in_ok-block.block.instance) _ c.in_ok-start.start given.0 given.4,
+          (AnswersCertified c.args.rounds c.args.seed c.args.version c.in_ok-block.block.instance) _
+          c.in_ok-start.start given.0 given.4,
     ))
     c.certify_start.ensures.ended

@@ -23,6 +23,7 @@ returns-clause-ended g c =
       given.2,
       given.3,
       from-text
-          (AnswersImproved c.args.rounds c.args.seed c.in_ok-block.block.instance) _ c.in_ok-start.start given.0 given.4,
+          (AnswersImproved c.args.rounds c.args.seed c.in_ok-block.block.instance) _ c.in_ok-start.start given.0
+          given.4,
     ))
     c.improve_start.ensures.ended
