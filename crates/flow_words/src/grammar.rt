@@ -59,43 +59,15 @@ fn mirror_command<'a>(alloc: Global) -> Result<Command<'a>, AllocError> {
 }
 
 fn solve_command<'a>(alloc: Global) -> Result<Command<'a>, AllocError> {
-    let workers = option(
-        alloc,
-        "workers",
-        "K",
-        "1",
-        "How many workers there are, 1 to 64",
-    );
-    let depth = option(
-        alloc,
-        "depth",
-        "D",
-        "1",
-        "How many jobs a prefix has, 0 to 3",
-    );
-    let budget = option(
-        alloc,
-        "budget",
-        "B",
-        "1000000",
-        "The most bytes of a tree, 1 to 100000000",
-    );
-    let version = option(
-        alloc,
-        "certificate",
-        "V",
-        "1",
-        "The version of the certificate, 1 or 2",
-    );
     Command::new(alloc, "solve")
         .about("Finds the least makespan, and writes a certificate of it")
         .after_help("Example: flowshop solve examples/three_machines.txt 1 --depth 0")
         .arg(file(alloc))?
         .arg(index(alloc))?
-        .arg(workers)?
-        .arg(depth)?
-        .arg(budget)?
-        .arg(version)?
+        .arg(workers(alloc))?
+        .arg(depth(alloc))?
+        .arg(budget(alloc))?
+        .arg(version(alloc))?
         .arg(start(alloc))?
         .arg(flag(
             alloc,
@@ -172,6 +144,30 @@ fn option<'a>(
         .default_value(default)
         .help(help)
         .value_parser(value_parser!(u32))
+}
+
+/// The number of workers.
+fn workers<'a>(alloc: Global) -> Arg<'a> {
+    let help = "How many workers there are, 1 to 64";
+    option(alloc, "workers", "K", "1", help)
+}
+
+/// The number of jobs in a prefix.
+fn depth<'a>(alloc: Global) -> Arg<'a> {
+    let help = "How many jobs a prefix has, 0 to 3";
+    option(alloc, "depth", "D", "1", help)
+}
+
+/// The most bytes of a tree.
+fn budget<'a>(alloc: Global) -> Arg<'a> {
+    let help = "The most bytes of a tree, 1 to 100000000";
+    option(alloc, "budget", "B", "1000000", help)
+}
+
+/// The version of a certificate.
+fn version<'a>(alloc: Global) -> Arg<'a> {
+    let help = "The version of the certificate, 1 or 2";
+    option(alloc, "certificate", "V", "1", help)
 }
 
 /// The file of a starting sequence, which may be left out.

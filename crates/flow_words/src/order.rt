@@ -16,31 +16,33 @@ pub enum Order<'a> {
         seed: u32,
     },
     /// Something of a block of a text.
-    OfBlock {
+    OfText {
         /// The name of the text's file.
         file: &'a str,
         /// The block's number in the text, from 1.
         index: u32,
         /// What is asked for of the block.
+        what: OfText<'a>,
+    },
+}
+
+/// What is asked for of a block, and of a second file where it takes one.
+#[derive(Debug, PartialEq, Drop)]
+pub enum OfText<'a> {
+    /// Something of the block alone.
+    OfBlock {
+        /// What is asked for of the block.
         what: OfBlock,
     },
-    /// A certificate of the least makespan of a block of a text, from a starting sequence.
-    SolveFrom {
-        /// The name of the text's file.
-        file: &'a str,
-        /// The block's number in the text, from 1.
-        index: u32,
+    /// What a search finds for the block from a starting sequence.
+    SearchFrom {
         /// The name of the starting sequence's file.
         start: &'a str,
-        /// How the block is solved.
-        run: Run,
+        /// How the block is searched.
+        search: Search,
     },
-    /// The value that a certificate proves least for a block of a text.
+    /// The value that a certificate proves least for the block.
     Check {
-        /// The name of the text's file.
-        file: &'a str,
-        /// The block's number in the text, from 1.
-        index: u32,
         /// The name of the certificate's file.
         cert: &'a str,
         /// Whether a certificate of the mirrored instance is accepted too.
@@ -60,7 +62,17 @@ pub enum OfBlock {
     Neh,
     /// The block with its machines in reverse order.
     Mirror,
-    /// A certificate of the least makespan.
+    /// What a search finds from a starting sequence of its own.
+    Search {
+        /// How the block is searched.
+        search: Search,
+    },
+}
+
+/// How a block is searched.
+#[derive(Clone, Copy, Debug, PartialEq, Eq)]
+pub enum Search {
+    /// For a certificate of the least makespan.
     Solve {
         /// How the block is solved.
         run: Run,
@@ -119,12 +131,24 @@ fn gen_order<'a>(given: &ArgMatches<'a>) -> Option<Order<'a>> {
     })
 }
 
-fn block_order<'a>(given: &ArgMatches<'a>, what: OfBlock) -> Option<Order<'a>> {
-    Some(Order::OfBlock {
+fn text_order<'a>(given: &ArgMatches<'a>, what: OfText<'a>) -> Option<Order<'a>> {
+    Some(Order::OfText {
         file: given.get_str("FILE")?,
         index: given.get_one::<u32>("INDEX")?,
         what,
     })
+}
+
+fn block_order<'a>(given: &ArgMatches<'a>, what: OfBlock) -> Option<Order<'a>> {
+    text_order(given, OfText::OfBlock { what })
+}
+
+/// A search of a block, from the starting sequence that the words name, if they name one.
+fn search_order<'a>(given: &ArgMatches<'a>, search: Search) -> Option<Order<'a>> {
+    match given.get_str("start") {
+        Some(start) => text_order(given, OfText::SearchFrom { start, search }),
+        None => block_order(given, OfBlock::Search { search }),
+    }
 }
 
 fn solve_order<'a>(given: &ArgMatches<'a>) -> Option<Order<'a>> {
@@ -135,24 +159,13 @@ fn solve_order<'a>(given: &ArgMatches<'a>) -> Option<Order<'a>> {
         version: given.get_one::<u32>("certificate")?,
         mirror: given.get_flag("mirrored"),
     };
-    match given.get_str("start") {
-        Some(start) => Some(Order::SolveFrom {
-            file: given.get_str("FILE")?,
-            index: given.get_one::<u32>("INDEX")?,
-            start,
-            run,
-        }),
-        None => block_order(given, OfBlock::Solve { run }),
-    }
+    search_order(given, Search::Solve { run })
 }
 
 fn check_order<'a>(given: &ArgMatches<'a>) -> Option<Order<'a>> {
-    Some(Order::Check {
-        file: given.get_str("FILE")?,
-        index: given.get_one::<u32>("INDEX")?,
-        cert: given.get_str("CERT")?,
-        either: given.get_flag("either"),
-    })
+    let cert = given.get_str("CERT")?;
+    let either = given.get_flag("either");
+    text_order(given, OfText::Check { cert, either })
 }
 
 fn jobs_of(alloc: Global, given: &ArgMatches) -> Result<Option<Vec<u16>>, AllocError> {

@@ -8,7 +8,7 @@ use crate::stop::Stop;
 use clap::error::ErrorKind;
 use flow_commands::ToolFault;
 use flow_core::{MemorySink, MemorySource, WriteFault};
-use flow_words::{OfBlock, Order, Run, make_command, order_of};
+use flow_words::{OfBlock, OfText, Order, Run, Search, make_command, order_of};
 use std::alloc::{AllocError, Global};
 use std::cell::Cell;
 use std::sync::Wait;
@@ -78,6 +78,12 @@ impl Inputs for Named {
     type Standard = MemorySource<'static>;
 
     type File = MemorySource<'static>;
+
+    ghost is_standard = { λ _ _. Unit {0} };
+
+    ghost opened = { λ _ _ _. Unit {0} };
+
+    ghost refused = { λ _ _. Unit {0} };
 
     fn standard(&self) -> MemorySource<'static> {
         MemorySource::new(BOTH, 7, None)
@@ -366,41 +372,59 @@ fn ordered<'a>(alloc: Global, words: &'a [&'a str]) -> Result<Option<Order<'a>>,
     order_of(alloc, &matches).map_err(|_| ErrorKind::OutOfMemory)
 }
 
+/// The order to search block 1 of `FILE` from a starting sequence of the search's own.
+fn searched(search: Search) -> Order<'static> {
+    Order::OfText {
+        file: "FILE",
+        index: 1,
+        what: OfText::OfBlock {
+            what: OfBlock::Search { search },
+        },
+    }
+}
+
+/// The order to search block 1 of `FILE` from the starting sequence of `SEQUENCE`.
+fn searched_from(search: Search) -> Order<'static> {
+    Order::OfText {
+        file: "FILE",
+        index: 1,
+        what: OfText::SearchFrom {
+            start: "SEQUENCE",
+            search,
+        },
+    }
+}
+
 #[test]
 fn words_are_read_as_orders(rt: HostRuntime) -> Result<(), Fail> {
     let alloc = rt.alloc();
     let words = words_of(alloc, "span FILE 4294967295 3 1 65535")?;
-    let wanted = Order::OfBlock {
+    let wanted = Order::OfText {
         file: "FILE",
         index: u32::MAX,
-        what: OfBlock::Span {
-            jobs: vec![in alloc; 3, 1, 65_535]?,
+        what: OfText::OfBlock {
+            what: OfBlock::Span {
+                jobs: vec![in alloc; 3, 1, 65_535]?,
+            },
         },
     };
     assert_eq!(rt; ordered(alloc, words.as_slice()), Ok(Some(wanted)));
     let words = words_of(alloc, "solve FILE 1 --depth 2")?;
-    let wanted = Order::OfBlock {
-        file: "FILE",
-        index: 1,
-        what: OfBlock::Solve {
-            run: Run {
-                workers: 1,
-                depth: 2,
-                budget: 1_000_000,
-                version: 1,
-                mirror: false,
-            },
+    let wanted = searched(Search::Solve {
+        run: Run {
+            workers: 1,
+            depth: 2,
+            budget: 1_000_000,
+            version: 1,
+            mirror: false,
         },
-    };
+    });
     assert_eq!(rt; ordered(alloc, words.as_slice()), Ok(Some(wanted)));
     let words = words_of(
         alloc,
         "solve FILE 1 --mirrored --start SEQUENCE --workers 3",
     )?;
-    let wanted = Order::SolveFrom {
-        file: "FILE",
-        index: 1,
-        start: "SEQUENCE",
+    let wanted = searched_from(Search::Solve {
         run: Run {
             workers: 3,
             depth: 1,
@@ -408,7 +432,7 @@ fn words_are_read_as_orders(rt: HostRuntime) -> Result<(), Fail> {
             version: 1,
             mirror: true,
         },
-    };
+    });
     assert_eq!(rt; ordered(alloc, words.as_slice()), Ok(Some(wanted)));
     Ok(())
 }
