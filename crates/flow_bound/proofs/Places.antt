@@ -1,12 +1,13 @@
 -- A job put in at each place of a list: the earliest best place, and the jobs that the list then has.
-use Rattle.std.proofs.Common.{◌≡◌, ℕ, zero, suc, ◌<◌, ◌≤◌, Bool, true, false, cond, ◌||◌, ◌&&◌, nat_eq, nat_le, List}
-use Rattle.std.proofs.Common.{[], ◌∷◌, ◌++◌, length, map, take, drop, slice_index_or, Option, Some, refl, ap, sym, ◌∙◌}
-use Rattle.std.proofs.Common.{inl, inr, arith}
+use Rattle.std.proofs.Common.{◌≡◌, ℕ, zero, suc, ◌+◌, ◌<◌, ◌≤◌, Bool, true, false, cond, ◌||◌, ◌&&◌, nat_eq, nat_le}
+use Rattle.std.proofs.Common.{List, [], ◌∷◌, ◌++◌, length, map, take, drop, slice_index, slice_index_or, Option, Some}
+use Rattle.std.proofs.Common.{refl, ap, sym, ◌∙◌, inl, inr, arith}
 use Rattle.std.specs.Prelude.{unwrap_or}
 use Rattle.std.specs.List.{insert, list_all, All}
 use Rattle.std.specs.Option.{option_map}
 use Rattle.std.proofs.lemmas.Bool.{false≢true, eq-eqb}
 use Rattle.std.proofs.lemmas.Bool.Decides.{nat_tests, eqb_tells}
+use Rattle.std.proofs.lemmas.List.{get_or-take}
 use Rattle.std.proofs.lemmas.List.Folds.{list_all-map, list_any-append}
 use Rattle.std.proofs.lemmas.List.Elements.{All-append, All-cons, All-nil, All-take, All-drop}
 use Rattle.flow_core.specs.Shop.{Shop}
@@ -83,12 +84,21 @@ first-best value job (head ∷ rest) (suc at) within least first =
     ∷ jobs)) job rest at (omega arith) (λ p low. least (suc p) (omega arith)) (λ p low. first (suc p)
     (omega arith)))
 
-pub inserted-is : (shop : Shop) (job : ℕ) (jobs : List ℕ) (at : ℕ) → at ≤ length jobs →
-    ((p : ℕ) → p ≤ length jobs → span shop (insert jobs at job) ≤ span shop (insert jobs p job)) →
-    ((p : ℕ) → p < at → span shop (insert jobs at job) < span shop (insert jobs p job)) →
-    insert jobs at job ≡ inserted shop jobs job
-inserted-is shop job jobs at within least first =
-    sym (ap (λ o. unwrap_or o []) (first-best (span shop) job jobs at within least first))
+-- the place of a makespan that is least, and less than that of each earlier place, is the earliest best place
+pub inserted-is : (shop : Shop) (job : ℕ) (jobs : List ℕ) (at makespan : ℕ) → at ≤ length jobs →
+    makespan ≡ span shop (insert jobs at job) →
+    ((p : ℕ) → p ≤ length jobs → makespan ≤ span shop (insert jobs p job)) →
+    ((p : ℕ) → p < at → makespan < span shop (insert jobs p job)) → insert jobs at job ≡ inserted shop jobs job
+inserted-is shop job jobs at makespan within here least first =
+    sym (ap (λ o. unwrap_or o []) (first-best (span shop) job jobs at within
+    (λ p low. omega (arith, here, least p low)) (λ p low. omega (arith, here, first p low))))
+
+-- the makespan at a place, of those of a list with a job put in at each place
+pub at-place : (shop : Shop) (jobs spans : List ℕ) (job place : ℕ) →
+    ((at : ℕ) → at ≤ length jobs → slice_index spans at ≡ span shop (insert jobs at job)) → place ≤ length jobs →
+    slice_index (take (length jobs + 1) spans) place ≡ span shop (insert jobs place job)
+at-place shop jobs spans job place each within =
+    get_or-take (length jobs + 1) spans place 0 (omega arith) ∙ each place within
 
 pub all_inserted-push : (shop : Shop) (jobs order : List ℕ) (job : ℕ) →
     all_inserted shop jobs (order ++ job ∷ []) ≡ inserted shop (all_inserted shop jobs order) job

@@ -6,7 +6,7 @@ use Rattle.std.proofs.lemmas.List.{get_or_default, get_or-set_same, get_or-set_o
 use Rattle.std.proofs.lemmas.List.{set-append_right}
 use Rattle.flow_core.specs.Shop.{Shop}
 use Rattle.flow_core.specs.Sequences.{has}
-use Rattle.flow_cert.specs.internal.Lags.{AreLags, AreKept, AreUnknown}
+use Rattle.flow_cert.specs.internal.Lags.{AreTwoLeastLagsTo, AreKept, AreUnknown}
 use Rattle.flow_cert.specs.internal.Links.{AreLinks, IsPlace}
 use Rattle.flow_cert.specs.internal.Nodes.{IsNode, IsAt, left_before, left_here}
 use Rattle.flow_cert.specs.internal.Reader.{frame_at, here, above, Stands, IsBack, Opened, Closed}
@@ -37,8 +37,8 @@ at-same shop list node other links same left right e f g at =
 -- where no lags are known, those that are kept are any list's
 pub none-kept : (shop : Shop) (list : List ℕ) (kept : List (Option Lags)) → AreUnknown kept → AreKept shop list kept
 none-kept shop list kept none machine from within =
-    subst (λ (o : Option Lags). IfSome o (λ two. AreLags shop list machine two)) (sym (none (machine - 1) (omega
-    (arith, from, within)))) tt
+    subst (λ (o : Option Lags). IfSome o (λ two. AreTwoLeastLagsTo shop list machine two))
+    (sym (none (machine - 1) (omega (arith, from, within)))) tt
 
 -- the list's node may know more
 pub learnt : (shop : Shop) (old new : TreeReader) (f : Frame) → new.below ≡ old.below →

@@ -18,7 +18,7 @@ use Rattle.flow_core.proofs.JobsLeft.{numbers-more}
 use Rattle.flow_core.proofs.Recurrence.{after, time_between-first, time_between-none}
 use Rattle.flow_core.proofs.Taken.{left-count}
 use Rattle.flow_core.proofs.TwoLeast.{Without, least-below-cap}
-use Rattle.flow_cert.specs.internal.Lags.{AreLags, lags}
+use Rattle.flow_cert.specs.internal.Lags.{AreTwoLeastLagsTo, lags}
 use Rattle.flow_cert.specs.internal.Nodes.{IsNode, unknown}
 use Rattle.flow_cert.specs.declared.reading.node.Node.{Node}
 use Rattle.flow_cert.specs.declared.reading.release.Lags.{Lags}
@@ -111,7 +111,7 @@ least-lags shop from machine jobs limits low up high some =
 
 -- the release for the jobs left of a list
 pub own-release : (shop : Shop) (list : List ℕ) (node : Node) (left machine : ℕ) (two : Lags) → IsWithinLimits shop →
-    IsNode shop list node (suc left) → machine ≤ shop.machines → AreLags shop list machine two →
+    IsNode shop list node (suc left) → machine ≤ shop.machines → AreTwoLeastLagsTo shop list machine two →
     greatest (map (λ from. slice_index node.front (from - 1) + slice_index two.least (from - 1)) (numbers 1 machine))
     ≡ release shop (front_of shop list) (jobs_left shop.jobs list) machine
 own-release shop list node left machine two limits is high are =
@@ -127,7 +127,7 @@ own-release shop list node left machine two limits is high are =
 -- the greatest that is found for a list is the release, which is at least the front
 pub own-late : (shop : Shop) (list : List ℕ) (node : Node) (left machine : ℕ) (two : Lags) (late end : ℕ) →
     IsWithinLimits shop → IsNode shop list node (suc left) → 1 ≤ machine → machine ≤ shop.machines →
-    AreLags shop list machine two → late ≡ greatest (map (λ from. slice_index node.front (from - 1)
+    AreTwoLeastLagsTo shop list machine two → late ≡ greatest (map (λ from. slice_index node.front (from - 1)
     + slice_index two.least (from - 1)) (numbers 1 end)) → end ≡ machine →
     (late ≡ release shop (front_of shop list) (jobs_left shop.jobs list) machine)
     × (slice_index node.front (machine - 1) ≡ slice_index (front_of shop list) (machine - 1))
@@ -158,8 +158,8 @@ child-release shop list node left job machine is high =
 -- the least lag of the jobs left of a list's child
 pub child-lag : (shop : Shop) (list : List ℕ) (node : Node) (left job from machine y m : ℕ) (two : Lags) →
     IsWithinLimits shop → IsNode shop list node (suc (suc left)) → 1 ≤ job → job ≤ shop.jobs →
-    has list job ≡ false → AreLags shop list machine two → 1 ≤ from → from ≤ machine → machine ≤ shop.machines →
-    y ≡ time_between shop job from (machine - 1) →
+    has list job ≡ false → AreTwoLeastLagsTo shop list machine two → 1 ≤ from → from ≤ machine →
+    machine ≤ shop.machines → y ≡ time_between shop job from (machine - 1) →
     Without y (slice_index two.least (from - 1)) (slice_index two.second (from - 1)) m →
     m ≡ least (lags shop from machine (jobs_left shop.jobs (list ++ job ∷ [])))
 child-lag shop list node left job from machine y m two limits is first last fresh are low up high lag picked =

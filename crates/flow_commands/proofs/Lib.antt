@@ -3,3 +3,4 @@ mod Endings
 mod Refused
 mod Small
 mod Solved
+mod Tries

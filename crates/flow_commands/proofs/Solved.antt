@@ -1,5 +1,5 @@
 -- A run of `solve`, from the plan up to the bytes that were read.
-use Rattle.std.proofs.Common.{◌≡◌, refl, inl, inr, subst, sym, None, ℕ, Bool, List, Option}
+use Rattle.std.proofs.Common.{◌≡◌, ◌⊎◌, refl, inl, inr, subst, sym, None, ℕ, Bool, List, Option}
 use Rattle.std.proofs.Common.{Result, Ok, Err}
 use Rattle.flow_core.specs.Shop.{Shop}
 use Rattle.flow_bound.specs.Neh.{IsNeh}
@@ -7,15 +7,18 @@ use Rattle.flow_core.specs.declared.text.block.Block.{Block}
 use Rattle.flow_search.specs.Choices.{Choices}
 use Rattle.flow_search.specs.Plans.{Planned, IsPlan, plan_fault}
 use Rattle.flow_search.specs.declared.options.OptionFault.{OptionFault}
-use Rattle.flow_commands.specs.Commands.{Answer, AnswersFrom, AnswersOptions, AnswersPlan, AnswersRun, AnswersSolve}
-use Rattle.flow_commands.specs.Commands.{Picks, asked_options, given_start, mirrored_if, reversed_if}
-use Rattle.flow_commands.specs.Runs.{Came, Ends, EndsAlone, Wrote}
+use Rattle.flow_commands.specs.Commands.{Answer, AnswersFor, AnswersOptions, AnswersPlan, AnswersRun, AnswersSolve}
+use Rattle.flow_commands.specs.Commands.{AnswersSolveFrom, FromText}
+use Rattle.flow_commands.specs.Commands.{Picks, asked_options, given_start, mirrored_if, reversed_if, sequence_lines}
+use Rattle.flow_commands.specs.Runs.{Came, Ends, EndsAlone, StopsAt, Wrote}
 use Rattle.flow_pool.specs.Report.{IsSolveFault}
 use Rattle.flow_pool.specs.declared.whole_run.SolveFault.{SolveFault}
 use Rattle.flow_pool.specs.declared.whole_run.SolveFault.TheVariants as solve
 use Rattle.flow_commands.specs.declared.fault.ToolFault.{ToolFault}
 use Rattle.flow_commands.specs.declared.fault.ToolFault.TheVariants as tool
-use Rattle.flow_commands.specs.Limits.{most_text}
+use Rattle.flow_commands.specs.Limits.{budgets, most_text}
+use Rattle.flow_commands.specs.Better.{AnswersCertified, AnswersImproved, FromNeh, IsNoWorse, certify_fault}
+use Rattle.flow_commands.specs.Better.{first_certificate, improve_fault}
 
 -- one kind of answer is also one of another kind
 abbrev pub Weaker : (Answer → Type 0) → (Answer → Type 0) → Type 0
@@ -67,7 +70,8 @@ pub for-block : (index workers depth budget version : ℕ) (mirror : Bool) (bloc
     (given gives : Option (List ℕ)) (ended : Bool) →
     Ok options ≡ asked_options workers depth budget version →
     Came most_text (λ text. Picks text index (Ok block)) given gives ended →
-    Came most_text (λ text. Weaker (AnswersPlan (IsNeh (mirrored_if mirror block.instance)) (mirrored_if mirror block.instance) options)
+    Came most_text (λ text. Weaker
+    (AnswersPlan (IsNeh (mirrored_if mirror block.instance)) (mirrored_if mirror block.instance) options)
     (AnswersSolve index workers depth budget version mirror text)) given gives ended
 for-block index workers depth budget version mirror block options given gives ended is came = (
   came.0,
@@ -82,27 +86,120 @@ for-block index workers depth budget version mirror block options given gives en
   ),
 )
 
--- the answer from what a start text gives
-abbrev given-answer : Bool → Shop → Result Choices OptionFault → Answer → Result (List ℕ) ToolFault → Type 0
-given-answer mirror shop read answer given = elim given [
-  | Ok jobs ↦ AnswersOptions (λ start. start ≡ reversed_if mirror jobs) (mirrored_if mirror shop) read answer
-  | Err fault ↦ answer ≡ Err fault
-]
+-- the same from the starting sequence of Nawaz, Enscore and Ham
+pub from-neh : (index : ℕ) (Answers : Shop → List ℕ → Answer → Type 0) (block : Block) (start : List ℕ)
+    (given gives : Option (List ℕ)) (ended : Bool) →
+    Came most_text (λ text. Picks text index (Ok block)) given gives ended → IsNeh block.instance start →
+    Came most_text (λ text. Weaker (Answers block.instance start)
+    (AnswersFor index (λ own. FromNeh Answers own.instance) text)) given gives ended
+from-neh index Answers block start given gives ended (text, short, came, whole, picks) is =
+    (text, short, came, whole, λ answer answers. inl (block, picks, (start, is, answers)))
 
 -- for a start text that gives a sequence
+pub from-text : (Answers : List ℕ → Answer → Type 0) (shop : Shop) (jobs text : List ℕ) →
+    given_start shop text ≡ Ok jobs → Weaker (Answers jobs) (FromText Answers shop text)
+from-text Answers shop jobs text gives answer answers = rw (FromText, gives) answers
+
+-- the same of `solve`, where the options are read
 pub from-start : (mirror : Bool) (shop : Shop) (read : Result Choices OptionFault) (options : Choices)
     (jobs text : List ℕ) → Ok options ≡ read → given_start shop text ≡ Ok jobs →
     Weaker (AnswersPlan (λ start. start ≡ reversed_if mirror jobs) (mirrored_if mirror shop) options)
-    (AnswersFrom mirror shop read text)
+    (AnswersSolveFrom mirror shop read text)
 from-start mirror shop read options jobs text is gives answer answers =
-    subst (given-answer mirror shop read answer) (sym gives)
+    from-text (λ given. AnswersOptions (λ start. start ≡ reversed_if mirror given) (mirrored_if mirror shop) read)
+    shop jobs text gives answer
     (with-options (λ start. start ≡ reversed_if mirror jobs) (mirrored_if mirror shop) read options is answer answers)
+
+-- a run that stopped at a start text ended so for the block
+pub stopped-at-start : (Untouched : Type 0) → Untouched → (Answers : List ℕ → Answer → Type 0) (shop : Shop)
+    (given gives : Option (List ℕ)) (ended : Bool) (taken takes : Option (List ℕ)) (fault : ToolFault) →
+    StopsAt most_text (λ text refusal. given_start shop text ≡ Err refusal) given gives ended fault →
+    Ends Untouched most_text (FromText Answers shop) given gives ended taken takes fault
+stopped-at-start Untouched untouched Answers shop given gives ended taken takes fault (inl memory) =
+    inl (untouched, inl memory)
+stopped-at-start Untouched untouched Answers shop given gives ended taken takes fault (inr (inl device)) =
+    inl (untouched, inr (inl device))
+stopped-at-start Untouched untouched Answers shop given gives ended taken takes fault (inr (inr (inl long))) =
+    inl (untouched, inr (inr (inl long)))
+stopped-at-start Untouched untouched Answers shop given gives ended taken takes fault (inr (inr (inr came))) =
+    inl (untouched, inr (inr (inr (came.0, came.1, came.2, came.3, rw (FromText, came.4) refl))))
+
+-- how a run ended that reads a block and then a start text: at the text of the block, or for the block that was picked
+abbrev pub EndsFrom : Type 0 → ℕ → Type 0 → (Block → List ℕ → Answer → Type 0) → Option (List ℕ) → Option (List ℕ) →
+    Bool → Option (List ℕ) → Option (List ℕ) → Bool → Option (List ℕ) → Option (List ℕ) → ToolFault → Type 0
+EndsFrom Early index Untouched Answers given gives ended start_given start_gives start_ended taken takes fault =
+    Early ⊎ Came most_text (λ text. (block : Block) × Picks text index (Ok block)
+    × Ends Untouched most_text (FromText (Answers block) block.instance) start_given start_gives start_ended
+    taken takes fault)
+    given gives ended
+
+pub stopped-from : (Early : Type 0) (index : ℕ) (Untouched : Type 0) → Untouched →
+    (Answers : Block → List ℕ → Answer → Type 0) (block : Block) (given gives : Option (List ℕ)) (ended : Bool)
+    (start_given start_gives : Option (List ℕ)) (start_ended : Bool) (taken takes : Option (List ℕ))
+    (fault : ToolFault) →
+    Came most_text (λ text. Picks text index (Ok block)) given gives ended →
+    StopsAt most_text (λ text refusal. given_start block.instance text ≡ Err refusal)
+    start_given start_gives start_ended fault →
+    EndsFrom Early index Untouched Answers given gives ended start_given start_gives start_ended taken takes fault
+stopped-from Early index Untouched untouched Answers block given gives ended start_given start_gives start_ended
+    taken takes fault (text, short, came, whole, picks) stopped =
+    inr (
+      text,
+      short,
+      came,
+      whole,
+      (
+        block,
+        picks,
+        stopped-at-start Untouched untouched (Answers block)
+            block.instance start_given start_gives start_ended taken takes fault stopped,
+      ),
+    )
+
+pub ended-from : (Early : Type 0) (index : ℕ) (Untouched : Type 0) (Inner : Answer → Type 0)
+    (Answers : Block → List ℕ → Answer → Type 0) (block : Block) (given gives : Option (List ℕ)) (ended : Bool)
+    (start_given start_gives : Option (List ℕ)) (start_ended : Bool) (taken takes : Option (List ℕ))
+    (fault : ToolFault) →
+    Came most_text (λ text. Picks text index (Ok block)) given gives ended →
+    Came most_text (λ text. Weaker Inner (FromText (Answers block) block.instance text))
+    start_given start_gives start_ended →
+    EndsAlone Untouched Inner taken takes fault →
+    EndsFrom Early index Untouched Answers given gives ended start_given start_gives start_ended taken takes fault
+ended-from Early index Untouched Inner Answers block given gives ended start_given start_gives start_ended
+    taken takes fault (text, short, came, whole, picks) weaker alone =
+    inr (
+      text,
+      short,
+      came,
+      whole,
+      (
+        block,
+        picks,
+        ends-for Untouched most_text Inner
+            (FromText (Answers block) block.instance) start_given start_gives start_ended taken takes fault
+            weaker alone,
+      ),
+    )
 
 -- a run of a plan that was refused
 pub run-ended : (Untouched : Type 0) → Untouched → (plan : Planned) (taken takes : Option (List ℕ))
     (fault : SolveFault) → IsSolveFault plan fault →
-    EndsAlone Untouched (AnswersRun plan) taken takes (elim fault [ solve.Memory ↦ tool.Memory | other ↦ tool.Run other ])
+    EndsAlone Untouched (AnswersRun plan) taken takes
+    (elim fault [ solve.Memory ↦ tool.Memory | other ↦ tool.Run other ])
 run-ended Untouched untouched plan taken takes solve.Memory h = inl (untouched, inl refl)
 run-ended Untouched untouched plan taken takes solve.Threads h = inl (untouched, inr (inl refl))
 run-ended Untouched untouched plan taken takes (solve.OverBudget number) h =
     inl (untouched, inr (inr (number, h, refl)))
+
+-- the answer of `improve` or `certify` from a sequence that is no worse is one from the start
+pub improved : (rounds seed : ℕ) (shop : Shop) (start jobs : List ℕ) → improve_fault rounds seed ≡ None →
+    IsNoWorse shop start jobs →
+    Weaker (λ answer. answer ≡ Ok (sequence_lines shop jobs)) (AnswersImproved rounds seed shop start)
+improved rounds seed shop start jobs accepted worse answer is = rw (AnswersImproved, accepted) (jobs, worse, is)
+
+pub certified : (rounds seed version : ℕ) (shop : Shop) (start jobs : List ℕ) →
+    certify_fault rounds seed version ≡ None → IsNoWorse shop start jobs →
+    Weaker (λ answer. answer ≡ first_certificate version shop jobs budgets)
+    (AnswersCertified rounds seed version shop start)
+certified rounds seed version shop start jobs accepted worse answer is =
+    rw (AnswersCertified, accepted) (jobs, worse, is)

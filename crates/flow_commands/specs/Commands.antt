@@ -68,11 +68,13 @@ AnswersSpan index jobs = AnswersFor index (λ block answer. answer ≡ span_answ
 abbrev pub sequence_line : List ℕ → List ℕ
 sequence_line jobs = codes "sequence" ++ flat_map (λ job. 32 ∷ decimal job) jobs ++ 10 ∷ []
 
+-- the lines of a sequence and its makespan
+abbrev pub sequence_lines : Shop → List ℕ → List ℕ
+sequence_lines shop jobs = sequence_line jobs ++ makespan_line (span shop jobs)
+
 -- what `neh` answers for a block: the starting sequence and its makespan
 abbrev pub AnswersStart : Shop → Answer → Type 0
-AnswersStart shop answer =
-    (sequence : List ℕ) × IsNeh shop sequence
-    × (answer ≡ Ok (sequence_line sequence ++ makespan_line (span shop sequence)))
+AnswersStart shop answer = (start : List ℕ) × IsNeh shop start × (answer ≡ Ok (sequence_lines shop start))
 
 -- what `neh` answers for a text
 abbrev pub AnswersNeh : ℕ → List ℕ → Answer → Type 0
@@ -159,14 +161,14 @@ asked_options workers depth budget version =
     [ Ok options ↦ version_or_fault options version | Err fault ↦ Err fault ]
 
 -- what it answers for an instance, from the starting sequence of Nawaz, Enscore and Ham
-abbrev pub AnswersStarted : Shop → Result Choices OptionFault → Answer → Type 0
-AnswersStarted shop = AnswersOptions (IsNeh shop) shop
+abbrev pub AnswersFromNeh : Shop → Result Choices OptionFault → Answer → Type 0
+AnswersFromNeh shop = AnswersOptions (IsNeh shop) shop
 
 -- what `solve` answers for a text
 abbrev pub AnswersSolve : ℕ → ℕ → ℕ → ℕ → ℕ → Bool → List ℕ → Answer → Type 0
 AnswersSolve index workers depth budget version mirror =
     AnswersFor index
-    (λ block. AnswersStarted (mirrored_if mirror block.instance) (asked_options workers depth budget version))
+    (λ block. AnswersFromNeh (mirrored_if mirror block.instance) (asked_options workers depth budget version))
 
 -- the jobs have the makespan that they are said to have; if not, the line that says it is at fault
 abbrev pub claimed : Shop → List ℕ → Option Claim → Result (List ℕ) ToolFault
@@ -188,10 +190,15 @@ given_start shop text = elim (start_of text) [
 abbrev pub reversed_if : Bool → List ℕ → List ℕ
 reversed_if asked jobs = cond asked (reverse jobs) jobs
 
--- what `solve` answers for a shop and a start text, where the options are read: that from the sequence of the text, or
--- the fault of the text; with the mirrored shop from the reversed sequence
-abbrev pub AnswersFrom : Bool → Shop → Result Choices OptionFault → List ℕ → Answer → Type 0
-AnswersFrom mirror shop read text answer = elim (given_start shop text) [
-  | Ok jobs ↦ AnswersOptions (λ start. start ≡ reversed_if mirror jobs) (mirrored_if mirror shop) read answer
+-- what is answered from the sequence that a start text gives for a shop, or the fault of the text
+abbrev pub FromText : (List ℕ → Answer → Type 0) → Shop → List ℕ → Answer → Type 0
+FromText Answers shop text answer = elim (given_start shop text) [
+  | Ok start ↦ Answers start answer
   | Err fault ↦ answer ≡ Err fault
 ]
+
+-- what `solve` answers for a shop and a start text, where the options are read; with the mirrored shop from the
+-- reversed sequence
+abbrev pub AnswersSolveFrom : Bool → Shop → Result Choices OptionFault → List ℕ → Answer → Type 0
+AnswersSolveFrom mirror shop read = FromText (λ jobs.
+    AnswersOptions (λ start. start ≡ reversed_if mirror jobs) (mirrored_if mirror shop) read) shop

@@ -1,4 +1,5 @@
 pub mod Limits
 pub mod Commands
+pub mod Better
 pub mod Runs
 pub mod internal

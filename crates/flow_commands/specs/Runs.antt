@@ -9,7 +9,7 @@ use Rattle.flow_core.specs.declared.bytes.fault.WriteFault.TheVariants as write
 use Rattle.flow_cert.specs.Certificate.{IsCertificate}
 use Rattle.flow_commands.specs.declared.fault.ToolFault.{ToolFault}
 use Rattle.flow_commands.specs.declared.fault.ToolFault.TheVariants as tool
-use Rattle.flow_commands.specs.Commands.{Answer, optimal_line}
+use Rattle.flow_commands.specs.Commands.{Answer, IsAccepted, optimal_line}
 
 -- a source gave at most so many bytes and then its end, and this holds of the bytes
 abbrev pub Came : ℕ → (List ℕ → Type 0) → Option (List ℕ) → Option (List ℕ) → Bool → Type 0
@@ -55,6 +55,12 @@ abbrev pub WroteCertificate : Shop → Option (List ℕ) → Option (List ℕ) �
 WroteCertificate shop old new =
     (certificate : List ℕ) × (value : ℕ) × Appends old new certificate
     × IsCertificate shop certificate value × IsLeastMakespan shop value
+
+-- a sink took a lawful certificate of an instance or of the mirrored one, of the least makespan of both
+abbrev pub WroteEither : Shop → Option (List ℕ) → Option (List ℕ) → Type 0
+WroteEither shop old new =
+    (certificate : List ℕ) × (value : ℕ) × Appends old new certificate
+    × IsAccepted true shop certificate value × IsLeastMakespan shop value
 
 -- a sink took the line of a value that is the least makespan of an instance
 abbrev pub WroteLeast : Shop → Option (List ℕ) → Option (List ℕ) → Type 0

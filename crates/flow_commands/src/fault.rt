@@ -10,7 +10,7 @@ ghost use Rattle.flow_search.specs.declared.plan.PlanFault.TheVariants as plan;
 ghost use Rattle.flow_pool.specs.declared.whole_run.SolveFault.TheVariants as solve;
 ghost use Rattle.flow_cert.specs.declared.fault.CheckFault.TheVariants as check;
 ghost use Rattle.flow_commands.specs.declared.fault.ToolFault.TheVariants.{Memory, Read, Text, Start, Sequence};
-ghost use Rattle.flow_commands.specs.declared.fault.ToolFault.TheVariants.{Instance, Choice, Plan, Run};
+ghost use Rattle.flow_commands.specs.declared.fault.ToolFault.TheVariants.{Instance, Effort, Choice, Plan, Run};
 ghost use Rattle.flow_commands.specs.declared.fault.ToolFault.TheVariants.{Certificate, Write};
 
 use flow_cert::CheckFault;
@@ -19,6 +19,17 @@ use flow_pool::SolveFault;
 use flow_search::{OptionFault, PlanFault};
 use std::alloc::AllocError;
 use thiserror::Error;
+
+/// Why the numbers of an improvement are refused, in the order of the tests.
+#[derive(Clone, Copy, Debug, PartialEq, Eq, Error)]
+pub enum EffortFault {
+    /// There are more than 100,000,000 rounds.
+    #[error("Rounds")]
+    Rounds,
+    /// The seed is not from 1 to 2,147,483,646.
+    #[error("Seed")]
+    Seed,
+}
 
 /// Why a command refused, in the order in which it is tested; its text is the line on standard error.
 #[derive(Clone, Copy, Debug, PartialEq, Eq, Error)]
@@ -44,6 +55,9 @@ pub enum ToolFault {
     /// No instance is generated.
     #[error("refused instance {0}")]
     Instance(InstanceFault),
+    /// The rounds or the seed of an improvement are refused.
+    #[error("refused option {0}")]
+    Effort(EffortFault),
     /// The numbers are no options.
     #[error("refused option {0}")]
     Choice(OptionFault),
@@ -121,6 +135,14 @@ impl From<InstanceFault> for ToolFault {
             InstanceFault::Memory => ToolFault::Memory,
             _ => ToolFault::Instance(fault),
         }
+    }
+}
+
+impl From<EffortFault> for ToolFault {
+    ghost from_gives = { λ fault given. given ≡ Effort fault };
+
+    fn from(fault: EffortFault) -> ToolFault {
+        ToolFault::Effort(fault)
     }
 }
 

@@ -10,7 +10,7 @@ ghost use Rattle.flow_commands.specs.Limits.{most_text};
 
 use crate::block::read_block;
 use crate::fault::ToolFault;
-use crate::printed::{makespan_line, sequence_line};
+use crate::printed::sequence_lines;
 use flow_bound::neh;
 use flow_core::{Instance, Sink, Source, put_all};
 use std::alloc::{AllocError, Global};
@@ -20,9 +20,7 @@ fn starting_lines(alloc: Global, instance: &Instance) -> Result<Vec<u8>, AllocEr
     ensures { IfOk result (λ lines. AnswersStart instance.now (Ok lines.items)) }
 {
     let (sequence, value) = neh(alloc, instance)?;
-    let mut lines = sequence_line(alloc, sequence.jobs())?;
-    lines.extend_from_slice(makespan_line(alloc, value)?.as_slice())?;
-    Ok(lines)
+    sequence_lines(alloc, sequence.jobs(), value)
 }
 
 /// Writes the starting sequence of the block that an index names, and its makespan.

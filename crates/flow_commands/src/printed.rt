@@ -32,7 +32,7 @@ fn value_line(alloc: Global, words: &[u8], value: u64) -> Result<Vec<u8>, AllocE
 }
 
 /// The line of a sequence.
-pub(crate) fn sequence_line(alloc: Global, jobs: &[u16]) -> Result<Vec<u8>, AllocError>
+fn sequence_line(alloc: Global, jobs: &[u16]) -> Result<Vec<u8>, AllocError>
     ensures { IfOk result (λ line. line.items ≡ sequence_line jobs.now) }
 {
     let mut buffer = Buffer::new();
@@ -43,4 +43,17 @@ pub(crate) fn sequence_line(alloc: Global, jobs: &[u16]) -> Result<Vec<u8>, Allo
     }
     line.push(b'\n')?;
     Ok(line)
+}
+
+/// The lines of a sequence and its makespan.
+pub(crate) fn sequence_lines(
+    alloc: Global,
+    jobs: &[u16],
+    makespan: u64,
+) -> Result<Vec<u8>, AllocError>
+    ensures { IfOk result (λ lines. lines.items ≡ sequence_line jobs.now ++ makespan_line makespan) }
+{
+    let mut lines = sequence_line(alloc, jobs)?;
+    lines.extend_from_slice(makespan_line(alloc, makespan)?.as_slice())?;
+    Ok(lines)
 }

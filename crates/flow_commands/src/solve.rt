@@ -8,16 +8,16 @@ ghost use Rattle.flow_core.specs.declared.bytes.fault.WriteFault.TheVariants as 
 ghost use Rattle.flow_core.specs.declared.text.block.Block.{Block};
 ghost use Rattle.flow_bound.specs.Neh.{IsNeh};
 ghost use Rattle.flow_search.specs.Plans.{IsPlan};
-ghost use Rattle.flow_commands.specs.Commands.{AnswersFrom, AnswersPlan, AnswersRun, AnswersSolve, Picks};
-ghost use Rattle.flow_commands.specs.Commands.{asked_options, given_start, mirrored_if, reversed_if};
+ghost use Rattle.flow_commands.specs.Commands.{AnswersPlan, AnswersRun, AnswersSolve, AnswersSolveFrom, Picks};
+ghost use Rattle.flow_commands.specs.Commands.{asked_options, mirrored_if, reversed_if};
 ghost use Rattle.flow_commands.specs.Runs.{Came, Ends, EndsAlone, StopsAt, Wrote, WroteCertificate};
 ghost use Rattle.flow_commands.specs.Limits.{most_text};
 
 use crate::block::read_block;
 use crate::fault::ToolFault;
-use crate::limits::MAX_TEXT;
+use crate::start::read_given;
 use flow_cert::write_certificate;
-use flow_core::{Instance, Sequence, Sink, Source, StartFault, makespan, read_all, read_start};
+use flow_core::{Instance, Sequence, Sink, Source};
 use flow_pool::{Gate, solve};
 use flow_search::{OptionFault, Options, Plan, prepare, prepare_from};
 use std::alloc::{AllocError, Global};
@@ -145,26 +145,6 @@ pub fn run_solve<R: Threads + Wait + Sync, S: Source, G: Gate + Sync, K: Sink>(
     solve_instance(rt, alloc, &instance, options, gate, out)
 }
 
-/// The sequence that a start text gives for an instance; or the first fault of the text, of its jobs, or of its
-/// makespan.
-fn given_sequence(alloc: Global, instance: &Instance, text: &[u8]) -> Result<Sequence, ToolFault>
-    ensures value { IfOk result (λ sequence. given_start instance.now text.now ≡ Ok sequence) }
-    ensures each { IfOk result (λ sequence. IsSequence instance.now.jobs sequence) }
-    ensures refused { IfErr result (λ fault. (fault ≡ ToolFault.Memory)
-        ⊎ (given_start instance.now text.now ≡ Err fault)) }
-    ensures reads_nothing { IsErrOf result (ToolFault.Read read.Device) → ⊥ }
-    ensures writes_nothing { IsErrOf result (ToolFault.Write write.Device) → ⊥ }
-{
-    let start = read_start(alloc, text)?;
-    let sequence = Sequence::new(alloc, instance, start.jobs.as_slice())?;
-    if let Some(claim) = start.claim {
-        if u64::from(claim.makespan) != makespan(instance, &sequence) {
-            return Err(ToolFault::Start(StartFault::Line(claim.line)));
-        }
-    }
-    Ok(sequence)
-}
-
 /// The sequence, or the reversed one where the mirrored instance is asked for.
 fn turned_start(start: Sequence, mirror: bool) -> Sequence
     ensures value { result ≡ reversed_if mirror start }
@@ -174,84 +154,6 @@ fn turned_start(start: Sequence, mirror: bool) -> Sequence
         return start.reversed();
     }
     start
-}
-
-/// Solves an instance from the sequence that a start text gives, or with `mirror` the mirrored instance from the
-/// reversed sequence, and writes the certificate of its plan.
-fn solve_given<R: Threads + Wait + Sync, G: Gate + Sync, K: Sink>(
-    rt: &R,
-    alloc: Global,
-    instance: Instance,
-    text: &[u8],
-    workers: u32,
-    depth: u32,
-    budget: u32,
-    version: u32,
-    mirror: bool,
-    gate: &G,
-    out: &mut K,
-) -> Result<(), ToolFault>
-    requires { K.has_failed out.old ≡ false }
-    ensures written { OnOk result
-        (Wrote (AnswersFrom mirror instance (asked_options workers depth budget version) text.now)
-        (K.taken out.old) (K.taken out.new)) }
-    ensures lawful { OnOk result (WroteCertificate (mirrored_if mirror instance) (K.taken out.old) (K.taken out.new)) }
-    ensures ended { IfErr result (EndsAlone (out.new ≡ out.old)
-        (AnswersFrom mirror instance (asked_options workers depth budget version) text.now)
-        (K.taken out.old) (K.taken out.new)) }
-    ensures write_device { IsErrOf result (ToolFault.Write write.Device) ↔ (K.has_failed out.new ≡ true) }
-    ensures reads_nothing { IsErrOf result (ToolFault.Read read.Device) → ⊥ }
-{
-    let start = given_sequence(alloc, &instance, text)?;
-    let options = options_of(workers, depth, budget, version)?;
-    let instance = turned(alloc, instance, mirror)?;
-    let start = turned_start(start, mirror);
-    solve_instance_from(rt, alloc, &instance, start, options, gate, out)
-}
-
-/// Reads a start text, and solves an instance from its sequence, or with `mirror` the mirrored instance from the
-/// reversed sequence; writes the certificate of its plan.
-fn solve_started<R: Threads + Wait + Sync, T: Source, G: Gate + Sync, K: Sink>(
-    rt: &R,
-    alloc: Global,
-    instance: Instance,
-    start: &mut T,
-    workers: u32,
-    depth: u32,
-    budget: u32,
-    version: u32,
-    mirror: bool,
-    gate: &G,
-    out: &mut K,
-) -> Result<(), ToolFault>
-    requires start_works { T.has_failed start.old ≡ false }
-    requires out_works { K.has_failed out.old ≡ false }
-    ensures written { OnOk result (Came most_text (λ bytes.
-        Wrote (AnswersFrom mirror instance (asked_options workers depth budget version) bytes)
-        (K.taken out.old) (K.taken out.new))
-        (T.given start.old) (T.given start.new) (T.has_ended start.new)) }
-    ensures lawful { OnOk result (WroteCertificate (mirrored_if mirror instance) (K.taken out.old) (K.taken out.new)) }
-    ensures ended { IfErr result (Ends (out.new ≡ out.old) most_text
-        (AnswersFrom mirror instance (asked_options workers depth budget version))
-        (T.given start.old) (T.given start.new) (T.has_ended start.new) (K.taken out.old) (K.taken out.new)) }
-    ensures read_device { IsErrOf result (ToolFault.Read read.Device) ↔ (T.has_failed start.new ≡ true) }
-    ensures write_device { IsErrOf result (ToolFault.Write write.Device) ↔ (K.has_failed out.new ≡ true) }
-    ensures stands { Grows (T.given start.old) (T.given start.new) }
-{
-    let text = read_all(alloc, start, MAX_TEXT)?;
-    solve_given(
-        rt,
-        alloc,
-        instance,
-        text.as_slice(),
-        workers,
-        depth,
-        budget,
-        version,
-        mirror,
-        gate,
-        out,
-    )
 }
 
 /// Solves the block that an index names from a starting sequence, and writes the certificate of its plan, in a
@@ -275,7 +177,7 @@ pub fn run_solve_from<R: Threads + Wait + Sync, S: Source, T: Source, G: Gate + 
     requires out_works { K.has_failed out.old ≡ false }
     ensures written { OnOk result (Came most_text (λ text. (block : Block) × Picks text index (Ok block)
         × Came most_text (λ bytes.
-        Wrote (AnswersFrom mirror block.instance (asked_options workers depth budget version) bytes)
+        Wrote (AnswersSolveFrom mirror block.instance (asked_options workers depth budget version) bytes)
         (K.taken out.old) (K.taken out.new))
         (T.given start.old) (T.given start.new) (T.has_ended start.new))
         (S.given file.old) (S.given file.new) (S.has_ended file.new)) }
@@ -288,7 +190,7 @@ pub fn run_solve_from<R: Threads + Wait + Sync, S: Source, T: Source, G: Gate + 
         (S.given file.old) (S.given file.new) (S.has_ended file.new) fault)
         ⊎ Came most_text (λ text. (block : Block) × Picks text index (Ok block)
         × Ends (out.new ≡ out.old) most_text
-        (AnswersFrom mirror block.instance (asked_options workers depth budget version))
+        (AnswersSolveFrom mirror block.instance (asked_options workers depth budget version))
         (T.given start.old) (T.given start.new) (T.has_ended start.new) (K.taken out.old) (K.taken out.new) fault)
         (S.given file.old) (S.given file.new) (S.has_ended file.new)) }
     ensures read_device { IsErrOf result (ToolFault.Read read.Device)
@@ -298,17 +200,9 @@ pub fn run_solve_from<R: Threads + Wait + Sync, S: Source, T: Source, G: Gate + 
     ensures start_stands { Grows (T.given start.old) (T.given start.new) }
 {
     let block = read_block(alloc, file, index)?;
-    solve_started(
-        rt,
-        alloc,
-        block.instance,
-        start,
-        workers,
-        depth,
-        budget,
-        version,
-        mirror,
-        gate,
-        out,
-    )
+    let start = read_given(alloc, &block.instance, start)?;
+    let options = options_of(workers, depth, budget, version)?;
+    let instance = turned(alloc, block.instance, mirror)?;
+    let start = turned_start(start, mirror);
+    solve_instance_from(rt, alloc, &instance, start, options, gate, out)
 }

@@ -2,7 +2,7 @@
 
 ghost use Rattle.std.specs.Prelude.{◌≡◌, ◌<◌, ◌||◌, None, false, length, IfOk, is_err};
 
-use crate::{ToolFault, run_check, run_gen, run_neh, run_solve, run_solve_from, run_span};
+use crate::{EffortFault, ToolFault, run_check, run_gen, run_neh, run_solve, run_solve_from, run_span};
 use flow_cert::CheckFault;
 use flow_core::{
     InstanceFault, MemorySink, MemorySource, ReadFault, Refused, SequenceFault, Source, StartFault,
@@ -15,6 +15,8 @@ use std::sync::Wait;
 use std::sync::atomic::{AtomicBool, AtomicU32, Ordering};
 use std::test::Fail;
 use std::thread::Threads;
+
+mod better;
 
 /// The budget of a tree where none is to be refused.
 const AMPLE: u32 = 1_000_000;
@@ -697,7 +699,7 @@ fn run_solve_starts_workers(rt: HostRuntime) -> Result<(), Fail> {
 }
 
 /// The line on standard error for each fault.
-const FAULT_LINES: [(ToolFault, &str); 35] = [
+const FAULT_LINES: [(ToolFault, &str); 37] = [
     (ToolFault::Memory, "refused memory"),
     (ToolFault::Read(ReadFault::Device), "failed read Device"),
     (ToolFault::Read(ReadFault::TooLong), "failed read TooLong"),
@@ -739,6 +741,14 @@ const FAULT_LINES: [(ToolFault, &str); 35] = [
     (
         ToolFault::Instance(InstanceFault::Machines),
         "refused instance Machines",
+    ),
+    (
+        ToolFault::Effort(EffortFault::Rounds),
+        "refused option Rounds",
+    ),
+    (
+        ToolFault::Effort(EffortFault::Seed),
+        "refused option Seed",
     ),
     (
         ToolFault::Choice(OptionFault::Workers),

@@ -49,11 +49,13 @@ none-behind word bytes rest fault there h =
 pub refused-behind : (word bytes rest : List ℕ) (number : ℕ) (fault : LineFault) → behind word bytes ≡ Some rest →
     LineFails fault (line_numbers rest) → IsOfLine (numbers_behind word bytes) number (of_start fault number)
 refused-behind word bytes rest number line.Memory there h = λ known. absurd (known refl)
-refused-behind word bytes rest number line.Label there h = λ known. (none-behind word bytes rest line.Label there h, refl)
+refused-behind word bytes rest number line.Label there h =
+    λ known. (none-behind word bytes rest line.Label there h, refl)
 refused-behind word bytes rest number line.Byte there h = λ known. (none-behind word bytes rest line.Byte there h, refl)
 refused-behind word bytes rest number line.Number there h =
     λ known. (none-behind word bytes rest line.Number there h, refl)
 refused-behind word bytes rest number line.Head there h = λ known. (none-behind word bytes rest line.Head there h, refl)
 refused-behind word bytes rest number line.Limits there h =
     λ known. (none-behind word bytes rest line.Limits there h, refl)
-refused-behind word bytes rest number line.Times there h = λ known. (none-behind word bytes rest line.Times there h, refl)
+refused-behind word bytes rest number line.Times there h =
+    λ known. (none-behind word bytes rest line.Times there h, refl)

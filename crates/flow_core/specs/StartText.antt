@@ -24,8 +24,9 @@ ends_word (b ∷ bs) = is_blank b
 -- what stands behind a word, where the line begins with it after blanks, and a blank or the line's end follows
 abbrev pub behind : List ℕ → List ℕ → Option (List ℕ)
 behind word line =
-    if bytes_eq (take (length word) (after_blanks line)) word && ends_word (drop (length word) (after_blanks line))
-    then Some (drop (length word) (after_blanks line)) else None
+    let text = after_blanks line in
+    let rest = drop (length word) text in
+    if bytes_eq (take (length word) text) word && ends_word rest then Some rest else None
 
 -- the numbers on the rest of a line, where it has digits and blanks alone
 abbrev pub numbers_on : List ℕ → Option (List ℕ)

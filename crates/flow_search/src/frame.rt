@@ -7,7 +7,7 @@ ghost use Rattle.flow_core.specs.Bound.{bound_at, released_bound_at};
 ghost use Rattle.flow_core.specs.Sequences.{jobs_left};
 ghost use Rattle.flow_core.specs.Rows.{AreRows, IsRow};
 ghost use Rattle.flow_search.specs.internal.Lows.{AreLows, second_tail};
-ghost use Rattle.flow_search.specs.internal.Lags.{AreLags};
+ghost use Rattle.flow_search.specs.internal.Lags.{AreTwoLeastLags};
 ghost use Rattle.flow_search.specs.internal.Frames.{IsFrame, IsChild};
 
 use crate::lows::{Lags, lows_of, without};
@@ -92,10 +92,10 @@ impl Frame {
         requires rows { AreRows setting.now.instance.now setting.now.rows.now }
         requires at { (node : List ℕ) × (left : ℕ) × IsFrame setting.now.instance.now node (suc (suc left)) self.now
             × IsChild setting.now.instance.now.jobs node job
-            × AreLags setting.now.instance.now (jobs_left setting.now.instance.now.jobs node) lags.now }
+            × AreTwoLeastLags setting.now.instance.now (jobs_left setting.now.instance.now.jobs node) lags.now }
         ensures { (node : List ℕ) (left : ℕ) → IsFrame setting.now.instance.now node (suc (suc left)) self.now →
             IsChild setting.now.instance.now.jobs node job →
-            AreLags setting.now.instance.now (jobs_left setting.now.instance.now.jobs node) lags.now →
+            AreTwoLeastLags setting.now.instance.now (jobs_left setting.now.instance.now.jobs node) lags.now →
             result ≡ find (λ machine. nat_le value
             (released_bound_at setting.now.instance.now (node ++ job ∷ []) machine))
             (numbers 1 setting.now.instance.now.machines) }

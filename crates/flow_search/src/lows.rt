@@ -7,7 +7,7 @@ ghost use Rattle.flow_core.specs.Shop.{Shop, IsWithinLimits};
 ghost use Rattle.flow_core.specs.JobSet.{contains, members};
 ghost use Rattle.flow_core.specs.Rows.{AreRows, IsRow};
 ghost use Rattle.flow_search.specs.internal.Lows.{AreLows, tail_at, time_to};
-ghost use Rattle.flow_search.specs.internal.Lags.{AreLags};
+ghost use Rattle.flow_search.specs.internal.Lags.{AreTwoLeastLags};
 
 use crate::setting::Setting;
 use flow_core::{Instance, JobSet, MAX_MACHINES, Row};
@@ -119,7 +119,7 @@ pub fn lows_to(setting: &Setting, set: &JobSet, machine: u16) -> Lows
 pub fn renew_lags(setting: &Setting, set: &JobSet, lags: &mut Lags)
     requires rows { AreRows setting.now.instance.now setting.now.rows.now }
     requires jobs { (job : ℕ) → setting.now.instance.now.jobs < job → contains set.now job ≡ false }
-    ensures { setting.now.version ≡ 2 → AreLags setting.now.instance.now (members set.now) lags.new }
+    ensures { setting.now.version ≡ 2 → AreTwoLeastLags setting.now.instance.now (members set.now) lags.new }
 {
     if setting.version != 2 {
         return;

@@ -11,7 +11,7 @@ ghost use Rattle.flow_bound.specs.Loads.{AreLoadsOf};
 ghost use Rattle.flow_search.specs.Walk.{walk};
 ghost use Rattle.flow_core.specs.Rows.{AreRows};
 ghost use Rattle.flow_search.specs.internal.Frames.{IsFrame};
-ghost use Rattle.flow_search.specs.internal.Lags.{AreLags};
+ghost use Rattle.flow_search.specs.internal.Lags.{AreTwoLeastLags};
 ghost use Rattle.flow_search.specs.internal.Nodes.{IsAt, IsFresh, Wrote, Saw, Entered, Left, incumbent_of};
 ghost use Rattle.flow_search.specs.internal.Nodes.{Gave, Opens, Walked, walked, children_walked};
 ghost use Rattle.flow_search.specs.declared.subtree.Stop.TheVariants.{Memory};
@@ -184,7 +184,7 @@ fn cutting_child(
         IsAt setting.now.instance.now search.now.node.items here.now.front search.now.unscheduled (suc (suc left)) ×
         IsFrame setting.now.instance.now search.now.node.items (suc (suc left)) here.now }
     requires lags { setting.now.version ≡ 2 →
-        AreLags setting.now.instance.now (members search.now.unscheduled) lags.now }
+        AreTwoLeastLags setting.now.instance.now (members search.now.unscheduled) lags.now }
     requires from { 1 ≤ job }
     requires to { job ≤ setting.now.instance.now.jobs }
     requires left { contains search.now.unscheduled job ≡ true }
@@ -264,7 +264,7 @@ fn visit(
         IsAt shop search.old.node.items here.now.front search.old.unscheduled (suc below) }
     requires frame { IsFrame setting.now.instance.now search.old.node.items (suc below) here.now }
     requires lags { setting.now.version ≡ 2 →
-        AreLags setting.now.instance.now (members search.old.unscheduled) lags.now }
+        AreTwoLeastLags setting.now.instance.now (members search.old.unscheduled) lags.now }
     requires from { 1 ≤ job }
     requires to { job ≤ setting.now.instance.now.jobs }
     requires left { contains search.old.unscheduled job ≡ true }

@@ -4,7 +4,7 @@ ghost use Rattle.std.specs.Prelude.{◌≡◌, ℕ, ◌<◌, ◌≤◌, length, 
 ghost use Rattle.flow_core.specs.Paths.{span};
 ghost use Rattle.flow_core.specs.Sequences.{IsSequence};
 ghost use Rattle.flow_core.specs.Rows.{AreRows};
-ghost use Rattle.flow_bound.specs.Neh.{IsNeh, inserted};
+ghost use Rattle.flow_bound.specs.Neh.{IsNeh};
 
 use crate::start::insertion::{Times, fill_spans};
 use crate::start::order::by_total;
@@ -55,8 +55,11 @@ pub fn best_place(
     requires tails_room { length jobs.now < length tails.old }
     requires spans_room { length jobs.now < length spans.old }
     ensures within { result.index ≤ length jobs.now }
-    ensures list { insert jobs.now result.index job ≡ inserted instance.now jobs.now job }
     ensures makespan { result.makespan ≡ span instance.now (insert jobs.now result.index job) }
+    ensures least { (place : ℕ) → place ≤ length jobs.now →
+        result.makespan ≤ span instance.now (insert jobs.now place job) }
+    ensures earliest { (place : ℕ) → place < result.index →
+        result.makespan < span instance.now (insert jobs.now place job) }
 {
     fill_spans(instance, rows, jobs, job, tails, spans);
     let index = earliest_least(&spans[..jobs.len() + 1]);

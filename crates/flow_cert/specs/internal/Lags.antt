@@ -12,9 +12,9 @@ use Rattle.flow_cert.specs.declared.reading.release.Lags.{Lags}
 abbrev pub lags : Shop → ℕ → ℕ → List ℕ → List ℕ
 lags shop from machine jobs = map (λ job. time_between shop job from (machine - 1)) jobs
 
--- the two least lags of the jobs left, from each machine up to this one
-abbrev pub AreLags : Shop → List ℕ → ℕ → Lags → Type 0
-AreLags shop list machine two =
+-- the two least lags of the jobs left to a machine, from each machine up to it
+abbrev pub AreTwoLeastLagsTo : Shop → List ℕ → ℕ → Lags → Type 0
+AreTwoLeastLagsTo shop list machine two =
     (from : ℕ) → 1 ≤ from → from ≤ machine →
     (slice_index two.least (from - 1) ≡ least_below unknown (lags shop from machine (jobs_left shop.jobs list)))
     × (slice_index two.second (from - 1)
@@ -38,4 +38,4 @@ AreUnknown kept = (place : ℕ) → place < length kept → slice_index_or kept 
 abbrev pub AreKept : Shop → List ℕ → List (Option Lags) → Type 0
 AreKept shop list kept =
     (machine : ℕ) → 1 ≤ machine → machine ≤ length kept →
-    IfSome (slice_index_or kept (machine - 1) None) (λ two. AreLags shop list machine two)
+    IfSome (slice_index_or kept (machine - 1) None) (λ two. AreTwoLeastLagsTo shop list machine two)

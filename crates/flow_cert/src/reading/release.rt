@@ -11,7 +11,7 @@ ghost use Rattle.flow_core.specs.Rows.{AreRows};
 ghost use Rattle.flow_core.proofs.TwoLeast.{Without};
 ghost use Rattle.flow_cert.specs.internal.Links.{AreLinks};
 ghost use Rattle.flow_cert.specs.internal.Nodes.{IsNode, IsAt, IsChild, grown, left_before};
-ghost use Rattle.flow_cert.specs.internal.Lags.{AreLags, AreKept, AreUnknown, TakesIn};
+ghost use Rattle.flow_cert.specs.internal.Lags.{AreTwoLeastLagsTo, AreKept, AreUnknown, TakesIn};
 
 use crate::reading::claim::Claim;
 use crate::reading::node::{Node, bound};
@@ -104,7 +104,7 @@ fn lags_to(claim: &Claim, links: &[u16], machine: u16) -> Lags
     requires links { (list : List ℕ) × AreLinks claim.now.instance.now.jobs list links.now }
     requires to { machine ≤ claim.now.instance.now.machines }
     ensures { (list : List ℕ) → AreLinks claim.now.instance.now.jobs list links.now →
-        AreLags claim.now.instance.now list machine result }
+        AreTwoLeastLagsTo claim.now.instance.now list machine result }
 {
     let mut lags = Lags {
         least: [u32::MAX; MAX_MACHINES],
@@ -131,7 +131,7 @@ fn lags_of(claim: &Claim, kept: &mut [Option<Lags>], links: &[u16], machine: u16
     requires to { machine ≤ claim.now.instance.now.machines }
     ensures size { length kept.new ≡ length kept.old }
     ensures lags { (list : List ℕ) → AreLinks claim.now.instance.now.jobs list links.now →
-        AreKept claim.now.instance.now list kept.old → AreLags claim.now.instance.now list machine result }
+        AreKept claim.now.instance.now list kept.old → AreTwoLeastLagsTo claim.now.instance.now list machine result }
     ensures kept { (list : List ℕ) → AreLinks claim.now.instance.now.jobs list links.now →
         AreKept claim.now.instance.now list kept.old → AreKept claim.now.instance.now list kept.new }
 {
@@ -151,11 +151,11 @@ fn lags_of(claim: &Claim, kept: &mut [Option<Lags>], links: &[u16], machine: u16
 fn own_gain(claim: &Claim, node: &Node, lags: &Lags, machine: u16) -> u64
     requires rows { AreRows claim.now.instance.now claim.now.rows.now }
     requires at { (list : List ℕ) × (left : ℕ) × IsNode claim.now.instance.now list node.now (suc left)
-        × AreLags claim.now.instance.now list machine lags.now }
+        × AreTwoLeastLagsTo claim.now.instance.now list machine lags.now }
     requires from { 1 ≤ machine }
     requires to { machine ≤ claim.now.instance.now.machines }
     ensures { (list : List ℕ) (left : ℕ) → IsNode claim.now.instance.now list node.now (suc left) →
-        AreLags claim.now.instance.now list machine lags.now →
+        AreTwoLeastLagsTo claim.now.instance.now list machine lags.now →
         slice_index (front_of claim.now.instance.now list) (machine - 1) + result
         ≡ release claim.now.instance.now (front_of claim.now.instance.now list)
         (jobs_left claim.now.instance.now.jobs list) machine }
@@ -173,12 +173,12 @@ fn own_gain(claim: &Claim, node: &Node, lags: &Lags, machine: u16) -> u64
 fn child_gain(claim: &Claim, node: &Node, lags: &Lags, job: u16, machine: u16) -> u64
     requires rows { AreRows claim.now.instance.now claim.now.rows.now }
     requires at { (list : List ℕ) × (left : ℕ) × IsNode claim.now.instance.now list node.now (suc (suc left))
-        × AreLags claim.now.instance.now list machine lags.now
+        × AreTwoLeastLagsTo claim.now.instance.now list machine lags.now
         × IsChild claim.now.instance.now.jobs list (Some job) }
     requires from { 1 ≤ machine }
     requires to { machine ≤ claim.now.instance.now.machines }
     ensures { (list : List ℕ) (left : ℕ) → IsNode claim.now.instance.now list node.now (suc (suc left)) →
-        AreLags claim.now.instance.now list machine lags.now →
+        AreTwoLeastLagsTo claim.now.instance.now list machine lags.now →
         IsChild claim.now.instance.now.jobs list (Some job) →
         slice_index (front_of claim.now.instance.now (list ++ job ∷ [])) (machine - 1) + result
         ≡ release claim.now.instance.now (front_of claim.now.instance.now (list ++ job ∷ []))

@@ -10,8 +10,8 @@ use Rattle.flow_search.specs.internal.Frames.{IsChild}
 use Rattle.flow_search.specs.declared.lows.Lows.{Lows}
 
 -- for each machine the two least lags of some jobs to it, from each earlier one
-abbrev pub AreLags : Shop → List ℕ → List Lows → Type 0
-AreLags shop jobs lags =
+abbrev pub AreTwoLeastLags : Shop → List ℕ → List Lows → Type 0
+AreTwoLeastLags shop jobs lags =
     (machine : ℕ) (other : Lows) → 1 ≤ machine → machine ≤ shop.machines →
     AreLows (time_to shop machine) (machine - 1) jobs (slice_index_or lags (machine - 1) other)
 

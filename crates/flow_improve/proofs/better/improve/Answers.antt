@@ -10,7 +10,8 @@ use Rattle.flow_improve.proofs.better.improve.Goals as goal
 pub loop-preserved : goal.loop-preserved
 loop-preserved c =
     let shop = c.args.instance.now in
-    let held = take_at c.round.new.list _ c.copy_from.new.self.jobs.len (omega (arith, c.round.auto.list, c.as_mut_slice.ensures.len)) in
+    let held = take_at c.round.new.list _ c.copy_from.new.self.jobs.len
+    (omega (arith, c.round.auto.list, c.as_mut_slice.ensures.len)) in
     record {
       search = c.round.ensures.rounds;
       best = elim c.if-tried-best.branch [

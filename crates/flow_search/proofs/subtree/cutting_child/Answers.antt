@@ -3,7 +3,7 @@ use Rattle.std.specs.List.{find}
 use Rattle.flow_core.specs.Shop.{numbers}
 use Rattle.flow_core.specs.Sequences.{jobs_left}
 use Rattle.flow_search.specs.internal.Frames.{IsChild}
-use Rattle.flow_search.specs.internal.Lags.{AreLags}
+use Rattle.flow_search.specs.internal.Lags.{AreTwoLeastLags}
 use Rattle.flow_search.proofs.Nodes.{bound-one, bound-two, members-are}
 use Rattle.flow_search.proofs.Resume.{kid-of}
 use Rattle.flow_search.proofs.subtree.cutting_child.Goals as goal
@@ -18,10 +18,10 @@ kid c =
 
 -- the lags of the jobs that the node leaves
 lags : (c : Then-setting-eq2) →
-    AreLags c.args.setting.now.instance.now
+    AreTwoLeastLags c.args.setting.now.instance.now
     (jobs_left c.args.setting.now.instance.now.jobs c.args.search.now.node.items) c.args.lags.now
 lags c =
-    subst (λ jobs. AreLags c.args.setting.now.instance.now jobs c.args.lags.now)
+    subst (λ jobs. AreTwoLeastLags c.args.setting.now.instance.now jobs c.args.lags.now)
     (members-are c.args.setting.now.instance.now c.args.search.now.node.items c.args.here.now.front
     c.args.search.now.unscheduled (suc (suc c.requires.at.0)) c.requires.at.1)
     (c.requires.lags c.if-setting-eq2.true)

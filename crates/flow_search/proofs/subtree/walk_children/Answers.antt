@@ -11,7 +11,7 @@ use Rattle.flow_search.specs.Walk.{walk}
 use Rattle.flow_bound.specs.Loads.{AreLoadsOf}
 use Rattle.flow_search.specs.internal.Nodes.{IsAt, Left, Gave, Opens, children_walked, incumbent_of}
 use Rattle.flow_search.specs.internal.Frames.{IsWalking, IsChild, path}
-use Rattle.flow_search.specs.internal.Lags.{AreLags}
+use Rattle.flow_search.specs.internal.Lags.{AreTwoLeastLags}
 use Rattle.flow_search.specs.declared.subtree.Stop.{Stop}
 use Rattle.flow_search.specs.declared.subtree.Stop.TheVariants.{OverBudget}
 use Rattle.flow_search.proofs.Nodes.{left-count, within-front}
@@ -223,8 +223,9 @@ walk-preserved-then-branch c =
     let pushed : reverse c.push.new.self.items ≡ moved c.walk.here (c.in-Some.job + 1) ∷ reverse c.walk.stack.items =
     reverse-push c.walk.stack.items c.push.new.self.items (moved c.walk.here (c.in-Some.job
     + 1)) c.in_ok-push.ensures.items in
-    let down = subst (λ xs. IsWalking shop (bound_of c.args.setting.now.version) c.args.setting.now.budget old.node.items
-    (children_walked shop (bound_of c.args.setting.now.version) c.args.below old) old c.new-here.result (c.walk.below
+    let bound = bound_of c.args.setting.now.version in
+    let down = subst (λ xs. IsWalking shop bound c.args.setting.now.budget old.node.items
+    (children_walked shop bound c.args.below old) old c.new-here.result (c.walk.below
     - 1) xs c.enter.new.self)
     (sym pushed)
     (walking-down c.walk.invariant.walking c.in-Some.job c.visit.new.search c.enter.new.self c.new-here.result
@@ -261,6 +262,6 @@ pub walk-preserved : goal.walk-preserved
 walk-preserved c = record {
   walking = walking-whole c.walk.invariant.walking c.in-Some.job c.visit.new.search
       (found-job (goal.at.walk-preserved c).In-Some) (whole c);
-  lags = λ two. subst (λ set. AreLags c.args.setting.now.instance.now (members set) c.walk.lags)
+  lags = λ two. subst (λ set. AreTwoLeastLags c.args.setting.now.instance.now (members set) c.walk.lags)
       (sym (whole c).unscheduled) (c.walk.invariant.lags two);
 }

@@ -2,7 +2,7 @@ use Rattle.std.proofs.Common.{◌≡◌, ◌+◌, ◌-◌, ◌*◌, length, reve
 use Rattle.flow_core.specs.Bound.{bound_of}
 use Rattle.flow_search.specs.internal.Nodes.{children_walked}
 use Rattle.flow_search.specs.internal.Frames.{IsWalking}
-use Rattle.flow_search.specs.internal.Lags.{AreLags}
+use Rattle.flow_search.specs.internal.Lags.{AreTwoLeastLags}
 use Rattle.flow_core.specs.JobSet.{members}
 use Rattle.flow_search.proofs.subtree.walk_children.Given as goal
 
@@ -12,7 +12,7 @@ invariant-walk l = record {
       (children_walked l.setting.instance.now (bound_of l.setting.version) l.fn.below l.fn.search) l.fn.search l.here
       l.below
       (reverse l.stack.items) l.search;
-  lags : l.setting.version ≡ 2 → AreLags l.setting.instance.now (members l.search.unscheduled) l.lags;
+  lags : l.setting.version ≡ 2 → AreTwoLeastLags l.setting.instance.now (members l.search.unscheduled) l.lags;
 }
 
 abbrev pub decreases-walk : goal.decreases-walk

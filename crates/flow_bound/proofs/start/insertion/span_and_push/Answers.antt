@@ -24,8 +24,9 @@ loop-machine-preserved c =
     })).times (machine - 1) in
     let there : row_time c.args.job ≡ time shop c.args.job machine =
     (c.requires.rows.each c.args.job _ c.requires.job_from c.requires.job_to machine (omega arith) (omega arith)).0 in
+    let next_rows = c.requires.rows.each c.args.next _ c.requires.next_from c.requires.next_to in
     let next_there : row_time c.args.next ≡ time shop c.args.next machine =
-    (c.requires.rows.each c.args.next _ c.requires.next_from c.requires.next_to machine (omega arith) (omega arith)).0 in
+    (next_rows machine (omega arith) (omega arith)).0 in
     let within : machine - 1 < length c.loop-machine.heads = omega (arith, here.length) in
     let same : slice_index c.loop-machine.heads (machine - 1) ≡ slice_index old (machine - 1) =
     here.others (machine - 1) (omega arith) in
@@ -36,7 +37,8 @@ loop-machine-preserved c =
     let value = after-step shop old c.loop-machine.heads c.args.next machine c.loop-machine.free (row_time
     c.args.next) (c.max-in-loop-machine.result + row_time c.args.next)
     (omega arith) here.free same next_there (omega (arith, c.max-in-loop-machine.ensures)) in
-    let old_small : slice_index old (machine - 1) ≤ greatest_completion = c.requires.heads (machine - 1) (omega arith) in
+    let old_small : slice_index old (machine - 1) ≤ greatest_completion =
+    c.requires.heads (machine - 1) (omega arith) in
     let tail_small : slice_index tails (machine - 1) ≤ greatest_completion =
     c.requires.tails (machine - 1) (omega arith) in
     let next : machine + 1 - 1 ≡ machine = omega arith in
@@ -62,7 +64,15 @@ loop-machine-preserved c =
       );
       free = value ∙ ap (after shop (free_at old) c.args.next) (sym next);
       length = grind (arith, common_steps);
-      free_small = omega (arith, here.free_small, same, old_small, next_there, next_small, c.max-in-loop-machine.ensures);
+      free_small = omega (
+        arith,
+        here.free_small,
+        same,
+        old_small,
+        next_there,
+        next_small,
+        c.max-in-loop-machine.ensures,
+      );
       done = done-more shop old c.loop-machine.heads c.args.next machine (c.max-in-loop-machine.result
           + row_time c.args.next) (omega arith) within value here.done;
       others = λ place high. let other : place ≢ machine - 1 = omega arith in

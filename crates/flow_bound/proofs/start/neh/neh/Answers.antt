@@ -4,7 +4,8 @@ use Rattle.std.proofs.lemmas.List.{take_more}
 use Rattle.flow_core.specs.Paths.{span}
 use Rattle.flow_core.specs.Sequences.{has, AreJobs, IsSequence}
 use Rattle.flow_bound.specs.Neh.{IsByTotal, inserted, all_inserted}
-use Rattle.flow_bound.proofs.Places.{all_inserted-push, jobs-insert, jobs-none, before-lacks, has-more, span-none}
+use Rattle.flow_bound.proofs.Places.{inserted-is, all_inserted-push, jobs-insert, jobs-none, before-lacks, has-more}
+use Rattle.flow_bound.proofs.Places.{span-none}
 use Rattle.flow_bound.proofs.start.neh.neh.Goals as goal
 
 pub loop-job-init : goal.loop-job-init
@@ -35,11 +36,13 @@ loop-job-preserved c =
     let at = c.best_place-best.result.index in
     let before = c.loop-job.invariant in
     let new : c.insert.new.self.items ≡ insert jobs at job = c.in_ok-insert.ensures.items in
+    let found = c.best_place-best.ensures in
     let best : insert jobs at job ≡ inserted shop jobs job =
-    subst (λ xs. insert xs at job ≡ inserted shop xs job) now c.best_place-best.ensures.list in
+    subst (λ xs. insert xs at job ≡ inserted shop xs job) now (inserted-is shop job c.as_slice-in-loop-job.result.now
+    at c.best_place-best.result.makespan found.within found.makespan found.least found.earliest) in
     let makespan : c.best_place-best.result.makespan ≡ span shop (insert jobs at job) =
     subst (λ xs. c.best_place-best.result.makespan
-    ≡ span shop (insert xs at job)) now c.best_place-best.ensures.makespan in
+    ≡ span shop (insert xs at job)) now found.makespan in
     let more : take index items ++ job ∷ [] ≡ take (index + 1) items =
     sym (take_more items index 0 c.loop-job-test.true) in
     let range = whole.each.range index 0 c.loop-job-test.true in

@@ -14,7 +14,8 @@ returns-clause-rounds c =
     let same : copied ≡ c.args.self.now.jobs.items = c.copy_from_slice.ensures.after ∙ c.as_slice.ensures.value in
     let held : c.as_mut_slice-2.result.now ≡ copied =
     c.as_mut_slice-2.ensures.value
-    ∙ take_at copied _ c.args.self.now.order.len (omega (arith, c.copy_from_slice.ensures.len, c.as_mut_slice.ensures.len)) in
+    ∙ take_at copied _ c.args.self.now.order.len
+    (omega (arith, c.copy_from_slice.ensures.len, c.as_mut_slice.ensures.len)) in
     let moved : IsPermutation copied drawn = subst (λ xs. IsPermutation xs drawn) held c.shuffle.ensures in
     let is : IsSequence n drawn = sequence-moved n copied drawn moved (subst (IsSequence n) (sym same) rounds.jobs) in
     record {

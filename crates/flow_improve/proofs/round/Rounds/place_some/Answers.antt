@@ -6,7 +6,8 @@ loop-count-preserved c =
     let before = c.loop-count.invariant in
     record {
       rounds = record { room = before.rounds.room; jobs = before.rounds.jobs; order = before.rounds.order };
-      list = sequence-moved c.args.instance.now.jobs c.loop-count.list c.take_out.new.list c.take_out.ensures before.list;
+      list = sequence-moved c.args.instance.now.jobs c.loop-count.list c.take_out.new.list c.take_out.ensures
+          before.list;
       jobs = before.jobs;
       kept = before.kept;
     }

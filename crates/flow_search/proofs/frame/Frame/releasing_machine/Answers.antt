@@ -1,5 +1,5 @@
-use Rattle.std.proofs.Common.{rules, ◌≡◌, ℕ, ◌+◌, ◌-◌, ◌*◌, ◌<◌, ◌≤◌, suc, Bool, true, false, max, nat_le, List, [], ◌∷◌}
-use Rattle.std.proofs.Common.{◌++◌, set, slice_index, slice_index_or, refl, ap, sym, ◌∙◌, arith}
+use Rattle.std.proofs.Common.{rules, ◌≡◌, ℕ, ◌+◌, ◌-◌, ◌*◌, ◌<◌, ◌≤◌, suc, Bool, true, false, max, nat_le, List, []}
+use Rattle.std.proofs.Common.{◌∷◌, ◌++◌, set, slice_index, slice_index_or, refl, ap, sym, ◌∙◌, arith}
 use Rattle.std.proofs.lemmas.Bool.{le-leb, lt-leb}
 use Rattle.std.proofs.lemmas.List.{get_or-set_same, length-set}
 use Rattle.flow_core.specs.Limits.{most_machines, greatest_time, greatest_completion}
@@ -13,7 +13,7 @@ use Rattle.flow_core.proofs.Recurrence.{after}
 use Rattle.flow_core.proofs.Fronts.{free_at, after-step, time-small}
 use Rattle.flow_core.proofs.TwoLeast.{Without}
 use Rattle.flow_search.specs.internal.Frames.{IsFrame, IsChild}
-use Rattle.flow_search.specs.internal.Lags.{AreLags, IsLagged}
+use Rattle.flow_search.specs.internal.Lags.{AreTwoLeastLags, IsLagged}
 use Rattle.flow_search.specs.declared.lows.Lows.{Lows}
 use Rattle.flow_search.proofs.Children.{child-completion, child-bound, child-released, frame-within}
 use Rattle.flow_search.proofs.LanesPassed.{done-more}
@@ -148,7 +148,8 @@ free-small c place within =
 lagged : (c : After-from-time) (node : List ℕ) (left : ℕ) →
     IsFrame c.args.setting.now.instance.now node (suc (suc left)) c.args.self.now →
     IsChild c.args.setting.now.instance.now.jobs node c.args.job →
-    AreLags c.args.setting.now.instance.now (jobs_left c.args.setting.now.instance.now.jobs node) c.args.lags.now →
+    AreTwoLeastLags c.args.setting.now.instance.now (jobs_left c.args.setting.now.instance.now.jobs node)
+    c.args.lags.now →
     (other : Lows) → IsLagged c.args.setting.now.instance.now node left c.args.job c.loop-machine.machine
     (slice_index_or c.args.setting.now.rows.now (c.args.job - 1) none)
     (slice_index_or c.args.lags.now (c.loop-machine.machine - 1) other)
@@ -167,7 +168,8 @@ lagged c node left is kid lags other =
 released : (c : After-release_at_child) (node : List ℕ) (left : ℕ) →
     IsFrame c.args.setting.now.instance.now node (suc (suc left)) c.args.self.now →
     IsChild c.args.setting.now.instance.now.jobs node c.args.job →
-    AreLags c.args.setting.now.instance.now (jobs_left c.args.setting.now.instance.now.jobs node) c.args.lags.now →
+    AreTwoLeastLags c.args.setting.now.instance.now (jobs_left c.args.setting.now.instance.now.jobs node)
+    c.args.lags.now →
     (c.release_at_child.result - c.from-time.result + (c.from.result + c.from-in-loop-machine.result)
     ≡ released_bound_at c.args.setting.now.instance.now (node ++ c.args.job ∷ []) c.loop-machine.machine)
     × (c.from-time.result ≤ c.release_at_child.result)

@@ -8,7 +8,7 @@ use Rattle.flow_core.specs.Bound.{released_bound_at}
 use Rattle.flow_core.proofs.Recurrence.{after}
 use Rattle.flow_core.proofs.Fronts.{free_at}
 use Rattle.flow_search.specs.internal.Frames.{IsFrame, IsChild}
-use Rattle.flow_search.specs.internal.Lags.{AreLags}
+use Rattle.flow_search.specs.internal.Lags.{AreTwoLeastLags}
 use Rattle.flow_search.proofs.frame.Frame.releasing_machine.Given as goal
 
 -- when the child's job leaves the machines so far, none of whose released bounds reaches the value
@@ -24,7 +24,7 @@ invariant-loop-machine l = record {
       slice_index l.free place ≡ completion l.setting.instance.now (node ++ l.job ∷ []) (place + 1);
   none : (node : List ℕ) (left : ℕ) → IsFrame l.setting.instance.now node (suc (suc left)) l.self →
       IsChild l.setting.instance.now.jobs node l.job →
-      AreLags l.setting.instance.now (jobs_left l.setting.instance.now.jobs node) l.lags →
+      AreTwoLeastLags l.setting.instance.now (jobs_left l.setting.instance.now.jobs node) l.lags →
       find (λ machine. nat_le l.value (released_bound_at l.setting.instance.now (node ++ l.job ∷ []) machine))
       (numbers l.machine l.setting.instance.now.machines)
       ≡ find (λ machine. nat_le l.value (released_bound_at l.setting.instance.now (node ++ l.job ∷ []) machine))

@@ -1,0 +1,306 @@
+//! What `improve` and `certify` write and refuse.
+
+ghost use Rattle.std.specs.Prelude.{◌≡◌, false};
+
+use super::{
+    DEPTH_0, Endless, FROM_STARTS, ONE_JOB, ROOM, Ran, THREE_MACHINES, all_of, checked, checked_as, refused,
+    wrote,
+};
+use crate::{
+    EffortFault, ToolFault, run_certify, run_certify_from, run_gen, run_improve, run_improve_from,
+    run_neh, run_solve_from,
+};
+use flow_cert::CheckFault;
+use flow_core::{
+    MemorySink, MemorySource, ReadFault, SequenceFault, StartFault, TextFault, WriteFault,
+};
+use flow_pool::Open;
+use flow_search::OptionFault;
+use std::alloc::Global;
+use std::sync::Wait;
+use std::test::Fail;
+use std::thread::Threads;
+
+/// A start of the text with three machines.
+const START: &[u8] = b"sequence 1 2 3\nmakespan 15\n";
+
+/// A run of `improve`.
+fn improved(alloc: Global, text: &[u8], rounds: u32, seed: u32) -> Ran {
+    let mut out = MemorySink::new(alloc, ROOM);
+    run_improve(alloc, &mut all_of(text), 1, rounds, seed, &mut out)?;
+    Ok(out)
+}
+
+/// A run of `improve` from a start text.
+fn improved_from(alloc: Global, text: &[u8], start: &[u8], rounds: u32, seed: u32) -> Ran {
+    let mut out = MemorySink::new(alloc, ROOM);
+    let mut start = MemorySource::new(start, 5, None);
+    run_improve_from(
+        alloc,
+        &mut all_of(text),
+        1,
+        &mut start,
+        rounds,
+        seed,
+        &mut out,
+    )?;
+    Ok(out)
+}
+
+/// A run of `certify`.
+fn certified(alloc: Global, text: &[u8], rounds: u32, seed: u32, version: u32) -> Ran {
+    let mut out = MemorySink::new(alloc, ROOM);
+    run_certify(
+        alloc,
+        &mut all_of(text),
+        1,
+        rounds,
+        seed,
+        version,
+        &mut out,
+    )?;
+    Ok(out)
+}
+
+/// A run of `certify` from a start text.
+fn certified_from(
+    alloc: Global,
+    text: &[u8],
+    start: &[u8],
+    rounds: u32,
+    seed: u32,
+    version: u32,
+) -> Ran {
+    let mut out = MemorySink::new(alloc, ROOM);
+    let mut start = MemorySource::new(start, 5, None);
+    run_certify_from(
+        alloc,
+        &mut all_of(text),
+        1,
+        &mut start,
+        rounds,
+        seed,
+        version,
+        &mut out,
+    )?;
+    Ok(out)
+}
+
+/// The text of a generated instance.
+fn generated(alloc: Global, jobs: u32, machines: u32, seed: u32) -> Ran {
+    let mut out = MemorySink::new(alloc, ROOM);
+    run_gen(alloc, jobs, machines, seed, &mut out)?;
+    Ok(out)
+}
+
+/// What `neh` writes.
+fn started(alloc: Global, text: &[u8]) -> Ran {
+    let mut out = MemorySink::new(alloc, ROOM);
+    run_neh(alloc, &mut all_of(text), 1, &mut out)?;
+    Ok(out)
+}
+
+// The two sequences were worked out apart from the program.
+#[test]
+fn improve_prints_the_better_sequence(rt: HostRuntime) -> Result<(), Fail> {
+    let alloc = rt.alloc();
+    let text = generated(alloc, 20, 10, 587_595_453)?;
+    let ran = improved(alloc, text.bytes(), 20, 3);
+    let lines = b"sequence 18 5 9 12 17 3 15 4 6 19 8 2 20 10 11 14 13 7 1 16\nmakespan 1596\n";
+    assert!(rt; wrote(&ran, lines));
+    let text = generated(alloc, 20, 5, 873_654_221)?;
+    let start = started(alloc, text.bytes())?;
+    assert!(rt; start.bytes().ends_with(b"\nmakespan 1286\n".as_slice()));
+    assert!(rt; wrote(&improved(alloc, text.bytes(), 5, 7), start.bytes()));
+    Ok(())
+}
+
+#[test]
+fn improve_without_rounds_prints_the_start(rt: HostRuntime) -> Result<(), Fail> {
+    let alloc = rt.alloc();
+    let ran = improved(alloc, THREE_MACHINES, 0, 1);
+    assert!(rt; wrote(&ran, b"sequence 2 1 3\nmakespan 13\n"));
+    let ran = improved_from(alloc, THREE_MACHINES, START, 0, 2_147_483_646);
+    assert!(rt; wrote(&ran, START));
+    let ran = improved(alloc, ONE_JOB, 100_000_000, 1);
+    assert!(rt; wrote(&ran, b"sequence 1\nmakespan 0\n"));
+    Ok(())
+}
+
+#[test]
+fn improve_names_the_first_fault(rt: HostRuntime) -> Result<(), Fail> {
+    let alloc = rt.alloc();
+    let rounds = ToolFault::Effort(EffortFault::Rounds);
+    let seed = ToolFault::Effort(EffortFault::Seed);
+    assert!(rt; refused(&improved(alloc, THREE_MACHINES, 100_000_001, 0), rounds));
+    assert!(rt; refused(&improved(alloc, THREE_MACHINES, 1, 0), seed));
+    assert!(rt; refused(&improved(alloc, THREE_MACHINES, 1, 2_147_483_647), seed));
+    let none = ToolFault::Text(TextFault::NoBlock);
+    assert!(rt; refused(&improved(alloc, b"", 100_000_001, 0), none));
+    assert!(rt; refused(&improved_from(alloc, b"", b"", 100_000_001, 0), none));
+    let other = b"sequence 1 2 3\nmakespan 14\n";
+    let ran = improved_from(alloc, THREE_MACHINES, other, 100_000_001, 0);
+    assert!(rt; refused(&ran, ToolFault::Start(StartFault::Line(2))));
+    let ran = improved_from(alloc, THREE_MACHINES, b"sequence 1 2\n", 1, 1);
+    assert!(rt; refused(&ran, ToolFault::Sequence(SequenceFault::Length)));
+    let ran = improved_from(alloc, THREE_MACHINES, START, 1, 0);
+    assert!(rt; refused(&ran, seed));
+    Ok(())
+}
+
+// The three certificates were computed apart from the program.
+#[test]
+fn certify_writes_the_first_certificate(rt: HostRuntime) -> Result<(), Fail> {
+    let alloc = rt.alloc();
+    assert!(rt; wrote(&certified(alloc, THREE_MACHINES, 0, 1, 1), DEPTH_0));
+    for (start, certificate, _) in FROM_STARTS {
+        let ran = certified_from(alloc, THREE_MACHINES, start, 0, 1, 1);
+        assert!(rt; wrote(&ran, certificate));
+    }
+    let ran = certified(alloc, THREE_MACHINES, 100, 1, 2)?;
+    assert!(rt; ran.bytes().starts_with(b"flowshop certificate 2\n3 3 0\n12\n".as_slice()));
+    assert!(rt; wrote(&checked(alloc, THREE_MACHINES, ran.bytes()), b"optimal 12\n"));
+    Ok(())
+}
+
+/// A run of `solve` from a start text at depth 0, with this budget.
+fn solved_within<T: Threads + Wait + Sync>(
+    rt: &T,
+    alloc: Global,
+    text: &[u8],
+    start: &[u8],
+    budget: u32,
+    mirror: bool,
+) -> Ran {
+    let mut out = MemorySink::new(alloc, ROOM);
+    let mut start = MemorySource::new(start, 5, None);
+    run_solve_from(
+        rt,
+        alloc,
+        &mut all_of(text),
+        1,
+        &mut start,
+        1,
+        0,
+        budget,
+        1,
+        mirror,
+        &Open,
+        &mut out,
+    )?;
+    Ok(out)
+}
+
+// The tree of the instance has more than 10,000 bytes, and that of the mirrored one has not.
+#[test]
+fn certify_tries_the_mirrored_instance(rt: HostRuntime) -> Result<(), Fail> {
+    let alloc = rt.alloc();
+    let text = generated(alloc, 9, 4, 50)?;
+    let start = started(alloc, text.bytes())?;
+    let own = solved_within(&rt, alloc, text.bytes(), start.bytes(), 10_000, false);
+    assert!(rt; own.is_err());
+    let other = solved_within(&rt, alloc, text.bytes(), start.bytes(), 10_000, true)?;
+    let ran = certified(alloc, text.bytes(), 0, 1, 1);
+    assert!(rt; wrote(&ran, other.bytes()));
+    assert!(rt; wrote(&checked_as(alloc, text.bytes(), other.bytes(), true), b"optimal 742\n"));
+    assert!(rt; checked(alloc, text.bytes(), other.bytes()).is_err());
+    Ok(())
+}
+
+// Both trees have more than 10,000 bytes, and that of the instance has fewer than 100,000.
+#[test]
+fn certify_tries_the_next_budget(rt: HostRuntime) -> Result<(), Fail> {
+    let alloc = rt.alloc();
+    let text = generated(alloc, 9, 4, 56)?;
+    let start = started(alloc, text.bytes())?;
+    for mirror in [false, true] {
+        let ran = solved_within(&rt, alloc, text.bytes(), start.bytes(), 10_000, mirror);
+        assert!(rt; ran.is_err());
+    }
+    let own = solved_within(&rt, alloc, text.bytes(), start.bytes(), 100_000, false)?;
+    let ran = certified(alloc, text.bytes(), 0, 1, 1);
+    assert!(rt; wrote(&ran, own.bytes()));
+    let ran = certified_from(alloc, text.bytes(), start.bytes(), 0, 1, 1);
+    assert!(rt; wrote(&ran, own.bytes()));
+    assert!(rt; wrote(&checked(alloc, text.bytes(), own.bytes()), b"optimal 616\n"));
+    Ok(())
+}
+
+#[test]
+fn certify_names_the_first_fault(rt: HostRuntime) -> Result<(), Fail> {
+    let alloc = rt.alloc();
+    let rounds = ToolFault::Effort(EffortFault::Rounds);
+    let seed = ToolFault::Effort(EffortFault::Seed);
+    let version = ToolFault::Choice(OptionFault::Version);
+    assert!(rt; refused(&certified(alloc, THREE_MACHINES, 100_000_001, 0, 3), rounds));
+    assert!(rt; refused(&certified(alloc, THREE_MACHINES, 1, 0, 3), seed));
+    assert!(rt; refused(&certified(alloc, THREE_MACHINES, 1, 1, 3), version));
+    assert!(rt; refused(&certified(alloc, THREE_MACHINES, 1, 1, 0), version));
+    let none = ToolFault::Text(TextFault::NoBlock);
+    assert!(rt; refused(&certified(alloc, b"", 1, 0, 3), none));
+    let ran = certified_from(alloc, THREE_MACHINES, b"sequence 1 1 1", 1, 0, 3);
+    assert!(rt; refused(&ran, ToolFault::Sequence(SequenceFault::Twice(2))));
+    let ran = certified_from(alloc, THREE_MACHINES, START, 1, 1, 3);
+    assert!(rt; refused(&ran, version));
+    Ok(())
+}
+
+#[test]
+fn a_text_that_does_not_end_stops_both(rt: HostRuntime) -> Result<(), Fail> {
+    let alloc = rt.alloc();
+    let mut out = MemorySink::new(alloc, ROOM);
+    let mut start = Endless {
+        given: 0,
+        failed: false,
+    };
+    let mut file = all_of(THREE_MACHINES);
+    let ran = run_improve_from(alloc, &mut file, 1, &mut start, 1, 1, &mut out);
+    assert_eq!(rt; ran, Err(ToolFault::Read(ReadFault::TooLong)));
+    let mut start = Endless {
+        given: 0,
+        failed: false,
+    };
+    let mut file = all_of(THREE_MACHINES);
+    let ran = run_certify_from(alloc, &mut file, 1, &mut start, 1, 1, 1, &mut out);
+    assert_eq!(rt; ran, Err(ToolFault::Read(ReadFault::TooLong)));
+    assert!(rt; out.bytes().is_empty());
+    Ok(())
+}
+
+#[test]
+fn a_sink_that_refuses_has_a_front_of_the_text(rt: HostRuntime) -> Result<(), Fail> {
+    let alloc = rt.alloc();
+    for room in 0..DEPTH_0.len() {
+        let mut out = MemorySink::new(alloc, room);
+        let ran = run_certify(alloc, &mut all_of(THREE_MACHINES), 1, 0, 1, 1, &mut out);
+        assert_eq!(rt; ran, Err(ToolFault::Write(WriteFault::Device)));
+        assert!(rt; DEPTH_0.starts_with(out.bytes()));
+    }
+    for room in 0..START.len() {
+        let mut out = MemorySink::new(alloc, room);
+        let mut start = MemorySource::new(START, 5, None);
+        let mut file = all_of(THREE_MACHINES);
+        let ran = run_improve_from(alloc, &mut file, 1, &mut start, 0, 1, &mut out);
+        assert_eq!(rt; ran, Err(ToolFault::Write(WriteFault::Device)));
+        assert!(rt; START.starts_with(out.bytes()));
+    }
+    Ok(())
+}
+
+#[test]
+fn a_source_that_fails_is_named(rt: HostRuntime) -> Result<(), Fail> {
+    let alloc = rt.alloc();
+    for most in 0..START.len() {
+        let mut out = MemorySink::new(alloc, ROOM);
+        let mut start = MemorySource::new(START, 5, Some(most));
+        let mut file = all_of(THREE_MACHINES);
+        let ran = run_certify_from(alloc, &mut file, 1, &mut start, 0, 1, 1, &mut out);
+        assert_eq!(rt; ran, Err(ToolFault::Read(ReadFault::Device)));
+        let mut start = MemorySource::new(START, 5, Some(most));
+        let mut file = all_of(THREE_MACHINES);
+        let ran = run_improve_from(alloc, &mut file, 1, &mut start, 0, 1, &mut out);
+        assert_eq!(rt; ran, Err(ToolFault::Read(ReadFault::Device)));
+        assert!(rt; out.bytes().is_empty());
+    }
+    Ok(())
+}
