@@ -14,7 +14,8 @@ use crate::stop::Stop;
 use clap::Error;
 use clap::error::ErrorKind;
 use flow_commands::{
-    ToolFault, run_check, run_gen, run_mirror, run_neh, run_solve, run_solve_from, run_span,
+    ToolFault, run_certify, run_certify_from, run_check, run_gen, run_improve, run_improve_from,
+    run_mirror, run_neh, run_solve, run_solve_from, run_span,
 };
 use flow_core::{Sink, Source, put_all};
 use flow_pool::Open;
@@ -184,6 +185,12 @@ fn search_block<R: Threads + Wait + Sync, S: Source, K: Sink>(
             &Open,
             out,
         ),
+        Search::Improve { effort } => {
+            run_improve(alloc, text, index, effort.rounds, effort.seed, out)
+        }
+        Search::Certify { effort, version } => {
+            run_certify(alloc, text, index, effort.rounds, effort.seed, version, out)
+        }
     }
 }
 
@@ -235,6 +242,21 @@ fn search_from<R: Threads + Wait + Sync, S: Source, T: Source, K: Sink>(
 {
     match search {
         Search::Solve { run } => solve_from(rt, alloc, text, index, start, run, out),
+        Search::Improve { effort } => {
+            run_improve_from(alloc, text, index, start, effort.rounds, effort.seed, out)
+        }
+        Search::Certify { effort, version } => {
+            run_certify_from(
+                alloc,
+                text,
+                index,
+                start,
+                effort.rounds,
+                effort.seed,
+                version,
+                out,
+            )
+        }
     }
 }
 

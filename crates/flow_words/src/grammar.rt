@@ -12,12 +12,29 @@ pub fn make_command<'a>(alloc: Global) -> Result<Command<'a>, AllocError> {
         .about("Least makespans of permutation flow shops, with certificates")
         .version(VERSION)
         .subcommand_required(true)
+        .subcommand(certify_command(alloc)?)?
         .subcommand(span_command(alloc)?)?
         .subcommand(gen_command(alloc)?)?
         .subcommand(neh_command(alloc)?)?
         .subcommand(mirror_command(alloc)?)?
+        .subcommand(improve_command(alloc)?)?
         .subcommand(solve_command(alloc)?)?
         .subcommand(check_command(alloc)?)
+}
+
+fn certify_command<'a>(alloc: Global) -> Result<Command<'a>, AllocError> {
+    Command::new(alloc, "certify")
+        .about(
+            "Improves a starting sequence, and writes a certificate of the least makespan of the instance or of the \
+mirrored one",
+        )
+        .after_help("Example: flowshop certify examples/three_machines.txt 1")
+        .arg(file(alloc))?
+        .arg(index(alloc))?
+        .arg(rounds(alloc))?
+        .arg(seed(alloc))?
+        .arg(start(alloc))?
+        .arg(version(alloc))
 }
 
 fn span_command<'a>(alloc: Global) -> Result<Command<'a>, AllocError> {
@@ -56,6 +73,17 @@ fn mirror_command<'a>(alloc: Global) -> Result<Command<'a>, AllocError> {
         .after_help("Example: flowshop mirror examples/two_machines.txt 1")
         .arg(file(alloc))?
         .arg(index(alloc))
+}
+
+fn improve_command<'a>(alloc: Global) -> Result<Command<'a>, AllocError> {
+    Command::new(alloc, "improve")
+        .about("Prints a better sequence than a starting sequence, and its makespan")
+        .after_help("Example: flowshop improve examples/taillard_20_5.txt 1 --rounds 100")
+        .arg(file(alloc))?
+        .arg(index(alloc))?
+        .arg(rounds(alloc))?
+        .arg(seed(alloc))?
+        .arg(start(alloc))
 }
 
 fn solve_command<'a>(alloc: Global) -> Result<Command<'a>, AllocError> {
@@ -168,6 +196,18 @@ fn budget<'a>(alloc: Global) -> Arg<'a> {
 fn version<'a>(alloc: Global) -> Arg<'a> {
     let help = "The version of the certificate, 1 or 2";
     option(alloc, "certificate", "V", "1", help)
+}
+
+/// The number of rounds in which a sequence is improved.
+fn rounds<'a>(alloc: Global) -> Arg<'a> {
+    let help = "How many rounds there are, 0 to 100000000";
+    option(alloc, "rounds", "R", "10000", help)
+}
+
+/// The seed of the choices by which a sequence is improved.
+fn seed<'a>(alloc: Global) -> Arg<'a> {
+    let help = "The seed of the choices, 1 to 2147483646";
+    option(alloc, "seed", "S", "1", help)
 }
 
 /// The file of a starting sequence, which may be left out.

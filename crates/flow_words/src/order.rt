@@ -77,6 +77,27 @@ pub enum Search {
         /// How the block is solved.
         run: Run,
     },
+    /// For a better sequence than the starting one.
+    Improve {
+        /// How long and by which choices.
+        effort: Effort,
+    },
+    /// For a better sequence, and a certificate of the least makespan from it.
+    Certify {
+        /// How long and by which choices the sequence is improved.
+        effort: Effort,
+        /// The version of the certificate.
+        version: u32,
+    },
+}
+
+/// How long a sequence is improved, and by which choices.
+#[derive(Clone, Copy, Debug, PartialEq, Eq)]
+pub struct Effort {
+    /// The number of rounds.
+    pub rounds: u32,
+    /// The seed of the choices.
+    pub seed: u32,
 }
 
 /// How a block is solved.
@@ -116,6 +137,12 @@ pub fn order_of<'a>(
     }
     if let Some(given) = matches.subcommand_matches("solve") {
         return Ok(solve_order(given));
+    }
+    if let Some(given) = matches.subcommand_matches("improve") {
+        return Ok(improve_order(given));
+    }
+    if let Some(given) = matches.subcommand_matches("certify") {
+        return Ok(certify_order(given));
     }
     if let Some(given) = matches.subcommand_matches("check") {
         return Ok(check_order(given));
@@ -160,6 +187,24 @@ fn solve_order<'a>(given: &ArgMatches<'a>) -> Option<Order<'a>> {
         mirror: given.get_flag("mirrored"),
     };
     search_order(given, Search::Solve { run })
+}
+
+fn improve_order<'a>(given: &ArgMatches<'a>) -> Option<Order<'a>> {
+    let effort = effort_of(given)?;
+    search_order(given, Search::Improve { effort })
+}
+
+fn certify_order<'a>(given: &ArgMatches<'a>) -> Option<Order<'a>> {
+    let effort = effort_of(given)?;
+    let version = given.get_one::<u32>("certificate")?;
+    search_order(given, Search::Certify { effort, version })
+}
+
+fn effort_of(given: &ArgMatches) -> Option<Effort> {
+    Some(Effort {
+        rounds: given.get_one::<u32>("rounds")?,
+        seed: given.get_one::<u32>("seed")?,
+    })
 }
 
 fn check_order<'a>(given: &ArgMatches<'a>) -> Option<Order<'a>> {
