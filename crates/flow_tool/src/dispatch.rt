@@ -1,22 +1,25 @@
 //! Which words of a command line run which command, and on which files.
 
-ghost use Rattle.std.specs.Prelude.{◌≡◌, ◌≤◌, List, ℕ, length, false, Ok, OnOk, IfErr};
+ghost use Rattle.std.specs.Prelude.{◌≡◌, ◌⊎◌, false, Ok, OnOk, IfErr};
 ghost use Rattle.flow_core.specs.declared.text.block.Block.{Block};
-ghost use Rattle.flow_commands.specs.Commands.{AnswersCheck, AnswersFor, Picks};
-ghost use Rattle.flow_tool.specs.internal.Asked.{AnswersAsked, AnswersRunFrom, WroteOrdered};
+ghost use Rattle.flow_commands.specs.Commands.{AnswersCheck, Picks};
 ghost use Rattle.flow_commands.specs.Limits.{most_certificate, most_text};
 ghost use Rattle.flow_commands.specs.Runs.{Came, Ends, Wrote, WroteLeast};
+ghost use Rattle.flow_tool.specs.internal.Asked.{AnswersAsked, AnswersSearch, AnswersSearchFrom, EndsBoth, WroteBoth};
+ghost use Rattle.flow_tool.specs.internal.Asked.{EndsForText, EndsNamed, EndsOrder, OfNamed, WroteForText, WroteNamed};
+ghost use Rattle.flow_tool.specs.internal.Asked.{WroteOrder};
 
 use crate::inputs::Inputs;
 use crate::stop::Stop;
 use clap::Error;
 use clap::error::ErrorKind;
 use flow_commands::{
-    ToolFault, run_check, run_gen, run_mirror, run_neh, run_solve, run_solve_from, run_span,
+    ToolFault, run_certify, run_certify_from, run_check, run_gen, run_improve, run_improve_from,
+    run_mirror, run_neh, run_solve, run_solve_from, run_span,
 };
 use flow_core::{Sink, Source, put_all};
 use flow_pool::Open;
-use flow_words::{OfBlock, Order, Run, make_command, order_of};
+use flow_words::{OfBlock, OfText, Order, Run, Search, make_command, order_of};
 use std::alloc::Global;
 use std::convert::AsStr;
 use std::sync::Wait;
@@ -69,7 +72,14 @@ fn obey<R: Threads + Wait + Sync, I: Inputs, K: Sink>(
     out: &mut K,
 ) -> Result<(), Stop>
     requires { K.has_failed out.old ≡ false }
-    ensures written { OnOk result (WroteOrdered order.now (K.taken out.old) (K.taken out.new)) }
+    ensures written { OnOk result (WroteOrder
+        (OfNamed (λ _. I.is_standard inputs.now) I.Standard.given I.Standard.has_ended)
+        (OfNamed (I.opened inputs.now) I.File.given I.File.has_ended)
+        order.now (K.taken out.old) (K.taken out.new)) }
+    ensures ended { IfErr result (EndsOrder
+        (OfNamed (λ _. I.is_standard inputs.now) I.Standard.given I.Standard.has_ended)
+        (OfNamed (I.opened inputs.now) I.File.given I.File.has_ended)
+        (I.refused inputs.now) (out.new ≡ out.old) order.now (K.taken out.old) (K.taken out.new)) }
 {
     match order {
         Order::Gen {
@@ -77,39 +87,44 @@ fn obey<R: Threads + Wait + Sync, I: Inputs, K: Sink>(
             machines,
             seed,
         } => Ok(run_gen(alloc, *jobs, *machines, *seed, out)?),
-        Order::OfBlock { file, index, what } => {
+        Order::OfText { file, index, what } => {
             if *file == STANDARD {
                 let mut text = inputs.standard();
-                return Ok(obey_for_block(rt, alloc, &mut text, *index, what, out)?);
+                return obey_text(rt, alloc, inputs, &mut text, *index, what, out);
             }
             let mut text = inputs.open(*file).ok_or(Stop::Open)?;
-            Ok(obey_for_block(rt, alloc, &mut text, *index, what, out)?)
+            obey_text(rt, alloc, inputs, &mut text, *index, what, out)
         }
-        Order::SolveFrom {
-            file,
-            index,
-            start,
-            run,
-        } => {
-            if *file == STANDARD {
-                let mut text = inputs.standard();
-                return solve_named(rt, alloc, inputs, &mut text, *index, *start, *run, out);
-            }
-            let mut text = inputs.open(*file).ok_or(Stop::Open)?;
-            solve_named(rt, alloc, inputs, &mut text, *index, *start, *run, out)
+    }
+}
+
+/// Runs the command that was asked for on a block of a text.
+fn obey_text<R: Threads + Wait + Sync, I: Inputs, S: Source, K: Sink>(
+    rt: &R,
+    alloc: Global,
+    inputs: &I,
+    text: &mut S,
+    index: u32,
+    what: &OfText,
+    out: &mut K,
+) -> Result<(), Stop>
+    requires text_works { S.has_failed text.old ≡ false }
+    requires out_works { K.has_failed out.old ≡ false }
+    ensures written { OnOk result (WroteForText
+        (OfNamed (I.opened inputs.now) I.File.given I.File.has_ended) index what.now
+        (S.given text.old) (S.given text.new) (S.has_ended text.new) (K.taken out.old) (K.taken out.new)) }
+    ensures ended { IfErr result (EndsForText
+        (OfNamed (I.opened inputs.now) I.File.given I.File.has_ended) (I.refused inputs.now) index what.now
+        (out.new ≡ out.old) (text.new ≡ text.old) (S.given text.old) (S.given text.new) (S.has_ended text.new)
+        (K.taken out.old) (K.taken out.new)) }
+{
+    match what {
+        OfText::OfBlock { what } => Ok(obey_for_block(rt, alloc, text, index, what, out)?),
+        OfText::SearchFrom { start, search } => {
+            search_named(rt, alloc, inputs, text, index, *start, *search, out)
         }
-        Order::Check {
-            file,
-            index,
-            cert,
-            either,
-        } => {
-            if *file == STANDARD {
-                let mut text = inputs.standard();
-                return check_named(alloc, inputs, &mut text, *index, *cert, *either, out);
-            }
-            let mut text = inputs.open(*file).ok_or(Stop::Open)?;
-            check_named(alloc, inputs, &mut text, *index, *cert, *either, out)
+        OfText::Check { cert, either } => {
+            check_named(alloc, inputs, text, index, *cert, *either, out)
         }
     }
 }
@@ -135,7 +150,29 @@ fn obey_for_block<R: Threads + Wait + Sync, S: Source, K: Sink>(
         OfBlock::Span { jobs } => run_span(alloc, text, index, jobs.as_slice(), out),
         OfBlock::Neh => run_neh(alloc, text, index, out),
         OfBlock::Mirror => run_mirror(alloc, text, index, out),
-        OfBlock::Solve { run } => run_solve(
+        OfBlock::Search { search } => search_block(rt, alloc, text, index, *search, out),
+    }
+}
+
+/// Searches the block that an index names from a starting sequence of the search's own.
+fn search_block<R: Threads + Wait + Sync, S: Source, K: Sink>(
+    rt: &R,
+    alloc: Global,
+    text: &mut S,
+    index: u32,
+    search: Search,
+    out: &mut K,
+) -> Result<(), ToolFault>
+    requires text_works { S.has_failed text.old ≡ false }
+    requires out_works { K.has_failed out.old ≡ false }
+    ensures written { OnOk result (Came most_text
+        (λ bytes. Wrote (AnswersSearch index search bytes) (K.taken out.old) (K.taken out.new))
+        (S.given text.old) (S.given text.new) (S.has_ended text.new)) }
+    ensures ended { IfErr result (Ends (out.new ≡ out.old) most_text (AnswersSearch index search)
+        (S.given text.old) (S.given text.new) (S.has_ended text.new) (K.taken out.old) (K.taken out.new)) }
+{
+    match search {
+        Search::Solve { run } => run_solve(
             rt,
             alloc,
             text,
@@ -148,34 +185,107 @@ fn obey_for_block<R: Threads + Wait + Sync, S: Source, K: Sink>(
             &Open,
             out,
         ),
+        Search::Improve { effort } => {
+            run_improve(alloc, text, index, effort.rounds, effort.seed, out)
+        }
+        Search::Certify { effort, version } => {
+            run_certify(alloc, text, index, effort.rounds, effort.seed, version, out)
+        }
     }
 }
 
-/// Solves a block from the starting sequence in the file of this name.
-fn solve_named<R: Threads + Wait + Sync, I: Inputs, S: Source, K: Sink>(
+/// Searches the block that an index names from the starting sequence in the file of this name.
+fn search_named<R: Threads + Wait + Sync, I: Inputs, S: Source, K: Sink>(
     rt: &R,
     alloc: Global,
     inputs: &I,
     text: &mut S,
     index: u32,
     start: &str,
-    run: Run,
+    search: Search,
     out: &mut K,
 ) -> Result<(), Stop>
     requires text_works { S.has_failed text.old ≡ false }
     requires out_works { K.has_failed out.old ≡ false }
-    ensures written { OnOk result (Came most_text (λ bytes. (start : List ℕ) × (length start ≤ most_text)
-        × Wrote (AnswersFor index (λ block. AnswersRunFrom run block.instance start) bytes)
-        (K.taken out.old) (K.taken out.new))
-        (S.given text.old) (S.given text.new) (S.has_ended text.new)) }
+    ensures written { OnOk result (WroteNamed
+        (OfNamed (I.opened inputs.now) I.File.given I.File.has_ended) start.now
+        most_text (AnswersSearchFrom search) index (S.given text.old) (S.given text.new) (S.has_ended text.new)
+        (K.taken out.old) (K.taken out.new)) }
+    ensures ended { IfErr result (EndsNamed
+        (OfNamed (I.opened inputs.now) I.File.given I.File.has_ended) (I.refused inputs.now) start.now
+        most_text (AnswersSearchFrom search) index (out.new ≡ out.old) (text.new ≡ text.old)
+        (S.given text.old) (S.given text.new) (S.has_ended text.new) (K.taken out.old) (K.taken out.new)) }
 {
     let mut start = inputs.open(start).ok_or(Stop::Open)?;
-    Ok(run_solve_from(
+    Ok(search_from(rt, alloc, text, index, &mut start, search, out)?)
+}
+
+/// Searches the block that an index names from a starting sequence.
+fn search_from<R: Threads + Wait + Sync, S: Source, T: Source, K: Sink>(
+    rt: &R,
+    alloc: Global,
+    text: &mut S,
+    index: u32,
+    start: &mut T,
+    search: Search,
+    out: &mut K,
+) -> Result<(), ToolFault>
+    requires text_works { S.has_failed text.old ≡ false }
+    requires start_works { T.has_failed start.old ≡ false }
+    requires out_works { K.has_failed out.old ≡ false }
+    ensures written { OnOk result (WroteBoth most_text (AnswersSearchFrom search) index
+        (S.given text.old) (S.given text.new) (S.has_ended text.new)
+        (T.given start.old) (T.given start.new) (T.has_ended start.new) (K.taken out.old) (K.taken out.new)) }
+    ensures ended { IfErr result (EndsBoth most_text (AnswersSearchFrom search) index (out.new ≡ out.old)
+        (start.new ≡ start.old) (S.given text.old) (S.given text.new) (S.has_ended text.new)
+        (T.given start.old) (T.given start.new) (T.has_ended start.new) (K.taken out.old) (K.taken out.new)) }
+{
+    match search {
+        Search::Solve { run } => solve_from(rt, alloc, text, index, start, run, out),
+        Search::Improve { effort } => {
+            run_improve_from(alloc, text, index, start, effort.rounds, effort.seed, out)
+        }
+        Search::Certify { effort, version } => {
+            run_certify_from(
+                alloc,
+                text,
+                index,
+                start,
+                effort.rounds,
+                effort.seed,
+                version,
+                out,
+            )
+        }
+    }
+}
+
+/// Solves the block that an index names from a starting sequence.
+fn solve_from<R: Threads + Wait + Sync, S: Source, T: Source, K: Sink>(
+    rt: &R,
+    alloc: Global,
+    text: &mut S,
+    index: u32,
+    start: &mut T,
+    run: Run,
+    out: &mut K,
+) -> Result<(), ToolFault>
+    requires text_works { S.has_failed text.old ≡ false }
+    requires start_works { T.has_failed start.old ≡ false }
+    requires out_works { K.has_failed out.old ≡ false }
+    ensures written { OnOk result (WroteBoth most_text (AnswersSearchFrom (Search.Solve run)) index
+        (S.given text.old) (S.given text.new) (S.has_ended text.new)
+        (T.given start.old) (T.given start.new) (T.has_ended start.new) (K.taken out.old) (K.taken out.new)) }
+    ensures ended { IfErr result (EndsBoth most_text (AnswersSearchFrom (Search.Solve run)) index (out.new ≡ out.old)
+        (start.new ≡ start.old) (S.given text.old) (S.given text.new) (S.has_ended text.new)
+        (T.given start.old) (T.given start.new) (T.has_ended start.new) (K.taken out.old) (K.taken out.new)) }
+{
+    run_solve_from(
         rt,
         alloc,
         text,
         index,
-        &mut start,
+        start,
         run.workers,
         run.depth,
         run.budget,
@@ -183,7 +293,7 @@ fn solve_named<R: Threads + Wait + Sync, I: Inputs, S: Source, K: Sink>(
         run.mirror,
         &Open,
         out,
-    )?)
+    )
 }
 
 /// Checks the certificate in the file of this name.
@@ -198,14 +308,17 @@ fn check_named<I: Inputs, S: Source, K: Sink>(
 ) -> Result<(), Stop>
     requires text_works { S.has_failed text.old ≡ false }
     requires out_works { K.has_failed out.old ≡ false }
-    ensures written { OnOk result (Came most_text (λ bytes. (certificate : List ℕ)
-        × (length certificate ≤ most_certificate)
-        × Wrote (AnswersFor index (λ block. AnswersCheck either block.instance certificate) bytes)
-        (K.taken out.old) (K.taken out.new))
-        (S.given text.old) (S.given text.new) (S.has_ended text.new)) }
+    ensures written { OnOk result (WroteNamed
+        (OfNamed (I.opened inputs.now) I.File.given I.File.has_ended) cert.now
+        most_certificate (AnswersCheck either) index (S.given text.old) (S.given text.new) (S.has_ended text.new)
+        (K.taken out.old) (K.taken out.new)) }
     ensures least { OnOk result (Came most_text (λ bytes. (block : Block) × Picks bytes index (Ok block)
         × WroteLeast block.instance (K.taken out.old) (K.taken out.new))
         (S.given text.old) (S.given text.new) (S.has_ended text.new)) }
+    ensures ended { IfErr result (EndsNamed
+        (OfNamed (I.opened inputs.now) I.File.given I.File.has_ended) (I.refused inputs.now) cert.now
+        most_certificate (AnswersCheck either) index (out.new ≡ out.old) (text.new ≡ text.old)
+        (S.given text.old) (S.given text.new) (S.has_ended text.new) (K.taken out.old) (K.taken out.new)) }
 {
     let mut cert = inputs.open(cert).ok_or(Stop::Open)?;
     Ok(run_check(alloc, text, index, &mut cert, either, out)?)

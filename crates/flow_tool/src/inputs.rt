@@ -1,6 +1,6 @@
 //! The inputs that a command line names.
 
-ghost use Rattle.std.specs.Prelude.{◌≡◌, false, IfOk, IfSome};
+ghost use Rattle.std.specs.Prelude.{◌≡◌, ℕ, List, false, IfNone, IfSome};
 
 use crate::stop::Stop;
 use flow_core::{Source, StdSource};
@@ -16,13 +16,25 @@ pub(crate) trait Inputs {
     /// The source that reads a file.
     type File: Source + Drop;
 
+    // This is standard input, of which no byte was read.
+    ghost is_standard: { Self → Self.Standard → Type 0 };
+
+    // This is the file of this name as it was opened, of which no byte was read.
+    ghost opened: { Self → List ℕ → Self.File → Type 0 };
+
+    // The file of this name could not be opened.
+    ghost refused: { Self → List ℕ → Type 0 };
+
     /// Standard input, of which no byte was read.
     fn standard(&self) -> Self::Standard
-        ensures { Self.Standard.has_failed result ≡ false };
+        ensures works { Self.Standard.has_failed result ≡ false }
+        ensures standard { is_standard self.now result };
 
     /// The file of this name, opened for reading; none where it can't be opened.
     fn open(&self, name: &str) -> Option<Self::File>
-        ensures { IfSome result (λ file. Self.File.has_failed file ≡ false) };
+        ensures works { IfSome result (λ file. Self.File.has_failed file ≡ false) }
+        ensures opened { IfSome result (λ file. opened self.now name.now file) }
+        ensures refused { IfNone result (refused self.now name.now) };
 }
 
 /// Standard input and the files of the system.
@@ -54,6 +66,13 @@ impl<'a, R: Input + Files> Inputs for StdInputs<'a, R> {
     type Standard = StdSource<R::Reader>;
 
     type File = StdSource<R::File>;
+
+    // Of what the system has open nothing is known.
+    ghost is_standard = { λ _ _. Unit {0} };
+
+    ghost opened = { λ _ _ _. Unit {0} };
+
+    ghost refused = { λ _ _. Unit {0} };
 
     fn standard(&self) -> StdSource<R::Reader> {
         StdSource::new(self.rt.reader())

@@ -12,12 +12,29 @@ pub fn make_command<'a>(alloc: Global) -> Result<Command<'a>, AllocError> {
         .about("Least makespans of permutation flow shops, with certificates")
         .version(VERSION)
         .subcommand_required(true)
+        .subcommand(certify_command(alloc)?)?
         .subcommand(span_command(alloc)?)?
         .subcommand(gen_command(alloc)?)?
         .subcommand(neh_command(alloc)?)?
         .subcommand(mirror_command(alloc)?)?
+        .subcommand(improve_command(alloc)?)?
         .subcommand(solve_command(alloc)?)?
         .subcommand(check_command(alloc)?)
+}
+
+fn certify_command<'a>(alloc: Global) -> Result<Command<'a>, AllocError> {
+    Command::new(alloc, "certify")
+        .about(
+            "Improves a starting sequence, and writes a certificate of the least makespan of the instance or of the \
+mirrored one",
+        )
+        .after_help("Example: flowshop certify examples/three_machines.txt 1")
+        .arg(file(alloc))?
+        .arg(index(alloc))?
+        .arg(rounds(alloc))?
+        .arg(seed(alloc))?
+        .arg(start(alloc))?
+        .arg(version(alloc))
 }
 
 fn span_command<'a>(alloc: Global) -> Result<Command<'a>, AllocError> {
@@ -58,44 +75,27 @@ fn mirror_command<'a>(alloc: Global) -> Result<Command<'a>, AllocError> {
         .arg(index(alloc))
 }
 
+fn improve_command<'a>(alloc: Global) -> Result<Command<'a>, AllocError> {
+    Command::new(alloc, "improve")
+        .about("Prints a better sequence than a starting sequence, and its makespan")
+        .after_help("Example: flowshop improve examples/taillard_20_5.txt 1 --rounds 100")
+        .arg(file(alloc))?
+        .arg(index(alloc))?
+        .arg(rounds(alloc))?
+        .arg(seed(alloc))?
+        .arg(start(alloc))
+}
+
 fn solve_command<'a>(alloc: Global) -> Result<Command<'a>, AllocError> {
-    let workers = option(
-        alloc,
-        "workers",
-        "K",
-        "1",
-        "How many workers there are, 1 to 64",
-    );
-    let depth = option(
-        alloc,
-        "depth",
-        "D",
-        "1",
-        "How many jobs a prefix has, 0 to 3",
-    );
-    let budget = option(
-        alloc,
-        "budget",
-        "B",
-        "1000000",
-        "The most bytes of a tree, 1 to 100000000",
-    );
-    let version = option(
-        alloc,
-        "certificate",
-        "V",
-        "1",
-        "The version of the certificate, 1 or 2",
-    );
     Command::new(alloc, "solve")
         .about("Finds the least makespan, and writes a certificate of it")
         .after_help("Example: flowshop solve examples/three_machines.txt 1 --depth 0")
         .arg(file(alloc))?
         .arg(index(alloc))?
-        .arg(workers)?
-        .arg(depth)?
-        .arg(budget)?
-        .arg(version)?
+        .arg(workers(alloc))?
+        .arg(depth(alloc))?
+        .arg(budget(alloc))?
+        .arg(version(alloc))?
         .arg(start(alloc))?
         .arg(flag(
             alloc,
@@ -172,6 +172,42 @@ fn option<'a>(
         .default_value(default)
         .help(help)
         .value_parser(value_parser!(u32))
+}
+
+/// The number of workers.
+fn workers<'a>(alloc: Global) -> Arg<'a> {
+    let help = "How many workers there are, 1 to 64";
+    option(alloc, "workers", "K", "1", help)
+}
+
+/// The number of jobs in a prefix.
+fn depth<'a>(alloc: Global) -> Arg<'a> {
+    let help = "How many jobs a prefix has, 0 to 3";
+    option(alloc, "depth", "D", "1", help)
+}
+
+/// The most bytes of a tree.
+fn budget<'a>(alloc: Global) -> Arg<'a> {
+    let help = "The most bytes of a tree, 1 to 100000000";
+    option(alloc, "budget", "B", "1000000", help)
+}
+
+/// The version of a certificate.
+fn version<'a>(alloc: Global) -> Arg<'a> {
+    let help = "The version of the certificate, 1 or 2";
+    option(alloc, "certificate", "V", "1", help)
+}
+
+/// The number of rounds in which a sequence is improved.
+fn rounds<'a>(alloc: Global) -> Arg<'a> {
+    let help = "How many rounds there are, 0 to 100000000";
+    option(alloc, "rounds", "R", "10000", help)
+}
+
+/// The seed of the choices by which a sequence is improved.
+fn seed<'a>(alloc: Global) -> Arg<'a> {
+    let help = "The seed of the choices, 1 to 2147483646";
+    option(alloc, "seed", "S", "1", help)
 }
 
 /// The file of a starting sequence, which may be left out.

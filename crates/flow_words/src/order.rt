@@ -16,31 +16,33 @@ pub enum Order<'a> {
         seed: u32,
     },
     /// Something of a block of a text.
-    OfBlock {
+    OfText {
         /// The name of the text's file.
         file: &'a str,
         /// The block's number in the text, from 1.
         index: u32,
         /// What is asked for of the block.
+        what: OfText<'a>,
+    },
+}
+
+/// What is asked for of a block, and of a second file where it takes one.
+#[derive(Debug, PartialEq, Drop)]
+pub enum OfText<'a> {
+    /// Something of the block alone.
+    OfBlock {
+        /// What is asked for of the block.
         what: OfBlock,
     },
-    /// A certificate of the least makespan of a block of a text, from a starting sequence.
-    SolveFrom {
-        /// The name of the text's file.
-        file: &'a str,
-        /// The block's number in the text, from 1.
-        index: u32,
+    /// What a search finds for the block from a starting sequence.
+    SearchFrom {
         /// The name of the starting sequence's file.
         start: &'a str,
-        /// How the block is solved.
-        run: Run,
+        /// How the block is searched.
+        search: Search,
     },
-    /// The value that a certificate proves least for a block of a text.
+    /// The value that a certificate proves least for the block.
     Check {
-        /// The name of the text's file.
-        file: &'a str,
-        /// The block's number in the text, from 1.
-        index: u32,
         /// The name of the certificate's file.
         cert: &'a str,
         /// Whether a certificate of the mirrored instance is accepted too.
@@ -60,11 +62,42 @@ pub enum OfBlock {
     Neh,
     /// The block with its machines in reverse order.
     Mirror,
-    /// A certificate of the least makespan.
+    /// What a search finds from a starting sequence of its own.
+    Search {
+        /// How the block is searched.
+        search: Search,
+    },
+}
+
+/// How a block is searched.
+#[derive(Clone, Copy, Debug, PartialEq, Eq)]
+pub enum Search {
+    /// For a certificate of the least makespan.
     Solve {
         /// How the block is solved.
         run: Run,
     },
+    /// For a better sequence than the starting one.
+    Improve {
+        /// How long and by which choices.
+        effort: Effort,
+    },
+    /// For a better sequence, and a certificate of the least makespan from it.
+    Certify {
+        /// How long and by which choices the sequence is improved.
+        effort: Effort,
+        /// The version of the certificate.
+        version: u32,
+    },
+}
+
+/// How long a sequence is improved, and by which choices.
+#[derive(Clone, Copy, Debug, PartialEq, Eq)]
+pub struct Effort {
+    /// The number of rounds.
+    pub rounds: u32,
+    /// The seed of the choices.
+    pub seed: u32,
 }
 
 /// How a block is solved.
@@ -105,6 +138,12 @@ pub fn order_of<'a>(
     if let Some(given) = matches.subcommand_matches("solve") {
         return Ok(solve_order(given));
     }
+    if let Some(given) = matches.subcommand_matches("improve") {
+        return Ok(improve_order(given));
+    }
+    if let Some(given) = matches.subcommand_matches("certify") {
+        return Ok(certify_order(given));
+    }
     if let Some(given) = matches.subcommand_matches("check") {
         return Ok(check_order(given));
     }
@@ -119,12 +158,24 @@ fn gen_order<'a>(given: &ArgMatches<'a>) -> Option<Order<'a>> {
     })
 }
 
-fn block_order<'a>(given: &ArgMatches<'a>, what: OfBlock) -> Option<Order<'a>> {
-    Some(Order::OfBlock {
+fn text_order<'a>(given: &ArgMatches<'a>, what: OfText<'a>) -> Option<Order<'a>> {
+    Some(Order::OfText {
         file: given.get_str("FILE")?,
         index: given.get_one::<u32>("INDEX")?,
         what,
     })
+}
+
+fn block_order<'a>(given: &ArgMatches<'a>, what: OfBlock) -> Option<Order<'a>> {
+    text_order(given, OfText::OfBlock { what })
+}
+
+/// A search of a block, from the starting sequence that the words name, if they name one.
+fn search_order<'a>(given: &ArgMatches<'a>, search: Search) -> Option<Order<'a>> {
+    match given.get_str("start") {
+        Some(start) => text_order(given, OfText::SearchFrom { start, search }),
+        None => block_order(given, OfBlock::Search { search }),
+    }
 }
 
 fn solve_order<'a>(given: &ArgMatches<'a>) -> Option<Order<'a>> {
@@ -135,24 +186,31 @@ fn solve_order<'a>(given: &ArgMatches<'a>) -> Option<Order<'a>> {
         version: given.get_one::<u32>("certificate")?,
         mirror: given.get_flag("mirrored"),
     };
-    match given.get_str("start") {
-        Some(start) => Some(Order::SolveFrom {
-            file: given.get_str("FILE")?,
-            index: given.get_one::<u32>("INDEX")?,
-            start,
-            run,
-        }),
-        None => block_order(given, OfBlock::Solve { run }),
-    }
+    search_order(given, Search::Solve { run })
+}
+
+fn improve_order<'a>(given: &ArgMatches<'a>) -> Option<Order<'a>> {
+    let effort = effort_of(given)?;
+    search_order(given, Search::Improve { effort })
+}
+
+fn certify_order<'a>(given: &ArgMatches<'a>) -> Option<Order<'a>> {
+    let effort = effort_of(given)?;
+    let version = given.get_one::<u32>("certificate")?;
+    search_order(given, Search::Certify { effort, version })
+}
+
+fn effort_of(given: &ArgMatches) -> Option<Effort> {
+    Some(Effort {
+        rounds: given.get_one::<u32>("rounds")?,
+        seed: given.get_one::<u32>("seed")?,
+    })
 }
 
 fn check_order<'a>(given: &ArgMatches<'a>) -> Option<Order<'a>> {
-    Some(Order::Check {
-        file: given.get_str("FILE")?,
-        index: given.get_one::<u32>("INDEX")?,
-        cert: given.get_str("CERT")?,
-        either: given.get_flag("either"),
-    })
+    let cert = given.get_str("CERT")?;
+    let either = given.get_flag("either");
+    text_order(given, OfText::Check { cert, either })
 }
 
 fn jobs_of(alloc: Global, given: &ArgMatches) -> Result<Option<Vec<u16>>, AllocError> {

@@ -1,45 +1,145 @@
--- What is answered for what a command line asks.
-use Rattle.std.specs.Prelude.{ℕ, ◌≤◌, List, length, Option}
+-- What is answered for what a command line asks, and what the run of an order comes to, by the files that its names
+-- open.
+use Rattle.std.specs.Prelude.{◌≡◌, ◌≢◌, ℕ, ◌⊎◌, Bool, List, Option, Ok, Err, codes}
 use Rattle.flow_core.specs.Shop.{Shop}
+use Rattle.flow_core.specs.declared.text.block.Block.{Block}
+use Rattle.flow_words.specs.declared.order.Search.{Search}
+use Rattle.flow_words.specs.declared.order.Search.TheVariants as search
 use Rattle.flow_words.specs.declared.order.OfBlock.{OfBlock}
-use Rattle.flow_words.specs.declared.order.OfBlock.TheVariants.{Span, Neh, Mirror, Solve}
-use Rattle.flow_words.specs.declared.order.Run.{Run}
+use Rattle.flow_words.specs.declared.order.OfBlock.TheVariants as block
+use Rattle.flow_words.specs.declared.order.OfText.{OfText}
+use Rattle.flow_words.specs.declared.order.OfText.TheVariants as text
 use Rattle.flow_words.specs.declared.order.Order.{Order}
 use Rattle.flow_words.specs.declared.order.Order.TheVariants as order
-use Rattle.flow_commands.specs.Commands.{Answer, AnswersCheck, AnswersFor, AnswersGen, AnswersMirror, AnswersNeh}
-use Rattle.flow_commands.specs.Commands.{AnswersFrom, AnswersSolve, AnswersSpan, asked_options}
+use Rattle.flow_commands.specs.Better.{AnswersCertify, AnswersCertifyFrom, AnswersImprove, AnswersImproveFrom}
+use Rattle.flow_commands.specs.Commands.{Answer, AnswersCheck, AnswersGen, AnswersMirror, AnswersNeh, AnswersSolve}
+use Rattle.flow_commands.specs.Commands.{AnswersSolveFrom, AnswersSpan, Picks, asked_options}
 use Rattle.flow_commands.specs.Limits.{most_certificate, most_text}
-use Rattle.flow_commands.specs.Runs.{Wrote}
+use Rattle.flow_commands.specs.Runs.{Came, Ends, EndsAlone, StopsAt, Wrote}
+use Rattle.flow_commands.specs.declared.fault.ToolFault.{ToolFault}
+use Rattle.flow_tool.specs.declared.stop.Stop.{Stop}
+use Rattle.flow_tool.specs.declared.stop.Stop.TheVariants.{Fault, Open}
+
+-- what a search answers for a text, from a starting sequence of its own
+abbrev pub AnswersSearch : ℕ → Search → List ℕ → Answer → Type 0
+AnswersSearch index (search.Solve run) = AnswersSolve index run.workers run.depth run.budget run.version run.mirror
+AnswersSearch index (search.Improve effort) = AnswersImprove index effort.rounds effort.seed
+AnswersSearch index (search.Certify effort version) = AnswersCertify index effort.rounds effort.seed version
 
 -- what is answered for a text, by what a command line asks for of one of its blocks
 abbrev pub AnswersAsked : ℕ → OfBlock → List ℕ → Answer → Type 0
-AnswersAsked index (Span jobs) = AnswersSpan index jobs.items
-AnswersAsked index Neh = AnswersNeh index
-AnswersAsked index Mirror = AnswersMirror index
-AnswersAsked index (Solve run) = AnswersSolve index run.workers run.depth run.budget run.version run.mirror
+AnswersAsked index (block.Span jobs) = AnswersSpan index jobs.items
+AnswersAsked index block.Neh = AnswersNeh index
+AnswersAsked index block.Mirror = AnswersMirror index
+AnswersAsked index (block.Search search) = AnswersSearch index search
 
--- what is answered for a shop and the bytes of a start
-abbrev pub AnswersRunFrom : Run → Shop → List ℕ → Answer → Type 0
-AnswersRunFrom run shop = AnswersFrom run.mirror shop (asked_options run.workers run.depth run.budget run.version)
+-- what a search answers for a shop and the bytes of a start
+abbrev pub AnswersSearchFrom : Search → Shop → List ℕ → Answer → Type 0
+AnswersSearchFrom (search.Solve run) shop =
+    AnswersSolveFrom run.mirror shop (asked_options run.workers run.depth run.budget run.version)
+AnswersSearchFrom (search.Improve effort) shop = AnswersImproveFrom effort.rounds effort.seed shop
+AnswersSearchFrom (search.Certify effort version) shop =
+    AnswersCertifyFrom effort.rounds effort.seed version shop
 
--- what is answered for an order, by the bytes of the text and of the second file that it names
-abbrev pub AnswersOrder : Order → List ℕ → List ℕ → Answer → Type 0
-AnswersOrder (order.Gen jobs machines seed) text second = AnswersGen jobs machines seed
-AnswersOrder (order.OfBlock file index what) text second = AnswersAsked index what text
-AnswersOrder (order.SolveFrom file index name run) text second =
-    AnswersFor index (λ block. AnswersRunFrom run block.instance second) text
-AnswersOrder (order.Check file index name either) text second =
-    AnswersFor index (λ block. AnswersCheck either block.instance second) text
+-- a text came, then a second file within its limit, and a sink took the answer for a block of the text and those bytes
+abbrev pub WroteBoth :
+    ℕ → (Shop → List ℕ → Answer → Type 0) → ℕ → Option (List ℕ) → Option (List ℕ) → Bool
+    → Option (List ℕ) → Option (List ℕ) → Bool → Option (List ℕ) → Option (List ℕ) → Type 0
+WroteBoth limit Answers index given gives ended second_given second_gives second_ended taken takes =
+    Came most_text (λ text. (block : Block) × Picks text index (Ok block)
+    × Came limit (λ bytes. Wrote (Answers block.instance bytes) taken takes) second_given second_gives second_ended)
+    given gives ended
 
--- the most bytes of the second file: a start or a certificate
-abbrev pub most_second : Order → ℕ
-most_second (order.Gen jobs machines seed) = most_text
-most_second (order.OfBlock file index what) = most_text
-most_second (order.SolveFrom file index name run) = most_text
-most_second (order.Check file index name either) = most_certificate
+-- how a refused run of these ends: the second file was left unread, and the text or the index is at fault; or the text
+-- came, and the second file or the sink is at fault
+abbrev pub EndsBoth :
+    ℕ → (Shop → List ℕ → Answer → Type 0) → ℕ → Type 0 → Type 0 → Option (List ℕ) → Option (List ℕ) → Bool
+    → Option (List ℕ) → Option (List ℕ) → Bool → Option (List ℕ) → Option (List ℕ) → ToolFault → Type 0
+EndsBoth limit Answers index Untouched Unread given gives ended
+    second_given second_gives second_ended taken takes fault =
+    (Untouched × Unread × StopsAt most_text (λ text refusal. Picks text index (Err refusal)) given gives ended fault)
+    ⊎ Came most_text (λ text. (block : Block) × Picks text index (Ok block)
+    × Ends Untouched limit (Answers block.instance) second_given second_gives second_ended taken takes fault)
+    given gives ended
 
--- a sink took the whole answer for an order, for some text and some second file within their limits
-abbrev pub WroteOrdered : Order → Option (List ℕ) → Option (List ℕ) → Type 0
-WroteOrdered order old new =
-    (text : List ℕ) × (second : List ℕ) × (length text ≤ most_text) × (length second ≤ most_second order)
-    × Wrote (AnswersOrder order text second) old new
+-- a fact of a source's run: that it was left unread, the bytes that it had given, those that it has given by the end of
+-- the run, and whether it has ended
+abbrev pub OfRun : Type 1
+OfRun = Type 0 → Option (List ℕ) → Option (List ℕ) → Bool → Type 0
+
+-- whether such a fact holds of the run of the source that a name opens
+abbrev pub OfName : Type 1
+OfName = List ℕ → OfRun → Type 0
+
+-- this fact holds of the run of a source that the name opened, which shows its bytes and its end by these functions
+abbrev pub OfNamed :
+    {F : Type 0} → (List ℕ → F → Type 0) → (F → Option (List ℕ)) → (F → Bool) → OfName
+OfNamed {F} opened given has_ended name Holds =
+    (file : F) × (after : F) × opened name file × Holds (after ≡ file) (given file) (given after) (has_ended after)
+
+-- the sink took the answer for a text and for the file that a name opened
+abbrev pub WroteNamed :
+    OfName → List ℕ → ℕ → (Shop → List ℕ → Answer → Type 0) → ℕ
+    → Option (List ℕ) → Option (List ℕ) → Bool → Option (List ℕ) → Option (List ℕ) → Type 0
+WroteNamed OfFile name limit Answers index given gives ended taken takes = OfFile name
+    (λ unread second_given second_gives second_ended.
+    WroteBoth limit Answers index given gives ended second_given second_gives second_ended taken takes)
+
+-- how a refused run of these ends: the name could not be opened, and nothing was read or written; or it was opened, and
+-- the run of the command was refused
+abbrev pub EndsNamed :
+    OfName → (List ℕ → Type 0) → List ℕ → ℕ → (Shop → List ℕ → Answer → Type 0) → ℕ → Type 0 → Type 0
+    → Option (List ℕ) → Option (List ℕ) → Bool → Option (List ℕ) → Option (List ℕ) → Stop → Type 0
+EndsNamed OfFile refused name limit Answers index Untouched Unread given gives ended taken takes stop =
+    ((stop ≡ Open) × refused name × Untouched × Unread)
+    ⊎ OfFile name (λ unread second_given second_gives second_ended. (fault : ToolFault) × (stop ≡ Fault fault)
+    × EndsBoth limit Answers index Untouched unread given gives ended second_given second_gives second_ended
+    taken takes fault)
+
+-- the sink took the answer for what is asked of a text, by the run of the text and the second file that is named
+abbrev pub WroteForText :
+    OfName → ℕ → OfText → Option (List ℕ) → Option (List ℕ) → Bool
+    → Option (List ℕ) → Option (List ℕ) → Type 0
+WroteForText OfFile index (text.OfBlock what) given gives ended taken takes =
+    Came most_text (λ bytes. Wrote (AnswersAsked index what bytes) taken takes) given gives ended
+WroteForText OfFile index (text.SearchFrom start search) given gives ended taken takes =
+    WroteNamed OfFile start.now most_text (AnswersSearchFrom search) index given gives ended taken takes
+WroteForText OfFile index (text.Check cert either) given gives ended taken takes =
+    WroteNamed OfFile cert.now most_certificate (AnswersCheck either) index given gives ended taken takes
+
+-- how the run ends where what is asked of a text is refused
+abbrev pub EndsForText :
+    OfName → (List ℕ → Type 0) → ℕ → OfText → Type 0 → Type 0 → Option (List ℕ) → Option (List ℕ) → Bool
+    → Option (List ℕ) → Option (List ℕ) → Stop → Type 0
+EndsForText OfFile refused index (text.OfBlock what) Untouched Unread given gives ended taken takes stop =
+    (fault : ToolFault) × (stop ≡ Fault fault)
+    × Ends Untouched most_text (AnswersAsked index what) given gives ended taken takes fault
+EndsForText OfFile refused index (text.SearchFrom start search) Untouched Unread given gives ended taken takes stop =
+    EndsNamed OfFile refused start.now most_text (AnswersSearchFrom search) index Untouched Unread
+    given gives ended taken takes stop
+EndsForText OfFile refused index (text.Check cert either) Untouched Unread given gives ended taken takes stop =
+    EndsNamed OfFile refused cert.now most_certificate (AnswersCheck either) index Untouched Unread
+    given gives ended taken takes stop
+
+-- this fact holds of the run of the text that a name stands for: of standard input for its word, else of the file
+abbrev pub OfTextNamed : OfName → OfName → OfName
+OfTextNamed OfStandard OfFile name Holds =
+    ((name ≡ codes "stdin") × OfStandard name Holds) ⊎ ((name ≢ codes "stdin") × OfFile name Holds)
+
+-- the sink took the answer for an order, by the runs of standard input and of the files that the order names
+abbrev pub WroteOrder : OfName → OfName → Order → Option (List ℕ) → Option (List ℕ) → Type 0
+WroteOrder OfStandard OfFile (order.Gen jobs machines seed) taken takes =
+    Wrote (AnswersGen jobs machines seed) taken takes
+WroteOrder OfStandard OfFile (order.OfText file index what) taken takes = OfTextNamed OfStandard OfFile file.now
+    (λ unread given gives ended. WroteForText OfFile index what given gives ended taken takes)
+
+-- how the run of a refused order ends: as its command does; or the text's name could not be opened, and nothing was
+-- written
+abbrev pub EndsOrder :
+    OfName → OfName → (List ℕ → Type 0) → Type 0 → Order → Option (List ℕ) → Option (List ℕ) → Stop → Type 0
+EndsOrder OfStandard OfFile refused Untouched (order.Gen jobs machines seed) taken takes stop =
+    (fault : ToolFault) × (stop ≡ Fault fault) × EndsAlone Untouched (AnswersGen jobs machines seed) taken takes fault
+EndsOrder OfStandard OfFile refused Untouched (order.OfText file index what) taken takes stop =
+    ((stop ≡ Open) × (file.now ≢ codes "stdin") × refused file.now × Untouched)
+    ⊎ OfTextNamed OfStandard OfFile file.now (λ unread given gives ended.
+    EndsForText OfFile refused index what Untouched unread given gives ended taken takes stop)

@@ -8,7 +8,7 @@ use crate::stop::Stop;
 use clap::error::ErrorKind;
 use flow_commands::ToolFault;
 use flow_core::{MemorySink, MemorySource, WriteFault};
-use flow_words::{OfBlock, Order, Run, make_command, order_of};
+use flow_words::{Effort, OfBlock, OfText, Order, Run, Search, make_command, order_of};
 use std::alloc::{AllocError, Global};
 use std::cell::Cell;
 use std::sync::Wait;
@@ -51,6 +51,10 @@ const FROM_START: &[u8] = b"flowshop certificate 1\n3 3 0\n12\n3 1 2\n++B+.++.B+
 /// The same of the mirrored instance, from the reversed start.
 const MIRRORED_FROM_START: &[u8] = b"flowshop certificate 1\n3 3 0\n12\n2 1 3\n+++.B++.B+AB\nend\n";
 
+/// The certificate of the instance of three machines at depth 0 from its best sequence; it was computed apart from the
+/// program, by the definitions.
+const FROM_BEST: &[u8] = b"flowshop certificate 1\n3 3 0\n12\n3 1 2\n+BC+AB\nend\n";
+
 /// What each file holds. One that is broken refuses each call.
 const FILES: [(&str, &[u8]); 12] = [
     ("text_three", THREE_MACHINES),
@@ -78,6 +82,12 @@ impl Inputs for Named {
     type Standard = MemorySource<'static>;
 
     type File = MemorySource<'static>;
+
+    ghost is_standard = { λ _ _. Unit {0} };
+
+    ghost opened = { λ _ _ _. Unit {0} };
+
+    ghost refused = { λ _ _. Unit {0} };
 
     fn standard(&self) -> MemorySource<'static> {
         MemorySource::new(BOTH, 7, None)
@@ -316,6 +326,112 @@ fn solve_takes_a_start_by_its_name(rt: HostRuntime) -> Result<(), Fail> {
     Ok(())
 }
 
+/// The instance of three machines has one best sequence. The values with few rounds are those of the plain program
+/// bench/improve.rs from the same starting sequences.
+#[test]
+fn improve_takes_its_numbers_and_its_start(rt: HostRuntime) -> Result<(), Fail> {
+    let best = b"sequence 3 1 2\nmakespan 12\n";
+    let neh = b"sequence 2 1 3\nmakespan 13\n";
+    let rows: [(&str, &[u8], &str); 20] = [
+        ("stdin 2", best, ""),
+        ("text_three 1 --seed 2147483646", best, ""),
+        ("text_both 1", b"sequence 2 3 1\nmakespan 9\n", ""),
+        ("text_three 1 --rounds 0", neh, ""),
+        ("stdin 2 --start start", best, ""),
+        (
+            "stdin 2 --start start --rounds 0",
+            b"sequence 1 2 3\nmakespan 15\n",
+            "",
+        ),
+        ("text_three 1 --start start --rounds 1", neh, ""),
+        ("text_three 1 --start start --rounds 1 --seed 4", best, ""),
+        ("text_three 1 --start start --rounds 2", best, ""),
+        ("stdin 2 --seed 2 --rounds 2 --start start", neh, ""),
+        ("stdin 2 --rounds 100000001", b"", "refused option Rounds"),
+        (
+            "stdin 2 --rounds 100000001 --seed 0",
+            b"",
+            "refused option Rounds",
+        ),
+        ("stdin 2 --seed 0", b"", "refused option Seed"),
+        (
+            "stdin 2 --start start --seed 2147483647",
+            b"",
+            "refused option Seed",
+        ),
+        (
+            "stdin 2 --start other_start --seed 0",
+            b"",
+            "refused start 2",
+        ),
+        ("stdin 3 --start other_start", b"", "refused index"),
+        ("stdin 2 --start missing", b"", "failed open"),
+        ("missing 2 --start start", b"", "failed open"),
+        ("text_broken 1", b"", "failed read Device"),
+        ("text_three 1 --start broken", b"", "failed read Device"),
+    ];
+    for (words, bytes, refusal) in rows {
+        let line = format!(in rt.alloc(); "improve {words}")?;
+        let (out, said) = run_line(&rt, rt.alloc(), line.as_str())?;
+        assert_eq!(rt; said.as_str(), refusal, "after {line}");
+        assert!(rt; out.bytes() == bytes, "after {line}");
+    }
+    Ok(())
+}
+
+#[test]
+fn certify_takes_its_numbers_and_its_start(rt: HostRuntime) -> Result<(), Fail> {
+    let version_2 = b"flowshop certificate 2\n3 3 0\n12\n3 1 2\n+BC+AB\nend\n";
+    let rows: [(&str, &[u8], &str); 19] = [
+        ("stdin 2", FROM_BEST, ""),
+        ("stdin 1", OF_TWO_MACHINES, ""),
+        ("text_both 2 --certificate 2", version_2, ""),
+        (
+            "stdin 1 --certificate 2",
+            b"flowshop certificate 2\n3 2 0\n9\n2 3 1\nB\nend\n",
+            "",
+        ),
+        ("text_three 1 --rounds 0", DEPTH_0, ""),
+        ("text_three 1 --start start --rounds 0", FROM_START, ""),
+        ("stdin 2 --start start --rounds 1", DEPTH_0, ""),
+        ("stdin 2 --start start --rounds 1 --seed 4", FROM_BEST, ""),
+        (
+            "stdin 2 --start start --seed 2147483646 --certificate 2",
+            version_2,
+            "",
+        ),
+        ("stdin 2 --rounds 100000001", b"", "refused option Rounds"),
+        (
+            "stdin 2 --start start --rounds 100000001",
+            b"",
+            "refused option Rounds",
+        ),
+        (
+            "stdin 2 --seed 0 --certificate 3",
+            b"",
+            "refused option Seed",
+        ),
+        ("stdin 2 --start start --seed 0", b"", "refused option Seed"),
+        ("stdin 2 --certificate 3", b"", "refused option Version"),
+        (
+            "stdin 2 --start start --certificate 0",
+            b"",
+            "refused option Version",
+        ),
+        ("stdin 3 --certificate 3", b"", "refused index"),
+        ("stdin 2 --start missing", b"", "failed open"),
+        ("missing 2", b"", "failed open"),
+        ("text_three 1 --start broken", b"", "failed read Device"),
+    ];
+    for (words, bytes, refusal) in rows {
+        let line = format!(in rt.alloc(); "certify {words}")?;
+        let (out, said) = run_line(&rt, rt.alloc(), line.as_str())?;
+        assert_eq!(rt; said.as_str(), refusal, "after {line}");
+        assert!(rt; out.bytes() == bytes, "after {line}");
+    }
+    Ok(())
+}
+
 #[test]
 fn check_takes_each_file_by_its_name(rt: HostRuntime) -> Result<(), Fail> {
     let rows: [(&str, &[u8], &str); 25] = [
@@ -366,41 +482,59 @@ fn ordered<'a>(alloc: Global, words: &'a [&'a str]) -> Result<Option<Order<'a>>,
     order_of(alloc, &matches).map_err(|_| ErrorKind::OutOfMemory)
 }
 
+/// The order to search block 1 of `FILE` from a starting sequence of the search's own.
+fn searched(search: Search) -> Order<'static> {
+    Order::OfText {
+        file: "FILE",
+        index: 1,
+        what: OfText::OfBlock {
+            what: OfBlock::Search { search },
+        },
+    }
+}
+
+/// The order to search block 1 of `FILE` from the starting sequence of `SEQUENCE`.
+fn searched_from(search: Search) -> Order<'static> {
+    Order::OfText {
+        file: "FILE",
+        index: 1,
+        what: OfText::SearchFrom {
+            start: "SEQUENCE",
+            search,
+        },
+    }
+}
+
 #[test]
 fn words_are_read_as_orders(rt: HostRuntime) -> Result<(), Fail> {
     let alloc = rt.alloc();
     let words = words_of(alloc, "span FILE 4294967295 3 1 65535")?;
-    let wanted = Order::OfBlock {
+    let wanted = Order::OfText {
         file: "FILE",
         index: u32::MAX,
-        what: OfBlock::Span {
-            jobs: vec![in alloc; 3, 1, 65_535]?,
+        what: OfText::OfBlock {
+            what: OfBlock::Span {
+                jobs: vec![in alloc; 3, 1, 65_535]?,
+            },
         },
     };
     assert_eq!(rt; ordered(alloc, words.as_slice()), Ok(Some(wanted)));
     let words = words_of(alloc, "solve FILE 1 --depth 2")?;
-    let wanted = Order::OfBlock {
-        file: "FILE",
-        index: 1,
-        what: OfBlock::Solve {
-            run: Run {
-                workers: 1,
-                depth: 2,
-                budget: 1_000_000,
-                version: 1,
-                mirror: false,
-            },
+    let wanted = searched(Search::Solve {
+        run: Run {
+            workers: 1,
+            depth: 2,
+            budget: 1_000_000,
+            version: 1,
+            mirror: false,
         },
-    };
+    });
     assert_eq!(rt; ordered(alloc, words.as_slice()), Ok(Some(wanted)));
     let words = words_of(
         alloc,
         "solve FILE 1 --mirrored --start SEQUENCE --workers 3",
     )?;
-    let wanted = Order::SolveFrom {
-        file: "FILE",
-        index: 1,
-        start: "SEQUENCE",
+    let wanted = searched_from(Search::Solve {
         run: Run {
             workers: 3,
             depth: 1,
@@ -408,8 +542,48 @@ fn words_are_read_as_orders(rt: HostRuntime) -> Result<(), Fail> {
             version: 1,
             mirror: true,
         },
-    };
+    });
     assert_eq!(rt; ordered(alloc, words.as_slice()), Ok(Some(wanted)));
+    Ok(())
+}
+
+#[test]
+fn efforts_are_read(rt: HostRuntime) -> Result<(), Fail> {
+    let alloc = rt.alloc();
+    let effort = Effort {
+        rounds: 10_000,
+        seed: 1,
+    };
+    let other = Effort {
+        rounds: 4_294_967_295,
+        seed: 0,
+    };
+    let rows = [
+        ("improve FILE 1", searched(Search::Improve { effort })),
+        (
+            "improve FILE 1 --seed 0 --start SEQUENCE --rounds 4294967295",
+            searched_from(Search::Improve { effort: other }),
+        ),
+        (
+            "certify FILE 1",
+            searched(Search::Certify { effort, version: 1 }),
+        ),
+        (
+            "certify FILE 1 --certificate 7 --seed 0 --rounds 4294967295 --start SEQUENCE",
+            searched_from(Search::Certify {
+                effort: other,
+                version: 7,
+            }),
+        ),
+    ];
+    for (line, wanted) in rows {
+        let words = words_of(alloc, line)?;
+        assert_eq!(rt;
+            ordered(alloc, words.as_slice()),
+            Ok(Some(wanted)),
+            "after {line}"
+        );
+    }
     Ok(())
 }
 
@@ -429,6 +603,11 @@ fn other_words_are_refused(rt: HostRuntime) -> Result<(), Fail> {
         "solve FILE 1 --start",
         "solve FILE 1 --start a --start b",
         "neh FILE 1 --start a",
+        "improve FILE",
+        "improve FILE 1 --rounds -1",
+        "improve FILE 1 --certificate 1",
+        "certify FILE 1 --seed 4294967296",
+        "certify FILE 1 --workers 1",
     ];
     for line in lines {
         let words = words_of(alloc, line)?;
