@@ -1,5 +1,5 @@
 -- A run of `solve`, from the plan up to the bytes that were read.
-use Rattle.std.proofs.Common.{◌≡◌, ◌⊎◌, refl, inl, inr, subst, sym, None, ℕ, Bool, List, Option}
+use Rattle.std.proofs.Common.{◌≡◌, ◌⊎◌, refl, inl, inr, subst, None, ℕ, Bool, List, Option}
 use Rattle.std.proofs.Common.{Result, Ok, Err}
 use Rattle.flow_core.specs.Shop.{Shop}
 use Rattle.flow_bound.specs.Neh.{IsNeh}

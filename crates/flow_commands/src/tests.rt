@@ -2,7 +2,9 @@
 
 ghost use Rattle.std.specs.Prelude.{◌≡◌, ◌<◌, ◌||◌, None, false, length, IfOk, is_err};
 
-use crate::{EffortFault, ToolFault, run_check, run_gen, run_neh, run_solve, run_solve_from, run_span};
+use crate::{
+    EffortFault, ToolFault, run_check, run_gen, run_neh, run_solve, run_solve_from, run_span,
+};
 use flow_cert::CheckFault;
 use flow_core::{
     InstanceFault, MemorySink, MemorySource, ReadFault, Refused, SequenceFault, Source, StartFault,
@@ -746,10 +748,7 @@ const FAULT_LINES: [(ToolFault, &str); 37] = [
         ToolFault::Effort(EffortFault::Rounds),
         "refused option Rounds",
     ),
-    (
-        ToolFault::Effort(EffortFault::Seed),
-        "refused option Seed",
-    ),
+    (ToolFault::Effort(EffortFault::Seed), "refused option Seed"),
     (
         ToolFault::Choice(OptionFault::Workers),
         "refused option Workers",

@@ -3,8 +3,8 @@
 ghost use Rattle.std.specs.Prelude.{◌≡◌, false};
 
 use super::{
-    DEPTH_0, Endless, FROM_STARTS, ONE_JOB, ROOM, Ran, THREE_MACHINES, all_of, checked, checked_as, refused,
-    wrote,
+    DEPTH_0, Endless, FROM_STARTS, ONE_JOB, ROOM, Ran, THREE_MACHINES, all_of, checked, checked_as,
+    refused, wrote,
 };
 use crate::{
     EffortFault, ToolFault, run_certify, run_certify_from, run_gen, run_improve, run_improve_from,
@@ -50,15 +50,7 @@ fn improved_from(alloc: Global, text: &[u8], start: &[u8], rounds: u32, seed: u3
 /// A run of `certify`.
 fn certified(alloc: Global, text: &[u8], rounds: u32, seed: u32, version: u32) -> Ran {
     let mut out = MemorySink::new(alloc, ROOM);
-    run_certify(
-        alloc,
-        &mut all_of(text),
-        1,
-        rounds,
-        seed,
-        version,
-        &mut out,
-    )?;
+    run_certify(alloc, &mut all_of(text), 1, rounds, seed, version, &mut out)?;
     Ok(out)
 }
 
@@ -158,8 +150,16 @@ fn certify_writes_the_first_certificate(rt: HostRuntime) -> Result<(), Fail> {
         assert!(rt; wrote(&ran, certificate));
     }
     let ran = certified(alloc, THREE_MACHINES, 100, 1, 2)?;
-    assert!(rt; ran.bytes().starts_with(b"flowshop certificate 2\n3 3 0\n12\n".as_slice()));
-    assert!(rt; wrote(&checked(alloc, THREE_MACHINES, ran.bytes()), b"optimal 12\n"));
+    assert!(rt;
+        ran.bytes()
+            .starts_with(b"flowshop certificate 2\n3 3 0\n12\n".as_slice())
+    );
+    assert!(rt;
+        wrote(
+            &checked(alloc, THREE_MACHINES, ran.bytes()),
+            b"optimal 12\n"
+        )
+    );
     Ok(())
 }
 
@@ -202,7 +202,12 @@ fn certify_tries_the_mirrored_instance(rt: HostRuntime) -> Result<(), Fail> {
     let other = solved_within(&rt, alloc, text.bytes(), start.bytes(), 10_000, true)?;
     let ran = certified(alloc, text.bytes(), 0, 1, 1);
     assert!(rt; wrote(&ran, other.bytes()));
-    assert!(rt; wrote(&checked_as(alloc, text.bytes(), other.bytes(), true), b"optimal 742\n"));
+    assert!(rt;
+        wrote(
+            &checked_as(alloc, text.bytes(), other.bytes(), true),
+            b"optimal 742\n"
+        )
+    );
     assert!(rt; checked(alloc, text.bytes(), other.bytes()).is_err());
     Ok(())
 }

@@ -1,5 +1,3 @@
-use Rattle.std.proofs.Common.{◌≡◌}
-use Rattle.flow_commands.specs.internal.Tried.{IsOfEither}
 use Rattle.flow_commands.proofs.Certified.{tree-for-each, wrote-either}
 use Rattle.flow_commands.proofs.certify.certify_from.Goals as goal
 

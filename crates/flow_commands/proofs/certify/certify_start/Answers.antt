@@ -8,6 +8,8 @@ returns-clause-ended g c =
     IfErr-weaker c.certify_from.result _ _
     (λ fault. ends-weaker (c.certify_from.new.out ≡ c.args.out.now) _ _ _ _ fault
     (certified c.args.rounds c.args.seed c.args.version c.args.instance.now c.args.start.now c.in_ok-better.better
-    c.in_ok-test_numbers.ensures.accepted (c.in_ok-better.ensures.each,
-    omega (arith, c.in_ok-better.ensures.value, c.in_ok-better.ensures.least))))
+    c.in_ok-test_numbers.ensures.accepted (
+      c.in_ok-better.ensures.each,
+      omega (arith, c.in_ok-better.ensures.value, c.in_ok-better.ensures.least),
+    )))
     c.certify_from.ensures.ended

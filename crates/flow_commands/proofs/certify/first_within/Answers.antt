@@ -1,4 +1,4 @@
-use Rattle.std.proofs.Common.{◌≡◌, ◌∙◌, ap, sym, drop-cons}
+use Rattle.std.proofs.Common.{◌∙◌, ap, sym, drop-cons}
 use Rattle.flow_commands.specs.Better.{first_certificate}
 use Rattle.flow_commands.proofs.Tries.{second-answers}
 use Rattle.flow_commands.proofs.certify.first_within.Goals as goal

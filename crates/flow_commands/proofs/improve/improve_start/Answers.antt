@@ -1,4 +1,4 @@
-use Rattle.std.proofs.Common.{◌≡◌, ap, refl, Ok, arith}
+use Rattle.std.proofs.Common.{ap, Ok, arith}
 use Rattle.std.proofs.lemmas.Result.{err_from_is_err_and}
 use Rattle.flow_commands.specs.Better.{AnswersImproved}
 use Rattle.flow_commands.proofs.Endings.{ends-alone-in-writing}
