@@ -5,7 +5,8 @@ ghost use Rattle.std.specs.Prelude.{◌≡◌, false};
 use crate::trouble::{Trouble, confirm};
 use flow_cert::CheckFault;
 use flow_commands::{
-    ToolFault, run_check, run_gen, run_mirror, run_neh, run_solve, run_solve_from, run_span,
+    ToolFault, run_certify, run_certify_from, run_check, run_gen, run_improve, run_improve_from,
+    run_mirror, run_neh, run_solve, run_solve_from, run_span,
 };
 use flow_core::{MemorySink, MemorySource, StartFault};
 use flow_examples::{
@@ -22,6 +23,9 @@ const MIRRORED_TEXT: &[u8] =
     b"number of jobs, number of machines, initial seed, upper bound and lower bound :\n\
 3 2 0 0 0\nprocessing times :\n2 4 2\n3 1 2\n";
 
+/// A start of the instance with three machines.
+const START: &[u8] = b"sequence 1 2 3\nmakespan 15\n";
+
 /// The certificate of the mirrored instance of three machines at depth 0, in version 2. It was computed apart from the
 /// program, by the definitions.
 const MIRRORED_CERTIFICATE: &[u8] = b"flowshop certificate 2\n3 3 0\n12\n2 1 3\n+BC+AB\nend\n";
@@ -29,6 +33,20 @@ const MIRRORED_CERTIFICATE: &[u8] = b"flowshop certificate 2\n3 3 0\n12\n2 1 3\n
 /// The certificate of the mirrored instance of three machines at depth 0 from the reversed start `1 2 3`. It was
 /// computed apart from the program, by the definitions.
 const STARTED_CERTIFICATE: &[u8] = b"flowshop certificate 1\n3 3 0\n12\n2 1 3\n+++.B++.B+AB\nend\n";
+
+/// An instance with nine jobs on four machines, which `gen` makes of seed 50.
+const FOUR_MACHINES_TEXT: &[u8] =
+    b"a\n9 4 50 745 730\nb\n1 58 78 93 64 94 35 94 96\n73 18 97 55 73 67 49 56 39\n\
+17 34 87 34 45 52 31 35 60\n69 80 6 52 11 13 37 80 41\n";
+
+/// A start of the instance with four machines.
+const FOUR_MACHINES_START: &[u8] = b"sequence 7 1 2 5 8 3 4 9 6\nmakespan 745\n";
+
+/// The certificate of the mirrored instance of four machines at depth 0 from the reversed start. It was computed apart
+/// from the program, by the definitions, and `check` accepts it. The tree of the instance itself has 47,472 bytes, more
+/// than 10,000, the first budget of `certify`.
+const FOUR_MACHINES_CERTIFICATE: &[u8] = b"flowshop certificate 1\n9 4 0\n742\n5 2 4 6 1 7 9 3 8\n\
++DDDD+D++DDDDDDD++DDDDDD++D+DD++.DDDDDDDDDDDDDDDDDDDDD+DDDDDDDDDD\nend\n";
 
 /// A source of all these bytes.
 fn all_of(bytes: &[u8]) -> MemorySource
@@ -108,6 +126,40 @@ pub(crate) fn neh_is_run(alloc: Global) -> Result<(), Trouble> {
     confirm_written(ran, &out, b"sequence 2 3 1\nmakespan 9\n", "run_neh")
 }
 
+/// `run_improve` of no round.
+pub(crate) fn improve_is_run(alloc: Global) -> Result<(), Trouble> {
+    let mut out = room(alloc);
+    let mut file = all_of(THREE_MACHINES_TEXT);
+    let ran = run_improve(alloc, &mut file, 1, 0, 1, &mut out);
+    confirm_written(ran, &out, b"sequence 2 1 3\nmakespan 13\n", "run_improve")
+}
+
+/// `run_improve_from` of no round, which gives the start back.
+pub(crate) fn improve_is_run_from(alloc: Global) -> Result<(), Trouble> {
+    let mut out = room(alloc);
+    let mut file = all_of(THREE_MACHINES_TEXT);
+    let mut start = all_of(START);
+    let ran = run_improve_from(alloc, &mut file, 1, &mut start, 0, 1, &mut out);
+    confirm_written(ran, &out, START, "run_improve_from")
+}
+
+/// `run_certify`, where the certificate is that of the instance.
+pub(crate) fn certify_is_run(alloc: Global) -> Result<(), Trouble> {
+    let mut out = room(alloc);
+    let mut file = all_of(THREE_MACHINES_TEXT);
+    let ran = run_certify(alloc, &mut file, 1, 0, 1, 1, &mut out);
+    confirm_written(ran, &out, &CERTIFICATE_AT_DEPTH_0, "run_certify")
+}
+
+/// `run_certify_from`, where the certificate is that of the mirrored instance.
+pub(crate) fn certify_is_run_from(alloc: Global) -> Result<(), Trouble> {
+    let mut out = room(alloc);
+    let mut file = all_of(FOUR_MACHINES_TEXT);
+    let mut start = all_of(FOUR_MACHINES_START);
+    let ran = run_certify_from(alloc, &mut file, 1, &mut start, 0, 1, 1, &mut out);
+    confirm_written(ran, &out, FOUR_MACHINES_CERTIFICATE, "run_certify_from")
+}
+
 /// `run_mirror`.
 pub(crate) fn mirror_is_run(alloc: Global) -> Result<(), Trouble> {
     let mut out = room(alloc);
@@ -167,7 +219,7 @@ pub(crate) fn start_is_solved<T: Threads + Wait + Sync>(
 ) -> Result<(), Trouble> {
     let mut out = room(alloc);
     let mut file = all_of(THREE_MACHINES_TEXT);
-    let mut start = all_of(b"sequence 1 2 3\nmakespan 15\n");
+    let mut start = all_of(START);
     let ran = run_solve_from(
         threads, alloc, &mut file, 1, &mut start, 2, 0, AMPLE, 1, true, &Open, &mut out,
     );

@@ -34,7 +34,7 @@ const REFUSED: u8 = 1;
 const WRONG: u8 = 2;
 
 /// How many groups of calls there are.
-const GROUPS: usize = 31;
+const GROUPS: usize = 35;
 
 /// Makes all calls: each group, also where one before it did not return what it should.
 fn found<T: Threads + Wait + Sync>(threads: &T, alloc: Global) -> [Result<(), Trouble>; GROUPS] {
@@ -61,6 +61,10 @@ fn found<T: Threads + Wait + Sync>(threads: &T, alloc: Global) -> [Result<(), Tr
         commands::span_is_run(alloc),
         commands::gen_is_run(alloc),
         commands::neh_is_run(alloc),
+        commands::improve_is_run(alloc),
+        commands::improve_is_run_from(alloc),
+        commands::certify_is_run(alloc),
+        commands::certify_is_run_from(alloc),
         commands::mirror_is_run(alloc),
         commands::solve_is_run(threads, alloc),
         commands::solve_is_refused(threads, alloc),
