@@ -1,6 +1,6 @@
 //! Which words of a command line run which command, and on which files.
 
-ghost use Rattle.std.specs.Prelude.{◌≡◌, ◌⊎◌, false, Ok, OnOk, IfErr};
+ghost use Rattle.std.specs.Prelude.{◌≡◌, false, Ok, OnOk, IfErr};
 ghost use Rattle.flow_core.specs.declared.text.block.Block.{Block};
 ghost use Rattle.flow_commands.specs.Commands.{AnswersCheck, Picks};
 ghost use Rattle.flow_commands.specs.Limits.{most_certificate, most_text};
