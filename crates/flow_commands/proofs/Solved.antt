@@ -1,4 +1,4 @@
--- A run of `solve`, from the plan up to the bytes that were read.
+-- Runs of `solve`, `improve` and `certify`, from the plan or the start up to the bytes that were read.
 use Rattle.std.proofs.Common.{◌≡◌, ◌⊎◌, refl, inl, inr, subst, None, ℕ, Bool, List, Option}
 use Rattle.std.proofs.Common.{Result, Ok, Err}
 use Rattle.flow_core.specs.Shop.{Shop}
@@ -17,7 +17,7 @@ use Rattle.flow_pool.specs.declared.whole_run.SolveFault.TheVariants as solve
 use Rattle.flow_commands.specs.declared.fault.ToolFault.{ToolFault}
 use Rattle.flow_commands.specs.declared.fault.ToolFault.TheVariants as tool
 use Rattle.flow_commands.specs.Limits.{budgets, most_text}
-use Rattle.flow_commands.specs.Better.{AnswersCertified, AnswersImproved, FromNeh, IsNoWorse, certify_fault}
+use Rattle.flow_commands.specs.Better.{AnswersCertifyStart, AnswersImproveStart, FromNeh, IsNoWorse, certify_fault}
 use Rattle.flow_commands.specs.Better.{first_certificate, improve_fault}
 
 -- one kind of answer is also one of another kind
@@ -194,12 +194,12 @@ run-ended Untouched untouched plan taken takes (solve.OverBudget number) h =
 -- the answer of `improve` or `certify` from a sequence that is no worse is one from the start
 pub improved : (rounds seed : ℕ) (shop : Shop) (start jobs : List ℕ) → improve_fault rounds seed ≡ None →
     IsNoWorse shop start jobs →
-    Weaker (λ answer. answer ≡ Ok (sequence_lines shop jobs)) (AnswersImproved rounds seed shop start)
-improved rounds seed shop start jobs accepted worse answer is = rw (AnswersImproved, accepted) (jobs, worse, is)
+    Weaker (λ answer. answer ≡ Ok (sequence_lines shop jobs)) (AnswersImproveStart rounds seed shop start)
+improved rounds seed shop start jobs accepted worse answer is = rw (AnswersImproveStart, accepted) (jobs, worse, is)
 
 pub certified : (rounds seed version : ℕ) (shop : Shop) (start jobs : List ℕ) →
     certify_fault rounds seed version ≡ None → IsNoWorse shop start jobs →
     Weaker (λ answer. answer ≡ first_certificate version shop jobs budgets)
-    (AnswersCertified rounds seed version shop start)
+    (AnswersCertifyStart rounds seed version shop start)
 certified rounds seed version shop start jobs accepted worse answer is =
-    rw (AnswersCertified, accepted) (jobs, worse, is)
+    rw (AnswersCertifyStart, accepted) (jobs, worse, is)

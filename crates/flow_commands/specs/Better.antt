@@ -17,7 +17,7 @@ use Rattle.flow_pool.specs.declared.whole_run.SolveFault.TheVariants.{OverBudget
 use Rattle.flow_cert.specs.PlanCertificates.{certificate_of}
 use Rattle.flow_commands.specs.Commands.{Answer, AnswersFor, FromText, sequence_lines}
 use Rattle.flow_commands.specs.Limits.{budgets, most_rounds}
-use Rattle.flow_commands.specs.declared.fault.EffortFault.TheVariants.{Rounds, Seed}
+use Rattle.flow_commands.specs.declared.fault.ImproveFault.TheVariants.{Rounds, Seed}
 use Rattle.flow_commands.specs.declared.fault.ToolFault.{ToolFault}
 use Rattle.flow_commands.specs.declared.fault.ToolFault.TheVariants as tool
 
@@ -28,14 +28,14 @@ IsNoWorse shop start jobs = IsSequence shop.jobs jobs × (span shop jobs ≤ spa
 -- why `improve` refuses its rounds or its seed, if it does
 abbrev pub improve_fault : ℕ → ℕ → Option ToolFault
 improve_fault rounds seed = first_fault (
-    fault_unless (nat_le rounds most_rounds) (tool.Effort Rounds)
-    ∷ fault_unless (is_in_range 1 (modulus - 1) seed) (tool.Effort Seed)
+    fault_unless (nat_le rounds most_rounds) (tool.Improve Rounds)
+    ∷ fault_unless (is_in_range 1 (modulus - 1) seed) (tool.Improve Seed)
     ∷ [])
 
 -- what `improve` answers from a starting sequence: the lines of a sequence that is no worse, or why its numbers are
 -- refused
-abbrev pub AnswersImproved : ℕ → ℕ → Shop → List ℕ → Answer → Type 0
-AnswersImproved rounds seed shop start answer = elim (improve_fault rounds seed) [
+abbrev pub AnswersImproveStart : ℕ → ℕ → Shop → List ℕ → Answer → Type 0
+AnswersImproveStart rounds seed shop start answer = elim (improve_fault rounds seed) [
   | Some fault ↦ answer ≡ Err fault
   | None ↦ (jobs : List ℕ) × IsNoWorse shop start jobs × (answer ≡ Ok (sequence_lines shop jobs))
 ]
@@ -77,8 +77,8 @@ first_certificate version shop start (budget ∷ later) =
 
 -- what `certify` answers from a starting sequence: the first certificate from a sequence that is no worse, or why its
 -- numbers are refused
-abbrev pub AnswersCertified : ℕ → ℕ → ℕ → Shop → List ℕ → Answer → Type 0
-AnswersCertified rounds seed version shop start answer = elim (certify_fault rounds seed version) [
+abbrev pub AnswersCertifyStart : ℕ → ℕ → ℕ → Shop → List ℕ → Answer → Type 0
+AnswersCertifyStart rounds seed version shop start answer = elim (certify_fault rounds seed version) [
   | Some fault ↦ answer ≡ Err fault
   | None ↦ (jobs : List ℕ) × IsNoWorse shop start jobs × (answer ≡ first_certificate version shop jobs budgets)
 ]
@@ -89,17 +89,17 @@ FromNeh Answers shop answer = (start : List ℕ) × IsNeh shop start × Answers 
 
 -- what `improve` answers for a text
 abbrev pub AnswersImprove : ℕ → ℕ → ℕ → List ℕ → Answer → Type 0
-AnswersImprove index rounds seed = AnswersFor index (λ block. FromNeh (AnswersImproved rounds seed) block.instance)
+AnswersImprove index rounds seed = AnswersFor index (λ block. FromNeh (AnswersImproveStart rounds seed) block.instance)
 
 -- what `improve` answers for a shop and a start text
 abbrev pub AnswersImproveFrom : ℕ → ℕ → Shop → List ℕ → Answer → Type 0
-AnswersImproveFrom rounds seed shop = FromText (AnswersImproved rounds seed shop) shop
+AnswersImproveFrom rounds seed shop = FromText (AnswersImproveStart rounds seed shop) shop
 
 -- what `certify` answers for a text
 abbrev pub AnswersCertify : ℕ → ℕ → ℕ → ℕ → List ℕ → Answer → Type 0
 AnswersCertify index rounds seed version =
-    AnswersFor index (λ block. FromNeh (AnswersCertified rounds seed version) block.instance)
+    AnswersFor index (λ block. FromNeh (AnswersCertifyStart rounds seed version) block.instance)
 
 -- what `certify` answers for a shop and a start text
 abbrev pub AnswersCertifyFrom : ℕ → ℕ → ℕ → Shop → List ℕ → Answer → Type 0
-AnswersCertifyFrom rounds seed version shop = FromText (AnswersCertified rounds seed version shop) shop
+AnswersCertifyFrom rounds seed version shop = FromText (AnswersCertifyStart rounds seed version shop) shop

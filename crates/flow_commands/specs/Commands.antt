@@ -161,14 +161,14 @@ asked_options workers depth budget version =
     [ Ok options ↦ version_or_fault options version | Err fault ↦ Err fault ]
 
 -- what it answers for an instance, from the starting sequence of Nawaz, Enscore and Ham
-abbrev pub AnswersFromNeh : Shop → Result Choices OptionFault → Answer → Type 0
-AnswersFromNeh shop = AnswersOptions (IsNeh shop) shop
+abbrev pub AnswersSolveNeh : Shop → Result Choices OptionFault → Answer → Type 0
+AnswersSolveNeh shop = AnswersOptions (IsNeh shop) shop
 
 -- what `solve` answers for a text
 abbrev pub AnswersSolve : ℕ → ℕ → ℕ → ℕ → ℕ → Bool → List ℕ → Answer → Type 0
 AnswersSolve index workers depth budget version mirror =
     AnswersFor index
-    (λ block. AnswersFromNeh (mirrored_if mirror block.instance) (asked_options workers depth budget version))
+    (λ block. AnswersSolveNeh (mirrored_if mirror block.instance) (asked_options workers depth budget version))
 
 -- the jobs have the makespan that they are said to have; if not, the line that says it is at fault
 abbrev pub claimed : Shop → List ℕ → Option Claim → Result (List ℕ) ToolFault

@@ -1,4 +1,4 @@
--- The limits of what the program reads. The code has constants for them; the contracts speak of these numbers alone.
+-- The limits of the commands. The code has constants for them; the contracts speak of these numbers alone.
 use Rattle.std.specs.Prelude.{ℕ, List, [], ◌∷◌}
 
 -- the most bytes of a benchmark text

@@ -4,12 +4,14 @@ use Rattle.std.specs.Io.KnownBytes.{Appends}
 use Rattle.flow_core.specs.Shop.{Shop}
 use Rattle.flow_core.specs.Sequences.{IsLeastMakespan}
 use Rattle.flow_core.specs.Bytes.{AddsProperPrefix, GrowsWithin, GrowsBeyond}
+use Rattle.flow_core.specs.declared.text.block.Block.{Block}
 use Rattle.flow_core.specs.declared.bytes.fault.ReadFault.TheVariants as read
 use Rattle.flow_core.specs.declared.bytes.fault.WriteFault.TheVariants as write
 use Rattle.flow_cert.specs.Certificate.{IsCertificate}
 use Rattle.flow_commands.specs.declared.fault.ToolFault.{ToolFault}
 use Rattle.flow_commands.specs.declared.fault.ToolFault.TheVariants as tool
-use Rattle.flow_commands.specs.Commands.{Answer, IsAccepted, optimal_line}
+use Rattle.flow_commands.specs.Commands.{Answer, IsAccepted, Picks, optimal_line}
+use Rattle.flow_commands.specs.Limits.{most_text}
 
 -- a source gave at most so many bytes and then its end, and this holds of the bytes
 abbrev pub Came : ℕ → (List ℕ → Type 0) → Option (List ℕ) → Option (List ℕ) → Bool → Type 0
@@ -49,6 +51,31 @@ abbrev pub EndsAlone :
 EndsAlone Untouched Answers taken takes fault =
     (Untouched × ((fault ≡ tool.Memory) ⊎ Answers (Err fault)))
     ⊎ ((fault ≡ tool.Write write.Device) × WrotePart Answers taken takes)
+
+-- a text came, and this holds of the instance of the block that an index names
+abbrev pub CameFor : ℕ → (Shop → Type 0) → Option (List ℕ) → Option (List ℕ) → Bool → Type 0
+CameFor index Holds given gives ended =
+    Came most_text (λ text. (block : Block) × Picks text index (Ok block) × Holds block.instance) given gives ended
+
+-- a text came, then a second file within its limit, and a sink took the answer for a block of the text and those bytes
+abbrev pub WroteBoth :
+    ℕ → (Shop → List ℕ → Answer → Type 0) → ℕ → Option (List ℕ) → Option (List ℕ) → Bool
+    → Option (List ℕ) → Option (List ℕ) → Bool → Option (List ℕ) → Option (List ℕ) → Type 0
+WroteBoth limit Answers index given gives ended second_given second_gives second_ended taken takes = CameFor index
+    (λ shop. Came limit (λ bytes. Wrote (Answers shop bytes) taken takes) second_given second_gives second_ended)
+    given gives ended
+
+-- how a refused run of these ends: the second file was left unread, and the text or the index is at fault; or the text
+-- came, and the second file or the sink is at fault
+abbrev pub EndsBoth :
+    ℕ → (Shop → List ℕ → Answer → Type 0) → ℕ → Type 0 → Type 0 → Option (List ℕ) → Option (List ℕ) → Bool
+    → Option (List ℕ) → Option (List ℕ) → Bool → Option (List ℕ) → Option (List ℕ) → ToolFault → Type 0
+EndsBoth limit Answers index Untouched Unread given gives ended
+    second_given second_gives second_ended taken takes fault =
+    (Untouched × Unread × StopsAt most_text (λ text refusal. Picks text index (Err refusal)) given gives ended fault)
+    ⊎ CameFor index
+    (λ shop. Ends Untouched limit (Answers shop) second_given second_gives second_ended taken takes fault)
+    given gives ended
 
 -- a sink took a lawful certificate of an instance, of its least makespan
 abbrev pub WroteCertificate : Shop → Option (List ℕ) → Option (List ℕ) → Type 0

@@ -1,6 +1,6 @@
 //! The command `certify`.
 
-ghost use Rattle.std.specs.Prelude.{◌≡◌, ◌↔◌, ◌⊎◌, ◌≤◌, ◌<◌, false, true, length, reverse, None, Some, Ok, Err, All};
+ghost use Rattle.std.specs.Prelude.{◌≡◌, ◌↔◌, ◌⊎◌, ◌≤◌, ◌<◌, false, true, reverse, None, Some, Ok, Err, All};
 ghost use Rattle.std.specs.Prelude.{IfOk, OnOk, IfErr, IsErrOf};
 ghost use Rattle.std.specs.Int.{is_in_range};
 ghost use Rattle.flow_core.specs.Bytes.{Grows};
@@ -10,35 +10,25 @@ ghost use Rattle.flow_core.specs.Mirror.{mirrored};
 ghost use Rattle.flow_core.specs.Sequences.{IsSequence};
 ghost use Rattle.flow_core.specs.declared.bytes.fault.ReadFault.TheVariants as read;
 ghost use Rattle.flow_core.specs.declared.bytes.fault.WriteFault.TheVariants as write;
-ghost use Rattle.flow_core.specs.declared.text.block.Block.{Block};
-ghost use Rattle.flow_commands.specs.Commands.{Picks, asked_options};
-ghost use Rattle.flow_commands.specs.Better.{AnswersCertified, AnswersCertify, AnswersCertifyFrom, certify_fault};
+ghost use Rattle.flow_commands.specs.Better.{AnswersCertifyStart, AnswersCertify, AnswersCertifyFrom, certify_fault};
 ghost use Rattle.flow_commands.specs.Better.{first_certificate, tried};
 ghost use Rattle.flow_commands.specs.Limits.{budgets, most_text};
-ghost use Rattle.flow_commands.specs.Runs.{Came, Ends, EndsAlone, StopsAt, Wrote, WroteEither};
+ghost use Rattle.flow_commands.specs.Runs.{Came, CameFor, Ends, EndsAlone, EndsBoth, Wrote, WroteBoth, WroteEither};
 ghost use Rattle.flow_commands.specs.internal.Tried.{AreOptions, IsOfEither, IsSolved, found_answer};
 
 use crate::block::read_block;
 use crate::fault::ToolFault;
-use crate::improve::test_effort;
+use crate::improve::test_improvement;
+use crate::limits::BUDGETS;
+use crate::solve::options_of;
 use crate::start::read_given;
 use flow_bound::neh;
 use flow_cert::write_certificate;
 use flow_core::{Instance, Sequence, Sink, Source};
 use flow_improve::improve;
 use flow_pool::SolveFault;
-use flow_search::{OptionFault, Options, Plan, RunFault, Verdict, prepare_from, solve_plain};
+use flow_search::{Plan, RunFault, Verdict, prepare_from, solve_plain};
 use std::alloc::{AllocError, Global};
-
-/// The budgets, in the order in which they are tried.
-const BUDGETS: [u32; 5] = [10_000, 100_000, 1_000_000, 10_000_000, 100_000_000];
-
-/// The options of a plan that is tried.
-fn tried_options(budget: u32, version: u32) -> Result<Options, OptionFault>
-    ensures { result ≡ asked_options 1 0 budget version }
-{
-    Options::new(1, 0, budget)?.with_version(version)
-}
 
 /// Nothing where the rounds, the seed and the version are within their limits; else the first fault.
 fn test_numbers(rounds: u32, seed: u32, version: u32) -> Result<(), ToolFault>
@@ -48,8 +38,9 @@ fn test_numbers(rounds: u32, seed: u32, version: u32) -> Result<(), ToolFault>
     ensures version { OnOk result (is_in_range least_version greatest_version version ≡ true) }
     ensures refused { IfErr result (λ fault. certify_fault rounds seed version ≡ Some fault) }
 {
-    test_effort(rounds, seed)?;
-    tried_options(1, version)?;
+    test_improvement(rounds, seed)?;
+    // Of these options the version alone can be refused.
+    options_of(1, 0, 1, version)?;
     Ok(())
 }
 
@@ -78,7 +69,7 @@ fn solve_within<'a>(
     ensures solved { IfOk result (IsSolved (tried version budget instance.now start.now)) }
     ensures refused { IfErr result (λ fault. fault ≡ ToolFault.Memory) }
 {
-    let options = tried_options(budget, version)?;
+    let options = options_of(1, 0, budget, version)?;
     let start = copy_of(alloc, instance, start)?;
     let plan = prepare_from(alloc, instance, start, options)?;
     match solve_plain(alloc, &plan) {
@@ -160,11 +151,11 @@ fn certify_start<K: Sink>(
 ) -> Result<(), ToolFault>
     requires out_works { K.has_failed out.old ≡ false }
     requires is_sequence { IsSequence instance.now.jobs start.now }
-    ensures written { OnOk result (Wrote (AnswersCertified rounds seed version instance.now start.now)
+    ensures written { OnOk result (Wrote (AnswersCertifyStart rounds seed version instance.now start.now)
         (K.taken out.old) (K.taken out.new)) }
     ensures lawful { OnOk result (WroteEither instance.now (K.taken out.old) (K.taken out.new)) }
     ensures ended { IfErr result (EndsAlone (out.new ≡ out.old)
-        (AnswersCertified rounds seed version instance.now start.now) (K.taken out.old) (K.taken out.new)) }
+        (AnswersCertifyStart rounds seed version instance.now start.now) (K.taken out.old) (K.taken out.new)) }
     ensures write_device { IsErrOf result (ToolFault.Write write.Device) ↔ (K.has_failed out.new ≡ true) }
     ensures reads_nothing { IsErrOf result (ToolFault.Read read.Device) → ⊥ }
 {
@@ -190,8 +181,8 @@ pub fn run_certify<S: Source, K: Sink>(
     ensures written { OnOk result (Came most_text
         (λ text. Wrote (AnswersCertify index rounds seed version text) (K.taken out.old) (K.taken out.new))
         (S.given file.old) (S.given file.new) (S.has_ended file.new)) }
-    ensures lawful { OnOk result (Came most_text (λ text. (block : Block) × Picks text index (Ok block)
-        × WroteEither block.instance (K.taken out.old) (K.taken out.new))
+    ensures lawful { OnOk result (CameFor index
+        (λ shop. WroteEither shop (K.taken out.old) (K.taken out.new))
         (S.given file.old) (S.given file.new) (S.has_ended file.new)) }
     ensures ended { IfErr result (Ends (out.new ≡ out.old) most_text (AnswersCertify index rounds seed version)
         (S.given file.old) (S.given file.new) (S.has_ended file.new) (K.taken out.old) (K.taken out.new)) }
@@ -220,21 +211,16 @@ pub fn run_certify_from<S: Source, T: Source, K: Sink>(
     requires file_works { S.has_failed file.old ≡ false }
     requires start_works { T.has_failed start.old ≡ false }
     requires out_works { K.has_failed out.old ≡ false }
-    ensures written { OnOk result (Came most_text (λ text. (block : Block) × Picks text index (Ok block)
-        × Came most_text (λ bytes. Wrote (AnswersCertifyFrom rounds seed version block.instance bytes)
-        (K.taken out.old) (K.taken out.new))
-        (T.given start.old) (T.given start.new) (T.has_ended start.new))
+    ensures written { OnOk result (WroteBoth most_text (AnswersCertifyFrom rounds seed version) index
+        (S.given file.old) (S.given file.new) (S.has_ended file.new)
+        (T.given start.old) (T.given start.new) (T.has_ended start.new) (K.taken out.old) (K.taken out.new)) }
+    ensures lawful { OnOk result (CameFor index
+        (λ shop. WroteEither shop (K.taken out.old) (K.taken out.new))
         (S.given file.old) (S.given file.new) (S.has_ended file.new)) }
-    ensures lawful { OnOk result (Came most_text (λ text. (block : Block) × Picks text index (Ok block)
-        × WroteEither block.instance (K.taken out.old) (K.taken out.new))
-        (S.given file.old) (S.given file.new) (S.has_ended file.new)) }
-    ensures ended { IfErr result (λ fault. ((out.new ≡ out.old) × (start.new ≡ start.old)
-        × StopsAt most_text (λ text refusal. Picks text index (Err refusal))
-        (S.given file.old) (S.given file.new) (S.has_ended file.new) fault)
-        ⊎ Came most_text (λ text. (block : Block) × Picks text index (Ok block)
-        × Ends (out.new ≡ out.old) most_text (AnswersCertifyFrom rounds seed version block.instance)
-        (T.given start.old) (T.given start.new) (T.has_ended start.new) (K.taken out.old) (K.taken out.new) fault)
-        (S.given file.old) (S.given file.new) (S.has_ended file.new)) }
+    ensures ended { IfErr result (EndsBoth most_text (AnswersCertifyFrom rounds seed version) index
+        (out.new ≡ out.old) (start.new ≡ start.old)
+        (S.given file.old) (S.given file.new) (S.has_ended file.new)
+        (T.given start.old) (T.given start.new) (T.has_ended start.new) (K.taken out.old) (K.taken out.new)) }
     ensures read_device { IsErrOf result (ToolFault.Read read.Device)
         ↔ ((S.has_failed file.new ≡ true) ⊎ (T.has_failed start.new ≡ true)) }
     ensures write_device { IsErrOf result (ToolFault.Write write.Device) ↔ (K.has_failed out.new ≡ true) }

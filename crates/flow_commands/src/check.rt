@@ -1,14 +1,13 @@
 //! The command `check`.
 
-ghost use Rattle.std.specs.Prelude.{◌≡◌, ◌↔◌, ◌⊎◌, ℕ, List, false, true, Ok, Err};
+ghost use Rattle.std.specs.Prelude.{◌≡◌, ◌↔◌, ◌⊎◌, ℕ, false, true, Ok, Err};
 ghost use Rattle.std.specs.Prelude.{IfOk, OnOk, IfErr, IsErrOf};
 ghost use Rattle.flow_core.specs.Sequences.{IsLeastMakespan};
 ghost use Rattle.flow_core.specs.Bytes.{Grows};
 ghost use Rattle.flow_core.specs.declared.bytes.fault.ReadFault.TheVariants as read;
 ghost use Rattle.flow_core.specs.declared.bytes.fault.WriteFault.TheVariants as write;
-ghost use Rattle.flow_core.specs.declared.text.block.Block.{Block};
-ghost use Rattle.flow_commands.specs.Commands.{AnswersCheck, IsAccepted, Picks, optimal_line};
-ghost use Rattle.flow_commands.specs.Runs.{Came, Ends, StopsAt, Wrote, WroteLeast};
+ghost use Rattle.flow_commands.specs.Commands.{AnswersCheck, IsAccepted, optimal_line};
+ghost use Rattle.flow_commands.specs.Runs.{Came, CameFor, Ends, EndsBoth, Wrote, WroteBoth, WroteLeast};
 ghost use Rattle.flow_commands.specs.Limits.{most_text, most_certificate};
 ghost use Rattle.flow_commands.specs.internal.Checked.{IsRefused, ran_out};
 
@@ -114,21 +113,16 @@ pub fn run_check<S: Source, C: Source, K: Sink>(
     requires file_works { S.has_failed file.old ≡ false }
     requires cert_works { C.has_failed cert.old ≡ false }
     requires out_works { K.has_failed out.old ≡ false }
-    ensures written { OnOk result (Came most_text (λ text. (block : Block) × Picks text index (Ok block)
-        × Came most_certificate
-        (λ bytes. Wrote (AnswersCheck either block.instance bytes) (K.taken out.old) (K.taken out.new))
-        (C.given cert.old) (C.given cert.new) (C.has_ended cert.new))
+    ensures written { OnOk result (WroteBoth most_certificate (AnswersCheck either) index
+        (S.given file.old) (S.given file.new) (S.has_ended file.new)
+        (C.given cert.old) (C.given cert.new) (C.has_ended cert.new) (K.taken out.old) (K.taken out.new)) }
+    ensures least { OnOk result (CameFor index
+        (λ shop. WroteLeast shop (K.taken out.old) (K.taken out.new))
         (S.given file.old) (S.given file.new) (S.has_ended file.new)) }
-    ensures least { OnOk result (Came most_text (λ text.
-        (block : Block) × Picks text index (Ok block) × WroteLeast block.instance (K.taken out.old) (K.taken out.new))
-        (S.given file.old) (S.given file.new) (S.has_ended file.new)) }
-    ensures ended { IfErr result (λ fault. ((out.new ≡ out.old) × (cert.new ≡ cert.old)
-        × StopsAt most_text (λ text refusal. Picks text index (Err refusal))
-        (S.given file.old) (S.given file.new) (S.has_ended file.new) fault)
-        ⊎ Came most_text (λ text. (block : Block) × Picks text index (Ok block)
-        × Ends (out.new ≡ out.old) most_certificate (AnswersCheck either block.instance)
-        (C.given cert.old) (C.given cert.new) (C.has_ended cert.new) (K.taken out.old) (K.taken out.new) fault)
-        (S.given file.old) (S.given file.new) (S.has_ended file.new)) }
+    ensures ended { IfErr result (EndsBoth most_certificate (AnswersCheck either) index
+        (out.new ≡ out.old) (cert.new ≡ cert.old)
+        (S.given file.old) (S.given file.new) (S.has_ended file.new)
+        (C.given cert.old) (C.given cert.new) (C.has_ended cert.new) (K.taken out.old) (K.taken out.new)) }
     ensures read_device { IsErrOf result (ToolFault.Read read.Device)
         ↔ ((S.has_failed file.new ≡ true) ⊎ (C.has_failed cert.new ≡ true)) }
     ensures write_device { IsErrOf result (ToolFault.Write write.Device) ↔ (K.has_failed out.new ≡ true) }

@@ -10,7 +10,7 @@ ghost use Rattle.flow_search.specs.declared.plan.PlanFault.TheVariants as plan;
 ghost use Rattle.flow_pool.specs.declared.whole_run.SolveFault.TheVariants as solve;
 ghost use Rattle.flow_cert.specs.declared.fault.CheckFault.TheVariants as check;
 ghost use Rattle.flow_commands.specs.declared.fault.ToolFault.TheVariants.{Memory, Read, Text, Start, Sequence};
-ghost use Rattle.flow_commands.specs.declared.fault.ToolFault.TheVariants.{Instance, Effort, Choice, Plan, Run};
+ghost use Rattle.flow_commands.specs.declared.fault.ToolFault.TheVariants.{Instance, Improve, Choice, Plan, Run};
 ghost use Rattle.flow_commands.specs.declared.fault.ToolFault.TheVariants.{Certificate, Write};
 
 use flow_cert::CheckFault;
@@ -22,7 +22,7 @@ use thiserror::Error;
 
 /// Why the numbers of an improvement are refused, in the order of the tests.
 #[derive(Clone, Copy, Debug, PartialEq, Eq, Error)]
-pub enum EffortFault {
+pub enum ImproveFault {
     /// There are more than 100,000,000 rounds.
     #[error("Rounds")]
     Rounds,
@@ -57,7 +57,7 @@ pub enum ToolFault {
     Instance(InstanceFault),
     /// The rounds or the seed of an improvement are refused.
     #[error("refused option {0}")]
-    Effort(EffortFault),
+    Improve(ImproveFault),
     /// The numbers are no options.
     #[error("refused option {0}")]
     Choice(OptionFault),
@@ -138,11 +138,11 @@ impl From<InstanceFault> for ToolFault {
     }
 }
 
-impl From<EffortFault> for ToolFault {
-    ghost from_gives = { λ fault given. given ≡ Effort fault };
+impl From<ImproveFault> for ToolFault {
+    ghost from_gives = { λ fault given. given ≡ Improve fault };
 
-    fn from(fault: EffortFault) -> ToolFault {
-        ToolFault::Effort(fault)
+    fn from(fault: ImproveFault) -> ToolFault {
+        ToolFault::Improve(fault)
     }
 }
 

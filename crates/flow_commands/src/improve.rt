@@ -1,21 +1,19 @@
 //! The command `improve`.
 
-ghost use Rattle.std.specs.Prelude.{◌≡◌, ◌↔◌, ◌⊎◌, ◌≤◌, ◌<◌, false, true, length, None, Some, Ok, Err};
-ghost use Rattle.std.specs.Prelude.{IfOk, OnOk, IfErr, IsErrOf};
+ghost use Rattle.std.specs.Prelude.{◌≡◌, ◌↔◌, ◌⊎◌, ◌≤◌, ◌<◌, false, true, None, Some, Ok, Err};
+ghost use Rattle.std.specs.Prelude.{OnOk, IfErr, IsErrOf};
 ghost use Rattle.flow_core.specs.Bytes.{Grows};
 ghost use Rattle.flow_core.specs.Generator.{modulus};
 ghost use Rattle.flow_core.specs.Sequences.{IsSequence};
 ghost use Rattle.flow_core.specs.declared.bytes.fault.ReadFault.TheVariants as read;
 ghost use Rattle.flow_core.specs.declared.bytes.fault.WriteFault.TheVariants as write;
-ghost use Rattle.flow_core.specs.declared.text.block.Block.{Block};
-ghost use Rattle.flow_commands.specs.Commands.{Picks};
-ghost use Rattle.flow_commands.specs.Better.{AnswersImprove, AnswersImproved, AnswersImproveFrom, improve_fault};
-ghost use Rattle.flow_commands.specs.Runs.{Came, Ends, EndsAlone, StopsAt, Wrote};
+ghost use Rattle.flow_commands.specs.Better.{AnswersImprove, AnswersImproveStart, AnswersImproveFrom, improve_fault};
+ghost use Rattle.flow_commands.specs.Runs.{Came, Ends, EndsAlone, EndsBoth, Wrote, WroteBoth};
 ghost use Rattle.flow_commands.specs.Limits.{most_text};
 
 use crate::block::read_block;
-use crate::fault::{EffortFault, ToolFault};
-use crate::limits::MAX_ROUNDS;
+use crate::fault::{ImproveFault, ToolFault};
+use crate::limits::{MAX_ROUNDS, MAX_SEED};
 use crate::printed::sequence_lines;
 use crate::start::read_given;
 use flow_bound::neh;
@@ -23,21 +21,18 @@ use flow_core::{Instance, Sequence, Sink, Source, put_all};
 use flow_improve::improve;
 use std::alloc::Global;
 
-/// The greatest seed of the random numbers.
-const MAX_SEED: u32 = 2_147_483_646;
-
 /// Nothing where the rounds and the seed are within their limits; else the first fault.
-pub(crate) fn test_effort(rounds: u32, seed: u32) -> Result<(), ToolFault>
+pub(crate) fn test_improvement(rounds: u32, seed: u32) -> Result<(), ToolFault>
     ensures accepted { OnOk result (improve_fault rounds seed ≡ None) }
     ensures seed_from { OnOk result (1 ≤ seed) }
     ensures seed_to { OnOk result (seed < modulus) }
     ensures refused { IfErr result (λ fault. improve_fault rounds seed ≡ Some fault) }
 {
     if rounds > MAX_ROUNDS {
-        return Err(ToolFault::Effort(EffortFault::Rounds));
+        return Err(ToolFault::Improve(ImproveFault::Rounds));
     }
     if seed < 1 || seed > MAX_SEED {
-        return Err(ToolFault::Effort(EffortFault::Seed));
+        return Err(ToolFault::Improve(ImproveFault::Seed));
     }
     Ok(())
 }
@@ -53,14 +48,14 @@ fn improve_start<K: Sink>(
 ) -> Result<(), ToolFault>
     requires out_works { K.has_failed out.old ≡ false }
     requires is_sequence { IsSequence instance.now.jobs start.now }
-    ensures written { OnOk result (Wrote (AnswersImproved rounds seed instance.now start.now)
+    ensures written { OnOk result (Wrote (AnswersImproveStart rounds seed instance.now start.now)
         (K.taken out.old) (K.taken out.new)) }
-    ensures ended { IfErr result (EndsAlone (out.new ≡ out.old) (AnswersImproved rounds seed instance.now start.now)
+    ensures ended { IfErr result (EndsAlone (out.new ≡ out.old) (AnswersImproveStart rounds seed instance.now start.now)
         (K.taken out.old) (K.taken out.new)) }
     ensures write_device { IsErrOf result (ToolFault.Write write.Device) ↔ (K.has_failed out.new ≡ true) }
     ensures reads_nothing { IsErrOf result (ToolFault.Read read.Device) → ⊥ }
 {
-    test_effort(rounds, seed)?;
+    test_improvement(rounds, seed)?;
     let (better, value) = improve(alloc, instance, start, rounds, seed)?;
     let lines = sequence_lines(alloc, better.jobs(), value)?;
     put_all(out, lines.as_slice())?;
@@ -107,18 +102,13 @@ pub fn run_improve_from<S: Source, T: Source, K: Sink>(
     requires file_works { S.has_failed file.old ≡ false }
     requires start_works { T.has_failed start.old ≡ false }
     requires out_works { K.has_failed out.old ≡ false }
-    ensures written { OnOk result (Came most_text (λ text. (block : Block) × Picks text index (Ok block)
-        × Came most_text
-        (λ bytes. Wrote (AnswersImproveFrom rounds seed block.instance bytes) (K.taken out.old) (K.taken out.new))
-        (T.given start.old) (T.given start.new) (T.has_ended start.new))
-        (S.given file.old) (S.given file.new) (S.has_ended file.new)) }
-    ensures ended { IfErr result (λ fault. ((out.new ≡ out.old) × (start.new ≡ start.old)
-        × StopsAt most_text (λ text refusal. Picks text index (Err refusal))
-        (S.given file.old) (S.given file.new) (S.has_ended file.new) fault)
-        ⊎ Came most_text (λ text. (block : Block) × Picks text index (Ok block)
-        × Ends (out.new ≡ out.old) most_text (AnswersImproveFrom rounds seed block.instance)
-        (T.given start.old) (T.given start.new) (T.has_ended start.new) (K.taken out.old) (K.taken out.new) fault)
-        (S.given file.old) (S.given file.new) (S.has_ended file.new)) }
+    ensures written { OnOk result (WroteBoth most_text (AnswersImproveFrom rounds seed) index
+        (S.given file.old) (S.given file.new) (S.has_ended file.new)
+        (T.given start.old) (T.given start.new) (T.has_ended start.new) (K.taken out.old) (K.taken out.new)) }
+    ensures ended { IfErr result (EndsBoth most_text (AnswersImproveFrom rounds seed) index
+        (out.new ≡ out.old) (start.new ≡ start.old)
+        (S.given file.old) (S.given file.new) (S.has_ended file.new)
+        (T.given start.old) (T.given start.new) (T.has_ended start.new) (K.taken out.old) (K.taken out.new)) }
     ensures read_device { IsErrOf result (ToolFault.Read read.Device)
         ↔ ((S.has_failed file.new ≡ true) ⊎ (T.has_failed start.new ≡ true)) }
     ensures write_device { IsErrOf result (ToolFault.Write write.Device) ↔ (K.has_failed out.new ≡ true) }

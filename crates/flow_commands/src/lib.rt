@@ -23,7 +23,7 @@ mod tests;
 
 pub use certify::{run_certify, run_certify_from};
 pub use check::run_check;
-pub use fault::{EffortFault, ToolFault};
+pub use fault::{ImproveFault, ToolFault};
 pub use generate::run_gen;
 pub use improve::{run_improve, run_improve_from};
 pub use mirror::run_mirror;

@@ -1,16 +1,16 @@
 //! The command `solve`.
 
-ghost use Rattle.std.specs.Prelude.{◌≡◌, ◌↔◌, ◌⊎◌, false, true, length, Ok, Err, IfOk, OnOk, IfErr, IsErrOf};
+ghost use Rattle.std.specs.Prelude.{◌≡◌, ◌↔◌, ◌⊎◌, false, true, length, Ok, IfOk, OnOk, IfErr, IsErrOf};
 ghost use Rattle.flow_core.specs.Bytes.{Grows};
 ghost use Rattle.flow_core.specs.Sequences.{IsSequence};
 ghost use Rattle.flow_core.specs.declared.bytes.fault.ReadFault.TheVariants as read;
 ghost use Rattle.flow_core.specs.declared.bytes.fault.WriteFault.TheVariants as write;
-ghost use Rattle.flow_core.specs.declared.text.block.Block.{Block};
 ghost use Rattle.flow_bound.specs.Neh.{IsNeh};
 ghost use Rattle.flow_search.specs.Plans.{IsPlan};
-ghost use Rattle.flow_commands.specs.Commands.{AnswersPlan, AnswersRun, AnswersSolve, AnswersSolveFrom, Picks};
+ghost use Rattle.flow_commands.specs.Commands.{AnswersPlan, AnswersRun, AnswersSolve, AnswersSolveFrom};
 ghost use Rattle.flow_commands.specs.Commands.{asked_options, mirrored_if, reversed_if};
-ghost use Rattle.flow_commands.specs.Runs.{Came, Ends, EndsAlone, StopsAt, Wrote, WroteCertificate};
+ghost use Rattle.flow_commands.specs.Runs.{Came, CameFor, Ends, EndsAlone, EndsBoth};
+ghost use Rattle.flow_commands.specs.Runs.{Wrote, WroteBoth, WroteCertificate};
 ghost use Rattle.flow_commands.specs.Limits.{most_text};
 
 use crate::block::read_block;
@@ -90,7 +90,12 @@ fn solve_instance_from<R: Threads + Wait + Sync, G: Gate + Sync, K: Sink>(
 }
 
 /// The options of four numbers; or the first fault, that of the version last.
-fn options_of(workers: u32, depth: u32, budget: u32, version: u32) -> Result<Options, OptionFault>
+pub(crate) fn options_of(
+    workers: u32,
+    depth: u32,
+    budget: u32,
+    version: u32,
+) -> Result<Options, OptionFault>
     ensures { result ≡ asked_options workers depth budget version }
 {
     let options = Options::new(workers, depth, budget)?;
@@ -128,9 +133,8 @@ pub fn run_solve<R: Threads + Wait + Sync, S: Source, G: Gate + Sync, K: Sink>(
         (λ text. Wrote (AnswersSolve index workers depth budget version mirror text)
         (K.taken out.old) (K.taken out.new))
         (S.given file.old) (S.given file.new) (S.has_ended file.new)) }
-    ensures lawful { OnOk result (Came most_text (λ text.
-        (block : Block) × Picks text index (Ok block)
-        × WroteCertificate (mirrored_if mirror block.instance) (K.taken out.old) (K.taken out.new))
+    ensures lawful { OnOk result (CameFor index
+        (λ shop. WroteCertificate (mirrored_if mirror shop) (K.taken out.old) (K.taken out.new))
         (S.given file.old) (S.given file.new) (S.has_ended file.new)) }
     ensures ended { IfErr result (Ends (out.new ≡ out.old) most_text
         (AnswersSolve index workers depth budget version mirror) (S.given file.old) (S.given file.new)
@@ -175,24 +179,18 @@ pub fn run_solve_from<R: Threads + Wait + Sync, S: Source, T: Source, G: Gate + 
     requires file_works { S.has_failed file.old ≡ false }
     requires start_works { T.has_failed start.old ≡ false }
     requires out_works { K.has_failed out.old ≡ false }
-    ensures written { OnOk result (Came most_text (λ text. (block : Block) × Picks text index (Ok block)
-        × Came most_text (λ bytes.
-        Wrote (AnswersSolveFrom mirror block.instance (asked_options workers depth budget version) bytes)
-        (K.taken out.old) (K.taken out.new))
-        (T.given start.old) (T.given start.new) (T.has_ended start.new))
+    ensures written { OnOk result (WroteBoth most_text
+        (λ shop. AnswersSolveFrom mirror shop (asked_options workers depth budget version)) index
+        (S.given file.old) (S.given file.new) (S.has_ended file.new)
+        (T.given start.old) (T.given start.new) (T.has_ended start.new) (K.taken out.old) (K.taken out.new)) }
+    ensures lawful { OnOk result (CameFor index
+        (λ shop. WroteCertificate (mirrored_if mirror shop) (K.taken out.old) (K.taken out.new))
         (S.given file.old) (S.given file.new) (S.has_ended file.new)) }
-    ensures lawful { OnOk result (Came most_text (λ text.
-        (block : Block) × Picks text index (Ok block)
-        × WroteCertificate (mirrored_if mirror block.instance) (K.taken out.old) (K.taken out.new))
-        (S.given file.old) (S.given file.new) (S.has_ended file.new)) }
-    ensures ended { IfErr result (λ fault. ((out.new ≡ out.old) × (start.new ≡ start.old)
-        × StopsAt most_text (λ text refusal. Picks text index (Err refusal))
-        (S.given file.old) (S.given file.new) (S.has_ended file.new) fault)
-        ⊎ Came most_text (λ text. (block : Block) × Picks text index (Ok block)
-        × Ends (out.new ≡ out.old) most_text
-        (AnswersSolveFrom mirror block.instance (asked_options workers depth budget version))
-        (T.given start.old) (T.given start.new) (T.has_ended start.new) (K.taken out.old) (K.taken out.new) fault)
-        (S.given file.old) (S.given file.new) (S.has_ended file.new)) }
+    ensures ended { IfErr result (EndsBoth most_text
+        (λ shop. AnswersSolveFrom mirror shop (asked_options workers depth budget version)) index
+        (out.new ≡ out.old) (start.new ≡ start.old)
+        (S.given file.old) (S.given file.new) (S.has_ended file.new)
+        (T.given start.old) (T.given start.new) (T.has_ended start.new) (K.taken out.old) (K.taken out.new)) }
     ensures read_device { IsErrOf result (ToolFault.Read read.Device)
         ↔ ((S.has_failed file.new ≡ true) ⊎ (T.has_failed start.new ≡ true)) }
     ensures write_device { IsErrOf result (ToolFault.Write write.Device) ↔ (K.has_failed out.new ≡ true) }

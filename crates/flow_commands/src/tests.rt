@@ -3,7 +3,7 @@
 ghost use Rattle.std.specs.Prelude.{◌≡◌, ◌<◌, ◌||◌, None, false, length, IfOk, is_err};
 
 use crate::{
-    EffortFault, ToolFault, run_check, run_gen, run_neh, run_solve, run_solve_from, run_span,
+    ImproveFault, ToolFault, run_check, run_gen, run_neh, run_solve, run_solve_from, run_span,
 };
 use flow_cert::CheckFault;
 use flow_core::{
@@ -745,10 +745,13 @@ const FAULT_LINES: [(ToolFault, &str); 37] = [
         "refused instance Machines",
     ),
     (
-        ToolFault::Effort(EffortFault::Rounds),
+        ToolFault::Improve(ImproveFault::Rounds),
         "refused option Rounds",
     ),
-    (ToolFault::Effort(EffortFault::Seed), "refused option Seed"),
+    (
+        ToolFault::Improve(ImproveFault::Seed),
+        "refused option Seed",
+    ),
     (
         ToolFault::Choice(OptionFault::Workers),
         "refused option Workers",

@@ -1,11 +1,10 @@
 //! Which words of a command line run which command, and on which files.
 
 ghost use Rattle.std.specs.Prelude.{◌≡◌, false, Ok, OnOk, IfErr};
-ghost use Rattle.flow_core.specs.declared.text.block.Block.{Block};
-ghost use Rattle.flow_commands.specs.Commands.{AnswersCheck, Picks};
+ghost use Rattle.flow_commands.specs.Commands.{AnswersCheck};
 ghost use Rattle.flow_commands.specs.Limits.{most_certificate, most_text};
-ghost use Rattle.flow_commands.specs.Runs.{Came, Ends, Wrote, WroteLeast};
-ghost use Rattle.flow_tool.specs.internal.Asked.{AnswersAsked, AnswersSearch, AnswersSearchFrom, EndsBoth, WroteBoth};
+ghost use Rattle.flow_commands.specs.Runs.{Came, CameFor, Ends, EndsBoth, Wrote, WroteBoth, WroteLeast};
+ghost use Rattle.flow_tool.specs.internal.Asked.{AnswersAsked, AnswersSearch, AnswersSearchFrom};
 ghost use Rattle.flow_tool.specs.internal.Asked.{EndsForText, EndsNamed, EndsOrder, OfNamed, WroteForText, WroteNamed};
 ghost use Rattle.flow_tool.specs.internal.Asked.{WroteOrder};
 
@@ -312,8 +311,7 @@ fn check_named<I: Inputs, S: Source, K: Sink>(
         (OfNamed (I.opened inputs.now) I.File.given I.File.has_ended) cert.now
         most_certificate (AnswersCheck either) index (S.given text.old) (S.given text.new) (S.has_ended text.new)
         (K.taken out.old) (K.taken out.new)) }
-    ensures least { OnOk result (Came most_text (λ bytes. (block : Block) × Picks bytes index (Ok block)
-        × WroteLeast block.instance (K.taken out.old) (K.taken out.new))
+    ensures least { OnOk result (CameFor index (λ shop. WroteLeast shop (K.taken out.old) (K.taken out.new))
         (S.given text.old) (S.given text.new) (S.has_ended text.new)) }
     ensures ended { IfErr result (EndsNamed
         (OfNamed (I.opened inputs.now) I.File.given I.File.has_ended) (I.refused inputs.now) cert.now

@@ -1,4 +1,4 @@
--- The two least lags of the jobs left to a machine. A job's lag from a machine to another is its time on the machines
+-- The two least lags, to a machine, of the jobs left. A job's lag from a machine to another is its time on the machines
 -- from there to the one before the other.
 use Rattle.std.specs.Prelude.{ℕ, ◌≡◌, ◌-◌, ◌<◌, ◌≤◌, List, length, map, min, max, slice_index}
 use Rattle.std.specs.Prelude.{slice_index_or, Option, None, IfSome}
@@ -12,7 +12,7 @@ use Rattle.flow_cert.specs.declared.reading.release.Lags.{Lags}
 abbrev pub lags : Shop → ℕ → ℕ → List ℕ → List ℕ
 lags shop from machine jobs = map (λ job. time_between shop job from (machine - 1)) jobs
 
--- the two least lags of the jobs left to a machine, from each machine up to it
+-- the two least lags of the jobs left, to a machine, from each machine up to it
 abbrev pub AreTwoLeastLagsTo : Shop → List ℕ → ℕ → Lags → Type 0
 AreTwoLeastLagsTo shop list machine two =
     (from : ℕ) → 1 ≤ from → from ≤ machine →

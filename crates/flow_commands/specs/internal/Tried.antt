@@ -27,7 +27,7 @@ abbrev pub found_answer : Option (Planned × Verdict) → Answer
 found_answer None = Err (Run (OverBudget 0))
 found_answer (Some (plan, verdict)) = Ok (certificate_of plan)
 
--- what was found is a plan of the shop or of the mirrored one, with its verdict
+-- where a plan was found, it is one of the shop or of the mirrored one, with its verdict
 abbrev pub IsOfEither : Shop → Option (Planned × Verdict) → Type 0
 IsOfEither shop None = Unit {0}
 IsOfEither shop (Some (plan, verdict)) =

@@ -7,7 +7,7 @@ use super::{
     refused, wrote,
 };
 use crate::{
-    EffortFault, ToolFault, run_certify, run_certify_from, run_gen, run_improve, run_improve_from,
+    ImproveFault, ToolFault, run_certify, run_certify_from, run_gen, run_improve, run_improve_from,
     run_neh, run_solve_from,
 };
 use flow_cert::CheckFault;
@@ -92,7 +92,7 @@ fn started(alloc: Global, text: &[u8]) -> Ran {
     Ok(out)
 }
 
-// The two sequences were worked out apart from the program.
+// The first sequence was worked out apart from the program. The second is the start, whose makespan is 1286.
 #[test]
 fn improve_prints_the_better_sequence(rt: HostRuntime) -> Result<(), Fail> {
     let alloc = rt.alloc();
@@ -122,8 +122,8 @@ fn improve_without_rounds_prints_the_start(rt: HostRuntime) -> Result<(), Fail> 
 #[test]
 fn improve_names_the_first_fault(rt: HostRuntime) -> Result<(), Fail> {
     let alloc = rt.alloc();
-    let rounds = ToolFault::Effort(EffortFault::Rounds);
-    let seed = ToolFault::Effort(EffortFault::Seed);
+    let rounds = ToolFault::Improve(ImproveFault::Rounds);
+    let seed = ToolFault::Improve(ImproveFault::Seed);
     assert!(rt; refused(&improved(alloc, THREE_MACHINES, 100_000_001, 0), rounds));
     assert!(rt; refused(&improved(alloc, THREE_MACHINES, 1, 0), seed));
     assert!(rt; refused(&improved(alloc, THREE_MACHINES, 1, 2_147_483_647), seed));
@@ -140,7 +140,7 @@ fn improve_names_the_first_fault(rt: HostRuntime) -> Result<(), Fail> {
     Ok(())
 }
 
-// The three certificates were computed apart from the program.
+// The certificates were computed apart from the program.
 #[test]
 fn certify_writes_the_first_certificate(rt: HostRuntime) -> Result<(), Fail> {
     let alloc = rt.alloc();
@@ -149,6 +149,12 @@ fn certify_writes_the_first_certificate(rt: HostRuntime) -> Result<(), Fail> {
         let ran = certified_from(alloc, THREE_MACHINES, start, 0, 1, 1);
         assert!(rt; wrote(&ran, certificate));
     }
+    Ok(())
+}
+
+#[test]
+fn certify_writes_version_2(rt: HostRuntime) -> Result<(), Fail> {
+    let alloc = rt.alloc();
     let ran = certified(alloc, THREE_MACHINES, 100, 1, 2)?;
     assert!(rt;
         ran.bytes()
@@ -160,6 +166,49 @@ fn certify_writes_the_first_certificate(rt: HostRuntime) -> Result<(), Fail> {
             b"optimal 12\n"
         )
     );
+    Ok(())
+}
+
+/// Rounds and a seed, and the certificate that `certify` writes with them of the instance of `gen 9 4 50`: one of the
+/// mirrored instance, since the tree of the instance has more than 10,000 bytes. The sequences were worked out by
+/// bench/improve.rs, and the trees apart from the program, by the definitions. One round with seed 1 leaves the start.
+const IMPROVED: [(u32, u32, &[u8]); 3] = [
+    (
+        0,
+        1,
+        b"flowshop certificate 1\n9 4 0\n742\n5 2 4 6 1 7 9 3 8\n\
++DDDD+D++DDDDDDD++DDDDDD++D+DD++.DDDDDDDDDDDDDDDDDDDDD+DDDDDDDDDD\nend\n",
+    ),
+    (
+        10,
+        1,
+        b"flowshop certificate 1\n9 4 0\n742\n5 9 6 8 3 2 4 7 1\n+DDDDDD+DDDDDDDDDD\nend\n",
+    ),
+    (
+        1,
+        2,
+        b"flowshop certificate 1\n9 4 0\n742\n5 8 4 6 7 2 3 9 1\n+DDDDDD+DDDDDDDDDD\nend\n",
+    ),
+];
+
+#[test]
+fn certify_begins_with_the_improved_start(rt: HostRuntime) -> Result<(), Fail> {
+    let alloc = rt.alloc();
+    let text = generated(alloc, 9, 4, 50)?;
+    let start = started(alloc, text.bytes())?;
+    for (rounds, seed, certificate) in IMPROVED {
+        let ran = certified(alloc, text.bytes(), rounds, seed, 1);
+        assert!(rt; wrote(&ran, certificate));
+        let ran = certified_from(alloc, text.bytes(), start.bytes(), rounds, seed, 1);
+        assert!(rt; wrote(&ran, certificate));
+        assert!(rt;
+            wrote(
+                &checked_as(alloc, text.bytes(), certificate, true),
+                b"optimal 742\n"
+            )
+        );
+        assert!(rt; checked(alloc, text.bytes(), certificate).is_err());
+    }
     Ok(())
 }
 
@@ -191,28 +240,8 @@ fn solved_within<T: Threads + Wait + Sync>(
     Ok(out)
 }
 
-// The tree of the instance has more than 10,000 bytes, and that of the mirrored one has not.
-#[test]
-fn certify_tries_the_mirrored_instance(rt: HostRuntime) -> Result<(), Fail> {
-    let alloc = rt.alloc();
-    let text = generated(alloc, 9, 4, 50)?;
-    let start = started(alloc, text.bytes())?;
-    let own = solved_within(&rt, alloc, text.bytes(), start.bytes(), 10_000, false);
-    assert!(rt; own.is_err());
-    let other = solved_within(&rt, alloc, text.bytes(), start.bytes(), 10_000, true)?;
-    let ran = certified(alloc, text.bytes(), 0, 1, 1);
-    assert!(rt; wrote(&ran, other.bytes()));
-    assert!(rt;
-        wrote(
-            &checked_as(alloc, text.bytes(), other.bytes(), true),
-            b"optimal 742\n"
-        )
-    );
-    assert!(rt; checked(alloc, text.bytes(), other.bytes()).is_err());
-    Ok(())
-}
-
-// Both trees have more than 10,000 bytes, and that of the instance has fewer than 100,000.
+// Both trees have more than 10,000 bytes, and that of the instance has fewer than 100,000: 16,331 bytes, and 20,437 of
+// the mirrored one, as was worked out apart from the program. The certificate is that of `solve`.
 #[test]
 fn certify_tries_the_next_budget(rt: HostRuntime) -> Result<(), Fail> {
     let alloc = rt.alloc();
@@ -234,8 +263,8 @@ fn certify_tries_the_next_budget(rt: HostRuntime) -> Result<(), Fail> {
 #[test]
 fn certify_names_the_first_fault(rt: HostRuntime) -> Result<(), Fail> {
     let alloc = rt.alloc();
-    let rounds = ToolFault::Effort(EffortFault::Rounds);
-    let seed = ToolFault::Effort(EffortFault::Seed);
+    let rounds = ToolFault::Improve(ImproveFault::Rounds);
+    let seed = ToolFault::Improve(ImproveFault::Seed);
     let version = ToolFault::Choice(OptionFault::Version);
     assert!(rt; refused(&certified(alloc, THREE_MACHINES, 100_000_001, 0, 3), rounds));
     assert!(rt; refused(&certified(alloc, THREE_MACHINES, 1, 0, 3), seed));
@@ -273,13 +302,34 @@ fn a_text_that_does_not_end_stops_both(rt: HostRuntime) -> Result<(), Fail> {
 }
 
 #[test]
+fn a_text_that_fails_or_has_no_such_block_stops_both(rt: HostRuntime) -> Result<(), Fail> {
+    let alloc = rt.alloc();
+    let mut out = MemorySink::new(alloc, ROOM);
+    let ran = run_improve(alloc, &mut all_of(THREE_MACHINES), 2, 1, 0, &mut out);
+    assert_eq!(rt; ran, Err(ToolFault::Index));
+    let ran = run_certify(alloc, &mut all_of(THREE_MACHINES), 0, 1, 0, 1, &mut out);
+    assert_eq!(rt; ran, Err(ToolFault::Index));
+    let mut file = MemorySource::new(THREE_MACHINES, 7, Some(9));
+    let ran = run_improve(alloc, &mut file, 1, 1, 0, &mut out);
+    assert_eq!(rt; ran, Err(ToolFault::Read(ReadFault::Device)));
+    let mut file = Endless {
+        given: 0,
+        failed: false,
+    };
+    let ran = run_certify(alloc, &mut file, 1, 1, 0, 1, &mut out);
+    assert_eq!(rt; ran, Err(ToolFault::Read(ReadFault::TooLong)));
+    assert!(rt; out.bytes().is_empty());
+    Ok(())
+}
+
+#[test]
 fn a_sink_that_refuses_has_a_front_of_the_text(rt: HostRuntime) -> Result<(), Fail> {
     let alloc = rt.alloc();
     for room in 0..DEPTH_0.len() {
         let mut out = MemorySink::new(alloc, room);
         let ran = run_certify(alloc, &mut all_of(THREE_MACHINES), 1, 0, 1, 1, &mut out);
         assert_eq!(rt; ran, Err(ToolFault::Write(WriteFault::Device)));
-        assert!(rt; DEPTH_0.starts_with(out.bytes()));
+        assert!(rt; DEPTH_0.get(..room) == Some(out.bytes()));
     }
     for room in 0..START.len() {
         let mut out = MemorySink::new(alloc, room);
@@ -287,7 +337,7 @@ fn a_sink_that_refuses_has_a_front_of_the_text(rt: HostRuntime) -> Result<(), Fa
         let mut file = all_of(THREE_MACHINES);
         let ran = run_improve_from(alloc, &mut file, 1, &mut start, 0, 1, &mut out);
         assert_eq!(rt; ran, Err(ToolFault::Write(WriteFault::Device)));
-        assert!(rt; START.starts_with(out.bytes()));
+        assert!(rt; START.get(..room) == Some(out.bytes()));
     }
     Ok(())
 }
@@ -295,7 +345,7 @@ fn a_sink_that_refuses_has_a_front_of_the_text(rt: HostRuntime) -> Result<(), Fa
 #[test]
 fn a_source_that_fails_is_named(rt: HostRuntime) -> Result<(), Fail> {
     let alloc = rt.alloc();
-    for most in 0..START.len() {
+    for most in 0..START.len() + 1 {
         let mut out = MemorySink::new(alloc, ROOM);
         let mut start = MemorySource::new(START, 5, Some(most));
         let mut file = all_of(THREE_MACHINES);

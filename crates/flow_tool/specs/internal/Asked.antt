@@ -2,7 +2,6 @@
 -- open.
 use Rattle.std.specs.Prelude.{◌≡◌, ◌≢◌, ℕ, ◌⊎◌, Bool, List, Option, Ok, Err, codes}
 use Rattle.flow_core.specs.Shop.{Shop}
-use Rattle.flow_core.specs.declared.text.block.Block.{Block}
 use Rattle.flow_words.specs.declared.order.Search.{Search}
 use Rattle.flow_words.specs.declared.order.Search.TheVariants as search
 use Rattle.flow_words.specs.declared.order.OfBlock.{OfBlock}
@@ -13,9 +12,9 @@ use Rattle.flow_words.specs.declared.order.Order.{Order}
 use Rattle.flow_words.specs.declared.order.Order.TheVariants as order
 use Rattle.flow_commands.specs.Better.{AnswersCertify, AnswersCertifyFrom, AnswersImprove, AnswersImproveFrom}
 use Rattle.flow_commands.specs.Commands.{Answer, AnswersCheck, AnswersGen, AnswersMirror, AnswersNeh, AnswersSolve}
-use Rattle.flow_commands.specs.Commands.{AnswersSolveFrom, AnswersSpan, Picks, asked_options}
+use Rattle.flow_commands.specs.Commands.{AnswersSolveFrom, AnswersSpan, asked_options}
 use Rattle.flow_commands.specs.Limits.{most_certificate, most_text}
-use Rattle.flow_commands.specs.Runs.{Came, Ends, EndsAlone, StopsAt, Wrote}
+use Rattle.flow_commands.specs.Runs.{Came, Ends, EndsAlone, EndsBoth, Wrote, WroteBoth}
 use Rattle.flow_commands.specs.declared.fault.ToolFault.{ToolFault}
 use Rattle.flow_tool.specs.declared.stop.Stop.{Stop}
 use Rattle.flow_tool.specs.declared.stop.Stop.TheVariants.{Fault, Open}
@@ -40,27 +39,6 @@ AnswersSearchFrom (search.Solve run) shop =
 AnswersSearchFrom (search.Improve effort) shop = AnswersImproveFrom effort.rounds effort.seed shop
 AnswersSearchFrom (search.Certify effort version) shop =
     AnswersCertifyFrom effort.rounds effort.seed version shop
-
--- a text came, then a second file within its limit, and a sink took the answer for a block of the text and those bytes
-abbrev pub WroteBoth :
-    ℕ → (Shop → List ℕ → Answer → Type 0) → ℕ → Option (List ℕ) → Option (List ℕ) → Bool
-    → Option (List ℕ) → Option (List ℕ) → Bool → Option (List ℕ) → Option (List ℕ) → Type 0
-WroteBoth limit Answers index given gives ended second_given second_gives second_ended taken takes =
-    Came most_text (λ text. (block : Block) × Picks text index (Ok block)
-    × Came limit (λ bytes. Wrote (Answers block.instance bytes) taken takes) second_given second_gives second_ended)
-    given gives ended
-
--- how a refused run of these ends: the second file was left unread, and the text or the index is at fault; or the text
--- came, and the second file or the sink is at fault
-abbrev pub EndsBoth :
-    ℕ → (Shop → List ℕ → Answer → Type 0) → ℕ → Type 0 → Type 0 → Option (List ℕ) → Option (List ℕ) → Bool
-    → Option (List ℕ) → Option (List ℕ) → Bool → Option (List ℕ) → Option (List ℕ) → ToolFault → Type 0
-EndsBoth limit Answers index Untouched Unread given gives ended
-    second_given second_gives second_ended taken takes fault =
-    (Untouched × Unread × StopsAt most_text (λ text refusal. Picks text index (Err refusal)) given gives ended fault)
-    ⊎ Came most_text (λ text. (block : Block) × Picks text index (Ok block)
-    × Ends Untouched limit (Answers block.instance) second_given second_gives second_ended taken takes fault)
-    given gives ended
 
 -- a fact of a source's run: that it was left unread, the bytes that it had given, those that it has given by the end of
 -- the run, and whether it has ended
