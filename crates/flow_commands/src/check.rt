@@ -8,7 +8,7 @@ ghost use Rattle.flow_core.specs.declared.bytes.fault.ReadFault.TheVariants as r
 ghost use Rattle.flow_core.specs.declared.bytes.fault.WriteFault.TheVariants as write;
 ghost use Rattle.flow_commands.specs.Commands.{AnswersCheck, IsAccepted, optimal_line};
 ghost use Rattle.flow_commands.specs.Runs.{Came, CameFor, Ends, EndsBoth, Wrote, WroteBoth, WroteLeast};
-ghost use Rattle.flow_commands.specs.Limits.{most_text, most_certificate};
+ghost use Rattle.flow_commands.specs.Limits.{most_certificate};
 ghost use Rattle.flow_commands.specs.internal.Checked.{IsRefused, ran_out};
 
 use crate::block::read_block;

@@ -1,10 +1,8 @@
 //! The command `gen`.
 
-ghost use Rattle.std.specs.Prelude.{◌≡◌, ◌↔◌, ◌⊎◌, false, true, None, Ok, Err};
+ghost use Rattle.std.specs.Prelude.{◌≡◌, ◌↔◌, false, true, Ok};
 ghost use Rattle.std.specs.Prelude.{IfOk, OnOk, IfErr, IsErrOf};
 ghost use Rattle.flow_core.specs.declared.bytes.fault.WriteFault.TheVariants as write;
-ghost use Rattle.flow_core.specs.Generator.{generated, generator_fault};
-ghost use Rattle.flow_core.specs.InstanceFaults.{but_memory};
 ghost use Rattle.flow_commands.specs.Commands.{AnswersGen, IsGeneratedText};
 ghost use Rattle.flow_commands.specs.Runs.{EndsAlone, Wrote};
 

@@ -1,6 +1,6 @@
 //! What the commands write and refuse, over sources and sinks in memory.
 
-ghost use Rattle.std.specs.Prelude.{◌≡◌, ◌<◌, ◌||◌, None, false, length, IfOk, is_err};
+ghost use Rattle.std.specs.Prelude.{◌≡◌, ◌<◌, None, false};
 
 use crate::{
     ImproveFault, ToolFault, run_check, run_gen, run_neh, run_solve, run_solve_from, run_span,

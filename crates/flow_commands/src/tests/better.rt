@@ -1,7 +1,5 @@
 //! What `improve` and `certify` write and refuse.
 
-ghost use Rattle.std.specs.Prelude.{◌≡◌, false};
-
 use super::{
     DEPTH_0, Endless, FROM_STARTS, ONE_JOB, ROOM, Ran, THREE_MACHINES, all_of, checked, checked_as,
     refused, wrote,

@@ -1,6 +1,6 @@
 -- What is answered for what a command line asks, and what the run of an order comes to, by the files that its names
 -- open.
-use Rattle.std.specs.Prelude.{◌≡◌, ◌≢◌, ℕ, ◌⊎◌, Bool, List, Option, Ok, Err, codes}
+use Rattle.std.specs.Prelude.{◌≡◌, ◌≢◌, ℕ, ◌⊎◌, Bool, List, Option, codes}
 use Rattle.flow_core.specs.Shop.{Shop}
 use Rattle.flow_words.specs.declared.order.Search.{Search}
 use Rattle.flow_words.specs.declared.order.Search.TheVariants as search

@@ -1,7 +1,5 @@
 //! What the words of command lines come to, over inputs and a sink in memory.
 
-ghost use Rattle.std.specs.Prelude.{◌≡◌, false};
-
 use crate::dispatch::run_words;
 use crate::inputs::Inputs;
 use crate::stop::Stop;
