@@ -8,16 +8,16 @@ use Rattle.flow_search.specs.Choices.{Choices}
 use Rattle.flow_search.specs.Plans.{Planned, IsPlan, plan_fault}
 use Rattle.flow_search.specs.declared.options.OptionFault.{OptionFault}
 use Rattle.flow_commands.specs.Commands.{Answer, AnswersFor, AnswersOptions, AnswersPlan, AnswersRun, AnswersSolve}
-use Rattle.flow_commands.specs.Commands.{AnswersSolveFrom, FromText}
-use Rattle.flow_commands.specs.Commands.{Picks, asked_options, given_start, mirrored_if, reversed_if, sequence_lines}
-use Rattle.flow_commands.specs.Runs.{Came, Ends, EndsAlone, StopsAt, Wrote}
+use Rattle.flow_commands.specs.Commands.{FromNeh, FromText, Picks, asked_options, given_start, mirrored_if}
+use Rattle.flow_commands.specs.Commands.{sequence_lines}
+use Rattle.flow_commands.specs.Runs.{Came, Ends, EndsAlone, EndsBoth, StopsAt, Wrote}
 use Rattle.flow_pool.specs.Report.{IsSolveFault}
 use Rattle.flow_pool.specs.declared.whole_run.SolveFault.{SolveFault}
 use Rattle.flow_pool.specs.declared.whole_run.SolveFault.TheVariants as solve
 use Rattle.flow_commands.specs.declared.fault.ToolFault.{ToolFault}
 use Rattle.flow_commands.specs.declared.fault.ToolFault.TheVariants as tool
 use Rattle.flow_commands.specs.Limits.{budgets, most_text}
-use Rattle.flow_commands.specs.Better.{AnswersCertifyStart, AnswersImproveStart, FromNeh, IsNoWorse, certify_fault}
+use Rattle.flow_commands.specs.Better.{AnswersCertifyStart, AnswersImproveStart, IsNoWorse, certify_fault}
 use Rattle.flow_commands.specs.Better.{first_certificate, improve_fault}
 
 -- one kind of answer is also one of another kind
@@ -100,15 +100,12 @@ pub from-text : (Answers : List ℕ → Answer → Type 0) (shop : Shop) (jobs t
     given_start shop text ≡ Ok jobs → Weaker (Answers jobs) (FromText Answers shop text)
 from-text Answers shop jobs text gives answer answers = rw (FromText, gives) answers
 
--- the same of `solve`, where the options are read
-pub from-start : (mirror : Bool) (shop : Shop) (read : Result Choices OptionFault) (options : Choices)
-    (jobs text : List ℕ) → Ok options ≡ read → given_start shop text ≡ Ok jobs →
-    Weaker (AnswersPlan (λ start. start ≡ reversed_if mirror jobs) (mirrored_if mirror shop) options)
-    (AnswersSolveFrom mirror shop read text)
-from-start mirror shop read options jobs text is gives answer answers =
-    from-text (λ given. AnswersOptions (λ start. start ≡ reversed_if mirror given) (mirrored_if mirror shop) read)
-    shop jobs text gives answer
-    (with-options (λ start. start ≡ reversed_if mirror jobs) (mirrored_if mirror shop) read options is answer answers)
+-- where such a text came
+pub text-came : (Answers : List ℕ → Answer → Type 0) (shop : Shop) (jobs : List ℕ) (given gives : Option (List ℕ))
+    (ended : Bool) → Came most_text (λ text. given_start shop text ≡ Ok jobs) given gives ended →
+    Came most_text (λ text. Weaker (Answers jobs) (FromText Answers shop text)) given gives ended
+text-came Answers shop jobs given gives ended (text, short, came, whole, start) =
+    (text, short, came, whole, from-text Answers shop jobs text start)
 
 -- a run that stopped at a start text ended so for the block
 pub stopped-at-start : (Untouched : Type 0) → Untouched → (Answers : List ℕ → Answer → Type 0) (shop : Shop)
@@ -124,24 +121,16 @@ stopped-at-start Untouched untouched Answers shop given gives ended taken takes 
 stopped-at-start Untouched untouched Answers shop given gives ended taken takes fault (inr (inr (inr came))) =
     inl (untouched, inr (inr (inr (came.0, came.1, came.2, came.3, rw (FromText, came.4) refl))))
 
--- how a run ended that reads a block and then a start text: at the text of the block, or for the block that was picked
-abbrev pub EndsFrom : Type 0 → ℕ → Type 0 → (Block → List ℕ → Answer → Type 0) → Option (List ℕ) → Option (List ℕ) →
-    Bool → Option (List ℕ) → Option (List ℕ) → Bool → Option (List ℕ) → Option (List ℕ) → ToolFault → Type 0
-EndsFrom Early index Untouched Answers given gives ended start_given start_gives start_ended taken takes fault =
-    Early ⊎ Came most_text (λ text. (block : Block) × Picks text index (Ok block)
-    × Ends Untouched most_text (FromText (Answers block) block.instance) start_given start_gives start_ended
-    taken takes fault)
-    given gives ended
-
-pub stopped-from : (Early : Type 0) (index : ℕ) (Untouched : Type 0) → Untouched →
-    (Answers : Block → List ℕ → Answer → Type 0) (block : Block) (given gives : Option (List ℕ)) (ended : Bool)
-    (start_given start_gives : Option (List ℕ)) (start_ended : Bool) (taken takes : Option (List ℕ))
-    (fault : ToolFault) →
+-- the same of a run that reads a block and then a start text
+pub stopped-from : (index : ℕ) (Untouched Unread : Type 0) → Untouched → (Answers : Shop → List ℕ → Answer → Type 0)
+    (block : Block) (given gives : Option (List ℕ)) (ended : Bool) (start_given start_gives : Option (List ℕ))
+    (start_ended : Bool) (taken takes : Option (List ℕ)) (fault : ToolFault) →
     Came most_text (λ text. Picks text index (Ok block)) given gives ended →
     StopsAt most_text (λ text refusal. given_start block.instance text ≡ Err refusal)
     start_given start_gives start_ended fault →
-    EndsFrom Early index Untouched Answers given gives ended start_given start_gives start_ended taken takes fault
-stopped-from Early index Untouched untouched Answers block given gives ended start_given start_gives start_ended
+    EndsBoth most_text (λ shop. FromText (Answers shop) shop) index Untouched Unread given gives ended
+    start_given start_gives start_ended taken takes fault
+stopped-from index Untouched Unread untouched Answers block given gives ended start_given start_gives start_ended
     taken takes fault (text, short, came, whole, picks) stopped =
     inr (
       text,
@@ -151,22 +140,23 @@ stopped-from Early index Untouched untouched Answers block given gives ended sta
       (
         block,
         picks,
-        stopped-at-start Untouched untouched (Answers block)
+        stopped-at-start Untouched untouched (Answers block.instance)
             block.instance start_given start_gives start_ended taken takes fault stopped,
       ),
     )
 
-pub ended-from : (Early : Type 0) (index : ℕ) (Untouched : Type 0) (Inner : Answer → Type 0)
-    (Answers : Block → List ℕ → Answer → Type 0) (block : Block) (given gives : Option (List ℕ)) (ended : Bool)
-    (start_given start_gives : Option (List ℕ)) (start_ended : Bool) (taken takes : Option (List ℕ))
-    (fault : ToolFault) →
+-- how such a run ended that read both, by how it ended for the block and the sequence of the start text
+pub ended-from : (index : ℕ) (Untouched Unread : Type 0) (Inner : Answer → Type 0)
+    (Answers : Shop → List ℕ → Answer → Type 0) (block : Block) (jobs : List ℕ) (given gives : Option (List ℕ))
+    (ended : Bool) (start_given start_gives : Option (List ℕ)) (start_ended : Bool)
+    (taken takes : Option (List ℕ)) (fault : ToolFault) →
     Came most_text (λ text. Picks text index (Ok block)) given gives ended →
-    Came most_text (λ text. Weaker Inner (FromText (Answers block) block.instance text))
-    start_given start_gives start_ended →
-    EndsAlone Untouched Inner taken takes fault →
-    EndsFrom Early index Untouched Answers given gives ended start_given start_gives start_ended taken takes fault
-ended-from Early index Untouched Inner Answers block given gives ended start_given start_gives start_ended
-    taken takes fault (text, short, came, whole, picks) weaker alone =
+    Came most_text (λ text. given_start block.instance text ≡ Ok jobs) start_given start_gives start_ended →
+    Weaker Inner (Answers block.instance jobs) → EndsAlone Untouched Inner taken takes fault →
+    EndsBoth most_text (λ shop. FromText (Answers shop) shop) index Untouched Unread given gives ended
+    start_given start_gives start_ended taken takes fault
+ended-from index Untouched Unread Inner Answers block jobs given gives ended start_given start_gives start_ended
+    taken takes fault (text, short, came, whole, picks) start weaker alone =
     inr (
       text,
       short,
@@ -175,9 +165,10 @@ ended-from Early index Untouched Inner Answers block given gives ended start_giv
       (
         block,
         picks,
-        ends-for Untouched most_text Inner
-            (FromText (Answers block) block.instance) start_given start_gives start_ended taken takes fault
-            weaker alone,
+        ends-for Untouched most_text (Answers block.instance jobs) (FromText (Answers block.instance) block.instance)
+            start_given start_gives start_ended taken takes fault
+            (text-came (Answers block.instance) block.instance jobs start_given start_gives start_ended start)
+            (ends-weaker Untouched Inner (Answers block.instance jobs) taken takes fault weaker alone),
       ),
     )
 

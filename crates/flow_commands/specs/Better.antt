@@ -8,14 +8,13 @@ use Rattle.flow_core.specs.Mirror.{mirrored}
 use Rattle.flow_core.specs.Generator.{modulus}
 use Rattle.flow_core.specs.Limits.{least_version, greatest_version}
 use Rattle.flow_core.specs.Refusals.{fault_unless, first_fault}
-use Rattle.flow_bound.specs.Neh.{IsNeh}
 use Rattle.flow_search.specs.Choices.{Choices}
 use Rattle.flow_search.specs.Plans.{Planned}
 use Rattle.flow_search.specs.Outcomes.{first_over_budget}
 use Rattle.flow_search.specs.declared.options.OptionFault.TheVariants.{Version}
 use Rattle.flow_pool.specs.declared.whole_run.SolveFault.TheVariants.{OverBudget}
 use Rattle.flow_cert.specs.PlanCertificates.{certificate_of}
-use Rattle.flow_commands.specs.Commands.{Answer, AnswersFor, FromText, sequence_lines}
+use Rattle.flow_commands.specs.Commands.{Answer, AnswersFor, FromNeh, FromText, sequence_lines}
 use Rattle.flow_commands.specs.Limits.{budgets, most_rounds}
 use Rattle.flow_commands.specs.declared.fault.ImproveFault.TheVariants.{Rounds, Seed}
 use Rattle.flow_commands.specs.declared.fault.ToolFault.{ToolFault}
@@ -82,10 +81,6 @@ AnswersCertifyStart rounds seed version shop start answer = elim (certify_fault 
   | Some fault ↦ answer ≡ Err fault
   | None ↦ (jobs : List ℕ) × IsNoWorse shop start jobs × (answer ≡ first_certificate version shop jobs budgets)
 ]
-
--- what is answered from the starting sequence of Nawaz, Enscore and Ham
-abbrev pub FromNeh : (Shop → List ℕ → Answer → Type 0) → Shop → Answer → Type 0
-FromNeh Answers shop answer = (start : List ℕ) × IsNeh shop start × Answers shop start answer
 
 -- what `improve` answers for a text
 abbrev pub AnswersImprove : ℕ → ℕ → ℕ → List ℕ → Answer → Type 0

@@ -72,9 +72,13 @@ sequence_line jobs = codes "sequence" ++ flat_map (λ job. 32 ∷ decimal job) j
 abbrev pub sequence_lines : Shop → List ℕ → List ℕ
 sequence_lines shop jobs = sequence_line jobs ++ makespan_line (span shop jobs)
 
+-- what is answered from the starting sequence of Nawaz, Enscore and Ham
+abbrev pub FromNeh : (Shop → List ℕ → Answer → Type 0) → Shop → Answer → Type 0
+FromNeh Answers shop answer = (start : List ℕ) × IsNeh shop start × Answers shop start answer
+
 -- what `neh` answers for a block: the starting sequence and its makespan
 abbrev pub AnswersStart : Shop → Answer → Type 0
-AnswersStart shop answer = (start : List ℕ) × IsNeh shop start × (answer ≡ Ok (sequence_lines shop start))
+AnswersStart = FromNeh (λ shop start answer. answer ≡ Ok (sequence_lines shop start))
 
 -- what `neh` answers for a text
 abbrev pub AnswersNeh : ℕ → List ℕ → Answer → Type 0

@@ -8,7 +8,7 @@ ghost use Rattle.flow_commands.specs.Runs.{EndsAlone, Wrote};
 
 use crate::fault::ToolFault;
 use flow_bound::{neh, taillard_bound};
-use flow_core::{Block, Instance, InstanceFault, Sink, block_text, generate, put_all};
+use flow_core::{Block, Instance, Sink, block_text, generate, put_all};
 use std::alloc::{AllocError, Global};
 
 /// The text of an instance with its bounds.

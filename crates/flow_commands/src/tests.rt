@@ -118,6 +118,7 @@ fn solved_from<T: Threads + Wait + Sync>(
     alloc: Global,
     text: &[u8],
     start: &[u8],
+    budget: u32,
     mirror: bool,
 ) -> Ran {
     let mut out = MemorySink::new(alloc, ROOM);
@@ -130,7 +131,7 @@ fn solved_from<T: Threads + Wait + Sync>(
         &mut start,
         1,
         0,
-        AMPLE,
+        budget,
         1,
         mirror,
         &Open,
@@ -323,7 +324,7 @@ const FROM_STARTS: [(&[u8], &[u8], &[u8]); 3] = [
 fn solve_searches_from_the_given_start(rt: HostRuntime) -> Result<(), Fail> {
     let alloc = rt.alloc();
     for (start, certificate, mirrored) in FROM_STARTS {
-        let own = solved_from(&rt, alloc, THREE_MACHINES, start, false);
+        let own = solved_from(&rt, alloc, THREE_MACHINES, start, AMPLE, false);
         assert!(rt; wrote(&own, certificate));
         assert!(rt;
             wrote(
@@ -331,7 +332,7 @@ fn solve_searches_from_the_given_start(rt: HostRuntime) -> Result<(), Fail> {
                 b"optimal 12\n"
             )
         );
-        let turned = solved_from(&rt, alloc, THREE_MACHINES, start, true);
+        let turned = solved_from(&rt, alloc, THREE_MACHINES, start, AMPLE, true);
         assert!(rt; wrote(&turned, mirrored));
     }
     let ran = solved_from(
@@ -339,10 +340,18 @@ fn solve_searches_from_the_given_start(rt: HostRuntime) -> Result<(), Fail> {
         alloc,
         THREE_MACHINES,
         b"sequence 2 1 3\nmakespan 13\n",
+        AMPLE,
         false,
     );
     assert!(rt; wrote(&ran, DEPTH_0));
-    let ran = solved_from(&rt, alloc, ONE_JOB, b"sequence 1\nmakespan 0\n", true);
+    let ran = solved_from(
+        &rt,
+        alloc,
+        ONE_JOB,
+        b"sequence 1\nmakespan 0\n",
+        AMPLE,
+        true,
+    );
     assert!(rt; wrote(&ran, b"flowshop certificate 1\n1 1 0\n0\n1\nA\nend\n"));
     Ok(())
 }
@@ -395,11 +404,11 @@ fn solve_names_the_fault_of_a_start(rt: HostRuntime) -> Result<(), Fail> {
     let alloc = rt.alloc();
     for (start, fault) in OTHER_STARTS {
         for mirror in [false, true] {
-            let ran = solved_from(&rt, alloc, THREE_MACHINES, start, mirror);
+            let ran = solved_from(&rt, alloc, THREE_MACHINES, start, AMPLE, mirror);
             assert!(rt; refused(&ran, fault));
         }
     }
-    let ran = solved_from(&rt, alloc, b"", b"", false);
+    let ran = solved_from(&rt, alloc, b"", b"", AMPLE, false);
     assert!(rt; refused(&ran, ToolFault::Text(TextFault::NoBlock)));
     Ok(())
 }

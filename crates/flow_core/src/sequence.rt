@@ -10,7 +10,6 @@ ghost use Rattle.flow_core.specs.Limits.{most_jobs};
 
 use crate::instance::Instance;
 use crate::job_set::JobSet;
-use crate::limits::MAX_JOBS;
 use std::alloc::{AllocError, Global};
 use std::marker::Model;
 use thiserror::Error;

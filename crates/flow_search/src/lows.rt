@@ -10,7 +10,7 @@ ghost use Rattle.flow_search.specs.internal.Lows.{AreLows, tail_at, time_to};
 ghost use Rattle.flow_search.specs.internal.Lags.{AreTwoLeastLags};
 
 use crate::setting::Setting;
-use flow_core::{Instance, JobSet, MAX_MACHINES, Row};
+use flow_core::{JobSet, MAX_MACHINES, Row};
 
 /// The two least of some jobs' numbers at each place, each the greatest number where there is no such job. Where two
 /// jobs have the least, both are the same.

@@ -5,8 +5,8 @@ ghost use Rattle.flow_commands.specs.Commands.{AnswersCheck};
 ghost use Rattle.flow_commands.specs.Limits.{most_certificate, most_text};
 ghost use Rattle.flow_commands.specs.Runs.{Came, CameFor, Ends, EndsBoth, Wrote, WroteBoth, WroteLeast};
 ghost use Rattle.flow_tool.specs.internal.Asked.{AnswersAsked, AnswersSearch, AnswersSearchFrom};
-ghost use Rattle.flow_tool.specs.internal.Asked.{EndsForText, EndsNamed, EndsOrder, OfNamed, WroteForText, WroteNamed};
-ghost use Rattle.flow_tool.specs.internal.Asked.{WroteOrder};
+ghost use Rattle.flow_tool.specs.internal.Asked.{EndsForText, EndsNamed, EndsOrder, RunOfOpened, WroteForText};
+ghost use Rattle.flow_tool.specs.internal.Asked.{WroteNamed, WroteOrder};
 
 use crate::inputs::Inputs;
 use crate::stop::Stop;
@@ -72,12 +72,12 @@ fn obey<R: Threads + Wait + Sync, I: Inputs, K: Sink>(
 ) -> Result<(), Stop>
     requires { K.has_failed out.old ≡ false }
     ensures written { OnOk result (WroteOrder
-        (OfNamed (λ _. I.is_standard inputs.now) I.Standard.given I.Standard.has_ended)
-        (OfNamed (I.opened inputs.now) I.File.given I.File.has_ended)
+        (RunOfOpened (λ _. I.is_standard inputs.now) I.Standard.given I.Standard.has_ended)
+        (RunOfOpened (I.opened inputs.now) I.File.given I.File.has_ended)
         order.now (K.taken out.old) (K.taken out.new)) }
     ensures ended { IfErr result (EndsOrder
-        (OfNamed (λ _. I.is_standard inputs.now) I.Standard.given I.Standard.has_ended)
-        (OfNamed (I.opened inputs.now) I.File.given I.File.has_ended)
+        (RunOfOpened (λ _. I.is_standard inputs.now) I.Standard.given I.Standard.has_ended)
+        (RunOfOpened (I.opened inputs.now) I.File.given I.File.has_ended)
         (I.refused inputs.now) (out.new ≡ out.old) order.now (K.taken out.old) (K.taken out.new)) }
 {
     match order {
@@ -110,10 +110,10 @@ fn obey_text<R: Threads + Wait + Sync, I: Inputs, S: Source, K: Sink>(
     requires text_works { S.has_failed text.old ≡ false }
     requires out_works { K.has_failed out.old ≡ false }
     ensures written { OnOk result (WroteForText
-        (OfNamed (I.opened inputs.now) I.File.given I.File.has_ended) index what.now
+        (RunOfOpened (I.opened inputs.now) I.File.given I.File.has_ended) index what.now
         (S.given text.old) (S.given text.new) (S.has_ended text.new) (K.taken out.old) (K.taken out.new)) }
     ensures ended { IfErr result (EndsForText
-        (OfNamed (I.opened inputs.now) I.File.given I.File.has_ended) (I.refused inputs.now) index what.now
+        (RunOfOpened (I.opened inputs.now) I.File.given I.File.has_ended) (I.refused inputs.now) index what.now
         (out.new ≡ out.old) (text.new ≡ text.old) (S.given text.old) (S.given text.new) (S.has_ended text.new)
         (K.taken out.old) (K.taken out.new)) }
 {
@@ -184,12 +184,26 @@ fn search_block<R: Threads + Wait + Sync, S: Source, K: Sink>(
             &Open,
             out,
         ),
-        Search::Improve { effort } => {
-            run_improve(alloc, text, index, effort.rounds, effort.seed, out)
-        }
-        Search::Certify { effort, version } => {
-            run_certify(alloc, text, index, effort.rounds, effort.seed, version, out)
-        }
+        Search::Improve { improvement } => run_improve(
+            alloc,
+            text,
+            index,
+            improvement.rounds,
+            improvement.seed,
+            out,
+        ),
+        Search::Certify {
+            improvement,
+            version,
+        } => run_certify(
+            alloc,
+            text,
+            index,
+            improvement.rounds,
+            improvement.seed,
+            version,
+            out,
+        ),
     }
 }
 
@@ -207,11 +221,11 @@ fn search_named<R: Threads + Wait + Sync, I: Inputs, S: Source, K: Sink>(
     requires text_works { S.has_failed text.old ≡ false }
     requires out_works { K.has_failed out.old ≡ false }
     ensures written { OnOk result (WroteNamed
-        (OfNamed (I.opened inputs.now) I.File.given I.File.has_ended) start.now
+        (RunOfOpened (I.opened inputs.now) I.File.given I.File.has_ended) start.now
         most_text (AnswersSearchFrom search) index (S.given text.old) (S.given text.new) (S.has_ended text.new)
         (K.taken out.old) (K.taken out.new)) }
     ensures ended { IfErr result (EndsNamed
-        (OfNamed (I.opened inputs.now) I.File.given I.File.has_ended) (I.refused inputs.now) start.now
+        (RunOfOpened (I.opened inputs.now) I.File.given I.File.has_ended) (I.refused inputs.now) start.now
         most_text (AnswersSearchFrom search) index (out.new ≡ out.old) (text.new ≡ text.old)
         (S.given text.old) (S.given text.new) (S.has_ended text.new) (K.taken out.old) (K.taken out.new)) }
 {
@@ -241,21 +255,28 @@ fn search_from<R: Threads + Wait + Sync, S: Source, T: Source, K: Sink>(
 {
     match search {
         Search::Solve { run } => solve_from(rt, alloc, text, index, start, run, out),
-        Search::Improve { effort } => {
-            run_improve_from(alloc, text, index, start, effort.rounds, effort.seed, out)
-        }
-        Search::Certify { effort, version } => {
-            run_certify_from(
-                alloc,
-                text,
-                index,
-                start,
-                effort.rounds,
-                effort.seed,
-                version,
-                out,
-            )
-        }
+        Search::Improve { improvement } => run_improve_from(
+            alloc,
+            text,
+            index,
+            start,
+            improvement.rounds,
+            improvement.seed,
+            out,
+        ),
+        Search::Certify {
+            improvement,
+            version,
+        } => run_certify_from(
+            alloc,
+            text,
+            index,
+            start,
+            improvement.rounds,
+            improvement.seed,
+            version,
+            out,
+        ),
     }
 }
 
@@ -308,13 +329,13 @@ fn check_named<I: Inputs, S: Source, K: Sink>(
     requires text_works { S.has_failed text.old ≡ false }
     requires out_works { K.has_failed out.old ≡ false }
     ensures written { OnOk result (WroteNamed
-        (OfNamed (I.opened inputs.now) I.File.given I.File.has_ended) cert.now
+        (RunOfOpened (I.opened inputs.now) I.File.given I.File.has_ended) cert.now
         most_certificate (AnswersCheck either) index (S.given text.old) (S.given text.new) (S.has_ended text.new)
         (K.taken out.old) (K.taken out.new)) }
     ensures least { OnOk result (CameFor index (λ shop. WroteLeast shop (K.taken out.old) (K.taken out.new))
         (S.given text.old) (S.given text.new) (S.has_ended text.new)) }
     ensures ended { IfErr result (EndsNamed
-        (OfNamed (I.opened inputs.now) I.File.given I.File.has_ended) (I.refused inputs.now) cert.now
+        (RunOfOpened (I.opened inputs.now) I.File.given I.File.has_ended) (I.refused inputs.now) cert.now
         most_certificate (AnswersCheck either) index (out.new ≡ out.old) (text.new ≡ text.old)
         (S.given text.old) (S.given text.new) (S.has_ended text.new) (K.taken out.old) (K.taken out.new)) }
 {

@@ -5,4 +5,4 @@ mod grammar;
 mod order;
 
 pub use grammar::make_command;
-pub use order::{Effort, OfBlock, OfText, Order, Run, Search, order_of};
+pub use order::{Improvement, OfBlock, OfText, Order, Run, Search, order_of};

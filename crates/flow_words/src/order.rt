@@ -80,12 +80,12 @@ pub enum Search {
     /// For a better sequence than the starting one.
     Improve {
         /// How long and by which choices.
-        effort: Effort,
+        improvement: Improvement,
     },
     /// For a better sequence, and a certificate of the least makespan from it.
     Certify {
         /// How long and by which choices the sequence is improved.
-        effort: Effort,
+        improvement: Improvement,
         /// The version of the certificate.
         version: u32,
     },
@@ -93,7 +93,7 @@ pub enum Search {
 
 /// How long a sequence is improved, and by which choices.
 #[derive(Clone, Copy, Debug, PartialEq, Eq)]
-pub struct Effort {
+pub struct Improvement {
     /// The number of rounds.
     pub rounds: u32,
     /// The seed of the choices.
@@ -190,18 +190,24 @@ fn solve_order<'a>(given: &ArgMatches<'a>) -> Option<Order<'a>> {
 }
 
 fn improve_order<'a>(given: &ArgMatches<'a>) -> Option<Order<'a>> {
-    let effort = effort_of(given)?;
-    search_order(given, Search::Improve { effort })
+    let improvement = improvement_of(given)?;
+    search_order(given, Search::Improve { improvement })
 }
 
 fn certify_order<'a>(given: &ArgMatches<'a>) -> Option<Order<'a>> {
-    let effort = effort_of(given)?;
+    let improvement = improvement_of(given)?;
     let version = given.get_one::<u32>("certificate")?;
-    search_order(given, Search::Certify { effort, version })
+    search_order(
+        given,
+        Search::Certify {
+            improvement,
+            version,
+        },
+    )
 }
 
-fn effort_of(given: &ArgMatches) -> Option<Effort> {
-    Some(Effort {
+fn improvement_of(given: &ArgMatches) -> Option<Improvement> {
+    Some(Improvement {
         rounds: given.get_one::<u32>("rounds")?,
         seed: given.get_one::<u32>("seed")?,
     })

@@ -2,22 +2,18 @@
 
 use super::{
     DEPTH_0, Endless, FROM_STARTS, ONE_JOB, ROOM, Ran, THREE_MACHINES, all_of, checked, checked_as,
-    refused, wrote,
+    refused, solved_from, wrote,
 };
 use crate::{
     ImproveFault, ToolFault, run_certify, run_certify_from, run_gen, run_improve, run_improve_from,
-    run_neh, run_solve_from,
+    run_neh,
 };
-use flow_cert::CheckFault;
 use flow_core::{
     MemorySink, MemorySource, ReadFault, SequenceFault, StartFault, TextFault, WriteFault,
 };
-use flow_pool::Open;
 use flow_search::OptionFault;
 use std::alloc::Global;
-use std::sync::Wait;
 use std::test::Fail;
-use std::thread::Threads;
 
 /// A start of the text with three machines.
 const START: &[u8] = b"sequence 1 2 3\nmakespan 15\n";
@@ -210,34 +206,6 @@ fn certify_begins_with_the_improved_start(rt: HostRuntime) -> Result<(), Fail> {
     Ok(())
 }
 
-/// A run of `solve` from a start text at depth 0, with this budget.
-fn solved_within<T: Threads + Wait + Sync>(
-    rt: &T,
-    alloc: Global,
-    text: &[u8],
-    start: &[u8],
-    budget: u32,
-    mirror: bool,
-) -> Ran {
-    let mut out = MemorySink::new(alloc, ROOM);
-    let mut start = MemorySource::new(start, 5, None);
-    run_solve_from(
-        rt,
-        alloc,
-        &mut all_of(text),
-        1,
-        &mut start,
-        1,
-        0,
-        budget,
-        1,
-        mirror,
-        &Open,
-        &mut out,
-    )?;
-    Ok(out)
-}
-
 // Both trees have more than 10,000 bytes, and that of the instance has fewer than 100,000: 16,331 bytes, and 20,437 of
 // the mirrored one, as was worked out apart from the program. The certificate is that of `solve`.
 #[test]
@@ -246,10 +214,10 @@ fn certify_tries_the_next_budget(rt: HostRuntime) -> Result<(), Fail> {
     let text = generated(alloc, 9, 4, 56)?;
     let start = started(alloc, text.bytes())?;
     for mirror in [false, true] {
-        let ran = solved_within(&rt, alloc, text.bytes(), start.bytes(), 10_000, mirror);
+        let ran = solved_from(&rt, alloc, text.bytes(), start.bytes(), 10_000, mirror);
         assert!(rt; ran.is_err());
     }
-    let own = solved_within(&rt, alloc, text.bytes(), start.bytes(), 100_000, false)?;
+    let own = solved_from(&rt, alloc, text.bytes(), start.bytes(), 100_000, false)?;
     let ran = certified(alloc, text.bytes(), 0, 1, 1);
     assert!(rt; wrote(&ran, own.bytes()));
     let ran = certified_from(alloc, text.bytes(), start.bytes(), 0, 1, 1);

@@ -6,7 +6,6 @@ ghost use Rattle.flow_core.specs.Written.{row_text, head_label, times_label, wri
 ghost use Rattle.flow_core.specs.Limits.{greatest_number};
 
 use crate::instance::Instance;
-use crate::limits::MAX_NUMBER;
 use crate::text::block::Block;
 use itoa::Buffer;
 use std::alloc::{AllocError, Global};

@@ -22,8 +22,9 @@ use Rattle.flow_tool.specs.declared.stop.Stop.TheVariants.{Fault, Open}
 -- what a search answers for a text, from a starting sequence of its own
 abbrev pub AnswersSearch : ℕ → Search → List ℕ → Answer → Type 0
 AnswersSearch index (search.Solve run) = AnswersSolve index run.workers run.depth run.budget run.version run.mirror
-AnswersSearch index (search.Improve effort) = AnswersImprove index effort.rounds effort.seed
-AnswersSearch index (search.Certify effort version) = AnswersCertify index effort.rounds effort.seed version
+AnswersSearch index (search.Improve improvement) = AnswersImprove index improvement.rounds improvement.seed
+AnswersSearch index (search.Certify improvement version) =
+    AnswersCertify index improvement.rounds improvement.seed version
 
 -- what is answered for a text, by what a command line asks for of one of its blocks
 abbrev pub AnswersAsked : ℕ → OfBlock → List ℕ → Answer → Type 0
@@ -36,28 +37,28 @@ AnswersAsked index (block.Search search) = AnswersSearch index search
 abbrev pub AnswersSearchFrom : Search → Shop → List ℕ → Answer → Type 0
 AnswersSearchFrom (search.Solve run) shop =
     AnswersSolveFrom run.mirror shop (asked_options run.workers run.depth run.budget run.version)
-AnswersSearchFrom (search.Improve effort) shop = AnswersImproveFrom effort.rounds effort.seed shop
-AnswersSearchFrom (search.Certify effort version) shop =
-    AnswersCertifyFrom effort.rounds effort.seed version shop
+AnswersSearchFrom (search.Improve improvement) shop = AnswersImproveFrom improvement.rounds improvement.seed shop
+AnswersSearchFrom (search.Certify improvement version) shop =
+    AnswersCertifyFrom improvement.rounds improvement.seed version shop
 
 -- a fact of a source's run: that it was left unread, the bytes that it had given, those that it has given by the end of
 -- the run, and whether it has ended
-abbrev pub OfRun : Type 1
-OfRun = Type 0 → Option (List ℕ) → Option (List ℕ) → Bool → Type 0
+abbrev pub RunFact : Type 1
+RunFact = Type 0 → Option (List ℕ) → Option (List ℕ) → Bool → Type 0
 
 -- whether such a fact holds of the run of the source that a name opens
-abbrev pub OfName : Type 1
-OfName = List ℕ → OfRun → Type 0
+abbrev pub RunOf : Type 1
+RunOf = List ℕ → RunFact → Type 0
 
 -- this fact holds of the run of a source that the name opened, which shows its bytes and its end by these functions
-abbrev pub OfNamed :
-    {F : Type 0} → (List ℕ → F → Type 0) → (F → Option (List ℕ)) → (F → Bool) → OfName
-OfNamed {F} opened given has_ended name Holds =
+abbrev pub RunOfOpened :
+    {F : Type 0} → (List ℕ → F → Type 0) → (F → Option (List ℕ)) → (F → Bool) → RunOf
+RunOfOpened {F} opened given has_ended name Holds =
     (file : F) × (after : F) × opened name file × Holds (after ≡ file) (given file) (given after) (has_ended after)
 
 -- the sink took the answer for a text and for the file that a name opened
 abbrev pub WroteNamed :
-    OfName → List ℕ → ℕ → (Shop → List ℕ → Answer → Type 0) → ℕ
+    RunOf → List ℕ → ℕ → (Shop → List ℕ → Answer → Type 0) → ℕ
     → Option (List ℕ) → Option (List ℕ) → Bool → Option (List ℕ) → Option (List ℕ) → Type 0
 WroteNamed OfFile name limit Answers index given gives ended taken takes = OfFile name
     (λ unread second_given second_gives second_ended.
@@ -66,7 +67,7 @@ WroteNamed OfFile name limit Answers index given gives ended taken takes = OfFil
 -- how a refused run of these ends: the name could not be opened, and nothing was read or written; or it was opened, and
 -- the run of the command was refused
 abbrev pub EndsNamed :
-    OfName → (List ℕ → Type 0) → List ℕ → ℕ → (Shop → List ℕ → Answer → Type 0) → ℕ → Type 0 → Type 0
+    RunOf → (List ℕ → Type 0) → List ℕ → ℕ → (Shop → List ℕ → Answer → Type 0) → ℕ → Type 0 → Type 0
     → Option (List ℕ) → Option (List ℕ) → Bool → Option (List ℕ) → Option (List ℕ) → Stop → Type 0
 EndsNamed OfFile refused name limit Answers index Untouched Unread given gives ended taken takes stop =
     ((stop ≡ Open) × refused name × Untouched × Unread)
@@ -76,7 +77,7 @@ EndsNamed OfFile refused name limit Answers index Untouched Unread given gives e
 
 -- the sink took the answer for what is asked of a text, by the run of the text and the second file that is named
 abbrev pub WroteForText :
-    OfName → ℕ → OfText → Option (List ℕ) → Option (List ℕ) → Bool
+    RunOf → ℕ → OfText → Option (List ℕ) → Option (List ℕ) → Bool
     → Option (List ℕ) → Option (List ℕ) → Type 0
 WroteForText OfFile index (text.OfBlock what) given gives ended taken takes =
     Came most_text (λ bytes. Wrote (AnswersAsked index what bytes) taken takes) given gives ended
@@ -87,7 +88,7 @@ WroteForText OfFile index (text.Check cert either) given gives ended taken takes
 
 -- how the run ends where what is asked of a text is refused
 abbrev pub EndsForText :
-    OfName → (List ℕ → Type 0) → ℕ → OfText → Type 0 → Type 0 → Option (List ℕ) → Option (List ℕ) → Bool
+    RunOf → (List ℕ → Type 0) → ℕ → OfText → Type 0 → Type 0 → Option (List ℕ) → Option (List ℕ) → Bool
     → Option (List ℕ) → Option (List ℕ) → Stop → Type 0
 EndsForText OfFile refused index (text.OfBlock what) Untouched Unread given gives ended taken takes stop =
     (fault : ToolFault) × (stop ≡ Fault fault)
@@ -100,24 +101,24 @@ EndsForText OfFile refused index (text.Check cert either) Untouched Unread given
     given gives ended taken takes stop
 
 -- this fact holds of the run of the text that a name stands for: of standard input for its word, else of the file
-abbrev pub OfTextNamed : OfName → OfName → OfName
-OfTextNamed OfStandard OfFile name Holds =
+abbrev pub RunOfText : RunOf → RunOf → RunOf
+RunOfText OfStandard OfFile name Holds =
     ((name ≡ codes "stdin") × OfStandard name Holds) ⊎ ((name ≢ codes "stdin") × OfFile name Holds)
 
 -- the sink took the answer for an order, by the runs of standard input and of the files that the order names
-abbrev pub WroteOrder : OfName → OfName → Order → Option (List ℕ) → Option (List ℕ) → Type 0
+abbrev pub WroteOrder : RunOf → RunOf → Order → Option (List ℕ) → Option (List ℕ) → Type 0
 WroteOrder OfStandard OfFile (order.Gen jobs machines seed) taken takes =
     Wrote (AnswersGen jobs machines seed) taken takes
-WroteOrder OfStandard OfFile (order.OfText file index what) taken takes = OfTextNamed OfStandard OfFile file.now
+WroteOrder OfStandard OfFile (order.OfText file index what) taken takes = RunOfText OfStandard OfFile file.now
     (λ unread given gives ended. WroteForText OfFile index what given gives ended taken takes)
 
 -- how the run of a refused order ends: as its command does; or the text's name could not be opened, and nothing was
 -- written
 abbrev pub EndsOrder :
-    OfName → OfName → (List ℕ → Type 0) → Type 0 → Order → Option (List ℕ) → Option (List ℕ) → Stop → Type 0
+    RunOf → RunOf → (List ℕ → Type 0) → Type 0 → Order → Option (List ℕ) → Option (List ℕ) → Stop → Type 0
 EndsOrder OfStandard OfFile refused Untouched (order.Gen jobs machines seed) taken takes stop =
     (fault : ToolFault) × (stop ≡ Fault fault) × EndsAlone Untouched (AnswersGen jobs machines seed) taken takes fault
 EndsOrder OfStandard OfFile refused Untouched (order.OfText file index what) taken takes stop =
     ((stop ≡ Open) × (file.now ≢ codes "stdin") × refused file.now × Untouched)
-    ⊎ OfTextNamed OfStandard OfFile file.now (λ unread given gives ended.
+    ⊎ RunOfText OfStandard OfFile file.now (λ unread given gives ended.
     EndsForText OfFile refused index what Untouched unread given gives ended taken takes stop)

@@ -6,7 +6,7 @@ use crate::stop::Stop;
 use clap::error::ErrorKind;
 use flow_commands::ToolFault;
 use flow_core::{MemorySink, MemorySource, WriteFault};
-use flow_words::{Effort, OfBlock, OfText, Order, Run, Search, make_command, order_of};
+use flow_words::{Improvement, OfBlock, OfText, Order, Run, Search, make_command, order_of};
 use std::alloc::{AllocError, Global};
 use std::cell::Cell;
 use std::sync::Wait;
@@ -546,30 +546,33 @@ fn words_are_read_as_orders(rt: HostRuntime) -> Result<(), Fail> {
 }
 
 #[test]
-fn efforts_are_read(rt: HostRuntime) -> Result<(), Fail> {
+fn improvements_are_read(rt: HostRuntime) -> Result<(), Fail> {
     let alloc = rt.alloc();
-    let effort = Effort {
+    let improvement = Improvement {
         rounds: 10_000,
         seed: 1,
     };
-    let other = Effort {
+    let other = Improvement {
         rounds: 4_294_967_295,
         seed: 0,
     };
     let rows = [
-        ("improve FILE 1", searched(Search::Improve { effort })),
+        ("improve FILE 1", searched(Search::Improve { improvement })),
         (
             "improve FILE 1 --seed 0 --start SEQUENCE --rounds 4294967295",
-            searched_from(Search::Improve { effort: other }),
+            searched_from(Search::Improve { improvement: other }),
         ),
         (
             "certify FILE 1",
-            searched(Search::Certify { effort, version: 1 }),
+            searched(Search::Certify {
+                improvement,
+                version: 1,
+            }),
         ),
         (
             "certify FILE 1 --certificate 7 --seed 0 --rounds 4294967295 --start SEQUENCE",
             searched_from(Search::Certify {
-                effort: other,
+                improvement: other,
                 version: 7,
             }),
         ),
