@@ -96,6 +96,15 @@ impl Instance {
         }
     }
 
+    /// The instance with its machines in reverse order.
+    fn mirrored(&self) -> Instance {
+        let rows = (0..self.machines).rev();
+        let times: Vec<u32> = rows
+            .flat_map(|machine| self.jobs.iter().map(move |job| job.times[machine]))
+            .collect();
+        Instance::new(self.jobs.len(), self.machines, &times)
+    }
+
     /// Puts a job behind those of a front.
     fn push(&self, front: &mut Front, job: usize) {
         let mut free = 0;
@@ -886,9 +895,20 @@ fn run_solve(file: impl Read, index: u32, options: &Options) -> Result<Vec<u8>, 
     }
 }
 
-fn run_check(file: impl Read, index: u32, cert: impl Read) -> Result<Vec<u8>, Fault> {
+/// Checks a certificate of the instance; where either is asked for, it may be one of the mirrored instance.
+fn run_check(
+    file: impl Read,
+    index: u32,
+    cert: impl Read,
+    either: bool,
+) -> Result<Vec<u8>, Fault> {
     let instance = read_instance(file, index)?;
-    let value = check(&instance, &read_all(cert, MAX_CERTIFICATE)?)?;
+    let text = read_all(cert, MAX_CERTIFICATE)?;
+    let checked = check(&instance, &text);
+    let value = match checked {
+        Err(fault) if either => check(&instance.mirrored(), &text).or(Err(fault)),
+        _ => checked,
+    }?;
     Ok(format!("optimal {value}\n").into_bytes())
 }
 
@@ -936,11 +956,11 @@ fn output(words: &[&str]) -> Result<Vec<u8>, Fault> {
             let (index, options) = (argument(index)?, options(rest)?);
             run_solve(open(file)?, index, &options)
         }
-        ["check", file, index, cert] => {
+        ["check", file, index, cert] | ["check", file, index, cert, "--either"] => {
             let index = argument(index)?;
             let file = open(file)?;
             let cert = File::open(cert).map_err(|_| failed("open"))?;
-            run_check(file, index, cert)
+            run_check(file, index, cert, words.len() == 5)
         }
         _ => Err(command_line()),
     }

@@ -28,7 +28,10 @@ fn certify_command<'a>(alloc: Global) -> Result<Command<'a>, AllocError> {
             "Improves a starting sequence, and writes a certificate of the least makespan of the instance or of the \
 mirrored one",
         )
-        .after_help("Example: flowshop certify examples/three_machines.txt 1")
+        .after_help(
+            "The certificate may be one of the mirrored instance: check it with --either.
+Example: flowshop certify examples/three_machines.txt 1 >certificate",
+        )
         .arg(file(alloc))?
         .arg(index(alloc))?
         .arg(rounds(alloc))?
@@ -77,7 +80,7 @@ fn mirror_command<'a>(alloc: Global) -> Result<Command<'a>, AllocError> {
 
 fn improve_command<'a>(alloc: Global) -> Result<Command<'a>, AllocError> {
     Command::new(alloc, "improve")
-        .about("Prints a better sequence than a starting sequence, and its makespan")
+        .about("Prints a sequence that is no worse than a starting sequence, and its makespan")
         .after_help("Example: flowshop improve examples/taillard_20_5.txt 1 --rounds 100")
         .arg(file(alloc))?
         .arg(index(alloc))?
