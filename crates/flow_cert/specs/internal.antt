@@ -1,8 +1,2 @@
-pub mod Heading
-pub mod Trees
-pub mod Links
-pub mod Nodes
-pub mod Lags
-pub mod Reader
 pub mod Gathered
 pub mod HeadingText

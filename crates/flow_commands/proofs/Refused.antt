@@ -2,11 +2,11 @@
 use Rattle.std.proofs.Common.{◌≡◌, refl, inl, inr, ℕ, Bool, true, false, List}
 use Rattle.flow_core.specs.Shop.{Shop}
 use Rattle.flow_core.specs.Mirror.{mirrored}
-use Rattle.flow_cert.specs.Certificate.{IsCertificate}
-use Rattle.flow_cert.specs.Check.{IsFirstFault, IsOfNoValue}
-use Rattle.flow_cert.specs.declared.fault.CheckFault.{CheckFault}
-use Rattle.flow_cert.specs.declared.fault.CheckFault.TheVariants.{Memory, Header, Size, Value, Sequence, NotAttained}
-use Rattle.flow_cert.specs.declared.fault.CheckFault.TheVariants.{Tree, Weak, Low, End}
+use Rattle.flow_check.specs.Certificate.{IsCertificate}
+use Rattle.flow_check.specs.Check.{IsFirstFault, IsOfNoValue}
+use Rattle.flow_check.specs.declared.fault.CheckFault.{CheckFault}
+use Rattle.flow_check.specs.declared.fault.CheckFault.TheVariants.{Memory, Header, Size, Value, Sequence, NotAttained}
+use Rattle.flow_check.specs.declared.fault.CheckFault.TheVariants.{Tree, Weak, Low, End}
 use Rattle.flow_commands.specs.Commands.{IsAccepted}
 use Rattle.flow_commands.specs.internal.Checked.{IsRefused, ran_out}
 

@@ -24,10 +24,10 @@ use Rattle.flow_search.specs.Outcomes.{first_over_budget}
 use Rattle.flow_search.specs.declared.options.OptionFault.{OptionFault}
 use Rattle.flow_search.specs.declared.plan.PlanFault.{PlanFault}
 use Rattle.flow_pool.specs.declared.whole_run.SolveFault.TheVariants.{Threads, OverBudget}
-use Rattle.flow_cert.specs.Certificate.{IsCertificate}
+use Rattle.flow_check.specs.Certificate.{IsCertificate}
 use Rattle.flow_cert.specs.PlanCertificates.{certificate_of}
-use Rattle.flow_cert.specs.CertificateFaults.{certificate_value}
-use Rattle.flow_cert.specs.declared.fault.CheckFault.{CheckFault}
+use Rattle.flow_check.specs.CertificateFaults.{certificate_value}
+use Rattle.flow_check.specs.declared.fault.CheckFault.{CheckFault}
 use Rattle.flow_commands.specs.declared.fault.ToolFault.{ToolFault}
 use Rattle.flow_commands.specs.declared.fault.ToolFault.TheVariants as tool
 

@@ -7,7 +7,7 @@ use Rattle.flow_core.specs.Bytes.{AddsProperPrefix, GrowsWithin, GrowsBeyond}
 use Rattle.flow_core.specs.declared.text.block.Block.{Block}
 use Rattle.flow_core.specs.declared.bytes.fault.ReadFault.TheVariants as read
 use Rattle.flow_core.specs.declared.bytes.fault.WriteFault.TheVariants as write
-use Rattle.flow_cert.specs.Certificate.{IsCertificate}
+use Rattle.flow_check.specs.Certificate.{IsCertificate}
 use Rattle.flow_commands.specs.declared.fault.ToolFault.{ToolFault}
 use Rattle.flow_commands.specs.declared.fault.ToolFault.TheVariants as tool
 use Rattle.flow_commands.specs.Commands.{Answer, IsAccepted, Picks, optimal_line}

@@ -15,7 +15,7 @@ use crate::block::read_block;
 use crate::fault::ToolFault;
 use crate::limits::MAX_CERTIFICATE;
 use crate::printed::optimal_line;
-use flow_cert::{CheckFault, check};
+use flow_check::{CheckFault, check};
 use flow_core::{Instance, Sink, Source, put_all, read_all};
 use std::alloc::Global;
 

@@ -8,12 +8,12 @@ ghost use Rattle.flow_core.specs.declared.sequence.SequenceFault.TheVariants as 
 ghost use Rattle.flow_core.specs.declared.instance.InstanceFault.TheVariants as instance;
 ghost use Rattle.flow_search.specs.declared.plan.PlanFault.TheVariants as plan;
 ghost use Rattle.flow_pool.specs.declared.whole_run.SolveFault.TheVariants as solve;
-ghost use Rattle.flow_cert.specs.declared.fault.CheckFault.TheVariants as check;
+ghost use Rattle.flow_check.specs.declared.fault.CheckFault.TheVariants as check;
 ghost use Rattle.flow_commands.specs.declared.fault.ToolFault.TheVariants.{Memory, Read, Text, Start, Sequence};
 ghost use Rattle.flow_commands.specs.declared.fault.ToolFault.TheVariants.{Instance, Improve, Choice, Plan, Run};
 ghost use Rattle.flow_commands.specs.declared.fault.ToolFault.TheVariants.{Certificate, Write};
 
-use flow_cert::CheckFault;
+use flow_check::CheckFault;
 use flow_core::{InstanceFault, ReadFault, SequenceFault, StartFault, TextFault, WriteFault};
 use flow_pool::SolveFault;
 use flow_search::{OptionFault, PlanFault};

@@ -5,7 +5,7 @@ ghost use Rattle.std.specs.Prelude.{◌≡◌, ◌<◌, None, false};
 use crate::{
     ImproveFault, ToolFault, run_check, run_gen, run_neh, run_solve, run_solve_from, run_span,
 };
-use flow_cert::CheckFault;
+use flow_check::CheckFault;
 use flow_core::{
     InstanceFault, MemorySink, MemorySource, ReadFault, Refused, SequenceFault, Source, StartFault,
     TextFault, WriteFault,

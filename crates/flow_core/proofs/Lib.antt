@@ -23,3 +23,4 @@ pub mod Mirrors
 pub mod ReversedSequence
 pub mod MirrorLemmas
 pub mod StartLemmas
+pub mod Lists

@@ -2,7 +2,7 @@
 
 use crate::changes::{changed, doubled, lost, swapped};
 use crate::plain::{bound, completion, has};
-use flow_cert::{CheckFault, check};
+use flow_check::{CheckFault, check};
 use flow_core::Instance;
 use std::alloc::{AllocError, Global};
 use std::test::Fail;

@@ -1,7 +1,7 @@
 //! The checker.
 
 use crate::instances::{CERTIFICATE_AT_DEPTH_0, three_machines, two_machines};
-use flow_cert::{CheckFault, check};
+use flow_check::{CheckFault, check};
 use flow_core::Instance;
 use std::alloc::Global;
 use std::test::Fail;

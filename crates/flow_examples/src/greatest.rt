@@ -3,7 +3,8 @@
 ghost use Rattle.std.specs.Prelude.{◌≡◌, IfOk};
 
 use crate::instances::two_machines;
-use flow_cert::{CheckFault, check, write_certificate};
+use flow_cert::write_certificate;
+use flow_check::{CheckFault, check};
 use flow_core::{Instance, InstanceFault, MemorySink, Sequence, makespan};
 use flow_search::{Options, PlanFault, prepare, solve_plain};
 use std::alloc::Global;

@@ -1,7 +1,8 @@
 //! The writer and the checker of certificates.
 
 use crate::trouble::{Trouble, confirm};
-use flow_cert::{CheckFault, check, write_certificate};
+use flow_cert::write_certificate;
+use flow_check::{CheckFault, check};
 use flow_core::MemorySink;
 use flow_examples::{AMPLE, CERTIFICATE_AT_DEPTH_0, WEAK_CERTIFICATE, three_machines};
 use flow_search::{Options, prepare, solve_plain};

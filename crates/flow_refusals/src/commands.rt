@@ -3,7 +3,7 @@
 ghost use Rattle.std.specs.Prelude.{◌≡◌, false};
 
 use crate::trouble::{Trouble, confirm};
-use flow_cert::CheckFault;
+use flow_check::CheckFault;
 use flow_commands::{
     ToolFault, run_certify, run_certify_from, run_check, run_gen, run_improve, run_improve_from,
     run_mirror, run_neh, run_solve, run_solve_from, run_span,

@@ -1,6 +1,6 @@
 //! Why a group of calls did not return what it should.
 
-use flow_cert::CheckFault;
+use flow_check::CheckFault;
 use flow_core::{InstanceFault, ReadFault, SequenceFault, StartFault, TextFault};
 use flow_pool::SolveFault;
 use flow_search::{OptionFault, PlanFault, RunFault};

@@ -24,7 +24,7 @@ use Rattle.flow_search.specs.Search.{Bound}
 use Rattle.flow_search.specs.internal.Nodes.{IsAt, Wrote, Walked, walked, children_walked, incumbent_of}
 use Rattle.flow_search.specs.declared.subtree.Search.{Search}
 use Rattle.flow_search.proofs.Walk.{Fresh, fresh-push, range-all, answer_of, has-at}
-use Rattle.flow_search.proofs.Lists.{find-some}
+use Rattle.flow_core.proofs.Lists.{find-some}
 
 -- the first of the numbers
 pub numbers-next : (k n : ℕ) → k ≤ n → numbers k n ≡ k ∷ numbers (k + 1) n

@@ -2,7 +2,7 @@
 use Rattle.std.specs.Prelude.{ℕ, List, [], ◌∷◌, ◌++◌, decimal}
 use Rattle.flow_search.specs.Plans.{Planned}
 use Rattle.flow_search.specs.declared.verdict.Verdict.{Verdict}
-use Rattle.flow_cert.specs.Certificate.{line, spaced, title}
+use Rattle.flow_check.specs.Certificate.{line, spaced, title}
 
 -- the line of a plan's sizes
 abbrev pub size_line : Planned → List ℕ

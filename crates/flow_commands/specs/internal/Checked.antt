@@ -1,8 +1,8 @@
 -- Why no certificate of an instance was accepted.
 use Rattle.std.specs.Prelude.{ℕ, Bool, true, false, List, Err}
 use Rattle.flow_core.specs.Shop.{Shop}
-use Rattle.flow_cert.specs.declared.fault.CheckFault.{CheckFault}
-use Rattle.flow_cert.specs.declared.fault.CheckFault.TheVariants.{Memory}
+use Rattle.flow_check.specs.declared.fault.CheckFault.{CheckFault}
+use Rattle.flow_check.specs.declared.fault.CheckFault.TheVariants.{Memory}
 use Rattle.flow_commands.specs.declared.fault.ToolFault.TheVariants.{Certificate}
 use Rattle.flow_commands.specs.Commands.{AnswersCheck}
 

@@ -1,7 +1,7 @@
 use Rattle.std.proofs.Common.{inr, subst, sym}
 use Rattle.flow_core.specs.Sequences.{IsLeastMakespan}
 use Rattle.flow_core.proofs.MirrorLemmas.{mirror-keeps-least}
-use Rattle.flow_cert.specs.Certificate.{IsCertificate}
+use Rattle.flow_check.specs.Certificate.{IsCertificate}
 use Rattle.flow_commands.proofs.Refused.{is-refused, no-certificate}
 use Rattle.flow_commands.proofs.check.checked_value.Goals as goal
 

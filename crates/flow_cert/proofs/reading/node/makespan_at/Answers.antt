@@ -1,7 +1,0 @@
-use Rattle.flow_cert.proofs.NodeSteps.{node-within}
-use Rattle.flow_cert.proofs.reading.node.makespan_at.Goals as goal
-
-pub completion_of-requires-clause-within : goal.completion_of-requires-clause-within
-completion_of-requires-clause-within c =
-    node-within c.args.claim.now.instance.now c.requires.at.0 c.args.node.now c.requires.at.1 c.requires.rows.limits
-    c.requires.at.2

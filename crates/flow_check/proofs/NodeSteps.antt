@@ -1,0 +1,247 @@
+-- The fronts, the work left and the bounds of lists.
+use Rattle.std.proofs.Common.{◌≡◌, ◌≢◌, ℕ, zero, suc, ◌+◌, ◌-◌, ◌*◌, ◌<◌, ◌≤◌, true, false, not, List, []}
+use Rattle.std.proofs.Common.{◌∷◌, ◌++◌, length, slice_index, replicate, refl, ap, sym, ◌∙◌, subst, inl, inr, arith}
+use Rattle.std.proofs.Common.{set, length-append, map}
+use Rattle.std.specs.List.{filter, sum_by}
+use Rattle.std.proofs.lemmas.List.{get_or-set_same, get_or-set_other, get_or-replicate, length-set}
+use Rattle.std.proofs.lemmas.Bool.{cases_lt}
+use Rattle.flow_core.specs.Limits.{most_jobs, most_machines, greatest_time}
+use Rattle.flow_core.specs.Shop.{Shop, numbers, time, time_between, IsWithinLimits}
+use Rattle.flow_core.specs.Paths.{completion}
+use Rattle.flow_core.specs.Front.{IsFrontOf, IsWithinFront}
+use Rattle.flow_core.specs.Sequences.{has, jobs_left}
+use Rattle.flow_core.specs.Bound.{bound_at, front_of}
+use Rattle.flow_core.proofs.Recurrence.{after, completed, completion-is, completion-after, after-same}
+use Rattle.flow_core.proofs.Fronts.{free_at, front-within, time-small}
+use Rattle.flow_core.proofs.Admissible.{front_of-is}
+use Rattle.flow_core.proofs.Extremes.{map-map-append}
+use Rattle.flow_core.proofs.JobsLeft.{kept-small, filter-more}
+use Rattle.std.proofs.lemmas.Bool.Decides.{eqb_tells}
+use Rattle.flow_core.specs.internal.TwoLeast.{tails, least_below, second_below}
+use Rattle.flow_check.specs.internal.Nodes.{IsNode, AreKnown, AreLows, unknown}
+use Rattle.flow_check.specs.internal.Links.{children}
+use Rattle.flow_check.specs.declared.node.Node.{Node}
+use Rattle.flow_check.specs.declared.node.Lows.{Lows}
+use Rattle.flow_core.proofs.Taken.{left-sum, left-count, left-split, left-without, left_under}
+use Rattle.flow_core.proofs.TwoLeast.{Without, without-one, least-below-cap}
+use Rattle.flow_core.proofs.Fronts.{tail-small}
+
+-- the sum of the times of the jobs left fits
+pub work-small : (shop : Shop) (list : List ℕ) (machine : ℕ) → IsWithinLimits shop →
+    sum_by (λ job. time shop job machine) (jobs_left shop.jobs list) ≤ shop.jobs * greatest_time
+work-small shop list machine limits =
+    kept-small (λ job. time shop job machine) (λ job. not (has list job)) greatest_time shop.jobs
+    (λ k. time-small shop k machine limits)
+
+none-has : (n : ℕ) → length (jobs_left n []) ≡ n
+none-has zero = refl
+none-has (suc n) = omega (
+  arith,
+  ap length (filter-more (λ job. true) n),
+  length-append (filter (λ job. true)
+      (numbers 1 n)) (suc n ∷ []),
+  none-has n,
+)
+
+-- before any bound asks for a tail
+none-known : (shop : Shop) (list least second : List ℕ) →
+    ((machine : ℕ) → 1 ≤ machine → machine ≤ shop.machines → slice_index least (machine - 1) ≡ unknown) →
+    length least ≡ most_machines → length second ≡ most_machines → AreKnown shop list least second
+none-known shop list least second none least_size second_size = record {
+  each = λ machine from to. inl (none machine from to);
+  least_size = least_size;
+  second_size = second_size;
+}
+
+-- once a machine is asked for
+pub known-more : (shop : Shop) (list : List ℕ) (node : Node) (left machine : ℕ) (lows : Lows) → IsWithinLimits shop →
+    IsNode shop list node left → 1 ≤ machine → machine ≤ shop.machines → AreLows shop list machine lows →
+    IsNode shop list (record {
+      front = node.front;
+      work = node.work;
+      least =
+          set node.least (machine - 1) lows.least;
+      second = set node.second (machine - 1) lows.second;
+    }) left
+known-more shop list node left machine lows limits is from to low = record {
+  times = is.times;
+  work = is.work;
+  size = is.size;
+  known = record {
+    each = λ k low_k high_k. elim (eqb_tells k machine) [
+      | inl same ↦
+          let most : shop.machines ≤ most_machines = limits.machines in
+          let a : lows.least ≡ slice_index (set node.least (machine - 1) lows.least) (k - 1) = sym (ap (λ i. slice_index
+          (set node.least (machine - 1) lows.least) (i - 1)) same.1
+          ∙ get_or-set_same node.least (machine - 1) lows.least 0 (omega
+          (arith, is.known.least_size, from, to, most))) in
+          let b : lows.second ≡ slice_index (set node.second (machine - 1) lows.second) (k - 1) = sym (ap
+          (λ i. slice_index (set node.second (machine - 1) lows.second) (i - 1)) same.1
+          ∙ get_or-set_same node.second (machine - 1) lows.second 0 (omega
+          (arith, is.known.second_size, from, to, most))) in
+          let here : AreLows shop list k lows = subst (λ i. AreLows shop list i lows) (sym same.1) low in
+          inr (sym a ∙ here.0, sym b ∙ here.1)
+      | inr other ↦
+          let apart : k - 1 ≢ machine - 1 = omega (arith, other.1, low_k, from) in
+          let a : slice_index (set node.least (machine - 1) lows.least) (k - 1) ≡ slice_index node.least (k - 1) =
+          get_or-set_other node.least (machine - 1) (k - 1) lows.least 0 apart in
+          let b : slice_index (set node.second (machine - 1) lows.second) (k - 1) ≡ slice_index node.second (k - 1) =
+          get_or-set_other node.second (machine - 1) (k - 1) lows.second 0 apart in
+          elim (is.known.each k low_k high_k) [
+            | inl none ↦ inl (a ∙ none)
+            | inr was ↦ inr (a ∙ was.0, b ∙ was.1)
+          ]
+    ];
+    least_size = length-set node.least (machine - 1) lows.least ∙ is.known.least_size;
+    second_size = length-set node.second (machine - 1) lows.second ∙ is.known.second_size;
+  };
+  count = is.count;
+  some = is.some;
+}
+
+-- the empty list
+pub root-node : (shop : Shop) (node : Node) → IsWithinLimits shop → IsFrontOf shop [] node.front →
+    ((machine : ℕ) → 1 ≤ machine → machine ≤ shop.machines →
+    slice_index node.work (machine - 1) ≡ sum_by (λ job. time shop job machine) (jobs_left shop.jobs [])) →
+    length node.work ≡ most_machines → node.least ≡ replicate most_machines unknown →
+    node.second ≡ replicate most_machines unknown → IsNode shop [] node shop.jobs
+root-node shop node limits times work size least second =
+    let most : shop.machines ≤ most_machines = limits.machines in
+    record {
+      times = times;
+      work = work;
+      size = size;
+      known = none-known shop [] node.least node.second (λ machine from to. ap (λ l. slice_index l (machine - 1)) least
+          ∙ get_or-replicate most_machines (machine - 1) unknown 0 (omega (arith, from, to, most))) (ap length least)
+          (ap length second);
+      count = omega arith;
+      some = none-has shop.jobs;
+    }
+
+-- a list's child
+pub child-node : (shop : Shop) (list : List ℕ) (node child : Node) (left job : ℕ) → IsWithinLimits shop →
+    IsNode shop list node (suc left) → 1 ≤ job → job ≤ shop.jobs → has list job ≡ false →
+    IsFrontOf shop (list ++ job ∷ []) child.front → length child.work ≡ most_machines →
+    ((machine : ℕ) → 1 ≤ machine → machine ≤ shop.machines →
+    slice_index child.work (machine - 1) + time shop job machine ≡ slice_index node.work (machine - 1)) →
+    ((machine : ℕ) → 1 ≤ machine → machine ≤ shop.machines → slice_index child.least (machine - 1) ≡ unknown) →
+    length child.least ≡ most_machines → length child.second ≡ most_machines →
+    IsNode shop (list ++ job ∷ []) child left
+child-node shop list node child left job limits is low high fresh times size less least least_size second_size =
+    record {
+      times = times;
+      work = λ machine from to. omega (
+        arith,
+        less machine from to,
+        is.work machine from to,
+        left-sum
+            (λ j. time shop j machine) shop.jobs list job low high fresh,
+      );
+      size = size;
+      known = none-known shop (list ++ job ∷ []) child.least child.second least least_size second_size;
+      count = omega (arith, is.count, length-append list (job ∷ []));
+      some = omega (arith, is.some, left-count shop.jobs list job low high fresh);
+    }
+
+-- the time of a job that is left is no more than the sum of all
+pub work-covers : (shop : Shop) (list : List ℕ) (node : Node) (left job machine : ℕ) → IsNode shop list node left →
+    1 ≤ job → job ≤ shop.jobs → has list job ≡ false → 1 ≤ machine → machine ≤ shop.machines →
+    time shop job machine ≤ slice_index node.work (machine - 1)
+work-covers shop list node left job machine is low high fresh from to =
+    omega (arith, is.work machine from to, left-sum (λ j. time shop j machine) shop.jobs list job low high fresh)
+
+pub node-within : (shop : Shop) (list : List ℕ) (node : Node) (left : ℕ) → IsWithinLimits shop →
+    IsNode shop list node left → IsWithinFront shop node.front
+node-within shop list node left limits is = front-within shop list node.front limits (omega (arith, is.count)) is.times
+
+-- the completion time of a child
+pub child-completion : (shop : Shop) (list front : List ℕ) (job machine : ℕ) → machine ≤ shop.machines →
+    IsFrontOf shop list front → after shop (free_at front) job machine ≡ completion shop (list ++ job ∷ []) machine
+child-completion shop list front job machine to is =
+    after-same shop job (free_at front) (completed shop (λ _. 0) list) machine (λ k low high. is k low (omega
+    (arith, high, to)) ∙ completion-is shop list k)
+    ∙ sym (completion-after shop list job machine)
+
+same-without : (y z p q r s m n : ℕ) → y ≡ z → p ≡ q → r ≡ s → Without y p r m → Without z q s n → m ≡ n
+same-without y z p q r s m n yz pq rs a b = elim (eqb_tells y p) [
+  | inl same ↦ omega (arith, a.0 same.1, b.0 (sym yz ∙ same.1 ∙ pq), rs)
+  | inr other ↦ omega (arith, a.1 other.1, b.1 (λ e. other.1 (yz ∙ e ∙ sym pq)), pq)
+]
+
+-- the least over the jobs left once a job is taken, from the two least before
+pub without-left : (f : ℕ → ℕ) (n : ℕ) (list : List ℕ) (job y p q m : ℕ) → 1 ≤ job → job ≤ n → has list job ≡ false →
+    p ≡ least_below unknown (map f (jobs_left n list)) →
+    q ≡ second_below unknown unknown (map f (jobs_left n list)) → y ≡ f job → Without y p q m →
+    m ≡ least_below unknown (map f (jobs_left n (list ++ job ∷ [])))
+without-left f n list job y p q m low high fresh is_p is_q is_y picked =
+    let us : List ℕ = left_under list job in
+    let vs : List ℕ = children n list (job + 1) in
+    let whole : map f (jobs_left n list) ≡ map f us ++ f job ∷ map f vs =
+    ap (map f) (left-split n list job low high fresh) ∙ map-map-append f us (job ∷ vs) in
+    let rest : map f (jobs_left n (list ++ job ∷ [])) ≡ map f us ++ map f vs =
+    ap (map f) (left-without n list job low high) ∙ map-map-append f us vs in
+    same-without y (f job) p (least_below unknown (map f us ++ f job ∷ map f vs)) q
+    (second_below unknown unknown (map f us ++ f job ∷ map f vs)) m (least_below unknown (map f us ++ map f vs)) is_y
+    (is_p ∙ ap (least_below unknown) whole) (is_q ∙ ap (second_below unknown unknown) whole) picked
+    (without-one (f job) unknown unknown (map f us) (map f vs) (omega arith))
+    ∙ sym (ap (least_below unknown) rest)
+
+-- the bound of a list with jobs left
+pub own-bound : (shop : Shop) (list : List ℕ) (node : Node) (left machine : ℕ) (lows : Lows) → IsWithinLimits shop →
+    IsNode shop list node (suc left) → 1 ≤ machine → machine ≤ shop.machines → AreLows shop list machine lows →
+    (slice_index node.front (machine - 1) + slice_index node.work (machine - 1) + lows.least
+    ≡ bound_at shop list machine) × (lows.least ≤ most_machines * greatest_time)
+own-bound shop list node left machine lows limits is from to low =
+    let most : shop.machines ≤ most_machines = limits.machines in
+    let cap = least-below-cap unknown (most_machines * greatest_time) (λ job. time_between shop job (machine
+    + 1) shop.machines) (jobs_left shop.jobs list) (omega (arith, is.some))
+    (λ job. omega (arith, tail-small shop job (shop.machines - machine) machine limits (omega (arith, to)), most))
+    (omega arith) in
+    let front : slice_index node.front (machine - 1) ≡ slice_index (front_of shop list) (machine - 1) =
+    is.times machine from to ∙ sym (front_of-is shop list machine from to) in
+    (omega (arith, front, is.work machine from to, low.0, cap.0), omega (arith, low.0, cap.0, cap.1))
+
+-- the bound of a child with jobs left
+pub child-bound : (shop : Shop) (list : List ℕ) (node : Node) (left job machine free t tail behind : ℕ) (lows : Lows) →
+    IsWithinLimits shop → IsNode shop list node (suc (suc left)) → 1 ≤ machine → machine ≤ shop.machines →
+    1 ≤ job → job ≤ shop.jobs → has list job ≡ false → AreLows shop list machine lows →
+    free ≡ completion shop (list ++ job ∷ []) machine → t ≡ time shop job machine →
+    tail ≡ time_between shop job (machine + 1) shop.machines → Without tail lows.least lows.second behind →
+    (free + (slice_index node.work (machine - 1) - t) + behind ≡ bound_at shop (list ++ job ∷ []) machine)
+    × (behind ≤ most_machines * greatest_time)
+child-bound shop list node left job machine free t tail behind lows limits is from to low high fresh are is_free is_t
+    is_tail picked =
+    let most : shop.machines ≤ most_machines = limits.machines in
+    let f : ℕ → ℕ = λ j. time_between shop j (machine + 1) shop.machines in
+    let behind_is : behind ≡ least_below unknown (tails shop machine (jobs_left shop.jobs (list ++ job ∷ []))) =
+    without-left f shop.jobs list job tail lows.least lows.second behind low high fresh are.0 are.1 is_tail picked in
+    let count = left-count shop.jobs list job low high fresh in
+    let cap = least-below-cap unknown (most_machines * greatest_time) f (jobs_left shop.jobs (list ++ job
+    ∷ [])) (omega (arith, is.some, count))
+    (λ j. omega (arith, tail-small shop j (shop.machines - machine) machine limits (omega (arith, to)), most))
+    (omega arith) in
+    let front : free ≡ slice_index (front_of shop (list ++ job ∷ [])) (machine - 1) = is_free
+    ∙ sym (front_of-is shop (list ++ job ∷ []) machine from to) in
+    let sum = left-sum (λ j. time shop j machine) shop.jobs list job low high fresh in
+    (omega (arith, front, is.work machine from to, sum, is_t, behind_is, cap.0), omega (arith, behind_is, cap.0, cap.1))
+
+-- one more machine of a row
+pub filled-more : (P : ℕ → ℕ → Type 0) (xs : List ℕ) (machine v : ℕ) → 1 ≤ machine → machine - 1 < length xs →
+    P machine v → ((k : ℕ) → 1 ≤ k → k < machine → P k (slice_index xs (k - 1))) →
+    (k : ℕ) → 1 ≤ k → k < machine + 1 → P k (slice_index (set xs (machine - 1) v) (k - 1))
+filled-more P xs machine v from within here done k low high = elim (cases_lt k machine) [
+  | inl earlier ↦
+      let other : k - 1 ≢ machine - 1 = omega (arith, earlier, low) in
+      subst (P k) (sym (get_or-set_other xs (machine - 1) (k - 1) v 0 other)) (done k low earlier)
+  | inr last ↦
+      let e : machine ≡ k = omega (arith, last, high) in
+      subst (λ i. P i (slice_index (set xs (machine - 1) v) (i - 1))) e (subst (P machine) (sym (get_or-set_same xs
+      (machine - 1) v 0 within)) here)
+]
+
+pub work-fits : (shop : Shop) (list : List ℕ) (node : Node) (left machine : ℕ) → IsWithinLimits shop →
+    IsNode shop list node left → 1 ≤ machine → machine ≤ shop.machines →
+    slice_index node.work (machine - 1) ≤ most_jobs * greatest_time
+work-fits shop list node left machine limits is from to =
+    let most : shop.jobs ≤ most_jobs = limits.jobs in
+    omega (arith, is.work machine from to, work-small shop list machine limits, most)

@@ -1,0 +1,204 @@
+-- Lags of jobs, and the release of a machine.
+use Rattle.std.proofs.Common.{◌≡◌, ◌≢◌, cond, nat_eq, nat_le, Bool, true, inl, inr, ℕ, zero, suc, ◌+◌, ◌-◌, ◌*◌, ◌<◌}
+use Rattle.std.proofs.Common.{◌≤◌, max, List, [], ◌∷◌, ◌++◌, length, map, false, refl}
+use Rattle.std.proofs.Common.{slice_index, slice_index_or, ap, ap₂, sym, ◌∙◌, arith}
+use Rattle.std.proofs.lemmas.Bool.{cases_Bool, eq-eqb, ne_eqb, le-leb, lt-leb, leb-true, leb-false}
+use Rattle.flow_core.specs.Limits.{most_machines, greatest_time}
+use Rattle.flow_core.specs.Shop.{Shop, IsWithinLimits, numbers, time, time_between}
+use Rattle.flow_core.specs.Rows.{AreRows}
+use Rattle.flow_core.specs.declared.row.Row.{Row}
+use Rattle.flow_core.specs.Least.{greatest, least}
+use Rattle.flow_core.specs.Sequences.{has, jobs_left}
+use Rattle.flow_core.specs.Bound.{bound_at, released_bound_at, bound_of, front_of, release}
+use Rattle.flow_core.specs.internal.TwoLeast.{least_below}
+use Rattle.flow_core.proofs.Admissible.{front_of-is, front-le-release, released_bound_is_stronger}
+use Rattle.flow_core.proofs.Extremes.{map-map-append, greatest-append}
+use Rattle.flow_core.proofs.Fronts.{free_at, time-small, tail-small}
+use Rattle.flow_core.proofs.JobsLeft.{numbers-more}
+use Rattle.flow_core.proofs.Recurrence.{after, time_between-first, time_between-none}
+use Rattle.flow_core.proofs.Taken.{left-count}
+use Rattle.flow_core.proofs.TwoLeast.{Without, least-below-cap}
+use Rattle.flow_check.specs.internal.Lags.{AreTwoLeastLagsTo, lags}
+use Rattle.flow_check.specs.internal.Nodes.{IsNode, unknown}
+use Rattle.flow_check.specs.declared.node.Node.{Node}
+use Rattle.flow_check.specs.declared.release.Lags.{Lags}
+use Rattle.flow_check.proofs.NodeSteps.{child-completion, without-left}
+
+-- the times up to a machine, and those from there on
+between-split : (shop : Shop) (job d a k m : ℕ) → k ≡ a + d → k ≤ suc m → 1 ≤ a →
+    time_between shop job a (k - 1) + time_between shop job k m ≡ time_between shop job a m
+between-split shop job zero a k m e within some =
+    let none = time_between-none shop job a (k - 1) (omega (arith, e, some)) in
+    let same : k ≡ a = omega (arith, e) in
+    omega (arith, none, ap (λ i. time_between shop job i m) same)
+between-split shop job (suc d) a k m e within some =
+    omega (
+      arith,
+      time_between-first shop job a (k - 1) (omega (arith, e)),
+      time_between-first shop job a m (omega (arith, e, within)),
+      between-split shop job d (a + 1) k m (omega (arith, e)) within (omega arith),
+    )
+
+-- a job's lag, from its times and tails
+pub lag-is : (shop : Shop) (job from machine t u x y : ℕ) → IsWithinLimits shop → 1 ≤ from → from ≤ machine →
+    machine ≤ shop.machines → t ≡ time shop job from → u ≡ time_between shop job (from + 1) shop.machines →
+    x ≡ time shop job machine → y ≡ time_between shop job (machine + 1) shop.machines →
+    (t + u ≡ time_between shop job from (machine - 1) + (x + y)) × (t + u ≤ most_machines * greatest_time)
+lag-is shop job from machine t u x y limits low up high is_t is_u is_x is_y =
+    let most : shop.machines ≤ most_machines = limits.machines in
+    let whole = time_between-first shop job from shop.machines (omega (arith, up, high)) in
+    let behind = time_between-first shop job machine shop.machines high in
+    let split = between-split shop job (machine - from) from machine shop.machines (omega (arith, up)) (omega
+    (arith, high)) low in
+    let tail = tail-small shop job (shop.machines - from) from limits (omega (arith, up, high)) in
+    let here = time-small shop job from limits in
+    (omega (arith, whole, behind, split, is_t, is_u, is_x, is_y), omega (arith, is_t, is_u, tail, here, most, low))
+
+-- a job's lag, from its row
+pub row-lag : (shop : Shop) (rows : List Row) (job from machine : ℕ) (other : Row) → AreRows shop rows → 1 ≤ job →
+    job ≤ shop.jobs → 1 ≤ from → from ≤ machine → machine ≤ shop.machines →
+    let row : Row = slice_index_or rows (job - 1) other in
+    (slice_index row.times (from - 1) + slice_index row.tails (from - 1) ≡ time_between shop job from (machine - 1)
+    + (slice_index row.times (machine - 1) + slice_index row.tails (machine - 1)))
+    × (slice_index row.times (from - 1) + slice_index row.tails (from - 1) ≤ most_machines * greatest_time)
+row-lag shop rows job from machine other are first last low up high =
+    let here = are.each job other first last from low (omega (arith, up, high)) in
+    let there = are.each job other first last machine (omega (arith, low, up)) high in
+    lag-is shop job from machine _ _ _ _ are.limits low up high here.0 here.1 there.0 there.1
+
+-- a lag is small
+pub lag-small : (shop : Shop) (job from machine : ℕ) → IsWithinLimits shop → 1 ≤ from → from ≤ machine →
+    machine ≤ shop.machines → time_between shop job from (machine - 1) ≤ most_machines * greatest_time
+lag-small shop job from machine limits low up high =
+    let is = lag-is shop job from machine _ _ _ _ limits low up high refl refl refl refl in
+    omega (arith, is.0, is.1)
+
+-- the greatest over the numbers up to one more
+greatest-suc : (value : ℕ → ℕ) (n : ℕ) →
+    greatest (map value (numbers 1 (suc n))) ≡ max (greatest (map value (numbers 1 n))) (value (suc n))
+greatest-suc value n =
+    let last : max (value (suc n)) 0 ≡ value (suc n) = omega arith in
+    ap (λ ns. greatest (map value ns)) (numbers-more n)
+    ∙ ap greatest (map-map-append value (numbers 1 n) (suc n ∷ []))
+    ∙ greatest-append (map value (numbers 1 n)) (value (suc n) ∷ [])
+    ∙ ap (λ v. max (greatest (map value (numbers 1 n))) v) last
+
+pub greatest-more : (value : ℕ → ℕ) (k : ℕ) → 1 ≤ k →
+    greatest (map value (numbers 1 (k + 1 - 1))) ≡ max (greatest (map value (numbers 1 (k - 1)))) (value k)
+greatest-more value zero low = absurd (omega (arith, low))
+greatest-more value (suc n) low =
+    let a : suc n + 1 - 1 ≡ suc n = omega arith in
+    let b : n ≡ suc n - 1 = omega arith in
+    ap (λ m. greatest (map value (numbers 1 m))) a ∙ greatest-suc value n
+    ∙ ap (λ m. max (greatest (map value (numbers 1 m))) (value (suc n))) b
+
+greatest-same : (f g : ℕ → ℕ) (n : ℕ) → ((k : ℕ) → 1 ≤ k → k ≤ n → f k ≡ g k) →
+    greatest (map f (numbers 1 n)) ≡ greatest (map g (numbers 1 n))
+greatest-same f g zero same = refl
+greatest-same f g (suc n) same =
+    greatest-suc f n
+    ∙ ap₂ max (greatest-same f g n (λ k low high. same k low (omega (arith, high)))) (same (suc n) (omega arith)
+    (omega arith))
+    ∙ sym (greatest-suc g n)
+
+-- where jobs are left, the number that stands for none takes no part
+pub least-lags : (shop : Shop) (from machine : ℕ) (jobs : List ℕ) → IsWithinLimits shop → 1 ≤ from →
+    from ≤ machine → machine ≤ shop.machines → 0 < length jobs →
+    least_below unknown (lags shop from machine jobs) ≡ least (lags shop from machine jobs)
+least-lags shop from machine jobs limits low up high some =
+    (least-below-cap unknown (most_machines * greatest_time) (λ job. time_between shop job from (machine - 1)) jobs some
+    (λ job. lag-small shop job from machine limits low up high) (omega arith)).0
+
+-- the release for the jobs left of a list
+pub own-release : (shop : Shop) (list : List ℕ) (node : Node) (left machine : ℕ) (two : Lags) → IsWithinLimits shop →
+    IsNode shop list node (suc left) → machine ≤ shop.machines → AreTwoLeastLagsTo shop list machine two →
+    greatest (map (λ from. slice_index node.front (from - 1) + slice_index two.least (from - 1)) (numbers 1 machine))
+    ≡ release shop (front_of shop list) (jobs_left shop.jobs list) machine
+own-release shop list node left machine two limits is high are =
+    greatest-same (λ from. slice_index node.front (from - 1) + slice_index two.least (from - 1))
+    (λ from. slice_index (front_of shop list) (from - 1) + least (lags shop from machine (jobs_left shop.jobs list)))
+    machine (λ from low up.
+    let within : from ≤ shop.machines = omega (arith, up, high) in
+    let front = is.times from low within ∙ sym (front_of-is shop list from low within) in
+    let lag = (are from low up).0
+    ∙ least-lags shop from machine (jobs_left shop.jobs list) limits low up high (omega (arith, is.some)) in
+    ap₂ (λ a b. a + b) front lag)
+
+-- the greatest that is found for a list is the release, which is at least the front
+pub own-late : (shop : Shop) (list : List ℕ) (node : Node) (left machine : ℕ) (two : Lags) (late end : ℕ) →
+    IsWithinLimits shop → IsNode shop list node (suc left) → 1 ≤ machine → machine ≤ shop.machines →
+    AreTwoLeastLagsTo shop list machine two → late ≡ greatest (map (λ from. slice_index node.front (from - 1)
+    + slice_index two.least (from - 1)) (numbers 1 end)) → end ≡ machine →
+    (late ≡ release shop (front_of shop list) (jobs_left shop.jobs list) machine)
+    × (slice_index node.front (machine - 1) ≡ slice_index (front_of shop list) (machine - 1))
+    × (slice_index (front_of shop list) (machine - 1) ≤ late)
+own-late shop list node left machine two late end limits is low high are found whole =
+    let value = found ∙ ap (λ n. greatest (map (λ from. slice_index node.front (from - 1)
+    + slice_index two.least (from - 1)) (numbers 1 n))) whole ∙ own-release shop list node left machine two limits is
+    high are in
+    let least = front-le-release shop (front_of shop list) (jobs_left shop.jobs list) machine low in
+    (value, is.times machine low high ∙ sym (front_of-is shop list machine low high), omega (arith, value, least))
+
+-- the release for the jobs left of a list's child
+pub child-release : (shop : Shop) (list : List ℕ) (node : Node) (left job machine : ℕ) →
+    IsNode shop list node left → machine ≤ shop.machines →
+    greatest (map (λ from. after shop (free_at node.front) job from
+    + least (lags shop from machine (jobs_left shop.jobs (list ++ job ∷ [])))) (numbers 1 machine))
+    ≡ release shop (front_of shop (list ++ job ∷ [])) (jobs_left shop.jobs (list ++ job ∷ [])) machine
+child-release shop list node left job machine is high =
+    let jobs : List ℕ = jobs_left shop.jobs (list ++ job ∷ []) in
+    greatest-same (λ from. after shop (free_at node.front) job from + least (lags shop from machine jobs))
+    (λ from. slice_index (front_of shop (list ++ job ∷ [])) (from - 1) + least (lags shop from machine jobs))
+    machine (λ from low up.
+    let within : from ≤ shop.machines = omega (arith, up, high) in
+    ap (λ a. a + least (lags shop from machine jobs))
+    (child-completion shop list node.front job from within is.times
+    ∙ sym (front_of-is shop (list ++ job ∷ []) from low within)))
+
+-- the least lag of the jobs left of a list's child
+pub child-lag : (shop : Shop) (list : List ℕ) (node : Node) (left job from machine y m : ℕ) (two : Lags) →
+    IsWithinLimits shop → IsNode shop list node (suc (suc left)) → 1 ≤ job → job ≤ shop.jobs →
+    has list job ≡ false → AreTwoLeastLagsTo shop list machine two → 1 ≤ from → from ≤ machine →
+    machine ≤ shop.machines → y ≡ time_between shop job from (machine - 1) →
+    Without y (slice_index two.least (from - 1)) (slice_index two.second (from - 1)) m →
+    m ≡ least (lags shop from machine (jobs_left shop.jobs (list ++ job ∷ [])))
+child-lag shop list node left job from machine y m two limits is first last fresh are low up high lag picked =
+    let here = are from low up in
+    let count = left-count shop.jobs list job first last fresh in
+    without-left (λ j. time_between shop j from (machine - 1)) shop.jobs list job y (slice_index two.least (from - 1))
+    (slice_index two.second (from - 1)) m first last fresh here.0 here.1 lag picked
+    ∙ least-lags shop from machine (jobs_left shop.jobs (list ++ job ∷ [])) limits low up high (omega
+    (arith, is.some, count))
+
+-- what the release adds to the machine bound
+pub release-gains : (shop : Shop) (list : List ℕ) (machine gain version : ℕ) → version ≡ 2 →
+    slice_index (front_of shop list) (machine - 1) + gain
+    ≡ release shop (front_of shop list) (jobs_left shop.jobs list) machine →
+    bound_at shop list machine + gain ≡ bound_of version shop list machine
+release-gains shop list machine gain version is gains =
+    let same = ap (λ b. cond b released_bound_at bound_at shop list machine) (eq-eqb version 2 is) in
+    omega (arith, gains, same)
+
+-- the other version has the machine bound
+pub plain-gains : (shop : Shop) (list : List ℕ) (machine version : ℕ) → version ≢ 2 →
+    bound_at shop list machine + 0 ≡ bound_of version shop list machine
+plain-gains shop list machine version is =
+    let same = ap (λ b. cond b released_bound_at bound_at shop list machine) (ne_eqb version 2 is) in
+    omega (arith, same)
+
+-- the bound of a version is at least the machine bound
+pub version-stronger : (shop : Shop) (list : List ℕ) (machine version : ℕ) → 1 ≤ machine →
+    bound_at shop list machine ≤ bound_of version shop list machine
+version-stronger shop list machine version low = one (nat_eq version 2)
+  where
+    one : (b : Bool) → bound_at shop list machine ≤ cond b released_bound_at bound_at shop list machine
+    one true = released_bound_is_stronger shop list machine low
+    one false = omega arith
+
+-- what is missing up to a value is gained, or the value is not reached
+pub gain-reaches : (value plain gain bound : ℕ) → plain < value → plain + gain ≡ bound →
+    nat_le (value - plain) gain ≡ nat_le value bound
+gain-reaches value plain gain bound short is = elim (cases_Bool (nat_le (value - plain) gain)) [
+  | inl high ↦ high ∙ sym (le-leb value bound (omega (arith, leb-true (value - plain) gain high, short, is)))
+  | inr low ↦ low ∙ sym (lt-leb value bound (omega (arith, leb-false (value - plain) gain low, short, is)))
+]

@@ -1,0 +1,295 @@
+-- The steps of reading a tree with a stack.
+use Rattle.std.proofs.Common.{◌≡◌, ◌≢◌, ℕ, zero, suc, ◌+◌, ◌<◌, ◌≤◌, Bool, true, false, List, [], ◌∷◌, ◌++◌, length}
+use Rattle.std.proofs.Common.{drop, slice_index, slice_set, Result, Ok, Err, refl, ap, sym, subst, ◌∙◌, arith, get_or}
+use Rattle.std.proofs.Common.{reverse}
+use Rattle.std.proofs.lemmas.List.{reverse-append}
+use Rattle.std.proofs.Math.Seq.{drop-cons}
+use Rattle.flow_core.specs.Shop.{Shop}
+use Rattle.flow_core.specs.Bound.{bound_of}
+use Rattle.flow_core.specs.Sequences.{has, jobs_left}
+use Rattle.flow_check.specs.CertificateFaults.{read_tree, each_tree, then_read}
+use Rattle.flow_check.specs.internal.Links.{children, AreLinks}
+use Rattle.flow_check.specs.internal.Nodes.{IsNode, IsAt}
+use Rattle.flow_check.specs.internal.Reader.{LetterGives, TreeGives, children_read, path, resume, IsStack, IsReading}
+use Rattle.flow_check.specs.declared.fault.CheckFault.{CheckFault}
+use Rattle.flow_check.specs.declared.fault.CheckFault.TheVariants.{Memory, Header, Size, Value, Sequence, NotAttained}
+use Rattle.flow_check.specs.declared.fault.CheckFault.TheVariants.{Tree, Weak, Low, End}
+use Rattle.flow_check.specs.declared.node.Node.{Node}
+use Rattle.flow_check.specs.declared.reader.Frame.{Frame}
+use Rattle.flow_check.proofs.Links.{children-next, children-none, next-some, next-place, start-place, links-out}
+use Rattle.flow_check.proofs.Links.{links-back}
+
+then-assoc : (r : Result (List ℕ) CheckFault) (f g : List ℕ → Result (List ℕ) CheckFault) →
+    then_read (then_read r f) g ≡ then_read r (λ b. then_read (f b) g)
+then-assoc (Ok b) f g = refl
+then-assoc (Err e) f g = refl
+
+then-done : (shop : Shop) (version value place : ℕ) (root : List ℕ) (left : ℕ) (r : Result (List ℕ) CheckFault) →
+    r ≡ then_read r (resume shop version value place root left [])
+then-done shop version value place root left (Ok b) = refl
+then-done shop version value place root left (Err e) = refl
+
+pub no-byte : (shop : Shop) (version value place left : ℕ) (list : List ℕ) →
+    read_tree shop (bound_of version) value place left list [] ≡ Err (Tree place)
+no-byte shop version value place zero list = refl
+no-byte shop version value place (suc left) list = refl
+
+pub reading-start : (shop : Shop) (version value place : ℕ) (root : List ℕ) (node : Node) (links : List ℕ)
+    (below from : ℕ)
+    (bytes : List ℕ) → IsAt shop root node links (suc below) →
+    IsReading shop version value place root (children_read shop version value place below root
+    (drop from bytes)) node links below 0 from bytes []
+reading-start shop version value place root node links below from bytes at = record {
+  here = at;
+  behind = start-place shop.jobs root;
+  stack = tt;
+  answer = then-done shop version value place root (suc below)
+      (children_read shop version value place below root (drop from bytes));
+}
+
+-- a plus, and the trees of the children
+plus-read : (shop : Shop) (version value place : ℕ) (root : List ℕ) (left below from : ℕ) (bytes : List ℕ) (byte : ℕ) →
+    left ≡ suc below → byte ≡ 43 → drop from bytes ≡ byte ∷ drop (from + 1) bytes →
+    read_tree shop (bound_of version) value place left root (drop from bytes)
+    ≡ children_read shop version value place below root (drop (from + 1) bytes)
+plus-read shop version value place root left below from bytes byte e plus step =
+    ap (λ l. read_tree shop (bound_of version) value place l root (drop from bytes)) e
+    ∙ ap (read_tree shop (bound_of version) value place (suc below) root) step
+    ∙ ap (λ b. read_tree shop (bound_of version) value place (suc below) root (b ∷ drop (from + 1) bytes)) plus
+
+gives-before : (from : ℕ) (bytes : List ℕ) (r : Result ℕ CheckFault) (read all : Result (List ℕ) CheckFault) →
+    all ≡ read → TreeGives (from + 1) bytes r read → TreeGives from bytes r all
+gives-before from bytes (Ok end) read all e h = (e ∙ h.0, omega (arith, h.1), h.2)
+gives-before from bytes (Err Memory) read all e h = tt
+gives-before from bytes (Err Header) read all e h = e ∙ h
+gives-before from bytes (Err Size) read all e h = e ∙ h
+gives-before from bytes (Err Value) read all e h = e ∙ h
+gives-before from bytes (Err Sequence) read all e h = e ∙ h
+gives-before from bytes (Err NotAttained) read all e h = e ∙ h
+gives-before from bytes (Err (Tree p)) read all e h = e ∙ h
+gives-before from bytes (Err (Weak p)) read all e h = e ∙ h
+gives-before from bytes (Err (Low p)) read all e h = e ∙ h
+gives-before from bytes (Err End) read all e h = e ∙ h
+
+pub plus-gives : (shop : Shop) (version value place : ℕ) (root : List ℕ) (left below from : ℕ) (bytes : List ℕ)
+    (byte : ℕ)
+    (r : Result ℕ CheckFault) → left ≡ suc below → byte ≡ 43 → drop from bytes ≡ byte ∷ drop (from + 1) bytes →
+    TreeGives (from + 1) bytes r (children_read shop version value place below root (drop (from + 1) bytes)) →
+    TreeGives from bytes r (read_tree shop (bound_of version) value place left root (drop from bytes))
+plus-gives shop version value place root left below from bytes byte r e plus step h =
+    gives-before from bytes r (children_read shop version value place below root (drop (from
+    + 1) bytes)) (read_tree shop (bound_of version) value place left root (drop from bytes))
+    (plus-read shop version value place root left below from bytes byte e plus step) h
+
+-- the next child, where there is one
+pub reading-child : {shop : Shop} {version value place : ℕ} {root : List ℕ} {whole : Result
+    (List ℕ) CheckFault} {node : Node} {links : List ℕ} {below last at : ℕ} {bytes : List ℕ} {frames : List Frame} →
+    IsReading shop version value place root whole node links below last at bytes frames → slice_index links last ≢ 0 →
+    (last < slice_index links last) × (1 ≤ slice_index links last) × (slice_index links last ≤ shop.jobs)
+    × (has (path root frames) (slice_index links last) ≡ false)
+reading-child {shop} {root} {links} {last} {frames} i some =
+    next-some shop.jobs (path root frames) last (slice_index links last) (i.here.are_links.each last i.behind) some
+
+-- the next child is read
+child-read : {shop : Shop} {version value place : ℕ} {root : List ℕ} {whole : Result
+    (List ℕ) CheckFault} {node : Node} {links : List ℕ} {below last at : ℕ} {bytes : List ℕ} {frames : List Frame}
+    (bs : List ℕ) →
+    IsReading shop version value place root whole node links below last at bytes frames → slice_index links last ≢ 0 →
+    drop at bytes ≡ bs →
+    whole ≡ then_read (then_read (read_tree shop (bound_of version) value place below
+    (path root frames ++ slice_index links last
+    ∷ []) bs) (each_tree (λ j. read_tree shop (bound_of version) value place below (path root frames ++ j
+    ∷ [])) (children shop.jobs (path root frames) (slice_index links last
+    + 1)))) (resume shop version value place root (suc below) frames)
+child-read {shop} {version} {value} {place} {root} {whole} {node} {links} {below} {last} {at} {bytes} {frames} bs i some
+    dropped =
+    let read : ℕ → List ℕ → Result (List ℕ) CheckFault =
+    λ j. read_tree shop (bound_of version) value place below (path root frames ++ j ∷ []) in
+    let k : List ℕ → Result (List ℕ) CheckFault = resume shop version value place root (suc below) frames in
+    i.answer
+    ∙ ap (λ js. then_read (each_tree read js (drop at bytes)) k) (children-next shop.jobs (path root frames) last
+    (slice_index links last) (i.here.are_links.each last i.behind) some)
+    ∙ ap (λ b. then_read (each_tree read (slice_index links last
+    ∷ children shop.jobs (path root frames) (slice_index links last + 1)) b) k) dropped
+
+pub reading-fault : {shop : Shop} {version value place : ℕ} {root : List ℕ} {whole : Result
+    (List ℕ) CheckFault} {node : Node} {links : List ℕ} {below last at : ℕ} {bytes : List ℕ} {frames : List Frame}
+    (bs : List ℕ) (fault : CheckFault) →
+    IsReading shop version value place root whole node links below last at bytes frames → slice_index links last ≢ 0 →
+    drop at bytes ≡ bs →
+    read_tree shop (bound_of version) value place below (path root frames ++ slice_index links last ∷ []) bs
+    ≡ Err fault →
+    whole ≡ Err fault
+reading-fault {shop} {version} {value} {place} {root} {whole} {node} {links} {below} {last} {at} {bytes} {frames} bs
+    fault i some
+    dropped bad =
+    child-read bs i some dropped
+    ∙ ap (λ r. then_read (then_read r (each_tree (λ j. read_tree shop (bound_of version) value place below
+    (path root frames ++ j
+    ∷ [])) (children shop.jobs (path root frames) (slice_index links last
+    + 1)))) (resume shop version value place root (suc below) frames)) bad
+
+pub reading-leaf : {shop : Shop} {version value place : ℕ} {root : List ℕ} {whole : Result
+    (List ℕ) CheckFault} {node : Node} {links : List ℕ} {below last at : ℕ} {bytes : List ℕ} {frames : List Frame} →
+    IsReading shop version value place root whole node links below last at bytes frames → slice_index links last ≢ 0 →
+    read_tree shop (bound_of version) value place below (path root frames ++ slice_index links last ∷ [])
+    (drop at bytes)
+    ≡ Ok (drop (at + 1) bytes) →
+    IsReading shop version value place root whole node links below (slice_index links last) (at + 1) bytes frames
+reading-leaf {shop} {version} {value} {place} {root} {whole} {node} {links} {below} {last} {at} {bytes} {frames} i some
+    good =
+    record {
+      here = i.here;
+      behind = next-place shop.jobs (path root frames) last (slice_index links last)
+          (i.here.are_links.each last i.behind);
+      stack = i.stack;
+      answer =
+          child-read (drop at bytes) i some refl
+          ∙ ap (λ r. then_read (then_read r (each_tree (λ j. read_tree shop (bound_of version) value place below
+          (path root frames
+          ++ j ∷ [])) (children shop.jobs (path root frames) (slice_index links last
+          + 1)))) (resume shop version value place root (suc below) frames)) good;
+    }
+
+pub reading-dive : {shop : Shop} {version value place : ℕ} {root : List ℕ} {whole : Result
+    (List ℕ) CheckFault} {node : Node} {links : List ℕ} {below last at : ℕ} {bytes : List ℕ} {frames : List Frame}
+    (child : Node) (less : List ℕ) (lower byte : ℕ) (deeper : List Frame) →
+    IsReading shop version value place root whole node links below last at bytes frames → slice_index links last ≢ 0 →
+    drop at bytes ≡ byte ∷ drop (at + 1) bytes →
+    IsNode shop (path root frames ++ slice_index links last ∷ []) child below →
+    less ≡ slice_set links last (slice_index links (slice_index links last)) → below ≡ suc lower → byte ≡ 43 →
+    deeper ≡ record { node = node; job = slice_index links last; last = last } ∷ frames →
+    IsReading shop version value place root whole child less lower 0 (at + 1) bytes deeper
+reading-dive {shop} {version} {value} {place} {root} {whole} {node} {links} {below} {last} {at} {bytes} {frames} child
+    less lower
+    byte deeper i some dropped is out e plus pushed =
+    let job : ℕ = slice_index links last in
+    let next = reading-child i some in
+    let taken = links-out shop.jobs (path root frames) links last job
+    (slice_index links job) i.here.are_links i.behind refl some refl in
+    let back : slice_set less last job ≡ links = ap (λ l. slice_set l last job) out
+    ∙ links-back links last job (slice_index links job) refl in
+    let js : List ℕ = children shop.jobs (path root frames) (job + 1) in
+    let goal : IsReading shop version value place root whole child less lower 0 (at
+    + 1) bytes (record { node = node; job = job; last = last } ∷ frames) = record {
+      here = record {
+        is_node = subst (IsNode shop (path root frames ++ job ∷ []) child) e is;
+        are_links =
+            subst (λ l. AreLinks shop.jobs (path root frames ++ job ∷ []) l) (sym out) taken;
+      };
+      behind = start-place shop.jobs (path root frames ++ job ∷ []);
+      stack = (
+        subst (λ l. IsAt shop (path root frames) node l (suc (suc lower))) (sym back) (subst (λ l. IsAt shop
+            (path root frames) node links (suc l)) e i.here),
+        next.1,
+        next.2,
+        next.3,
+        i.behind.0,
+        subst (λ l. IsStack shop root l (suc (suc (suc lower))) frames) (sym back) (subst (λ l. IsStack shop root links
+            (suc (suc l)) frames) e i.stack),
+      );
+      answer =
+          child-read (byte ∷ drop (at + 1) bytes) i some dropped
+          ∙ ap (λ l. then_read (then_read (read_tree shop (bound_of version) value place l
+          (path root frames ++ job ∷ []) (byte
+          ∷ drop (at + 1) bytes)) (each_tree (λ j. read_tree shop (bound_of version) value place l
+          (path root frames ++ j
+          ∷ [])) js)) (resume shop version value place root (suc l) frames)) e
+          ∙ ap (λ b. then_read (then_read (read_tree shop (bound_of version) value place (suc lower)
+          (path root frames ++ job
+          ∷ []) (b ∷ drop (at + 1) bytes)) (each_tree (λ j. read_tree shop (bound_of version) value place (suc lower)
+          (path root frames ++ j ∷ [])) js)) (resume shop version value place root (suc (suc lower)) frames)) plus
+          ∙ then-assoc (each_tree (λ j. read_tree shop (bound_of version) value place lower
+          ((path root frames ++ job ∷ []) ++ j
+          ∷ [])) (jobs_left shop.jobs (path root frames ++ job ∷ [])) (drop (at
+          + 1) bytes)) (each_tree (λ j. read_tree shop (bound_of version) value place (suc lower) (path root frames ++ j
+          ∷ [])) js) (resume shop version value place root (suc (suc lower)) frames);
+    } in
+    subst (IsReading shop version value place root whole child less lower 0 (at + 1) bytes) (sym pushed) goal
+
+-- no child is left
+reading-none : {shop : Shop} {version value place : ℕ} {root : List ℕ} {whole : Result
+    (List ℕ) CheckFault} {node : Node} {links : List ℕ} {below last at : ℕ} {bytes : List ℕ} {frames : List Frame} →
+    IsReading shop version value place root whole node links below last at bytes frames → slice_index links last ≡ 0 →
+    whole ≡ resume shop version value place root (suc below) frames (drop at bytes)
+reading-none {shop} {version} {value} {place} {root} {whole} {node} {links} {below} {last} {at} {bytes} {frames} i none
+    =
+    i.answer
+    ∙ ap (λ js. then_read (each_tree (λ j. read_tree shop (bound_of version) value place below (path root frames ++ j
+    ∷ [])) js (drop at bytes)) (resume shop version value place root (suc below) frames)) (children-none shop.jobs
+    (path root frames) last (slice_index links last) (i.here.are_links.each last i.behind) none)
+
+pub reading-done : {shop : Shop} {version value place : ℕ} {root : List ℕ} {whole : Result
+    (List ℕ) CheckFault} {node : Node} {links : List ℕ} {below last at : ℕ} {bytes : List ℕ} {frames : List Frame} →
+    IsReading shop version value place root whole node links below last at bytes frames → slice_index links last ≡ 0 →
+    frames ≡ [] → whole ≡ Ok (drop at bytes)
+reading-done {shop} {version} {value} {place} {root} {whole} {node} {links} {below} {last} {at} {bytes} {frames} i none
+    empty =
+    reading-none i none ∙ ap (λ fs. resume shop version value place root (suc below) fs (drop at bytes)) empty
+
+pub reading-up : {shop : Shop} {version value place : ℕ} {root : List ℕ} {whole : Result
+    (List ℕ) CheckFault} {node : Node} {links : List ℕ} {below last at : ℕ} {bytes : List ℕ} {frames : List Frame}
+    (back : List ℕ) (f : Frame) (higher : List Frame) →
+    IsReading shop version value place root whole node links below last at bytes frames → slice_index links last ≡ 0 →
+    frames ≡ f ∷ higher → back ≡ slice_set links f.last f.job →
+    IsReading shop version value place root whole f.node back (below + 1) f.job at bytes higher
+reading-up {shop} {version} {value} {place} {root} {whole} {node} {links} {below} {last} {at} {bytes} {frames} back f
+    higher i
+    none popped is =
+    let was : IsReading shop version value place root whole node links below last at bytes (f ∷ higher) =
+    subst (IsReading shop version value place root whole node links below last at bytes) popped i in
+    let s = was.stack in
+    let more : suc below ≡ below + 1 = omega arith in
+    subst (λ l. IsReading shop version value place root whole f.node back l f.job at bytes higher) more
+    (record {
+      here = subst (λ l. IsAt shop (path root higher) f.node l (suc (suc below))) (sym is) s.0;
+      behind = (s.2, λ low. s.3);
+      stack = subst (λ l. IsStack shop root l (suc (suc (suc below))) higher) (sym is) s.5;
+      answer = reading-none was none;
+    })
+
+-- what a byte says
+
+pub letter-open : (shop : Shop) (version value line left : ℕ) (list : List ℕ) (at : ℕ) (bytes : List ℕ) (b : Bool) →
+    LetterGives shop version value line left list at bytes (Ok b) → b ≡ true →
+    (0 < left) × (at < length bytes) × (drop at bytes ≡ 43 ∷ drop (at + 1) bytes)
+letter-open shop version value line left list at bytes b g t =
+    subst (λ o. LetterGives shop version value line left list at bytes (Ok o)) t g
+
+pub letter-whole : (shop : Shop) (version value line left : ℕ) (list : List ℕ) (at : ℕ) (bytes : List ℕ) (b : Bool) →
+    LetterGives shop version value line left list at bytes (Ok b) → b ≡ false →
+    (at < length bytes) × (read_tree shop (bound_of version) value line left list (drop at bytes)
+    ≡ Ok (drop (at + 1) bytes))
+letter-whole shop version value line left list at bytes b g t =
+    subst (λ o. LetterGives shop version value line left list at bytes (Ok o)) t g
+
+fails : (from : ℕ) (bytes : List ℕ) (read : Result (List ℕ) CheckFault) (fault : CheckFault) → read ≡ Err fault →
+    TreeGives from bytes (Err fault) read
+fails from bytes read Memory e = tt
+fails from bytes read Header e = e
+fails from bytes read Size e = e
+fails from bytes read Value e = e
+fails from bytes read Sequence e = e
+fails from bytes read NotAttained e = e
+fails from bytes read (Tree p) e = e
+fails from bytes read (Weak p) e = e
+fails from bytes read (Low p) e = e
+fails from bytes read End e = e
+
+pub tree-fails : (from : ℕ) (bytes : List ℕ) (read : Result (List ℕ) CheckFault) (answer : Result ℕ CheckFault)
+    (fault : CheckFault) → answer ≡ Err fault → read ≡ Err fault → TreeGives from bytes answer read
+tree-fails from bytes read answer fault is e =
+    subst (λ (a : Result ℕ CheckFault). TreeGives from bytes a read) (sym is) (fails from bytes read fault e)
+
+pub drop-step : (bytes : List ℕ) (at : ℕ) → at < length bytes → drop at bytes ≡ get_or bytes at 0 ∷ drop (at + 1) bytes
+drop-step bytes at h = let n : suc at ≡ at + 1 = omega arith in drop-cons bytes at 0 h
+    ∙ ap (λ k. get_or bytes at 0 ∷ drop k bytes) n
+
+pub drop-past : (bytes : List ℕ) (at : ℕ) → length bytes ≤ at → drop at bytes ≡ []
+drop-past [] zero h = refl
+drop-past [] (suc at) h = refl
+drop-past (b ∷ bs) zero h = absurd (omega (arith, h))
+drop-past (b ∷ bs) (suc at) h = drop-past bs at (omega (arith, h))
+
+pub reverse-push : {A : Type 0} (xs new : List A) (x : A) → new ≡ xs ++ x ∷ [] → reverse new ≡ x ∷ reverse xs
+reverse-push xs new x e = ap reverse e ∙ reverse-append xs (x ∷ [])

@@ -1,0 +1,11 @@
+use Rattle.std.proofs.Common.{◌≡◌, ◌+◌, ◌-◌, ◌*◌, ◌≤◌}
+use Rattle.flow_core.specs.Limits.{greatest_time, greatest_completion}
+use Rattle.flow_core.proofs.Recurrence.{after}
+use Rattle.flow_core.proofs.Fronts.{free_at}
+use Rattle.flow_check.proofs.node.completion_of.Given as goal
+
+abbrev pub invariant-loop-earlier : goal.invariant-loop-earlier
+invariant-loop-earlier l = record {
+  value : l.free ≡ after l.claim.instance.now (free_at l.front) l.job (l.earlier - 1);
+  small : l.free ≤ greatest_completion + (l.earlier - 1) * greatest_time;
+}

@@ -1,0 +1,23 @@
+use Rattle.std.proofs.Common.{◌≡◌, ℕ, suc, ◌+◌, ◌-◌, ◌*◌, ◌≤◌, List, [], ◌∷◌, ◌++◌, map, Some}
+use Rattle.flow_core.specs.Limits.{greatest_time, greatest_completion}
+use Rattle.flow_core.specs.Shop.{numbers}
+use Rattle.flow_core.specs.Least.{greatest, least}
+use Rattle.flow_core.specs.Sequences.{jobs_left}
+use Rattle.flow_core.proofs.Recurrence.{after}
+use Rattle.flow_core.proofs.Fronts.{free_at}
+use Rattle.flow_check.specs.internal.Lags.{AreTwoLeastLagsTo, lags}
+use Rattle.flow_check.specs.internal.Nodes.{IsNode, IsChild}
+use Rattle.flow_check.proofs.release.child_gain.Given as goal
+
+abbrev pub invariant-loop-from : goal.invariant-loop-from
+invariant-loop-from l = record {
+  free : l.free ≡ after l.claim.instance.now (free_at l.node.front) l.job (l.from - 1);
+  small : l.free ≤ greatest_completion + (l.from - 1) * greatest_time;
+  late : l.free ≤ l.release;
+  release : (list : List ℕ) (left : ℕ) → IsNode l.claim.instance.now list l.node (suc (suc left)) →
+      AreTwoLeastLagsTo l.claim.instance.now list l.machine l.lags →
+      IsChild l.claim.instance.now.jobs list (Some l.job) →
+      l.release ≡ greatest (map (λ from. after l.claim.instance.now (free_at l.node.front) l.job from
+      + least (lags l.claim.instance.now from l.machine (jobs_left l.claim.instance.now.jobs (list ++ l.job ∷ []))))
+      (numbers 1 (l.from - 1)));
+}

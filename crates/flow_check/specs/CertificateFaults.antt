@@ -1,0 +1,140 @@
+-- How a text is read as a certificate, line by line: to its value, or to its first fault.
+use Rattle.std.specs.Prelude.{◌≡◌, ℕ, zero, suc, ◌+◌, ◌-◌, ◌^◌, Bool, false, cond, not, ◌&&◌, nat_eq, nat_lt, nat_le}
+use Rattle.std.specs.Prelude.{List, [], ◌∷◌, ◌++◌, map, Option, Some, None, Result, Ok, Err}
+use Rattle.std.specs.Option.{option_map, option_map_or}
+use Rattle.std.specs.List.{find, list_all, slice_split}
+use Rattle.std.specs.Str.{bytes_eq}
+use Rattle.std.specs.Str.Parse.{digits_value}
+use Rattle.flow_core.specs.Limits.{greatest_depth, least_version, greatest_version}
+use Rattle.flow_core.specs.Lines.{is_digit}
+use Rattle.flow_core.specs.Shop.{Shop, IsWithinLimits, numbers}
+use Rattle.flow_core.specs.Paths.{span}
+use Rattle.flow_core.specs.Sequences.{jobs_left, cut}
+use Rattle.flow_core.specs.SequenceFaults.{sequence_fault}
+use Rattle.flow_core.specs.Bound.{bound_of}
+use Rattle.flow_check.specs.Certificate.{line, title, ending, IsCertificate}
+use Rattle.flow_check.specs.declared.fault.CheckFault.{CheckFault}
+use Rattle.flow_check.specs.declared.fault.CheckFault.TheVariants.{Header, Size, Value, Sequence, NotAttained, Tree}
+use Rattle.flow_check.specs.declared.fault.CheckFault.TheVariants.{Weak, Low, End}
+
+-- the first line, without its end, and the text behind it
+abbrev pub first_line : List ℕ → Option (List ℕ × List ℕ)
+first_line [] = None
+first_line (byte ∷ bytes) =
+    cond (nat_eq byte 10) (Some ([], bytes)) (option_map (λ r. (byte ∷ r.0, r.1)) (first_line bytes))
+
+-- what the first line and the text behind it give; a fault where no line ends
+abbrev pub on_line : CheckFault → (List ℕ → List ℕ → Result ℕ CheckFault) → List ℕ → Result ℕ CheckFault
+on_line fault next bytes = option_map_or (λ r. next r.0 r.1) (first_line bytes) (Err fault)
+
+-- whether a text is a number in decimal, without leading zeros
+abbrev pub is_numeral : List ℕ → Bool
+is_numeral [] = false
+is_numeral (digit ∷ []) = is_digit digit
+is_numeral (digit ∷ next ∷ digits) = not (nat_eq digit 48) && list_all is_digit (digit ∷ next ∷ digits)
+
+-- the numbers of a line that holds numbers alone, with one space between them
+abbrev pub numbers_in : List ℕ → Option (List ℕ)
+numbers_in text =
+    let words = slice_split (λ byte. nat_eq byte 32) text in
+    cond (list_all is_numeral words) (Some (map (digits_value 10) words)) None
+
+-- whether a byte is the letter of a machine of the instance
+abbrev pub is_letter : Shop → ℕ → Bool
+is_letter shop byte = nat_lt 64 byte && nat_le (byte - 64) shop.machines
+
+-- what is read next, from where the last part ended; a fault stays
+abbrev pub then_read : Result (List ℕ) CheckFault → (List ℕ → Result (List ℕ) CheckFault) → Result (List ℕ) CheckFault
+then_read (Ok rest) next = next rest
+then_read (Err fault) next = Err fault
+
+-- the trees of some jobs, one after the other
+abbrev pub each_tree : (ℕ → List ℕ → Result (List ℕ) CheckFault) → List ℕ → List ℕ → Result (List ℕ) CheckFault
+each_tree read [] bytes = Ok bytes
+each_tree read (job ∷ jobs) bytes = then_read (read job bytes) (each_tree read jobs)
+
+-- a letter: of a machine or not, its bound high enough or not
+abbrev pub cut_fault : Bool → Bool → ℕ → List ℕ → Result (List ℕ) CheckFault
+cut_fault known strong place rest = cond known (cond strong (Ok rest) (Err (Weak place))) (Err (Tree place))
+
+-- a point, or not; its makespan high enough or not
+abbrev pub leaf_fault : Bool → Bool → ℕ → List ℕ → Result (List ℕ) CheckFault
+leaf_fault point high place rest = cond point (cond high (Ok rest) (Err (Low place))) (Err (Tree place))
+
+-- the text behind a tree that covers a value below a list with so many jobs left; or the fault of its first faulty
+-- byte
+abbrev pub read_tree : Shop → (Shop → List ℕ → ℕ → ℕ) → ℕ → ℕ → ℕ → List ℕ → List ℕ → Result (List ℕ) CheckFault
+read_tree shop bound value place zero jobs [] = Err (Tree place)
+read_tree shop bound value place zero jobs (byte ∷ rest) =
+    leaf_fault (nat_eq byte 46) (nat_le value (span shop jobs)) place rest
+read_tree shop bound value place (suc left) jobs [] = Err (Tree place)
+read_tree shop bound value place (suc left) jobs (byte ∷ rest) =
+    cond (nat_eq byte 43)
+    (each_tree (λ job. read_tree shop bound value place left (jobs ++ job ∷ [])) (jobs_left shop.jobs jobs) rest)
+    (cut_fault (is_letter shop byte) (nat_le value (bound shop jobs (byte - 64))) place rest)
+
+-- what follows a whole tree: the end of its line, and the next lines
+abbrev pub after_tree : ℕ → (List ℕ → Result ℕ CheckFault) → Result (List ℕ) CheckFault → Result ℕ CheckFault
+after_tree place next (Ok []) = Err (Tree place)
+after_tree place next (Ok (byte ∷ rest)) = cond (nat_eq byte 10) (next rest) (Err (Tree place))
+after_tree place next (Err fault) = Err fault
+
+-- the last line, and nothing behind it
+abbrev pub end_value : ℕ → List ℕ → Result ℕ CheckFault
+end_value value bytes = cond (bytes_eq bytes (line ending)) (Ok value) (Err End)
+
+-- the lines from this one on: a tree for each prefix, and the last line
+abbrev pub trees_value : Shop → (Shop → List ℕ → ℕ → ℕ) → ℕ → ℕ → List (List ℕ) → ℕ → List ℕ → Result ℕ CheckFault
+trees_value shop bound value left [] place bytes = end_value value bytes
+trees_value shop bound value left (prefix ∷ prefixes) place bytes =
+    after_tree place (trees_value shop bound value left prefixes (place + 1))
+    (read_tree shop bound value place left prefix bytes)
+
+-- the lines from the first tree on
+abbrev pub cut_value : Shop → ℕ → ℕ → ℕ → List ℕ → Result ℕ CheckFault
+cut_value shop version depth value bytes =
+    trees_value shop (bound_of version) value (shop.jobs - depth) (cut shop.jobs depth) 5 bytes
+
+-- the numbers of the sequence's line, and the lines behind it
+abbrev pub sequence_value : Shop → ℕ → ℕ → ℕ → List ℕ → Option (List ℕ) → Result ℕ CheckFault
+sequence_value shop version depth value rest None = Err Sequence
+sequence_value shop version depth value rest (Some jobs) =
+    option_map_or (λ fault. Err Sequence) (sequence_fault shop.jobs jobs)
+    (cond (nat_eq (span shop jobs) value) (cut_value shop version depth value rest) (Err NotAttained))
+
+-- the numbers of the value's line, and the lines behind it
+abbrev pub value_value : Shop → ℕ → ℕ → List ℕ → Option (List ℕ) → Result ℕ CheckFault
+value_value shop version depth rest (Some (value ∷ [])) =
+    cond (nat_lt value (2 ^ 64))
+    (on_line Sequence (λ text more. sequence_value shop version depth value more (numbers_in text)) rest) (Err Value)
+value_value shop version depth rest other = Err Value
+
+-- the numbers of the size's line, and the lines behind it
+abbrev pub size_value : Shop → ℕ → List ℕ → Option (List ℕ) → Result ℕ CheckFault
+size_value shop version rest (Some (jobs ∷ machines ∷ depth ∷ [])) =
+    cond
+    (nat_eq jobs shop.jobs && nat_eq machines shop.machines && nat_le depth shop.jobs && nat_le depth greatest_depth)
+    (on_line Value (λ text more. value_value shop version depth more (numbers_in text)) rest)
+    (Err Size)
+size_value shop version rest other = Err Size
+
+-- the version whose first line a text is
+abbrev pub version_of : List ℕ → Option ℕ
+version_of text = find (λ version. bytes_eq text (title version)) (numbers least_version greatest_version)
+
+-- the first line, and the lines behind it
+abbrev pub header_value : Shop → List ℕ → List ℕ → Result ℕ CheckFault
+header_value shop text rest =
+    option_map_or (λ version. on_line Size (λ text more. size_value shop version more (numbers_in text)) rest)
+    (version_of text) (Err Header)
+
+-- the value that a text proves, or its first fault
+unfoldable pub certificate_value : Shop → List ℕ → Result ℕ CheckFault
+certificate_value shop bytes = on_line Header (header_value shop) bytes
+
+-- a text is read as a value exactly where it is a lawful certificate of that value
+abbrev pub ValueIsExact : Type 0
+ValueIsExact =
+    (shop : Shop) (bytes : List ℕ) (value : ℕ) → IsWithinLimits shop →
+    (certificate_value shop bytes ≡ Ok value → IsCertificate shop bytes value)
+    × (IsCertificate shop bytes value → certificate_value shop bytes ≡ Ok value)

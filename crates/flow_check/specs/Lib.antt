@@ -1,0 +1,4 @@
+pub mod Certificate
+pub mod CertificateFaults
+pub mod Check
+pub mod internal

@@ -1,0 +1,6 @@
+pub mod Heading
+pub mod Trees
+pub mod Links
+pub mod Nodes
+pub mod Lags
+pub mod Reader

@@ -1,0 +1,35 @@
+-- What the lines before the trees begin with.
+use Rattle.std.specs.Prelude.{ℕ, ◌≡◌, ◌≤◌, ◌<◌, ◌+◌, ◌-◌, ◌*◌, ◌^◌, Bool, cond, ◌&&◌, not, nat_eq, nat_lt, List, []}
+use Rattle.std.specs.Prelude.{◌∷◌, ◌++◌}
+use Rattle.std.specs.Fmt.{decimal}
+use Rattle.flow_core.specs.Limits.{greatest_depth}
+use Rattle.flow_core.specs.Lines.{is_digit}
+use Rattle.flow_core.specs.Sequences.{IsSequence}
+use Rattle.flow_check.specs.Certificate.{line, spaced}
+
+-- a text begins with a number below 2^64 in decimal, and a byte that ends it
+abbrev pub BeginsWithNumber : List ℕ → ℕ → ℕ → List ℕ → Type 0
+BeginsWithNumber text end number rest = (number < 2 ^ 64) × (text ≡ decimal number ++ end ∷ rest)
+
+-- whether a byte is a further digit of a number below 2^64 without leading zeros, behind the value of earlier digits,
+-- if any
+abbrev pub is_further : ℕ → Bool → ℕ → Bool
+is_further value started byte =
+    is_digit byte && not (started && nat_eq value 0) && nat_lt (value * 10 + (byte - 48)) (2 ^ 64)
+
+-- a text begins with one of the jobs from 1 to n, and a byte that ends it
+abbrev pub BeginsWithJob : ℕ → List ℕ → ℕ → ℕ → List ℕ → Type 0
+BeginsWithJob n text end job rest = (1 ≤ job) × (job ≤ n) × (text ≡ decimal job ++ end ∷ rest)
+
+-- a text begins with the line of so many jobs and machines, and a depth
+abbrev pub BeginsWithSize : ℕ → ℕ → List ℕ → ℕ → List ℕ → Type 0
+BeginsWithSize jobs machines text depth rest =
+    (depth ≤ jobs) × (depth ≤ greatest_depth) × (text ≡ line (spaced (jobs ∷ machines ∷ depth ∷ [])) ++ rest)
+
+-- a text begins with the line of a sequence
+abbrev pub BeginsWithSequence : ℕ → List ℕ → List ℕ → List ℕ → Type 0
+BeginsWithSequence n text jobs rest = IsSequence n jobs × (text ≡ line (spaced jobs) ++ rest)
+
+-- the byte that ends a number of a line where so many are still to come, with this one
+abbrev pub end_of : ℕ → ℕ
+end_of left = cond (nat_eq left 1) 10 32

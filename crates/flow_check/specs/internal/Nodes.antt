@@ -1,0 +1,65 @@
+-- What is kept of a list of jobs at which trees are read.
+use Rattle.std.specs.Prelude.{ℕ, suc, ◌≡◌, ◌+◌, ◌-◌, ◌≤◌, ◌⊎◌, false, List, [], ◌∷◌, ◌++◌, length, sum_by, slice_index}
+use Rattle.std.specs.Prelude.{Option, Some, None}
+use Rattle.flow_core.specs.Limits.{most_machines}
+use Rattle.flow_core.specs.Shop.{Shop, time}
+use Rattle.flow_core.specs.Front.{IsFrontOf}
+use Rattle.flow_core.specs.Sequences.{has, jobs_left}
+use Rattle.flow_core.specs.internal.TwoLeast.{tails, least_below, second_below}
+use Rattle.flow_check.specs.internal.Links.{AreLinks}
+use Rattle.flow_check.specs.declared.node.Node.{Node}
+use Rattle.flow_check.specs.declared.node.Lows.{Lows}
+
+-- what stands for a least that is not known, or of no numbers: the greatest number of 32 bits
+abbrev pub unknown : ℕ
+unknown = 4294967295
+
+-- the two least tails of the jobs left behind a machine
+abbrev pub AreLows : Shop → List ℕ → ℕ → Lows → Type 0
+AreLows shop list machine lows =
+    (lows.least ≡ least_below unknown (tails shop machine (jobs_left shop.jobs list)))
+    × (lows.second ≡ second_below unknown unknown (tails shop machine (jobs_left shop.jobs list)))
+
+-- the two least tails behind each machine, where the least is known
+pub record AreKnown (shop : Shop) (list least second : List ℕ) : Type 0 where
+  pub each : (machine : ℕ) → 1 ≤ machine → machine ≤ shop.machines →
+      (slice_index least (machine - 1) ≡ unknown)
+      ⊎ AreLows shop list machine
+      (record { least = slice_index least (machine - 1); second = slice_index second (machine - 1) })
+  pub least_size : length least ≡ most_machines
+  pub second_size : length second ≡ most_machines
+
+-- what is kept of a list with so many jobs left: its front, and the time of the jobs left on each machine
+pub record IsNode (shop : Shop) (list : List ℕ) (node : Node) (left : ℕ) : Type 0 where
+  pub times : IsFrontOf shop list node.front
+  pub work : (machine : ℕ) → 1 ≤ machine → machine ≤ shop.machines →
+      slice_index node.work (machine - 1) ≡ sum_by (λ job. time shop job machine) (jobs_left shop.jobs list)
+  pub size : length node.work ≡ most_machines
+  pub known : AreKnown shop list node.least node.second
+  pub count : length list + left ≡ shop.jobs
+  pub some : length (jobs_left shop.jobs list) ≡ left
+
+-- a list with its node, and its jobs left linked
+pub record IsAt (shop : Shop) (list : List ℕ) (node : Node) (links : List ℕ) (left : ℕ) : Type 0 where
+  pub is_node : IsNode shop list node left
+  pub are_links : AreLinks shop.jobs list links
+
+-- a list, or a child of it
+abbrev pub grown : List ℕ → Option ℕ → List ℕ
+grown list None = list
+grown list (Some job) = list ++ job ∷ []
+
+-- a list itself, or a job from 1 to n that the list does not have
+abbrev pub IsChild : ℕ → List ℕ → Option ℕ → Type 0
+IsChild n list None = Unit {0}
+IsChild n list (Some job) = (1 ≤ job) × (job ≤ n) × (has list job ≡ false)
+
+-- the jobs left before a child is taken, from those behind it
+abbrev pub left_before : Option ℕ → ℕ → ℕ
+left_before None left = left
+left_before (Some job) left = suc left
+
+-- the jobs left at a list or at its child, where so many are left at each child
+abbrev pub left_here : Option ℕ → ℕ → ℕ
+left_here None below = suc below
+left_here (Some job) below = below

@@ -1,0 +1,147 @@
+//! The lines of a certificate before its trees.
+
+ghost use Rattle.std.specs.Prelude.{◌≡◌, ℕ, ◌+◌, ◌-◌, ◌<◌, ◌≤◌, ◌++◌, List, IfSome, IfOk, IfErr, Ok, Err};
+ghost use Rattle.std.specs.Option.{IsSomeAnd};
+ghost use Rattle.flow_core.specs.Shop.{IsWithinLimits};
+ghost use Rattle.flow_core.specs.Paths.{span};
+ghost use Rattle.flow_check.specs.Certificate.{IsVersion, line, title};
+ghost use Rattle.flow_check.specs.CertificateFaults.{certificate_value, cut_value};
+ghost use Rattle.flow_check.specs.internal.Heading.{BeginsWithJob, BeginsWithSize, BeginsWithSequence, end_of};
+
+use crate::fault::CheckFault;
+use crate::number::read_number;
+use flow_core::{Front, Instance, JobSet, MAX_DEPTH, MAX_VERSION, MIN_VERSION, front_push};
+
+/// The first line, up to the version.
+const TITLE: &[u8] = b"flowshop certificate ";
+
+/// What the four lines before the trees say, where they have no fault. The sequence is not kept, since its makespan is
+/// the value.
+#[derive(Clone, Copy)]
+pub(crate) struct Heading<'a> {
+    /// The version of the certificate: 1 or 2. Each has its own bound.
+    pub(crate) version: u32,
+    /// The depth of the cut: how many jobs each prefix has. There is one tree for each prefix.
+    pub(crate) depth: u16,
+    /// The value.
+    pub(crate) value: u64,
+    /// The text that follows, from the first tree on.
+    pub(crate) trees: &'a [u8],
+}
+
+/// The version that the first line names, where a text begins with that line, and the text after it.
+fn read_title(text: &[u8]) -> Option<(u32, &[u8])>
+    ensures found { IfSome result (λ r. IsVersion r.0 × (text.now ≡ line (title r.0) ++ r.1.now)) }
+    ensures only { (version : ℕ) (rest : List ℕ) → IsVersion version → text.now ≡ line (title version) ++ rest →
+        IsSomeAnd result (λ r. (r.0 ≡ version) × (r.1.now ≡ rest)) }
+{
+    let number = text.strip_prefix(TITLE)?;
+    let (version, rest) = read_number(number, b'\n')?;
+    if version < u64::from(MIN_VERSION) || version > u64::from(MAX_VERSION) {
+        return None;
+    }
+    Some((version as u32, rest))
+}
+
+/// The depth in the line of the sizes, with which a text begins, and the text after that line. `None` where the text
+/// begins with no such line of so many jobs and machines.
+fn read_size(jobs: u16, machines: u16, text: &[u8]) -> Option<(u16, &[u8])>
+    ensures found { IfSome result (λ r. BeginsWithSize jobs machines text.now r.0 r.1.now) }
+    ensures only { (depth : ℕ) (rest : List ℕ) → BeginsWithSize jobs machines text.now depth rest →
+        IsSomeAnd result (λ r. (r.0 ≡ depth) × (r.1.now ≡ rest)) }
+{
+    let (first, machines_text) = read_number(text, b' ')?;
+    let (second, depth_text) = read_number(machines_text, b' ')?;
+    let (depth, rest) = read_number(depth_text, b'\n')?;
+    if first != u64::from(jobs) || second != u64::from(machines) {
+        return None;
+    }
+    if depth > u64::from(jobs) || depth > u64::from(MAX_DEPTH) {
+        return None;
+    }
+    Some((depth as u16, rest))
+}
+
+/// The job with which a text begins, from 1 to `jobs`, and the text after the byte that ends it.
+fn read_job(text: &[u8], end: u8, jobs: u16) -> Option<(u16, &[u8])>
+    requires { end < 48 }
+    ensures found { IfSome result (λ r. BeginsWithJob jobs text.now end r.0 r.1.now) }
+    ensures only { (job : ℕ) (rest : List ℕ) → BeginsWithJob jobs text.now end job rest →
+        IsSomeAnd result (λ r. (r.0 ≡ job) × (r.1.now ≡ rest)) }
+{
+    let (job, rest) = read_number(text, end)?;
+    if job < 1 || job > u64::from(jobs) {
+        return None;
+    }
+    Some((job as u16, rest))
+}
+
+/// The byte that ends the job at a place, counted from 1, in a line of so many jobs.
+fn end_behind(place: u16, jobs: u16) -> u8
+    ensures value { result ≡ end_of (jobs + 1 - place) }
+    ensures below { result < 48 }
+{
+    if place == jobs { b'\n' } else { b' ' }
+}
+
+/// The makespan of the sequence in the line with which a text begins, and the text after that line.
+fn read_sequence<'a>(instance: &Instance, text: &'a [u8]) -> Option<(u64, &'a [u8])>
+    ensures found { IfSome result (λ r. (jobs : List ℕ)
+        × BeginsWithSequence instance.now.jobs text.now jobs r.1.now × (span instance.now jobs ≡ r.0)) }
+    ensures only { (jobs rest : List ℕ) → BeginsWithSequence instance.now.jobs text.now jobs rest →
+        IsSomeAnd result (λ r. (r.0 ≡ span instance.now jobs) × (r.1.now ≡ rest)) }
+{
+    let jobs = instance.jobs();
+    let machines = instance.machines();
+    let mut scheduled = JobSet::none();
+    let mut front = Front::empty();
+    let mut rest = text;
+    for place in 1..jobs + 1 {
+        let end = end_behind(place, jobs);
+        let (job, after) = read_job(rest, end, jobs)?;
+        if scheduled.contains(job) {
+            return None;
+        }
+        scheduled.insert(job);
+        front_push(instance, &mut front, job);
+        rest = after;
+    }
+    Some((front.at(machines), rest))
+}
+
+/// Reads the lines before the trees. Returns what they say, or their first fault.
+pub(crate) fn read_heading<'a>(
+    instance: &Instance,
+    text: &'a [u8],
+) -> Result<Heading<'a>, CheckFault>
+    ensures limits { IsWithinLimits instance.now }
+    ensures depth { IfOk result (λ heading. heading.depth ≤ instance.now.jobs) }
+    ensures found { IfOk result
+        (λ heading. certificate_value instance.now text.now
+        ≡ cut_value instance.now heading.version heading.depth heading.value heading.trees.now) }
+    ensures fault { IfErr result (λ fault. certificate_value instance.now text.now ≡ Err fault) }
+{
+    let jobs = instance.jobs();
+    let machines = instance.machines();
+    let Some((version, size_text)) = read_title(text) else {
+        return Err(CheckFault::Header);
+    };
+    let Some((depth, value_text)) = read_size(jobs, machines, size_text) else {
+        return Err(CheckFault::Size);
+    };
+    let Some((value, sequence_text)) = read_number(value_text, b'\n') else {
+        return Err(CheckFault::Value);
+    };
+    let Some((makespan, trees)) = read_sequence(instance, sequence_text) else {
+        return Err(CheckFault::Sequence);
+    };
+    if makespan != value {
+        return Err(CheckFault::NotAttained);
+    }
+    Ok(Heading {
+        version,
+        depth,
+        value,
+        trees,
+    })
+}

@@ -1,0 +1,138 @@
+//! The reader of the trees: how it goes from a list of jobs to a child, and back.
+
+ghost use Rattle.std.specs.Prelude.{◌≡◌, ◌≢◌, ℕ, suc, ◌<◌, ◌≤◌, List, [], length, slice_index, IfOk};
+ghost use Rattle.flow_core.specs.Rows.{AreRows};
+ghost use Rattle.flow_check.specs.internal.Links.{AreLinks, IsPlace};
+ghost use Rattle.flow_check.specs.internal.Reader.{Stands, Opened, Closed, frame_at};
+ghost use Rattle.flow_core.specs.Limits.{most_jobs};
+
+use crate::claim::Claim;
+use crate::node::Node;
+use crate::release::{Lags, forget, unknown_lags};
+use flow_core::Instance;
+use std::alloc::{AllocError, Global};
+
+/// A place in the text of the trees.
+#[derive(Clone, Copy)]
+pub(crate) struct Spot {
+    /// Its line, counted from 1 at the first line of the certificate.
+    pub(crate) line: usize,
+    /// How many bytes of the text stand before it.
+    pub(crate) at: usize,
+}
+
+/// A list of jobs, and which of its children is being read.
+#[derive(Drop)]
+pub(crate) struct Frame {
+    /// What is kept of the list.
+    pub(crate) node: Node,
+    /// The job that the child has at its end.
+    pub(crate) job: u16,
+    /// The job left before it, or 0. Its link leads to `job` again once the child is read.
+    pub(crate) last: u16,
+}
+
+/// Reads trees. It stands at a list of jobs. A child of the list has one more job, one of the jobs left, at its end.
+#[derive(Drop)]
+pub(crate) struct TreeReader {
+    /// The linked list of the jobs left, in increasing order. The link of 0 is the least of them, the link of each is
+    /// the next greater one, and the link of the greatest is 0.
+    pub(crate) links: Vec<u16>,
+    /// The frames of the list and of the lists above it: at place `k` that of the list whose children have `k` jobs
+    /// left.
+    pub(crate) frames: Vec<Frame>,
+    /// In version 2 the two least lags of the list's jobs left to each machine, where they are found; in version 1
+    /// there are none.
+    pub(crate) lags: Vec<Option<Lags>>,
+    /// How many jobs are left at each child of the list: the place of the list's frame.
+    pub(crate) below: usize,
+}
+
+/// The linked list of the jobs left at the empty list, which are all jobs: the link of 0 is job 1, the link of each job
+/// is the next one, and the link of the last job is 0.
+fn all_links(alloc: Global, jobs: u16) -> Result<Vec<u16>, AllocError>
+    requires { jobs ≤ most_jobs }
+    ensures { IfOk result (λ links. AreLinks jobs [] links.items) }
+{
+    let mut links = Vec::with_capacity(alloc, jobs as usize + 1)?;
+    for job in 1..jobs + 1 {
+        links.push(job)?;
+    }
+    links.push(0)?;
+    Ok(links)
+}
+
+/// A frame for each job, all with the same node.
+fn all_frames(alloc: Global, jobs: u16, node: &Node) -> Result<Vec<Frame>, AllocError>
+    ensures size { IfOk result (λ frames. length frames.items ≡ jobs) }
+    ensures each { IfOk result (λ frames. (place : ℕ) → place < jobs →
+        (frame_at frames.items place).node ≡ node.now) }
+{
+    let mut frames = Vec::with_capacity(alloc, jobs as usize)?;
+    'frames: while frames.len() < jobs as usize {
+        frames.push(Frame {
+            node: *node,
+            job: 0,
+            last: 0,
+        })?;
+    }
+    Ok(frames)
+}
+
+impl TreeReader {
+    /// A reader of a version that stands at the empty list.
+    pub(crate) fn new(
+        alloc: Global,
+        instance: &Instance,
+        version: u32,
+    ) -> Result<TreeReader, AllocError>
+        ensures { IfOk result (λ reader. Stands instance.now [] reader) }
+    {
+        let jobs = instance.jobs();
+        let links = all_links(alloc, jobs)?;
+        let frames = all_frames(alloc, jobs, &Node::root(instance))?;
+        let lags = unknown_lags(alloc, if version == 2 { instance.machines() } else { 0 })?;
+        Ok(TreeReader {
+            links,
+            frames,
+            lags,
+            below: jobs as usize - 1,
+        })
+    }
+
+    /// Goes to the child that has `job` at its end, where the link of `last` is `job`.
+    pub(crate) fn open(&mut self, claim: &Claim, last: u16, job: u16)
+        requires rows { AreRows claim.now.instance.now claim.now.rows.now }
+        requires at { (list : List ℕ) × Stands claim.now.instance.now list self.old
+            × IsPlace claim.now.instance.now.jobs list last }
+        requires next { slice_index self.old.links.items last ≡ job }
+        requires some { job ≢ 0 }
+        requires more { 0 < self.old.below }
+        ensures { Opened claim.now.instance.now last job self.old self.new }
+    {
+        self.links[last as usize] = self.links[job as usize];
+        let below = self.below;
+        let (lower, upper) = self.frames.as_mut_slice().split_at_mut(below);
+        let frame = &mut upper[0];
+        frame.job = job;
+        frame.last = last;
+        lower[below - 1].node.become_child(claim, &frame.node, job);
+        self.below = below - 1;
+        forget(self.lags.as_mut_slice());
+    }
+
+    /// Goes back to the list above, once the child is read. Returns the job that the child had at its end.
+    pub(crate) fn close(&mut self) -> u16
+        requires above { suc self.old.below < length self.old.frames.items }
+        requires last { (frame_at self.old.frames.items (suc self.old.below)).last < length self.old.links.items }
+        ensures closed { Closed (frame_at self.old.frames.items (suc self.old.below)) self.old self.new }
+        ensures job { result ≡ (frame_at self.old.frames.items (suc self.old.below)).job }
+    {
+        self.below += 1;
+        let frame = &self.frames[self.below];
+        let job = frame.job;
+        self.links[frame.last as usize] = job;
+        forget(self.lags.as_mut_slice());
+        job
+    }
+}
