@@ -1,9 +1,9 @@
 -- The first line, and the line of an instance's size and a depth.
-use Rattle.std.proofs.Common.{◌≡◌, ℕ, ◌≤◌, ◌<◌, ◌^◌, List, [], ◌∷◌, ◌++◌, ap, ◌∙◌, append_assoc, arith}
+use Rattle.std.proofs.Common.{◌≡◌, ℕ, ◌≤◌, List, [], ◌∷◌, ◌++◌, ap, ◌∙◌, append_assoc}
 use Rattle.std.specs.Prelude.{codes}
 use Rattle.std.specs.Fmt.{decimal}
 use Rattle.flow_core.specs.Limits.{greatest_depth}
-use Rattle.flow_check.specs.Certificate.{IsVersion, line, spaced, title}
+use Rattle.flow_check.specs.Certificate.{line, spaced, title}
 use Rattle.flow_check.specs.internal.Heading.{BeginsWithNumber, BeginsWithSize}
 
 -- the first line ends in its version
@@ -12,9 +12,6 @@ pub title-parts : (version : ℕ) (rest : List ℕ) →
 title-parts version rest =
     append_assoc (title version) (10 ∷ []) rest
     ∙ append_assoc (codes "flowshop certificate ") (decimal version) (10 ∷ rest)
-
-pub version-fits : (version : ℕ) → IsVersion version → version < 2 ^ 64
-version-fits version is = omega (arith, is.1)
 
 -- its three numbers, each with the byte that ends it
 pub size-parts : (a b d : ℕ) (rest : List ℕ) → line (spaced (a ∷ b ∷ d ∷ [])) ++ rest ≡ decimal a ++ 32

@@ -10,6 +10,7 @@ const VERSION: &str = "1.0, certificate versions 1 and 2";
 pub fn make_command<'a>(alloc: Global) -> Result<Command<'a>, AllocError> {
     Command::new(alloc, "flowshop")
         .about("Least makespans of permutation flow shops, with certificates")
+        .after_help("Example: ./flowshop certify examples/taillard_20_5.txt 1 >certificate")
         .version(VERSION)
         .subcommand_required(true)
         .subcommand(certify_command(alloc)?)?
@@ -29,8 +30,8 @@ fn certify_command<'a>(alloc: Global) -> Result<Command<'a>, AllocError> {
 mirrored one",
         )
         .after_help(
-            "The certificate may be one of the mirrored instance: check it with --either.
-Example: flowshop certify examples/three_machines.txt 1 >certificate",
+            "The certificate may be one of the mirrored instance: check it with --either.\nExample: ./flowshop \
+certify examples/three_machines.txt 1 >certificate",
         )
         .arg(file(alloc))?
         .arg(index(alloc))?
@@ -43,7 +44,7 @@ Example: flowshop certify examples/three_machines.txt 1 >certificate",
 fn span_command<'a>(alloc: Global) -> Result<Command<'a>, AllocError> {
     Command::new(alloc, "span")
         .about("Prints the makespan of jobs in the given order")
-        .after_help("Example: flowshop span examples/two_machines.txt 1 2 3 1")
+        .after_help("Example: ./flowshop span examples/two_machines.txt 1 2 3 1")
         .arg(file(alloc))?
         .arg(index(alloc))?
         .arg(jobs(alloc))
@@ -52,7 +53,7 @@ fn span_command<'a>(alloc: Global) -> Result<Command<'a>, AllocError> {
 fn gen_command<'a>(alloc: Global) -> Result<Command<'a>, AllocError> {
     Command::new(alloc, "gen")
         .about("Writes the instance of a seed, with its bounds")
-        .after_help("Example: flowshop gen 20 5 873654221")
+        .after_help("Example: ./flowshop gen 20 5 873654221")
         .arg(number(alloc, "JOBS", "How many jobs there are, 1 to 800"))?
         .arg(number(alloc, "MACHINES", "How many machines there are, 1 to 26"))?
         .arg(number(
@@ -65,7 +66,7 @@ fn gen_command<'a>(alloc: Global) -> Result<Command<'a>, AllocError> {
 fn neh_command<'a>(alloc: Global) -> Result<Command<'a>, AllocError> {
     Command::new(alloc, "neh")
         .about("Prints the starting sequence and its makespan")
-        .after_help("Example: flowshop neh examples/three_machines.txt 1")
+        .after_help("Example: ./flowshop neh examples/three_machines.txt 1")
         .arg(file(alloc))?
         .arg(index(alloc))
 }
@@ -73,7 +74,7 @@ fn neh_command<'a>(alloc: Global) -> Result<Command<'a>, AllocError> {
 fn mirror_command<'a>(alloc: Global) -> Result<Command<'a>, AllocError> {
     Command::new(alloc, "mirror")
         .about("Writes a block with its machines in reverse order")
-        .after_help("Example: flowshop mirror examples/two_machines.txt 1")
+        .after_help("Example: ./flowshop mirror examples/two_machines.txt 1")
         .arg(file(alloc))?
         .arg(index(alloc))
 }
@@ -81,7 +82,7 @@ fn mirror_command<'a>(alloc: Global) -> Result<Command<'a>, AllocError> {
 fn improve_command<'a>(alloc: Global) -> Result<Command<'a>, AllocError> {
     Command::new(alloc, "improve")
         .about("Prints a sequence that is no worse than a starting sequence, and its makespan")
-        .after_help("Example: flowshop improve examples/taillard_20_5.txt 1 --rounds 100")
+        .after_help("Example: ./flowshop improve examples/taillard_20_5.txt 1 --rounds 100")
         .arg(file(alloc))?
         .arg(index(alloc))?
         .arg(rounds(alloc))?
@@ -92,7 +93,7 @@ fn improve_command<'a>(alloc: Global) -> Result<Command<'a>, AllocError> {
 fn solve_command<'a>(alloc: Global) -> Result<Command<'a>, AllocError> {
     Command::new(alloc, "solve")
         .about("Finds the least makespan, and writes a certificate of it")
-        .after_help("Example: flowshop solve examples/three_machines.txt 1 --depth 0")
+        .after_help("Example: ./flowshop solve examples/three_machines.txt 1 --depth 0")
         .arg(file(alloc))?
         .arg(index(alloc))?
         .arg(workers(alloc))?
@@ -110,7 +111,7 @@ fn solve_command<'a>(alloc: Global) -> Result<Command<'a>, AllocError> {
 fn check_command<'a>(alloc: Global) -> Result<Command<'a>, AllocError> {
     Command::new(alloc, "check")
         .about("Checks a certificate, and prints the value that it proves least")
-        .after_help("Example: flowshop check examples/three_machines.txt 1 certificate")
+        .after_help("Example: ./flowshop check examples/three_machines.txt 1 certificate")
         .arg(file(alloc))?
         .arg(index(alloc))?
         .arg(word(alloc, "CERT", "The file of the certificate"))?
@@ -185,13 +186,14 @@ fn workers<'a>(alloc: Global) -> Arg<'a> {
 
 /// The number of jobs in a prefix.
 fn depth<'a>(alloc: Global) -> Arg<'a> {
-    let help = "How many jobs a prefix has, 0 to 3";
+    let help =
+        "How many jobs each prefix has, 0 to 3: there is a tree for each list of so many jobs, 100000 at most";
     option(alloc, "depth", "D", "1", help)
 }
 
 /// The most bytes of a tree.
 fn budget<'a>(alloc: Global) -> Arg<'a> {
-    let help = "The most bytes of a tree, 1 to 100000000";
+    let help = "The most bytes that a tree may have, 1 to 100000000";
     option(alloc, "budget", "B", "1000000", help)
 }
 
@@ -203,13 +205,13 @@ fn version<'a>(alloc: Global) -> Arg<'a> {
 
 /// The number of rounds in which a sequence is improved.
 fn rounds<'a>(alloc: Global) -> Arg<'a> {
-    let help = "How many rounds there are, 0 to 100000000";
+    let help = "How many rounds of improvement there are, 0 to 100000000";
     option(alloc, "rounds", "R", "10000", help)
 }
 
 /// The seed of the choices by which a sequence is improved.
 fn seed<'a>(alloc: Global) -> Arg<'a> {
-    let help = "The seed of the choices, 1 to 2147483646";
+    let help = "The seed of the random choices, 1 to 2147483646";
     option(alloc, "seed", "S", "1", help)
 }
 
@@ -219,7 +221,9 @@ fn start<'a>(alloc: Global) -> Arg<'a> {
         .long("start")
         .value_name("SEQUENCE")
         .action(ArgAction::Set)
-        .help("A file with a starting sequence, in the form that neh prints")
+        .help(
+            "A file with a starting sequence, in the form that neh prints; left out, it is that of neh",
+        )
 }
 
 /// A choice with a long name, which is taken or left out.
