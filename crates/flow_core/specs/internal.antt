@@ -1,6 +1,6 @@
-pub mod TextWalk
-pub mod StartSteps
-pub mod Codes
-pub mod Turned
-pub mod Same
-pub mod TwoLeast
+pub use Rattle.flow_shop.specs.TwoLeast
+pub use Rattle.flow_shop.specs.internal.Turned
+pub use Rattle.flow_shop.specs.internal.Same
+pub use Rattle.flow_text.specs.internal.TextWalk
+pub use Rattle.flow_text.specs.internal.StartSteps
+pub use Rattle.flow_text.specs.internal.Codes

@@ -1,35 +1,25 @@
-//! The permutation flow shop: instances, sequences and completion times. Also benchmark text, and how bytes are read
-//! and written.
+//! The permutation flow shop under one name: limits, instances and bounds, bytes and texts. Each item is one of
+//! flow_limits, flow_shop or flow_text.
 #![tactic(auto)]
 
-mod bytes;
-mod front;
-mod generator;
-mod instance;
-mod job_set;
-mod laws;
-mod limits;
-mod row;
-mod sequence;
-mod text;
+pub mod bytes;
+pub mod instance;
+pub mod row;
+pub mod sequence;
+pub mod text;
 
-pub use bytes::{
-    MemorySink, MemorySource, ReadFault, Refused, Sink, Source, StdSink, StdSource, WriteFault,
-    put_all, read_all,
-};
-pub use front::{Front, front_push, makespan};
-pub use generator::{Taillard, generate};
-pub use instance::{Instance, InstanceFault};
-pub use job_set::JobSet;
-pub use laws::{
-    bound_is_admissible, completion_by_recurrence, completion_is_greatest, instances_have_no_fault,
-    least_makespan_is_one, limits_are_those_stated, mirror_keeps_makespans, mirror_turns_back,
-    released_bound_is_admissible, released_bound_is_stronger, sequences_have_no_fault,
-    texts_have_no_fault,
-};
-pub use limits::{
+pub use flow_limits::{
     MAX_DEPTH, MAX_JOBS, MAX_MACHINES, MAX_NUMBER, MAX_TIME, MAX_VERSION, MIN_VERSION,
+    limits_are_those_stated,
 };
-pub use row::{Row, rows};
-pub use sequence::{Sequence, SequenceFault};
-pub use text::{Block, Claim, Start, StartFault, TextFault, block_text, read_blocks, read_start};
+pub use flow_shop::{
+    Front, Instance, InstanceFault, JobSet, Row, Sequence, SequenceFault, bound_is_admissible,
+    completion_by_recurrence, completion_is_greatest, front_push, instances_have_no_fault,
+    least_makespan_is_one, makespan, mirror_keeps_makespans, mirror_turns_back,
+    released_bound_is_admissible, released_bound_is_stronger, rows, sequences_have_no_fault,
+};
+pub use flow_text::{
+    Block, Claim, MemorySink, MemorySource, ReadFault, Refused, Sink, Source, Start, StartFault,
+    StdSink, StdSource, Taillard, TextFault, WriteFault, block_text, generate, put_all, read_all,
+    read_blocks, read_start, texts_have_no_fault,
+};

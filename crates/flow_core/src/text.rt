@@ -1,16 +1,5 @@
-//! Benchmark text: blocks of an instance with a seed and two bounds. Start text: a sequence, and its makespan.
+//! The modules of blocks, of faults and of starts, by the names that contracts of other crates use.
 
-mod block;
-mod fault;
-mod line;
-mod progress;
-mod read;
-mod start;
-mod steps;
-mod write;
-
-pub use block::Block;
-pub use fault::TextFault;
-pub use read::read_blocks;
-pub use start::{Claim, Start, StartFault, read_start};
-pub use write::block_text;
+pub mod block;
+pub mod fault;
+pub mod start;

@@ -1,8 +1,0 @@
-use Rattle.std.proofs.Common.{length, sym, ap, ◌∙◌}
-use Rattle.flow_core.specs.JobSet.{members}
-use Rattle.flow_core.proofs.JobSetLemmas.{length-members}
-use Rattle.flow_core.proofs.job_set.JobSet.count.Goals as goal
-
-pub returns : goal.returns
-returns c = c.count_of.ensures.value ∙ sym (length-members c.self.inside.flags)
-    ∙ ap (λ flags. length (members flags)) c.self.view_is

@@ -1,5 +1,0 @@
-use Rattle.flow_core.proofs.Admissible.{released_bound_is_stronger}
-use Rattle.flow_core.proofs.laws.released_bound_is_stronger.Goals as goal
-
-pub returns : goal.returns
-returns c = released_bound_is_stronger

@@ -1,8 +1,0 @@
-use Rattle.flow_core.proofs.SequenceLemmas.{sequence-fault-none-is, is-fault-none}
-use Rattle.flow_core.proofs.laws.sequences_have_no_fault.Goals as goal
-
-pub returns-clause-is : goal.returns-clause-is
-returns-clause-is c = sequence-fault-none-is
-
-pub returns-clause-has : goal.returns-clause-has
-returns-clause-has c = is-fault-none

@@ -1,0 +1,83 @@
+-- All limits of the repository. Contracts name these numbers, and never the code's constants.
+use Rattle.std.specs.Prelude.{ℕ, List, [], ◌∷◌}
+
+-- the most jobs of an instance
+abbrev pub most_jobs : ℕ
+most_jobs = 800
+
+-- the most machines of an instance
+abbrev pub most_machines : ℕ
+most_machines = 26
+
+-- the greatest time of a job on a machine
+abbrev pub greatest_time : ℕ
+greatest_time = 999999
+
+-- the greatest time of a front to which a job is added, so that no sum can overflow; no list of distinct jobs of an
+-- instance reaches it, so the code has no constant for it
+abbrev pub greatest_completion : ℕ
+greatest_completion = 1000000000
+
+-- the greatest number in a benchmark text
+abbrev pub greatest_number : ℕ
+greatest_number = 4294967295
+
+-- the greatest number that a start text may have as a job
+abbrev pub greatest_job_number : ℕ
+greatest_job_number = 65535
+
+-- the least seed of random numbers
+abbrev pub least_seed : ℕ
+least_seed = 1
+
+-- the greatest seed of random numbers
+abbrev pub greatest_seed : ℕ
+greatest_seed = 2147483646
+
+-- the greatest depth of a cut
+abbrev pub greatest_depth : ℕ
+greatest_depth = 3
+
+-- the least version of a certificate
+abbrev pub least_version : ℕ
+least_version = 1
+
+-- the greatest version of a certificate
+abbrev pub greatest_version : ℕ
+greatest_version = 2
+
+-- the most workers of a run
+abbrev pub most_workers : ℕ
+most_workers = 64
+
+-- the most prefixes of a plan
+abbrev pub most_prefixes : ℕ
+most_prefixes = 100000
+
+-- the greatest budget: how many bytes the tree of a prefix may have
+abbrev pub greatest_budget : ℕ
+greatest_budget = 100000000
+
+-- the most slots of a lane
+abbrev pub most_slots : ℕ
+most_slots = 100001
+
+-- the slots of each lane of a run
+abbrev pub run_slots : ℕ
+run_slots = 4
+
+-- the most bytes of a benchmark text or a start text that a command reads
+abbrev pub most_text : ℕ
+most_text = 16777216
+
+-- the most bytes of a certificate that a command reads
+abbrev pub most_certificate : ℕ
+most_certificate = 1000000000
+
+-- the most rounds of an improvement
+abbrev pub most_rounds : ℕ
+most_rounds = 100000000
+
+-- the budgets of `certify`, in the order in which they are tried
+abbrev pub budgets : List ℕ
+budgets = 10000 ∷ 100000 ∷ 1000000 ∷ 10000000 ∷ 100000000 ∷ []

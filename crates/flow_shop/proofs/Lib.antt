@@ -1,0 +1,16 @@
+pub mod Extremes
+pub mod Recurrence
+pub mod Fronts
+pub mod JobsLeft
+pub mod Admissible
+pub mod InstanceLemmas
+pub mod SequenceLemmas
+pub mod JobSetLemmas
+pub mod Turns
+pub mod Taken
+pub mod TwoLeast
+pub mod RowSteps
+pub mod Mirrors
+pub mod ReversedSequence
+pub mod MirrorLemmas
+pub mod Lists

@@ -1,0 +1,74 @@
+-- The two least of some numbers.
+use Rattle.std.proofs.Common.{◌≡◌, ◌≢◌, ℕ, ◌+◌, ◌<◌, ◌≤◌, min, max, List, [], ◌∷◌, ◌++◌, length, map, refl, ap, inl}
+use Rattle.std.proofs.Common.{inr, arith}
+use Rattle.std.proofs.lemmas.Bool.Decides.{eqb_tells}
+use Rattle.flow_shop.specs.Shop.{Shop, time_between}
+use Rattle.flow_shop.specs.Least.{least}
+use Rattle.flow_shop.specs.TwoLeast.{least_below, second_below, tails}
+
+-- a number is the least without one of them, y: the second least where y is the least, else the least
+abbrev pub Without : ℕ → ℕ → ℕ → ℕ → Type 0
+Without y p q m = (y ≡ p → m ≡ q) × (y ≢ p → m ≡ p)
+
+without-more : (y p q m v : ℕ) → p ≤ q → p ≤ y → Without y p q m → Without y (min p v) (min q (max p v)) (min m v)
+without-more y p q m v ordered low is = elim (eqb_tells y p) [
+  | inl same ↦
+      let e : y ≡ p = same.1 in
+      let f : m ≡ q = is.0 e in
+      (λ g. omega (arith, e, f, g, ordered), λ g. omega (arith, e, f, g, ordered))
+  | inr other ↦
+      let f : m ≡ p = is.1 other.1 in
+      let n : y ≢ p = other.1 in
+      (λ g. omega (arith, n, f, g, ordered, low), λ g. omega (arith, f))
+]
+
+without-rest : (y p q m : ℕ) (vs : List ℕ) → p ≤ q → p ≤ y → Without y p q m →
+    Without y (least_below p vs) (second_below p q vs) (least_below m vs)
+without-rest y p q m [] ordered low is = is
+without-rest y p q m (v ∷ vs) ordered low is =
+    without-rest y (min p v) (min q (max p v)) (min m v) vs (omega (arith, ordered)) (omega (arith, low))
+    (without-more y p q m v ordered low is)
+
+pub without-one : (y a b : ℕ) (us vs : List ℕ) → a ≤ b →
+    Without y (least_below a (us ++ y ∷ vs)) (second_below a b (us ++ y ∷ vs)) (least_below a (us ++ vs))
+without-one y a b (u ∷ us) vs ordered = without-one y (min a u) (min b (max a u)) us vs (omega (arith, ordered))
+without-one y a b [] vs ordered =
+    without-rest y (min a y) (min b (max a y)) a vs (omega (arith, ordered)) (omega arith) (
+      λ g. omega
+          (arith, g, ordered),
+      λ g. omega (arith, g),
+    )
+
+least-below-is : (c x : ℕ) (xs : List ℕ) → least_below c (x ∷ xs) ≡ min c (least (x ∷ xs))
+least-below-is c x [] = refl
+least-below-is c x (y ∷ ys) = omega (arith, least-below-is (min c x) y ys)
+
+pub least-le-first : (x : ℕ) (xs : List ℕ) → least (x ∷ xs) ≤ x
+least-le-first x [] = omega arith
+least-le-first x (y ∷ ys) = omega arith
+
+-- where each number is below the cap, it takes no part
+pub least-below-cap : (c m : ℕ) (f : ℕ → ℕ) (jobs : List ℕ) → 0 < length jobs → ((job : ℕ) → f job ≤ m) → m ≤ c →
+    (least_below c (map f jobs) ≡ least (map f jobs)) × (least (map f jobs) ≤ m)
+least-below-cap c m f [] some small fits = absurd (omega (arith, some))
+least-below-cap c m f (job ∷ jobs) some small fits =
+    let first = least-le-first (f job) (map f jobs) in
+    (omega (arith, least-below-is c (f job) (map f jobs), first, small job, fits), omega (arith, first, small job))
+
+-- the two least of some numbers and of one more behind them
+pub least-push : (a : ℕ) (xs : List ℕ) (x : ℕ) → least_below a (xs ++ x ∷ []) ≡ min (least_below a xs) x
+least-push a [] x = refl
+least-push a (y ∷ ys) x = least-push (min a y) ys x
+
+pub second-push : (a b : ℕ) (xs : List ℕ) (x : ℕ) →
+    second_below a b (xs ++ x ∷ []) ≡ min (second_below a b xs) (max (least_below a xs) x)
+second-push a b [] x = refl
+second-push a b (y ∷ ys) x = second-push (min a y) (min b (max a y)) ys x
+
+-- the tails of some jobs and of one more
+pub tails-push : (shop : Shop) (machine : ℕ) (jobs : List ℕ) (job : ℕ) →
+    tails shop machine (jobs ++ job ∷ []) ≡ tails shop machine jobs ++ time_between shop job (machine + 1) shop.machines
+    ∷ []
+tails-push shop machine [] job = refl
+tails-push shop machine (j ∷ js) job =
+    ap (λ xs. time_between shop j (machine + 1) shop.machines ∷ xs) (tails-push shop machine js job)

@@ -1,0 +1,5 @@
+use Rattle.flow_shop.proofs.Admissible.{released_bound_is_admissible}
+use Rattle.flow_shop.proofs.laws.released_bound_is_admissible.Goals as goal
+
+pub returns : goal.returns
+returns c = released_bound_is_admissible

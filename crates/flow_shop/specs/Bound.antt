@@ -1,0 +1,68 @@
+-- The two bounds on the makespan of every sequence that begins with a list of jobs: the machine bound, and the released
+-- bound.
+use Rattle.std.specs.Prelude.{ℕ, ◌+◌, ◌-◌, ◌≤◌, ◌<◌, cond, nat_eq, List, map, length, slice_index, sum_by}
+use Rattle.flow_shop.specs.Shop.{Shop, numbers, time, time_between}
+use Rattle.flow_shop.specs.Least.{greatest, least}
+use Rattle.flow_shop.specs.Paths.{completion, span}
+use Rattle.flow_shop.specs.Sequences.{jobs_left, IsSequence, Extends}
+
+-- the machine bound: the front on the machine, plus the times of the jobs left on it, plus the least tail of one of
+-- these jobs, which is its time on the later machines
+abbrev pub machine_bound : Shop → List ℕ → List ℕ → ℕ → ℕ
+machine_bound shop front left machine =
+    slice_index front (machine - 1) + sum_by (λ job. time shop job machine) left
+    + least (map (λ job. time_between shop job (machine + 1) shop.machines) left)
+
+-- the front of a list: its completion time on each machine
+abbrev pub front_of : Shop → List ℕ → List ℕ
+front_of shop jobs = map (completion shop jobs) (numbers 1 shop.machines)
+
+-- the machine bound of a list
+abbrev pub bound_at : Shop → List ℕ → ℕ → ℕ
+bound_at shop jobs machine = machine_bound shop (front_of shop jobs) (jobs_left shop.jobs jobs) machine
+
+-- the release of a machine, before which no job left starts on it: for each machine up to this one, its front plus the
+-- least time that a job left needs from there to this machine; and the greatest of these
+abbrev pub release : Shop → List ℕ → List ℕ → ℕ → ℕ
+release shop front left machine =
+    greatest (map
+    (λ from. slice_index front (from - 1) + least (map (λ job. time_between shop job from (machine - 1)) left))
+    (numbers 1 machine))
+
+-- the released bound: the machine bound with the release in place of the front
+abbrev pub released_bound : Shop → List ℕ → List ℕ → ℕ → ℕ
+released_bound shop front left machine =
+    release shop front left machine + sum_by (λ job. time shop job machine) left
+    + least (map (λ job. time_between shop job (machine + 1) shop.machines) left)
+
+-- the released bound of a list
+abbrev pub released_bound_at : Shop → List ℕ → ℕ → ℕ
+released_bound_at shop jobs machine = released_bound shop (front_of shop jobs) (jobs_left shop.jobs jobs) machine
+
+-- the bound of a certificate version: the released bound for version 2, the machine bound for version 1
+abbrev pub bound_of : ℕ → Shop → List ℕ → ℕ → ℕ
+bound_of version = cond (nat_eq version 2) released_bound_at bound_at
+
+-- the letter of a machine: A for 1
+abbrev pub letter : ℕ → ℕ
+letter machine = 64 + machine
+
+-- the makespan of a sequence that extends a list is at least the bound of the list on each machine
+abbrev pub BoundIsAdmissible : Type 0
+BoundIsAdmissible =
+    (shop : Shop) (jobs sequence : List ℕ) (machine : ℕ) → 1 ≤ machine → machine ≤ shop.machines →
+    IsSequence shop.jobs sequence → Extends sequence jobs → length jobs < shop.jobs →
+    bound_at shop jobs machine ≤ span shop sequence
+
+-- the makespan of a sequence that extends a list is at least the released bound of the list on each machine
+abbrev pub ReleasedBoundIsAdmissible : Type 0
+ReleasedBoundIsAdmissible =
+    (shop : Shop) (jobs sequence : List ℕ) (machine : ℕ) → 1 ≤ machine → machine ≤ shop.machines →
+    IsSequence shop.jobs sequence → Extends sequence jobs → length jobs < shop.jobs →
+    released_bound_at shop jobs machine ≤ span shop sequence
+
+-- the released bound of a list is at least its machine bound
+abbrev pub ReleasedBoundIsStronger : Type 0
+ReleasedBoundIsStronger =
+    (shop : Shop) (jobs : List ℕ) (machine : ℕ) → 1 ≤ machine →
+    bound_at shop jobs machine ≤ released_bound_at shop jobs machine

@@ -1,0 +1,16 @@
+pub use Rattle.flow_limits.specs.Limits
+pub mod Shop
+pub mod Least
+pub mod Paths
+pub mod Sequences
+pub mod Bound
+pub mod Front
+pub mod Rows
+pub mod TwoLeast
+pub mod Mirror
+pub mod JobSet
+pub mod Refusals
+pub mod InstanceFaults
+pub mod SequenceFaults
+pub mod Digits
+pub mod internal

@@ -1,0 +1,230 @@
+//! An instance: the times of jobs on machines.
+
+ghost use Rattle.std.specs.Prelude.{◌≡◌, ℕ, ◌*◌, ◌%◌, ◌<◌, ◌≤◌, nat_lt, length, position, All, None};
+ghost use Rattle.std.specs.Prelude.{IfSome, IfNone, IfOk, OnOk, IfErr};
+ghost use Rattle.std.specs.Cmp.{partial_equiv_from_equiv};
+ghost use Rattle.flow_shop.specs.Shop.{IsWithinLimits, time, is_same_shop};
+ghost use Rattle.flow_shop.specs.internal.Same.{is_same_shop-equiv};
+ghost use Rattle.flow_shop.specs.InstanceFaults.{instance_fault, but_memory};
+ghost use Rattle.flow_shop.specs.declared.instance.InstanceFault.TheVariants.{Memory};
+ghost use Rattle.flow_limits.specs.Limits.{greatest_time};
+ghost use Rattle.flow_shop.specs.internal.Turned.{turned, reversed};
+ghost use Rattle.flow_shop.specs.Mirror.{mirrored};
+
+use flow_limits::{MAX_JOBS, MAX_MACHINES, MAX_TIME};
+use std::alloc::{AllocError, Global};
+use std::marker::Model;
+use thiserror::Error;
+
+/// Why an instance can't be made, in the order of the tests. Only `generate` returns `Seed`.
+#[derive(Clone, Copy, Debug, PartialEq, Eq, Error)]
+pub enum InstanceFault {
+    /// The number of jobs is not in `1..=MAX_JOBS`.
+    #[error("Jobs")]
+    Jobs,
+    /// The number of machines is not in `1..=MAX_MACHINES`.
+    #[error("Machines")]
+    Machines,
+    /// There is not one time for each job and machine.
+    #[error("Count")]
+    Count,
+    /// The time at this place, counted from 1, is the first above `MAX_TIME`.
+    #[error("Time {0}")]
+    Time(usize),
+    /// The seed of a generator is not in `1..=2147483646`.
+    #[error("Seed")]
+    Seed,
+    /// Memory ran out.
+    #[error("Memory")]
+    Memory,
+}
+
+impl From<AllocError> for InstanceFault {
+    ghost from_gives = { λ _ fault. fault ≡ Memory };
+
+    fn from(_error: AllocError) -> InstanceFault {
+        InstanceFault::Memory
+    }
+}
+
+/// The time of each job on each machine, within the limits.
+#[derive(Debug, Drop)]
+pub struct Instance {
+    jobs: u16,
+    machines: u16,
+    /// The times job by job, and for each job machine by machine, so that the times of a job stand side by side.
+    rows: Vec<u32>,
+}
+
+impl Model for Instance {
+    ghost use Rattle.std.specs.Prelude.{◌≡◌, ◌*◌, length};
+    ghost use Rattle.flow_shop.specs.Shop.{Shop, IsWithinLimits};
+    ghost use Rattle.flow_shop.specs.internal.Turned.{turned};
+
+    ghost Value = { Shop };
+
+    ghost view = { λ i.
+        record { jobs = i.jobs; machines = i.machines; times = turned i.jobs i.machines i.rows.items } };
+
+    ghost invariant = { λ i. IsWithinLimits
+        (record { jobs = i.jobs; machines = i.machines; times = turned i.jobs i.machines i.rows.items })
+        × (length i.rows.items ≡ i.jobs * i.machines) };
+}
+
+/// The numbers of a table, column by column. The table is given row by row: `lists` rows of `each` numbers.
+fn by_columns(
+    alloc: Global,
+    lists: usize,
+    each: usize,
+    numbers: &[u32],
+) -> Result<Vec<u32>, AllocError>
+    requires some { 0 < lists }
+    requires count { length numbers.now ≡ lists * each }
+    ensures { IfOk result (λ taken. taken.items ≡ turned lists each numbers.now) }
+{
+    let count = numbers.len();
+    let mut taken = Vec::with_capacity(alloc, count)?;
+    for place in 0..count {
+        taken.push_reserved(numbers[place % lists * each + place / lists]);
+    }
+    Ok(taken)
+}
+
+/// The numbers of a table, row by row, each row in reverse order. The rows have `each` numbers.
+fn rows_reversed(alloc: Global, each: usize, numbers: &[u32]) -> Result<Vec<u32>, AllocError>
+    requires some { 0 < each }
+    requires whole { length numbers.now % each ≡ 0 }
+    ensures { IfOk result (λ taken. taken.items ≡ reversed each numbers.now) }
+{
+    let count = numbers.len();
+    let mut taken = Vec::with_capacity(alloc, count)?;
+    for place in 0..count {
+        let row = place / each * each;
+        taken.push_reserved(numbers[row + (each - 1 - place % each)]);
+    }
+    Ok(taken)
+}
+
+impl PartialEq for Instance {
+    ghost eq = { is_same_shop };
+
+    ghost laws = { partial_equiv_from_equiv is_same_shop-equiv };
+
+    fn eq(&self, other: &Instance) -> bool {
+        (self.jobs, self.machines) == (other.jobs, other.machines) && self.rows == other.rows
+    }
+}
+
+impl Eq for Instance {
+    ghost laws = { is_same_shop-equiv };
+}
+
+/// The index of the first time above the limit.
+fn first_too_great(times: &[u32]) -> Option<usize>
+    ensures value { result ≡ position (λ time. nat_lt greatest_time time) times.now }
+    ensures within { IfSome result (λ index. index < length times.now) }
+    ensures none { IfNone result (All (λ time. time ≤ greatest_time) times.now) }
+{
+    times.iter().position(|time| *time > MAX_TIME)
+}
+
+impl Instance {
+    /// The instance of these times, machine by machine and for each machine job by job; or the first fault; or
+    /// `Memory`.
+    pub fn new(
+        alloc: Global,
+        jobs: u32,
+        machines: u32,
+        times: &[u32],
+    ) -> Result<Instance, InstanceFault>
+        ensures value { IfOk result
+            (λ instance. instance ≡ record { jobs = jobs; machines = machines; times = times.now }) }
+        ensures accepted { OnOk result (instance_fault jobs machines times.now ≡ None) }
+        ensures refused { IfErr result (λ fault. instance_fault jobs machines times.now ≡ but_memory fault) }
+    {
+        if jobs < 1 || jobs as usize > MAX_JOBS {
+            return Err(InstanceFault::Jobs);
+        }
+        if machines < 1 || machines as usize > MAX_MACHINES {
+            return Err(InstanceFault::Machines);
+        }
+        if times.len() != jobs as usize * machines as usize {
+            return Err(InstanceFault::Count);
+        }
+        if let Some(index) = first_too_great(times) {
+            return Err(InstanceFault::Time(index + 1));
+        }
+        Ok(Instance::from_times(alloc, jobs as u16, machines as u16, times)?)
+    }
+
+    /// The instance of numbers that are known to be within the limits; times machine by machine.
+    pub fn from_times(
+        alloc: Global,
+        jobs: u16,
+        machines: u16,
+        times: &[u32],
+    ) -> Result<Instance, AllocError>
+        requires { IsWithinLimits (record { jobs = jobs; machines = machines; times = times.now }) }
+        ensures { IfOk result
+            (λ instance. instance ≡ record { jobs = jobs; machines = machines; times = times.now }) }
+    {
+        Ok(Instance {
+            jobs,
+            machines,
+            rows: by_columns(alloc, machines as usize, jobs as usize, times)?,
+        })
+    }
+
+    /// The instance with its machines in reverse order: machine `k` has the times of machine `m + 1 - k`.
+    pub fn mirrored(&self, alloc: Global) -> Result<Instance, AllocError>
+        ensures { IfOk result (λ instance. instance ≡ mirrored self.now) }
+    {
+        Ok(Instance {
+            jobs: self.jobs,
+            machines: self.machines,
+            rows: rows_reversed(alloc, self.machines as usize, self.rows.as_slice())?,
+        })
+    }
+
+    /// How many jobs there are.
+    pub fn jobs(&self) -> u16
+        ensures value { result ≡ self.now.jobs }
+        ensures limits { IsWithinLimits self.now }
+    {
+        self.jobs
+    }
+
+    /// How many machines there are.
+    pub fn machines(&self) -> u16
+        ensures value { result ≡ self.now.machines }
+        ensures limits { IsWithinLimits self.now }
+    {
+        self.machines
+    }
+
+    /// The times, machine by machine and for each machine job by job.
+    pub fn times(&self, alloc: Global) -> Result<Vec<u32>, AllocError>
+        ensures value { IfOk result (λ times. times.items ≡ self.now.times) }
+        ensures limits { IsWithinLimits self.now }
+    {
+        by_columns(
+            alloc,
+            usize::from(self.jobs),
+            usize::from(self.machines),
+            self.rows.as_slice(),
+        )
+    }
+
+    /// The time of a job on a machine, both counted from 1.
+    pub fn time(&self, job: u16, machine: u16) -> u32
+        requires job_from { 1 ≤ job }
+        requires job_to { job ≤ self.now.jobs }
+        requires machine_from { 1 ≤ machine }
+        requires machine_to { machine ≤ self.now.machines }
+        ensures value { result ≡ time self.now job machine }
+        ensures limit { result ≤ greatest_time }
+    {
+        let place = (job as usize - 1) * self.machines as usize + (machine as usize - 1);
+        self.rows[place]
+    }
+}

@@ -1,0 +1,78 @@
+//! Laws of the definitions: each contract is a theorem, and no body does anything.
+
+ghost use Rattle.std.specs.Prelude.{◌≡◌, ◌↔◌, ℕ, ◌+◌, ◌-◌, ◌*◌, ◌<◌, ◌≤◌, max, List, [], ◌∷◌, ◌++◌, length, reverse};
+ghost use Rattle.std.specs.Prelude.{All, None};
+ghost use Rattle.flow_shop.specs.Shop.{Shop, IsWithinLimits, time};
+ghost use Rattle.flow_shop.specs.Paths.{IsPath, weight, completion, span};
+ghost use Rattle.flow_shop.specs.Sequences.{IsSequence, IsLeastMakespan};
+ghost use Rattle.flow_shop.specs.Mirror.{mirrored};
+ghost use Rattle.flow_shop.specs.InstanceFaults.{instance_fault};
+ghost use Rattle.flow_shop.specs.SequenceFaults.{sequence_fault};
+ghost use Rattle.flow_shop.specs.Bound.{BoundIsAdmissible, ReleasedBoundIsAdmissible, ReleasedBoundIsStronger};
+
+/// A completion time is the weight of a heaviest staircase path.
+pub fn completion_is_greatest()
+    ensures attained { (shop : Shop) (jobs : List ℕ) (machine : ℕ) → 0 < length jobs → 1 ≤ machine →
+        (machines : List ℕ) × (length machines ≡ length jobs) × IsPath 1 machines machine
+        × (weight shop jobs 1 machines ≡ completion shop jobs machine) }
+    ensures greatest { (shop : Shop) (jobs machines : List ℕ) (machine : ℕ) →
+        length machines ≡ length jobs → IsPath 1 machines machine →
+        weight shop jobs 1 machines ≤ completion shop jobs machine }
+{}
+
+/// A job starts on a machine when the job before it has left that machine, and it has itself left the machine before.
+pub fn completion_by_recurrence()
+    ensures { (shop : Shop) (jobs : List ℕ) (job machine : ℕ) →
+        completion shop (jobs ++ job ∷ []) (machine + 1)
+        ≡ max (completion shop jobs (machine + 1)) (completion shop (jobs ++ job ∷ []) machine)
+        + time shop job (machine + 1) }
+{}
+
+/// The makespan of a sequence that extends a list is at least the list's bound on each machine.
+pub fn bound_is_admissible()
+    ensures { BoundIsAdmissible }
+{}
+
+/// The makespan of a sequence that extends a list is at least the list's released bound on each machine.
+pub fn released_bound_is_admissible()
+    ensures { ReleasedBoundIsAdmissible }
+{}
+
+/// The released bound of a list is at least its machine bound.
+pub fn released_bound_is_stronger()
+    ensures { ReleasedBoundIsStronger }
+{}
+
+/// An instance has one least makespan.
+pub fn least_makespan_is_one()
+    ensures { (shop : Shop) (value other : ℕ) → IsLeastMakespan shop value → IsLeastMakespan shop other →
+        value ≡ other }
+{}
+
+/// The makespan of jobs in the mirrored shop is that of the reversed list in the shop; so the least makespans are the
+/// same.
+pub fn mirror_keeps_makespans()
+    ensures times { (shop : Shop) (job machine : ℕ) → 1 ≤ job → job ≤ shop.jobs → 1 ≤ machine →
+        machine ≤ shop.machines → time (mirrored shop) job machine ≡ time shop job (shop.machines + 1 - machine) }
+    ensures lists { (shop : Shop) (jobs : List ℕ) → All (λ job. (1 ≤ job) × (job ≤ shop.jobs)) jobs →
+        span (mirrored shop) jobs ≡ span shop (reverse jobs) }
+    ensures least { (shop : Shop) (value : ℕ) → IsLeastMakespan (mirrored shop) value ↔ IsLeastMakespan shop value }
+{}
+
+/// The mirrored shop of one within the limits is within them; a shop that is mirrored twice is the shop again.
+pub fn mirror_turns_back()
+    ensures limits { (shop : Shop) → IsWithinLimits shop → IsWithinLimits (mirrored shop) }
+    ensures twice { (shop : Shop) → length shop.times ≡ shop.jobs * shop.machines → mirrored (mirrored shop) ≡ shop }
+{}
+
+/// Numbers have no fault exactly where they are an instance within the limits.
+pub fn instances_have_no_fault()
+    ensures is { (shop : Shop) → instance_fault shop.jobs shop.machines shop.times ≡ None → IsWithinLimits shop }
+    ensures has { (shop : Shop) → IsWithinLimits shop → instance_fault shop.jobs shop.machines shop.times ≡ None }
+{}
+
+/// A list has no fault exactly where it is a sequence.
+pub fn sequences_have_no_fault()
+    ensures is { (n : ℕ) (jobs : List ℕ) → sequence_fault n jobs ≡ None → IsSequence n jobs }
+    ensures has { (n : ℕ) (jobs : List ℕ) → IsSequence n jobs → sequence_fault n jobs ≡ None }
+{}

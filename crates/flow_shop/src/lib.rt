@@ -1,0 +1,20 @@
+//! The permutation flow shop: instances, sequences, completion times and bounds.
+#![tactic(auto)]
+
+mod front;
+mod instance;
+mod job_set;
+mod laws;
+mod row;
+mod sequence;
+
+pub use front::{Front, front_push, makespan};
+pub use instance::{Instance, InstanceFault};
+pub use job_set::JobSet;
+pub use laws::{
+    bound_is_admissible, completion_by_recurrence, completion_is_greatest, instances_have_no_fault,
+    least_makespan_is_one, mirror_keeps_makespans, mirror_turns_back, released_bound_is_admissible,
+    released_bound_is_stronger, sequences_have_no_fault,
+};
+pub use row::{Row, rows};
+pub use sequence::{Sequence, SequenceFault};

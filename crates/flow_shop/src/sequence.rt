@@ -1,0 +1,127 @@
+//! A sequence: the jobs of an instance in some order.
+
+ghost use Rattle.std.specs.Prelude.{◌≡◌, ℕ, ◌≤◌, nat_eq, [], None, length, reverse, IfOk, OnOk, IfErr};
+ghost use Rattle.std.specs.Cmp.{partial_equiv_from_equiv};
+ghost use Rattle.std.specs.Cmp.Lexicographic.{pointwise, nat_list_eq_equiv};
+ghost use Rattle.flow_shop.specs.Sequences.{IsSequence};
+ghost use Rattle.flow_shop.specs.SequenceFaults.{place_fault, sequence_fault, but_memory};
+ghost use Rattle.flow_shop.specs.declared.sequence.SequenceFault.TheVariants.{Memory};
+ghost use Rattle.flow_limits.specs.Limits.{most_jobs};
+
+use crate::instance::Instance;
+use crate::job_set::JobSet;
+use std::alloc::{AllocError, Global};
+use std::marker::Model;
+use thiserror::Error;
+
+/// Why a sequence can't be made, in the order of the tests. Places are counted from 1.
+#[derive(Clone, Copy, Debug, PartialEq, Eq, Error)]
+pub enum SequenceFault {
+    /// There are not as many jobs as the instance has.
+    #[error("Length")]
+    Length,
+    /// The job at this place, the first at fault, is not one of the instance.
+    #[error("Job {0}")]
+    Job(usize),
+    /// The job at this place, the first at fault, stands at an earlier place too.
+    #[error("Twice {0}")]
+    Twice(usize),
+    /// Memory ran out.
+    #[error("Memory")]
+    Memory,
+}
+
+impl From<AllocError> for SequenceFault {
+    ghost from_gives = { λ _ fault. fault ≡ Memory };
+
+    fn from(_error: AllocError) -> SequenceFault {
+        SequenceFault::Memory
+    }
+}
+
+/// The jobs of an instance in some order, each once.
+#[derive(Debug, Drop)]
+pub struct Sequence {
+    jobs: Vec<u16>,
+}
+
+impl Model for Sequence {
+    ghost use Rattle.std.specs.Prelude.{List, ℕ, length};
+    ghost use Rattle.flow_shop.specs.Sequences.{IsSequence};
+
+    ghost Value = { List ℕ };
+
+    ghost view = { λ s. s.jobs.items };
+
+    ghost invariant = { λ s. IsSequence (length s.jobs.items) s.jobs.items };
+}
+
+impl PartialEq for Sequence {
+    ghost eq = { pointwise nat_eq };
+
+    ghost laws = { partial_equiv_from_equiv nat_list_eq_equiv };
+
+    fn eq(&self, other: &Sequence) -> bool {
+        self.jobs == other.jobs
+    }
+}
+
+impl Eq for Sequence {
+    ghost laws = { nat_list_eq_equiv };
+}
+
+/// The fault of the first job that is not from 1 to `n`, or that stands at an earlier place too.
+fn first_job_at_fault(n: u16, jobs: &[u16]) -> Option<SequenceFault>
+    requires { n ≤ most_jobs }
+    ensures { result ≡ place_fault n [] jobs.now }
+{
+    let mut earlier = JobSet::none();
+    for (index, &job) in jobs.iter().enumerate() {
+        if job < 1 || job > n {
+            return Some(SequenceFault::Job(index + 1));
+        }
+        if earlier.contains(job) {
+            return Some(SequenceFault::Twice(index + 1));
+        }
+        earlier.insert(job);
+    }
+    None
+}
+
+impl Sequence {
+    /// The sequence of these jobs; or the first fault; or `Memory`.
+    pub fn new(alloc: Global, instance: &Instance, jobs: &[u16]) -> Result<Sequence, SequenceFault>
+        ensures value { IfOk result (λ sequence. sequence ≡ jobs.now) }
+        ensures accepted { OnOk result (sequence_fault instance.now.jobs jobs.now ≡ None) }
+        ensures refused { IfErr result (λ fault. sequence_fault instance.now.jobs jobs.now ≡ but_memory fault) }
+        ensures each { OnOk result (IsSequence instance.now.jobs jobs.now) }
+    {
+        let n = instance.jobs();
+        if jobs.len() != n as usize {
+            return Err(SequenceFault::Length);
+        }
+        match first_job_at_fault(n, jobs) {
+            Some(fault) => Err(fault),
+            None => Ok(Sequence {
+                jobs: Vec::from_slice(alloc, jobs)?,
+            }),
+        }
+    }
+
+    /// The jobs in reverse order.
+    pub fn reversed(mut self) -> Sequence
+        ensures value { result ≡ reverse self }
+        ensures each { IsSequence (length self) result }
+    {
+        self.jobs.reverse();
+        self
+    }
+
+    /// The jobs in order.
+    pub fn jobs(&self) -> &[u16]
+        ensures value { result.now ≡ self.now }
+        ensures each { IsSequence (length self.now) self.now }
+    {
+        self.jobs.as_slice()
+    }
+}

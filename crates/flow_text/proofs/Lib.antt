@@ -1,0 +1,10 @@
+pub mod GeneratorLemmas
+pub mod BytesLemmas
+pub mod LineLemmas
+pub mod NumberLemmas
+pub mod TextGrammar
+pub mod TextComplete
+pub mod TextFaultLemmas
+pub mod TextAnswers
+pub mod TextWritten
+pub mod StartLemmas

@@ -1,0 +1,3 @@
+pub mod TextWalk
+pub mod StartSteps
+pub mod Codes

@@ -1,0 +1,192 @@
+-- The states in which a text is read line by line. Only contracts of private functions speak of them: which blocks a
+-- text reads as stands in Text, and what its first fault is in TextFaults.
+use Rattle.std.specs.Prelude.{◌≡◌, ℕ, ◌+◌, ◌*◌, ◌≤◌, true, not, ◌==◌, nat_lt, if◌then◌else◌, List, [], ◌∷◌, ◌++◌}
+use Rattle.std.specs.Prelude.{length, Option, None, Some, Result, Ok, Err, slice_index}
+use Rattle.flow_text.specs.Lines.{after_blanks, is_digit, is_plain, numbers_of, are_small}
+use Rattle.flow_text.specs.TextFaults.{is_head, are_times}
+use Rattle.flow_limits.specs.Limits.{most_jobs, most_machines, greatest_number}
+use Rattle.flow_text.specs.declared.text.block.Block.{Block}
+use Rattle.flow_text.specs.declared.text.fault.LineFault.{LineFault}
+use Rattle.flow_text.specs.declared.text.fault.LineFault.TheVariants as line
+use Rattle.flow_text.specs.declared.text.fault.TextFault.{TextFault}
+use Rattle.flow_text.specs.declared.text.fault.TextFault.TheVariants as text
+use Rattle.flow_text.specs.declared.text.progress.Want.{Want}
+use Rattle.flow_text.specs.declared.text.progress.Want.TheVariants.{FirstLabel, HeadNumbers, SecondLabel, Times}
+use Rattle.flow_text.specs.declared.text.progress.Progress.{Progress}
+use Rattle.flow_text.specs.declared.text.progress.Head.{Head}
+
+-- what a second step returns for the value of the first, or the fault of the first
+infixl 10 ◌>>=◌
+abbrev pub ◌>>=◌ : {A B E : Type 0} → Result A E → (A → Result B E) → Result B E
+(Ok x) >>= f = f x
+(Err e) >>= f = Err e
+
+-- the fault that a call returned for a line is what a definition gives, unless memory ran out
+abbrev pub LineFails : {Y : Type 0} → LineFault → Result Y LineFault → Type 0
+LineFails line.Memory read = Unit {0}
+LineFails e read = read ≡ Err e
+
+-- what a call returned for a line, seen by a view, is what a definition gives, unless memory ran out
+abbrev pub LineGives : {X Y : Type 0} → (X → Y) → Result X LineFault → Result Y LineFault → Type 0
+LineGives view (Ok x) read = read ≡ Ok (view x)
+LineGives view (Err e) read = LineFails e read
+
+-- the fault that a call returned for a text is what a definition gives, unless memory ran out
+abbrev pub TextFails : {Y : Type 0} → TextFault → Result Y TextFault → Type 0
+TextFails text.Memory read = Unit {0}
+TextFails e read = read ≡ Err e
+
+-- what a call returned for a text, seen by a view, is what a definition gives, unless memory ran out
+abbrev pub TextGives : {X Y : Type 0} → (X → Y) → Result X TextFault → Result Y TextFault → Type 0
+TextGives view (Ok x) read = read ≡ Ok (view x)
+TextGives view (Err e) read = TextFails e read
+
+-- the first byte
+abbrev pub first : List ℕ → Option ℕ
+first [] = None
+first (b ∷ bs) = Some b
+
+-- the five numbers at the head of a block
+pub record Sizes : Type 0 where
+  pub jobs : ℕ
+  pub machines : ℕ
+  pub seed : ℕ
+  pub upper : ℕ
+  pub lower : ℕ
+
+-- a head as its five numbers
+abbrev pub sizes : Head → Sizes
+sizes h = record { jobs = h.jobs; machines = h.machines; seed = h.seed; upper = h.upper; lower = h.lower }
+
+-- the first five numbers of a list as a head
+abbrev pub sizes_of : List ℕ → Sizes
+sizes_of ns = record {
+  jobs = slice_index ns 0;
+  machines = slice_index ns 1;
+  seed = slice_index ns 2;
+  upper = slice_index ns 3;
+  lower = slice_index ns 4;
+}
+
+-- the head of a block keeps the limits
+pub record SizesFit (h : Sizes) : Type 0 where
+  pub some_job : 1 ≤ h.jobs
+  pub jobs : h.jobs ≤ most_jobs
+  pub some_machine : 1 ≤ h.machines
+  pub machines : h.machines ≤ most_machines
+  pub seed : h.seed ≤ greatest_number
+  pub upper : h.upper ≤ greatest_number
+  pub lower : h.lower ≤ greatest_number
+
+-- what is wanted, the numbers since the last label, the head of the block, and the blocks before it
+pub record State : Type 0 where
+  pub want : Want
+  pub numbers : List ℕ
+  pub head : Sizes
+  pub blocks : List Block
+
+-- the state of a reading
+abbrev pub state_of : Progress → State
+state_of p = record { want = p.want; numbers = p.numbers.items; head = sizes p.head; blocks = p.blocks.items }
+
+-- the state before the first line
+abbrev pub start : State
+start = record {
+  want = FirstLabel;
+  numbers = [];
+  head = record { jobs = 1; machines = 1; seed = 0; upper = 0; lower = 0 };
+  blocks = [];
+}
+
+-- what the tests so far have shown
+abbrev pub Keeps : State → Type 0
+Keeps s = elim s.want [
+  | FirstLabel ↦ Unit {0}
+  | HeadNumbers ↦ are_small s.numbers ≡ true
+  | SecondLabel ↦ SizesFit s.head
+  | Times ↦ SizesFit s.head × (are_times s.numbers ≡ true)
+]
+
+-- a number line's numbers, or what is wrong with its bytes
+unfoldable pub line_numbers : List ℕ → Result (List ℕ) LineFault
+line_numbers l =
+    if not (is_plain l) then Err line.Byte
+    else (if not (are_small (numbers_of l)) then Err line.Number else Ok (numbers_of l))
+
+-- the block of a head and its times
+abbrev pub block_of : Sizes → List ℕ → Block
+block_of head times = record {
+  seed = head.seed;
+  upper = head.upper;
+  lower = head.lower;
+  instance = record { jobs = head.jobs; machines = head.machines; times = times };
+}
+
+-- the state after a label line, or its fault
+unfoldable pub after_label : State → Result State LineFault
+after_label s = elim s.want [
+  | FirstLabel ↦ Ok (record s { want = HeadNumbers; numbers = [] })
+  | HeadNumbers ↦ Err line.Head
+  | SecondLabel ↦ Ok (record s { want = Times; numbers = [] })
+  | Times ↦ Err line.Times
+]
+
+-- the state when the numbers of a head so far are these, or the fault
+unfoldable pub after_head_numbers : State → List ℕ → Result State LineFault
+after_head_numbers s ns = if nat_lt 5 (length ns) then Err line.Head
+    else (if nat_lt (length ns) 5 then Ok (record s { numbers = ns })
+    else (if is_head ns then Ok (record s { want = SecondLabel; numbers = []; head = sizes_of ns })
+    else Err line.Limits))
+
+-- the state when all times of a block so far are these, the new ones of the last line included, or the fault
+unfoldable pub after_times : State → List ℕ → List ℕ → Result State LineFault
+after_times s new all = let wanted = s.head.jobs * s.head.machines in
+    if nat_lt wanted (length all) then Err line.Times
+    else (if not (are_times new) then Err line.Limits
+    else (if nat_lt (length all) wanted then Ok (record s { numbers = all })
+    else Ok (record s { want = FirstLabel; numbers = []; blocks = s.blocks ++ block_of s.head all ∷ [] })))
+
+-- the state after a number line, or its fault
+unfoldable pub after_numbers : State → List ℕ → Result State LineFault
+after_numbers s l = elim s.want [
+  | FirstLabel ↦ Err line.Label
+  | HeadNumbers ↦ line_numbers l >>= λ ns. after_head_numbers s (s.numbers ++ ns)
+  | SecondLabel ↦ Err line.Label
+  | Times ↦ line_numbers l >>= λ ns. after_times s ns (s.numbers ++ ns)
+]
+
+-- the state after a line, or its fault
+unfoldable pub after_line : State → List ℕ → Result State LineFault
+after_line s l = elim (after_blanks l) [
+  | [] ↦ Ok s
+  | b ∷ bs ↦ if is_digit b then after_numbers s l else after_label s
+]
+
+-- the fault of a line, at its place
+abbrev pub at_line : LineFault → ℕ → TextFault
+at_line line.Memory n = text.Memory
+at_line line.Label n = text.Label n
+at_line line.Byte n = text.Byte n
+at_line line.Number n = text.Number n
+at_line line.Head n = text.Head n
+at_line line.Limits n = text.Limits n
+at_line line.Times n = text.Times n
+
+-- what is returned at the end of a text, where the next line would have this number
+unfoldable pub at_end : State → ℕ → Result (List Block) TextFault
+at_end s n = elim s.want [
+  | FirstLabel ↦ if length s.blocks == 0 then Err text.NoBlock else Ok s.blocks
+  | HeadNumbers ↦ Err (text.Head n)
+  | SecondLabel ↦ Err (text.Label n)
+  | Times ↦ Err (text.Times n)
+]
+
+-- what a line gives, with the number of the line at its fault
+abbrev pub placed : ℕ → Result State LineFault → Result State TextFault
+placed n (Ok s) = Ok s
+placed n (Err e) = Err (at_line e n)
+
+-- what is returned for the lines after n lines
+unfoldable pub walk : State → ℕ → List (List ℕ) → Result (List Block) TextFault
+walk s n [] = at_end s (n + 1)
+walk s n (l ∷ ls) = placed (n + 1) (after_line s l) >>= λ t. walk t (n + 1) ls
