@@ -8,10 +8,9 @@ ghost use Rattle.flow_core.specs.Shop.{time_between};
 ghost use Rattle.flow_core.specs.Sequences.{jobs_left};
 ghost use Rattle.flow_core.specs.Bound.{bound_at, bound_of, front_of, release};
 ghost use Rattle.flow_core.specs.Rows.{AreRows};
-ghost use Rattle.flow_core.proofs.TwoLeast.{Without};
 ghost use Rattle.flow_check.specs.internal.Links.{AreLinks};
 ghost use Rattle.flow_check.specs.internal.Nodes.{IsNode, IsAt, IsChild, grown, left_before};
-ghost use Rattle.flow_check.specs.internal.Lags.{AreTwoLeastLagsTo, AreKept, AreUnknown, TakesIn};
+ghost use Rattle.flow_check.specs.internal.Lags.{AreTwoLeastLagsTo, AreKept, AreUnknown, IsLeastWithout, TakesIn};
 
 use crate::claim::Claim;
 use crate::node::{Node, bound};
@@ -87,7 +86,7 @@ impl Lags {
     fn without(&self, from: u16, lag: u32) -> u32
         requires from { 1 ≤ from }
         requires to { from ≤ most_machines }
-        ensures { Without lag (slice_index self.now.least (from - 1)) (slice_index self.now.second (from - 1)) result }
+        ensures { IsLeastWithout lag (slice_index self.now.least (from - 1)) (slice_index self.now.second (from - 1)) result }
     {
         let place = from as usize - 1;
         if lag == self.least[place] {

@@ -1,6 +1,6 @@
 -- The two least lags, to a machine, of the jobs left. A job's lag from a machine to another is its time on the machines
 -- from there to the one before the other.
-use Rattle.std.specs.Prelude.{ℕ, ◌≡◌, ◌-◌, ◌<◌, ◌≤◌, List, length, map, min, max, slice_index}
+use Rattle.std.specs.Prelude.{ℕ, ◌≡◌, ◌≢◌, ◌-◌, ◌<◌, ◌≤◌, List, length, map, min, max, slice_index}
 use Rattle.std.specs.Prelude.{slice_index_or, Option, None, IfSome}
 use Rattle.flow_core.specs.Shop.{Shop, time_between}
 use Rattle.flow_core.specs.Sequences.{jobs_left}
@@ -29,6 +29,10 @@ TakesIn shop job machine old new =
     × (slice_index new.second (from - 1)
     ≡ min (slice_index old.second (from - 1))
     (max (slice_index old.least (from - 1)) (time_between shop job from (machine - 1))))
+
+-- the least of some numbers without one of them, of which the least and the second least are known
+abbrev pub IsLeastWithout : ℕ → ℕ → ℕ → ℕ → Type 0
+IsLeastWithout one least second value = (one ≡ least → value ≡ second) × (one ≢ least → value ≡ least)
 
 -- no lags are known
 abbrev pub AreUnknown : List (Option Lags) → Type 0
