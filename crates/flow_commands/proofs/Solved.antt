@@ -16,7 +16,7 @@ use Rattle.flow_pool.specs.declared.whole_run.SolveFault.{SolveFault}
 use Rattle.flow_pool.specs.declared.whole_run.SolveFault.TheVariants as solve
 use Rattle.flow_commands.specs.declared.fault.ToolFault.{ToolFault}
 use Rattle.flow_commands.specs.declared.fault.ToolFault.TheVariants as tool
-use Rattle.flow_commands.specs.Limits.{budgets, most_text}
+use Rattle.flow_core.specs.Limits.{budgets, most_text}
 use Rattle.flow_commands.specs.Better.{AnswersCertifyStart, AnswersImproveStart, IsNoWorse, certify_fault}
 use Rattle.flow_commands.specs.Better.{first_certificate, improve_fault}
 

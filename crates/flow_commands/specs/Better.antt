@@ -15,7 +15,7 @@ use Rattle.flow_search.specs.declared.options.OptionFault.TheVariants.{Version}
 use Rattle.flow_pool.specs.declared.whole_run.SolveFault.TheVariants.{OverBudget}
 use Rattle.flow_cert.specs.PlanCertificates.{certificate_of}
 use Rattle.flow_commands.specs.Commands.{Answer, AnswersFor, FromNeh, FromText, sequence_lines}
-use Rattle.flow_commands.specs.Limits.{budgets, most_rounds}
+use Rattle.flow_core.specs.Limits.{budgets, most_rounds}
 use Rattle.flow_commands.specs.declared.fault.ImproveFault.TheVariants.{Rounds, Seed}
 use Rattle.flow_commands.specs.declared.fault.ToolFault.{ToolFault}
 use Rattle.flow_commands.specs.declared.fault.ToolFault.TheVariants as tool

@@ -1,4 +1,3 @@
-pub mod Limits
 pub mod Commands
 pub mod Better
 pub mod Runs

@@ -11,7 +11,7 @@ use Rattle.flow_check.specs.Certificate.{IsCertificate}
 use Rattle.flow_commands.specs.declared.fault.ToolFault.{ToolFault}
 use Rattle.flow_commands.specs.declared.fault.ToolFault.TheVariants as tool
 use Rattle.flow_commands.specs.Commands.{Answer, IsAccepted, Picks, optimal_line}
-use Rattle.flow_commands.specs.Limits.{most_text}
+use Rattle.flow_core.specs.Limits.{most_text}
 
 -- a source gave at most so many bytes and then its end, and this holds of the bytes
 abbrev pub Came : ℕ → (List ℕ → Type 0) → Option (List ℕ) → Option (List ℕ) → Bool → Type 0

@@ -5,11 +5,10 @@ ghost use Rattle.flow_core.specs.Bytes.{Grows};
 ghost use Rattle.flow_core.specs.declared.bytes.fault.ReadFault.TheVariants.{Device};
 ghost use Rattle.flow_commands.specs.Commands.{Picks};
 ghost use Rattle.flow_commands.specs.Runs.{Came, StopsAt};
-ghost use Rattle.flow_commands.specs.Limits.{most_text};
+ghost use Rattle.flow_core.specs.Limits.{most_text};
 
 use crate::fault::ToolFault;
-use crate::limits::MAX_TEXT;
-use flow_core::{Block, Source, read_all, read_blocks};
+use flow_core::{Block, MAX_TEXT, Source, read_all, read_blocks};
 use std::alloc::Global;
 
 /// Reads a whole text, and returns the block that the index names. Blocks are counted from 1.

@@ -8,15 +8,14 @@ ghost use Rattle.flow_core.specs.declared.bytes.fault.ReadFault.TheVariants as r
 ghost use Rattle.flow_core.specs.declared.bytes.fault.WriteFault.TheVariants as write;
 ghost use Rattle.flow_commands.specs.Commands.{AnswersCheck, IsAccepted, optimal_line};
 ghost use Rattle.flow_commands.specs.Runs.{Came, CameFor, Ends, EndsBoth, Wrote, WroteBoth, WroteLeast};
-ghost use Rattle.flow_commands.specs.Limits.{most_certificate};
+ghost use Rattle.flow_core.specs.Limits.{most_certificate};
 ghost use Rattle.flow_commands.specs.internal.Checked.{IsRefused, ran_out};
 
 use crate::block::read_block;
 use crate::fault::ToolFault;
-use crate::limits::MAX_CERTIFICATE;
 use crate::printed::optimal_line;
 use flow_check::{CheckFault, check};
-use flow_core::{Instance, Sink, Source, put_all, read_all};
+use flow_core::{Instance, MAX_CERTIFICATE, Sink, Source, put_all, read_all};
 use std::alloc::Global;
 
 /// Whether a check ended because memory ran out.

@@ -9,15 +9,14 @@ ghost use Rattle.flow_core.specs.declared.bytes.fault.ReadFault.TheVariants as r
 ghost use Rattle.flow_core.specs.declared.bytes.fault.WriteFault.TheVariants as write;
 ghost use Rattle.flow_commands.specs.Better.{AnswersImprove, AnswersImproveStart, AnswersImproveFrom, improve_fault};
 ghost use Rattle.flow_commands.specs.Runs.{Came, Ends, EndsAlone, EndsBoth, Wrote, WroteBoth};
-ghost use Rattle.flow_commands.specs.Limits.{most_text};
+ghost use Rattle.flow_core.specs.Limits.{most_text};
 
 use crate::block::read_block;
 use crate::fault::{ImproveFault, ToolFault};
-use crate::limits::{MAX_ROUNDS, MAX_SEED};
 use crate::printed::sequence_lines;
 use crate::start::read_given;
 use flow_bound::neh;
-use flow_core::{Instance, Sequence, Sink, Source, put_all};
+use flow_core::{Instance, MAX_ROUNDS, MAX_SEED, Sequence, Sink, Source, put_all};
 use flow_improve::improve;
 use std::alloc::Global;
 

@@ -11,7 +11,6 @@ mod check;
 mod fault;
 mod generate;
 mod improve;
-mod limits;
 mod mirror;
 mod neh;
 mod printed;

@@ -6,7 +6,7 @@ ghost use Rattle.flow_core.specs.declared.bytes.fault.ReadFault.TheVariants as r
 ghost use Rattle.flow_core.specs.declared.bytes.fault.WriteFault.TheVariants as write;
 ghost use Rattle.flow_commands.specs.Commands.{AnswersNeh, AnswersStart};
 ghost use Rattle.flow_commands.specs.Runs.{Came, Ends, Wrote};
-ghost use Rattle.flow_commands.specs.Limits.{most_text};
+ghost use Rattle.flow_core.specs.Limits.{most_text};
 
 use crate::block::read_block;
 use crate::fault::ToolFault;

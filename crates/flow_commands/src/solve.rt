@@ -11,7 +11,7 @@ ghost use Rattle.flow_commands.specs.Commands.{AnswersPlan, AnswersRun, AnswersS
 ghost use Rattle.flow_commands.specs.Commands.{asked_options, mirrored_if, reversed_if};
 ghost use Rattle.flow_commands.specs.Runs.{Came, CameFor, Ends, EndsAlone, EndsBoth};
 ghost use Rattle.flow_commands.specs.Runs.{Wrote, WroteBoth, WroteCertificate};
-ghost use Rattle.flow_commands.specs.Limits.{most_text};
+ghost use Rattle.flow_core.specs.Limits.{most_text};
 
 use crate::block::read_block;
 use crate::fault::ToolFault;

@@ -7,11 +7,10 @@ ghost use Rattle.flow_core.specs.declared.bytes.fault.ReadFault.TheVariants as r
 ghost use Rattle.flow_core.specs.declared.bytes.fault.WriteFault.TheVariants as write;
 ghost use Rattle.flow_commands.specs.Commands.{given_start};
 ghost use Rattle.flow_commands.specs.Runs.{Came, StopsAt};
-ghost use Rattle.flow_commands.specs.Limits.{most_text};
+ghost use Rattle.flow_core.specs.Limits.{most_text};
 
 use crate::fault::ToolFault;
-use crate::limits::MAX_TEXT;
-use flow_core::{Instance, Sequence, Source, StartFault, makespan, read_all, read_start};
+use flow_core::{Instance, MAX_TEXT, Sequence, Source, StartFault, makespan, read_all, read_start};
 use std::alloc::Global;
 
 /// The sequence that a start text gives for an instance; or the first fault of the text, of its jobs, or of its

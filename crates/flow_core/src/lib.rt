@@ -9,7 +9,8 @@ pub mod sequence;
 pub mod text;
 
 pub use flow_limits::{
-    MAX_DEPTH, MAX_JOBS, MAX_MACHINES, MAX_NUMBER, MAX_TIME, MAX_VERSION, MIN_VERSION,
+    BUDGETS, MAX_BUDGET, MAX_CERTIFICATE, MAX_DEPTH, MAX_JOBS, MAX_MACHINES, MAX_NUMBER,
+    MAX_PREFIXES, MAX_ROUNDS, MAX_SEED, MAX_TEXT, MAX_TIME, MAX_VERSION, MAX_WORKERS, MIN_VERSION,
     limits_are_those_stated,
 };
 pub use flow_shop::{

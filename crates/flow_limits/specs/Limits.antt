@@ -1,4 +1,4 @@
--- All limits of the repository. Contracts name these numbers, and never the code's constants.
+-- The limits. Contracts name these numbers, and never the code's constants.
 use Rattle.std.specs.Prelude.{ℕ, List, [], ◌∷◌}
 
 -- the most jobs of an instance
@@ -21,14 +21,6 @@ greatest_completion = 1000000000
 -- the greatest number in a benchmark text
 abbrev pub greatest_number : ℕ
 greatest_number = 4294967295
-
--- the greatest number that a start text may have as a job
-abbrev pub greatest_job_number : ℕ
-greatest_job_number = 65535
-
--- the least seed of random numbers
-abbrev pub least_seed : ℕ
-least_seed = 1
 
 -- the greatest seed of random numbers
 abbrev pub greatest_seed : ℕ
@@ -57,14 +49,6 @@ most_prefixes = 100000
 -- the greatest budget: how many bytes the tree of a prefix may have
 abbrev pub greatest_budget : ℕ
 greatest_budget = 100000000
-
--- the most slots of a lane
-abbrev pub most_slots : ℕ
-most_slots = 100001
-
--- the slots of each lane of a run
-abbrev pub run_slots : ℕ
-run_slots = 4
 
 -- the most bytes of a benchmark text or a start text that a command reads
 abbrev pub most_text : ℕ

@@ -1,12 +1,12 @@
-//! All limits of the repository as constants. Contracts name the numbers in `specs/Limits.antt`, and the law at the end
-//! says that these are the same.
+//! The limits as constants. Contracts name the numbers in `specs/Limits.antt`, and the law at the end says that these
+//! are the same.
 #![tactic(auto)]
 
 ghost use Rattle.std.specs.Prelude.{◌≡◌};
 ghost use Rattle.flow_limits.specs.Limits.{most_jobs, most_machines, greatest_time};
-ghost use Rattle.flow_limits.specs.Limits.{greatest_number, greatest_job_number, least_seed, greatest_seed};
+ghost use Rattle.flow_limits.specs.Limits.{greatest_number, greatest_seed};
 ghost use Rattle.flow_limits.specs.Limits.{greatest_depth, least_version, greatest_version};
-ghost use Rattle.flow_limits.specs.Limits.{most_workers, most_prefixes, greatest_budget, most_slots, run_slots};
+ghost use Rattle.flow_limits.specs.Limits.{most_workers, most_prefixes, greatest_budget};
 ghost use Rattle.flow_limits.specs.Limits.{most_text, most_certificate, most_rounds, budgets};
 
 /// The most jobs of an instance.
@@ -20,12 +20,6 @@ pub const MAX_TIME: u32 = 999_999;
 
 /// The greatest number in a benchmark text.
 pub const MAX_NUMBER: u32 = 4_294_967_295;
-
-/// The greatest number that a start text may have as a job.
-pub const MAX_JOB_NUMBER: u32 = 65_535;
-
-/// The least seed of random numbers.
-pub const MIN_SEED: u32 = 1;
 
 /// The greatest seed of random numbers.
 pub const MAX_SEED: u32 = 2_147_483_646;
@@ -48,12 +42,6 @@ pub const MAX_PREFIXES: u32 = 100_000;
 /// The greatest budget: how many bytes the tree of a prefix may have.
 pub const MAX_BUDGET: u32 = 100_000_000;
 
-/// The most slots of a lane.
-pub const MAX_SLOTS: usize = 100_001;
-
-/// The slots of each lane of a run.
-pub const RUN_SLOTS: usize = 4;
-
 /// The most bytes of a benchmark text or a start text that a command reads.
 pub const MAX_TEXT: usize = 16_777_216;
 
@@ -72,17 +60,13 @@ pub fn limits_are_those_stated()
     ensures machines { MAX_MACHINES ≡ most_machines }
     ensures time { MAX_TIME ≡ greatest_time }
     ensures number { MAX_NUMBER ≡ greatest_number }
-    ensures job_number { MAX_JOB_NUMBER ≡ greatest_job_number }
-    ensures least_seed { MIN_SEED ≡ least_seed }
-    ensures greatest_seed { MAX_SEED ≡ greatest_seed }
+    ensures seed { MAX_SEED ≡ greatest_seed }
     ensures depth { MAX_DEPTH ≡ greatest_depth }
     ensures least_version { MIN_VERSION ≡ least_version }
     ensures greatest_version { MAX_VERSION ≡ greatest_version }
     ensures workers { MAX_WORKERS ≡ most_workers }
     ensures prefixes { MAX_PREFIXES ≡ most_prefixes }
     ensures budget { MAX_BUDGET ≡ greatest_budget }
-    ensures slots { MAX_SLOTS ≡ most_slots }
-    ensures run_slots { RUN_SLOTS ≡ run_slots }
     ensures text { MAX_TEXT ≡ most_text }
     ensures certificate { MAX_CERTIFICATE ≡ most_certificate }
     ensures rounds { MAX_ROUNDS ≡ most_rounds }

@@ -2,8 +2,7 @@
 use Rattle.std.specs.Prelude.{ℕ, ◌≤◌, nat_le, [], ◌∷◌, Option, Some, None, Result, Ok, Err, cond}
 use Rattle.std.specs.Int.{is_in_range}
 use Rattle.flow_core.specs.Refusals.{fault_unless, first_fault}
-use Rattle.flow_core.specs.Limits.{greatest_depth, least_version, greatest_version}
-use Rattle.flow_search.specs.Limits.{most_workers, greatest_budget}
+use Rattle.flow_core.specs.Limits.{greatest_depth, least_version, greatest_version, most_workers, greatest_budget}
 use Rattle.flow_search.specs.declared.options.OptionFault.{OptionFault}
 use Rattle.flow_search.specs.declared.options.OptionFault.TheVariants.{Workers, Depth, Budget, Version}
 

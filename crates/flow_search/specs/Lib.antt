@@ -1,4 +1,3 @@
-pub mod Limits
 pub mod Choices
 pub mod Search
 pub mod Walk

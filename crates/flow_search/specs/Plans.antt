@@ -1,7 +1,7 @@
 -- Plans: an instance, a starting sequence, options, and the prefixes into which the search is divided.
 use Rattle.std.specs.Prelude.{ℕ, ◌≡◌, ◌≤◌, nat_le, List, [], ◌∷◌, length, slice_index_or, Option, Some, None}
 use Rattle.flow_core.specs.Refusals.{fault_unless, first_fault}
-use Rattle.flow_search.specs.Limits.{most_prefixes}
+use Rattle.flow_core.specs.Limits.{most_prefixes}
 use Rattle.flow_core.specs.Shop.{Shop, IsWithinLimits}
 use Rattle.flow_core.specs.Paths.{span}
 use Rattle.flow_core.specs.Sequences.{IsSequence, cut}

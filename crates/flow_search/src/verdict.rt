@@ -1,7 +1,7 @@
 //! The verdict of a plan, from the outcomes of its prefixes.
 
 ghost use Rattle.std.specs.Prelude.{◌≡◌, ℕ, ◌≤◌, ◌⊎◌, length, vec_len, None, Some, IfOk, OnOk, IfErr, All};
-ghost use Rattle.flow_search.specs.Limits.{most_prefixes};
+ghost use Rattle.flow_core.specs.Limits.{most_prefixes};
 ghost use Rattle.flow_core.specs.Paths.{span};
 ghost use Rattle.flow_core.specs.Sequences.{IsSequence, IsLeastMakespan};
 ghost use Rattle.flow_search.specs.Plans.{prefixes_of};

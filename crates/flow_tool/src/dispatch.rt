@@ -2,7 +2,7 @@
 
 ghost use Rattle.std.specs.Prelude.{◌≡◌, false, Ok, OnOk, IfErr};
 ghost use Rattle.flow_commands.specs.Commands.{AnswersCheck};
-ghost use Rattle.flow_commands.specs.Limits.{most_certificate, most_text};
+ghost use Rattle.flow_core.specs.Limits.{most_certificate, most_text};
 ghost use Rattle.flow_commands.specs.Runs.{Came, CameFor, Ends, EndsBoth, Wrote, WroteBoth, WroteLeast};
 ghost use Rattle.flow_tool.specs.internal.Asked.{AnswersAsked, AnswersSearch, AnswersSearchFrom};
 ghost use Rattle.flow_tool.specs.internal.Asked.{EndsForText, EndsNamed, EndsOrder, RunOfOpened, WroteForText};

@@ -13,7 +13,7 @@ use Rattle.flow_words.specs.declared.order.Order.TheVariants as order
 use Rattle.flow_commands.specs.Better.{AnswersCertify, AnswersCertifyFrom, AnswersImprove, AnswersImproveFrom}
 use Rattle.flow_commands.specs.Commands.{Answer, AnswersCheck, AnswersGen, AnswersMirror, AnswersNeh, AnswersSolve}
 use Rattle.flow_commands.specs.Commands.{AnswersSolveFrom, AnswersSpan, asked_options}
-use Rattle.flow_commands.specs.Limits.{most_certificate, most_text}
+use Rattle.flow_core.specs.Limits.{most_certificate, most_text}
 use Rattle.flow_commands.specs.Runs.{Came, Ends, EndsAlone, EndsBoth, Wrote, WroteBoth}
 use Rattle.flow_commands.specs.declared.fault.ToolFault.{ToolFault}
 use Rattle.flow_tool.specs.declared.stop.Stop.{Stop}

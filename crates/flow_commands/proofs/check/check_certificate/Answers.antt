@@ -1,7 +1,7 @@
 use Rattle.std.proofs.Common.{arith, ◌≤◌, length}
 use Rattle.std.proofs.lemmas.Result.{err_from_is_err_and}
 use Rattle.flow_commands.specs.Commands.{AnswersCheck}
-use Rattle.flow_commands.specs.Limits.{most_certificate}
+use Rattle.flow_core.specs.Limits.{most_certificate}
 use Rattle.flow_commands.proofs.Endings.{ends-in-writing-for}
 use Rattle.flow_commands.proofs.check.check_certificate.Goals as goal
 

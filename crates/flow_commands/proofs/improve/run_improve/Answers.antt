@@ -1,7 +1,7 @@
 use Rattle.std.proofs.Common.{◌≡◌}
 use Rattle.std.proofs.lemmas.Result.{IfErr-weaker, on_ok_weaker}
 use Rattle.flow_commands.specs.Better.{AnswersImproveStart, AnswersImprove}
-use Rattle.flow_commands.specs.Limits.{most_text}
+use Rattle.flow_core.specs.Limits.{most_text}
 use Rattle.flow_commands.proofs.Solved.{ends-for, from-neh, wrote-for}
 use Rattle.flow_commands.proofs.improve.run_improve.Goals as goal
 

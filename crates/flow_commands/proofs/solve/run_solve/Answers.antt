@@ -1,6 +1,6 @@
 use Rattle.std.proofs.Common.{◌≡◌}
 use Rattle.std.proofs.lemmas.Result.{on_ok_weaker, IfErr-weaker}
-use Rattle.flow_commands.specs.Limits.{most_text}
+use Rattle.flow_core.specs.Limits.{most_text}
 use Rattle.flow_commands.proofs.Solved.{ends-for, for-block, wrote-for}
 use Rattle.flow_commands.proofs.solve.run_solve.Goals as goal
 

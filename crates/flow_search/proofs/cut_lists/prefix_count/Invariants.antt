@@ -1,5 +1,5 @@
 use Rattle.std.proofs.Common.{◌≡◌, ◌-◌, ◌*◌, ◌≤◌, length}
-use Rattle.flow_search.specs.Limits.{most_prefixes}
+use Rattle.flow_core.specs.Limits.{most_prefixes}
 use Rattle.flow_core.specs.Sequences.{cut}
 use Rattle.flow_search.proofs.CutLemmas.{falling}
 use Rattle.flow_search.proofs.cut_lists.prefix_count.Given as goal
