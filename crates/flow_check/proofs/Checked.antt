@@ -3,8 +3,8 @@ use Rattle.std.proofs.Common.{◌≡◌, ◌⊎◌, inl, inr, ℕ, Bool, true, f
 use Rattle.std.proofs.Common.{Result, Ok, Err, refl, ap, subst, sym, ◌∙◌}
 use Rattle.std.specs.Str.{bytes_eq}
 use Rattle.std.proofs.lemmas.List.{take_rest}
-use Rattle.flow_core.specs.Shop.{Shop, IsWithinLimits}
-use Rattle.flow_core.specs.Sequences.{IsLeastMakespan}
+use Rattle.flow_shop.specs.Shop.{Shop, IsWithinLimits}
+use Rattle.flow_shop.specs.Sequences.{IsLeastMakespan}
 use Rattle.flow_check.specs.Certificate.{IsCertificate, line, ending}
 use Rattle.flow_check.specs.Check.{IsFirstFault, IsOfNoValue}
 use Rattle.flow_check.specs.CertificateFaults.{certificate_value, cut_value, end_value}

@@ -12,21 +12,21 @@ use Rattle.std.specs.List.{AllByRecursion, list_all, flat_map}
 use Rattle.std.proofs.lemmas.List.Elements.{recursion_from_All}
 use Rattle.std.proofs.lemmas.Fmt.{decimal_digit}
 use Rattle.std.proofs.lemmas.Bool.{cases_Bool, eqb-true, leb-true, ltb-true, le-leb, lt-ltb, eq-eqb}
-use Rattle.flow_core.specs.Limits.{most_jobs, most_machines, greatest_depth}
-use Rattle.flow_core.specs.Shop.{Shop, IsWithinLimits}
-use Rattle.flow_core.specs.Paths.{span}
-use Rattle.flow_core.specs.Sequences.{IsSequence, cut}
-use Rattle.flow_core.specs.SequenceFaults.{sequence_fault}
-use Rattle.flow_core.specs.declared.sequence.SequenceFault.{SequenceFault}
-use Rattle.flow_core.specs.Bound.{bound_of}
-use Rattle.flow_core.proofs.SequenceLemmas.{sequence-fault-none-is, is-fault-none}
+use Rattle.flow_shop.specs.Limits.{most_jobs, most_machines, greatest_depth}
+use Rattle.flow_shop.specs.Shop.{Shop, IsWithinLimits}
+use Rattle.flow_shop.specs.Paths.{span}
+use Rattle.flow_shop.specs.Sequences.{IsSequence, cut}
+use Rattle.flow_shop.specs.SequenceFaults.{sequence_fault}
+use Rattle.flow_shop.specs.declared.sequence.SequenceFault.{SequenceFault}
+use Rattle.flow_shop.specs.Bound.{bound_of}
+use Rattle.flow_shop.proofs.SequenceLemmas.{sequence-fault-none-is, is-fault-none}
 use Rattle.flow_check.specs.Certificate.{IsVersion, line, spaced, title, ending, certificate_text, Certifies}
 use Rattle.flow_check.specs.Certificate.{IsCertificate}
 use Rattle.flow_check.specs.CertificateFaults.{ValueIsExact, certificate_value, header_value, size_value, value_value}
 use Rattle.flow_check.specs.CertificateFaults.{sequence_value, cut_value, first_line, on_line, numbers_in, version_of}
 use Rattle.flow_check.specs.declared.fault.CheckFault.{CheckFault}
 use Rattle.flow_check.specs.declared.fault.CheckFault.TheVariants.{Header, Size, Value, Sequence, NotAttained}
-use Rattle.flow_core.proofs.Lists.{find-some}
+use Rattle.flow_shop.proofs.Lists.{find-some}
 use Rattle.flow_check.proofs.TreesExact.{trees-sound, trees-complete, fault-value, passes}
 use Rattle.flow_check.proofs.Numbers.{both, off, Fit, IsPlain, numbers-sound, numbers-complete, spaced-plain}
 

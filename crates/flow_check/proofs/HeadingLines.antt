@@ -4,13 +4,13 @@ use Rattle.std.proofs.Common.{Option, Some, None, Result, Err, refl, ap, sym, su
 use Rattle.std.specs.Option.{option_map_or}
 use Rattle.std.specs.Fmt.{decimal}
 use Rattle.std.proofs.lemmas.Bool.{cases_Bool, eqb-true, leb-true, ltb-true, lt-ltb}
-use Rattle.flow_core.specs.Limits.{greatest_depth}
-use Rattle.flow_core.specs.Shop.{Shop, IsWithinLimits}
-use Rattle.flow_core.specs.Paths.{span}
-use Rattle.flow_core.specs.Sequences.{IsSequence}
-use Rattle.flow_core.specs.SequenceFaults.{sequence_fault}
-use Rattle.flow_core.specs.declared.sequence.SequenceFault.{SequenceFault}
-use Rattle.flow_core.proofs.SequenceLemmas.{sequence-fault-none-is, is-fault-none}
+use Rattle.flow_shop.specs.Limits.{greatest_depth}
+use Rattle.flow_shop.specs.Shop.{Shop, IsWithinLimits}
+use Rattle.flow_shop.specs.Paths.{span}
+use Rattle.flow_shop.specs.Sequences.{IsSequence}
+use Rattle.flow_shop.specs.SequenceFaults.{sequence_fault}
+use Rattle.flow_shop.specs.declared.sequence.SequenceFault.{SequenceFault}
+use Rattle.flow_shop.proofs.SequenceLemmas.{sequence-fault-none-is, is-fault-none}
 use Rattle.flow_check.specs.Certificate.{IsVersion, line, spaced, title}
 use Rattle.flow_check.specs.CertificateFaults.{header_value, size_value, value_value, sequence_value, cut_value}
 use Rattle.flow_check.specs.CertificateFaults.{first_line, on_line, numbers_in, version_of}

@@ -5,8 +5,8 @@ use Rattle.std.specs.List.{filter, range_with_len}
 use Rattle.std.proofs.lemmas.List.{get_or-set_same, get_or-set_other, set-set, set-get_or, length-set}
 use Rattle.std.proofs.lemmas.Bool.Decides.{eqb_tells}
 use Rattle.std.proofs.lemmas.Bool.{cases_lt, false≢true}
-use Rattle.flow_core.specs.Sequences.{has}
-use Rattle.flow_core.proofs.Taken.{has-other, has-same, has-more}
+use Rattle.flow_shop.specs.Sequences.{has}
+use Rattle.flow_shop.proofs.Taken.{has-other, has-same, has-more}
 use Rattle.flow_check.specs.internal.Links.{children, IsNext, IsPlace, AreLinks}
 
 -- the children from one on

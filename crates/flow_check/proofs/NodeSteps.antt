@@ -5,26 +5,26 @@ use Rattle.std.proofs.Common.{set, length-append, map}
 use Rattle.std.specs.List.{filter, sum_by}
 use Rattle.std.proofs.lemmas.List.{get_or-set_same, get_or-set_other, get_or-replicate, length-set}
 use Rattle.std.proofs.lemmas.Bool.{cases_lt}
-use Rattle.flow_core.specs.Limits.{most_jobs, most_machines, greatest_time}
-use Rattle.flow_core.specs.Shop.{Shop, numbers, time, time_between, IsWithinLimits}
-use Rattle.flow_core.specs.Paths.{completion}
-use Rattle.flow_core.specs.Front.{IsFrontOf, IsWithinFront}
-use Rattle.flow_core.specs.Sequences.{has, jobs_left}
-use Rattle.flow_core.specs.Bound.{bound_at, front_of}
-use Rattle.flow_core.proofs.Recurrence.{after, completed, completion-is, completion-after, after-same}
-use Rattle.flow_core.proofs.Fronts.{free_at, front-within, time-small}
-use Rattle.flow_core.proofs.Admissible.{front_of-is}
-use Rattle.flow_core.proofs.Extremes.{map-map-append}
-use Rattle.flow_core.proofs.JobsLeft.{kept-small, filter-more}
+use Rattle.flow_shop.specs.Limits.{most_jobs, most_machines, greatest_time}
+use Rattle.flow_shop.specs.Shop.{Shop, numbers, time, time_between, IsWithinLimits}
+use Rattle.flow_shop.specs.Paths.{completion}
+use Rattle.flow_shop.specs.Front.{IsFrontOf, IsWithinFront}
+use Rattle.flow_shop.specs.Sequences.{has, jobs_left}
+use Rattle.flow_shop.specs.Bound.{bound_at, front_of}
+use Rattle.flow_shop.proofs.Recurrence.{after, completed, completion-is, completion-after, after-same}
+use Rattle.flow_shop.proofs.Fronts.{free_at, front-within, time-small}
+use Rattle.flow_shop.proofs.Admissible.{front_of-is}
+use Rattle.flow_shop.proofs.Extremes.{map-map-append}
+use Rattle.flow_shop.proofs.JobsLeft.{kept-small, filter-more}
 use Rattle.std.proofs.lemmas.Bool.Decides.{eqb_tells}
-use Rattle.flow_core.specs.internal.TwoLeast.{tails, least_below, second_below}
+use Rattle.flow_shop.specs.TwoLeast.{tails, least_below, second_below}
 use Rattle.flow_check.specs.internal.Nodes.{IsNode, AreKnown, AreLows, unknown}
 use Rattle.flow_check.specs.internal.Links.{children}
 use Rattle.flow_check.specs.declared.node.Node.{Node}
 use Rattle.flow_check.specs.declared.node.Lows.{Lows}
-use Rattle.flow_core.proofs.Taken.{left-sum, left-count, left-split, left-without, left_under}
-use Rattle.flow_core.proofs.TwoLeast.{Without, without-one, least-below-cap}
-use Rattle.flow_core.proofs.Fronts.{tail-small}
+use Rattle.flow_shop.proofs.Taken.{left-sum, left-count, left-split, left-without, left_under}
+use Rattle.flow_shop.proofs.TwoLeast.{Without, without-one, least-below-cap}
+use Rattle.flow_shop.proofs.Fronts.{tail-small}
 
 -- the sum of the times of the jobs left fits
 pub work-small : (shop : Shop) (list : List ℕ) (machine : ℕ) → IsWithinLimits shop →

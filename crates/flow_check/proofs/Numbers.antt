@@ -11,7 +11,7 @@ use Rattle.std.proofs.lemmas.Fmt.{decimal_is_IsNumeral, decimal_digit, decimal-d
 use Rattle.std.proofs.lemmas.Str.Parse.{IsNumeralModel, IsDigitsTest, numerals_by_value}
 use Rattle.std.proofs.lemmas.Bool.{leb-true, le-leb, eq-eqb, false≢true, ne_eqb}
 use Rattle.flow_check.specs.Certificate.{spaced}
-use Rattle.flow_core.specs.Lines.{is_digit}
+use Rattle.flow_shop.specs.Digits.{is_digit}
 use Rattle.flow_check.specs.CertificateFaults.{is_numeral, numbers_in}
 
 pub both : (a b : Bool) → (a && b) ≡ true → (a ≡ true) × (b ≡ true)

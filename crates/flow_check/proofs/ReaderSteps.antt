@@ -1,7 +1,7 @@
 -- The steps of a reader that reads the children of a list.
 use Rattle.std.proofs.Common.{◌≡◌, ◌≢◌, ℕ, suc, ◌+◌, ◌-◌, ◌<◌, ◌≤◌, List, [], ◌∷◌, ◌++◌, drop, slice_index}
 use Rattle.std.proofs.Common.{slice_set, Result, refl, ap, sym, subst, ◌∙◌, arith}
-use Rattle.flow_core.specs.Shop.{Shop}
+use Rattle.flow_shop.specs.Shop.{Shop}
 use Rattle.flow_check.specs.internal.Nodes.{IsNode, IsAt}
 use Rattle.flow_check.specs.internal.Reader.{frame_at, here, above, path, put_back, Stands, IsBack, Opened, Closed}
 use Rattle.flow_check.specs.internal.Reader.{IsReading, children_read}

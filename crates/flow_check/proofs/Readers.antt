@@ -4,8 +4,8 @@ use Rattle.std.proofs.Common.{slice_set, set, get_or, Option, Some, None, false,
 use Rattle.std.proofs.Common.{IfSome}
 use Rattle.std.proofs.lemmas.List.{get_or_default, get_or-set_same, get_or-set_other, length-set, set-append_left}
 use Rattle.std.proofs.lemmas.List.{set-append_right}
-use Rattle.flow_core.specs.Shop.{Shop}
-use Rattle.flow_core.specs.Sequences.{has}
+use Rattle.flow_shop.specs.Shop.{Shop}
+use Rattle.flow_shop.specs.Sequences.{has}
 use Rattle.flow_check.specs.internal.Lags.{AreTwoLeastLagsTo, AreKept, AreUnknown}
 use Rattle.flow_check.specs.internal.Links.{AreLinks, IsPlace}
 use Rattle.flow_check.specs.internal.Nodes.{IsNode, IsAt, left_before, left_here}

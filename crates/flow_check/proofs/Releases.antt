@@ -3,21 +3,21 @@ use Rattle.std.proofs.Common.{◌≡◌, ◌≢◌, cond, nat_eq, nat_le, Bool, 
 use Rattle.std.proofs.Common.{◌≤◌, max, List, [], ◌∷◌, ◌++◌, length, map, false, refl}
 use Rattle.std.proofs.Common.{slice_index, slice_index_or, ap, ap₂, sym, ◌∙◌, arith}
 use Rattle.std.proofs.lemmas.Bool.{cases_Bool, eq-eqb, ne_eqb, le-leb, lt-leb, leb-true, leb-false}
-use Rattle.flow_core.specs.Limits.{most_machines, greatest_time}
-use Rattle.flow_core.specs.Shop.{Shop, IsWithinLimits, numbers, time, time_between}
-use Rattle.flow_core.specs.Rows.{AreRows}
-use Rattle.flow_core.specs.declared.row.Row.{Row}
-use Rattle.flow_core.specs.Least.{greatest, least}
-use Rattle.flow_core.specs.Sequences.{has, jobs_left}
-use Rattle.flow_core.specs.Bound.{bound_at, released_bound_at, bound_of, front_of, release}
-use Rattle.flow_core.specs.internal.TwoLeast.{least_below}
-use Rattle.flow_core.proofs.Admissible.{front_of-is, front-le-release, released_bound_is_stronger}
-use Rattle.flow_core.proofs.Extremes.{map-map-append, greatest-append}
-use Rattle.flow_core.proofs.Fronts.{free_at, time-small, tail-small}
-use Rattle.flow_core.proofs.JobsLeft.{numbers-more}
-use Rattle.flow_core.proofs.Recurrence.{after, time_between-first, time_between-none}
-use Rattle.flow_core.proofs.Taken.{left-count}
-use Rattle.flow_core.proofs.TwoLeast.{Without, least-below-cap}
+use Rattle.flow_shop.specs.Limits.{most_machines, greatest_time}
+use Rattle.flow_shop.specs.Shop.{Shop, IsWithinLimits, numbers, time, time_between}
+use Rattle.flow_shop.specs.Rows.{AreRows}
+use Rattle.flow_shop.specs.declared.row.Row.{Row}
+use Rattle.flow_shop.specs.Least.{greatest, least}
+use Rattle.flow_shop.specs.Sequences.{has, jobs_left}
+use Rattle.flow_shop.specs.Bound.{bound_at, released_bound_at, bound_of, front_of, release}
+use Rattle.flow_shop.specs.TwoLeast.{least_below}
+use Rattle.flow_shop.proofs.Admissible.{front_of-is, front-le-release, released_bound_is_stronger}
+use Rattle.flow_shop.proofs.Extremes.{map-map-append, greatest-append}
+use Rattle.flow_shop.proofs.Fronts.{free_at, time-small, tail-small}
+use Rattle.flow_shop.proofs.JobsLeft.{numbers-more}
+use Rattle.flow_shop.proofs.Recurrence.{after, time_between-first, time_between-none}
+use Rattle.flow_shop.proofs.Taken.{left-count}
+use Rattle.flow_shop.proofs.TwoLeast.{Without, least-below-cap}
 use Rattle.flow_check.specs.internal.Lags.{AreTwoLeastLagsTo, lags}
 use Rattle.flow_check.specs.internal.Nodes.{IsNode, unknown}
 use Rattle.flow_check.specs.declared.node.Node.{Node}

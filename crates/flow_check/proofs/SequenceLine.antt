@@ -7,12 +7,12 @@ use Rattle.std.proofs.lemmas.List.{append-nil, length_push, length-append, get_o
 use Rattle.std.proofs.lemmas.List.Folds.{list_any-append}
 use Rattle.std.proofs.lemmas.List.Elements.{All-from_recursion, recursion_from_All}
 use Rattle.std.proofs.lemmas.Bool.{cases_Bool, eq-eqb, ne_eqb, false≢true, eqb-true}
-use Rattle.flow_core.specs.Limits.{most_jobs}
-use Rattle.flow_core.specs.Shop.{Shop}
-use Rattle.flow_core.specs.Front.{IsFrontOf}
-use Rattle.flow_core.specs.JobSet.{contains}
-use Rattle.flow_core.specs.Sequences.{has, AreDistinct}
-use Rattle.flow_core.proofs.JobsLeft.{InRange, apart}
+use Rattle.flow_shop.specs.Limits.{most_jobs}
+use Rattle.flow_shop.specs.Shop.{Shop}
+use Rattle.flow_shop.specs.Front.{IsFrontOf}
+use Rattle.flow_shop.specs.JobSet.{contains}
+use Rattle.flow_shop.specs.Sequences.{has, AreDistinct}
+use Rattle.flow_shop.proofs.JobsLeft.{InRange, apart}
 use Rattle.flow_check.specs.Certificate.{line, spaced}
 use Rattle.flow_check.specs.internal.Heading.{BeginsWithJob, BeginsWithSequence, end_of}
 

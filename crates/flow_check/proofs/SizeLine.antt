@@ -2,7 +2,7 @@
 use Rattle.std.proofs.Common.{◌≡◌, ℕ, ◌≤◌, ◌<◌, ◌^◌, List, [], ◌∷◌, ◌++◌, ap, ◌∙◌, append_assoc, arith}
 use Rattle.std.specs.Prelude.{codes}
 use Rattle.std.specs.Fmt.{decimal}
-use Rattle.flow_core.specs.Limits.{greatest_depth}
+use Rattle.flow_shop.specs.Limits.{greatest_depth}
 use Rattle.flow_check.specs.Certificate.{line, spaced, title}
 use Rattle.flow_check.specs.internal.Heading.{BeginsWithNumber, BeginsWithSize}
 

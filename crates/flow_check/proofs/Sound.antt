@@ -6,12 +6,12 @@ use Rattle.std.specs.List.{AllZip, AllByRecursion, flat_map}
 use Rattle.std.proofs.lemmas.List.{append-nil}
 use Rattle.std.proofs.lemmas.List.Elements.{recursion_from_All}
 use Rattle.std.proofs.lemmas.Bool.{false≢true, or_left, eq-eqb, eqb-true, cases_Bool}
-use Rattle.flow_core.specs.Shop.{Shop}
-use Rattle.flow_core.specs.Paths.{span}
-use Rattle.flow_core.specs.Sequences.{has, jobs_left, extensions, IsSequence, Extends}
-use Rattle.flow_core.proofs.JobsLeft.{left-has}
-use Rattle.flow_core.proofs.Admissible.{bound_is_admissible, released_bound_is_admissible}
-use Rattle.flow_core.specs.Bound.{bound_at, released_bound_at, bound_of}
+use Rattle.flow_shop.specs.Shop.{Shop}
+use Rattle.flow_shop.specs.Paths.{span}
+use Rattle.flow_shop.specs.Sequences.{has, jobs_left, extensions, IsSequence, Extends}
+use Rattle.flow_shop.proofs.JobsLeft.{left-has}
+use Rattle.flow_shop.proofs.Admissible.{bound_is_admissible, released_bound_is_admissible}
+use Rattle.flow_shop.specs.Bound.{bound_at, released_bound_at, bound_of}
 use Rattle.flow_check.specs.Certificate.{Covers, CertificateIsSound, ValueIsOne}
 
 all-at : (P : ℕ → Type 0) (xs : List ℕ) (x : ℕ) (ys : List ℕ) → AllByRecursion P (xs ++ x ∷ ys) → P x

@@ -4,9 +4,9 @@ use Rattle.std.proofs.Common.{drop, slice_index, slice_set, Result, Ok, Err, ref
 use Rattle.std.proofs.Common.{reverse}
 use Rattle.std.proofs.lemmas.List.{reverse-append}
 use Rattle.std.proofs.Math.Seq.{drop-cons}
-use Rattle.flow_core.specs.Shop.{Shop}
-use Rattle.flow_core.specs.Bound.{bound_of}
-use Rattle.flow_core.specs.Sequences.{has, jobs_left}
+use Rattle.flow_shop.specs.Shop.{Shop}
+use Rattle.flow_shop.specs.Bound.{bound_of}
+use Rattle.flow_shop.specs.Sequences.{has, jobs_left}
 use Rattle.flow_check.specs.CertificateFaults.{read_tree, each_tree, then_read}
 use Rattle.flow_check.specs.internal.Links.{children, AreLinks}
 use Rattle.flow_check.specs.internal.Nodes.{IsNode, IsAt}

@@ -4,10 +4,10 @@ use Rattle.std.proofs.Common.{nat_le, List, [], ◌∷◌, ◌++◌, Result, Ok,
 use Rattle.std.proofs.Common.{append_assoc}
 use Rattle.std.specs.List.{AllZip, concat, flat_map}
 use Rattle.std.proofs.lemmas.Bool.{cases_Bool, eqb-true, leb-true, ltb-true, le-leb, false≢true}
-use Rattle.flow_core.specs.Shop.{Shop}
-use Rattle.flow_core.specs.Paths.{span}
-use Rattle.flow_core.specs.Sequences.{jobs_left}
-use Rattle.flow_core.specs.Bound.{letter}
+use Rattle.flow_shop.specs.Shop.{Shop}
+use Rattle.flow_shop.specs.Paths.{span}
+use Rattle.flow_shop.specs.Sequences.{jobs_left}
+use Rattle.flow_shop.specs.Bound.{letter}
 use Rattle.flow_check.specs.Certificate.{Covers, line, ending}
 use Rattle.flow_check.specs.CertificateFaults.{read_tree, each_tree, then_read, leaf_fault, cut_fault, is_letter}
 use Rattle.flow_check.specs.CertificateFaults.{after_tree, trees_value}

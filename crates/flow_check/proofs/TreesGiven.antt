@@ -2,9 +2,9 @@
 use Rattle.std.proofs.Common.{◌≡◌, ℕ, ◌-◌, ◌≤◌, List, [], ◌∷◌, ◌++◌, length, Result, Ok, Err, ap, sym, subst, ◌∙◌}
 use Rattle.std.proofs.Common.{arith}
 use Rattle.std.proofs.lemmas.List.{append-nil}
-use Rattle.flow_core.specs.Shop.{Shop}
-use Rattle.flow_core.specs.Bound.{bound_of}
-use Rattle.flow_core.specs.Sequences.{cut}
+use Rattle.flow_shop.specs.Shop.{Shop}
+use Rattle.flow_shop.specs.Bound.{bound_of}
+use Rattle.flow_shop.specs.Sequences.{cut}
 use Rattle.flow_check.specs.CertificateFaults.{trees_value, cut_value}
 use Rattle.flow_check.specs.internal.Trees.{TreesGive}
 use Rattle.flow_check.specs.internal.Reader.{LinesGive}

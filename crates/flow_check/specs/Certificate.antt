@@ -3,11 +3,11 @@
 use Rattle.std.specs.Prelude.{ℕ, zero, suc, ◌≡◌, ◌-◌, ◌^◌, ◌<◌, ◌≤◌, ◌⊎◌, List, [], ◌∷◌, ◌++◌, map, codes}
 use Rattle.std.specs.Fmt.{decimal}
 use Rattle.std.specs.List.{AllZip, concat, flat_map, join_with_byte}
-use Rattle.flow_core.specs.Limits.{greatest_depth, least_version, greatest_version}
-use Rattle.flow_core.specs.Shop.{Shop}
-use Rattle.flow_core.specs.Paths.{span}
-use Rattle.flow_core.specs.Sequences.{IsSequence, IsLeastMakespan, jobs_left, cut}
-use Rattle.flow_core.specs.Bound.{bound_of, letter}
+use Rattle.flow_shop.specs.Limits.{greatest_depth, least_version, greatest_version}
+use Rattle.flow_shop.specs.Shop.{Shop}
+use Rattle.flow_shop.specs.Paths.{span}
+use Rattle.flow_shop.specs.Sequences.{IsSequence, IsLeastMakespan, jobs_left, cut}
+use Rattle.flow_shop.specs.Bound.{bound_of, letter}
 
 -- a text is a tree that covers a value below a list with so many jobs left: a point where none is left, the letter of
 -- a machine whose bound reaches the value, or a plus before the trees of the list's children in increasing order

@@ -5,13 +5,13 @@ use Rattle.std.specs.Option.{option_map, option_map_or}
 use Rattle.std.specs.List.{find, list_all, slice_split}
 use Rattle.std.specs.Str.{bytes_eq}
 use Rattle.std.specs.Str.Parse.{digits_value}
-use Rattle.flow_core.specs.Limits.{greatest_depth, least_version, greatest_version}
-use Rattle.flow_core.specs.Lines.{is_digit}
-use Rattle.flow_core.specs.Shop.{Shop, IsWithinLimits, numbers}
-use Rattle.flow_core.specs.Paths.{span}
-use Rattle.flow_core.specs.Sequences.{jobs_left, cut}
-use Rattle.flow_core.specs.SequenceFaults.{sequence_fault}
-use Rattle.flow_core.specs.Bound.{bound_of}
+use Rattle.flow_shop.specs.Limits.{greatest_depth, least_version, greatest_version}
+use Rattle.flow_shop.specs.Digits.{is_digit}
+use Rattle.flow_shop.specs.Shop.{Shop, IsWithinLimits, numbers}
+use Rattle.flow_shop.specs.Paths.{span}
+use Rattle.flow_shop.specs.Sequences.{jobs_left, cut}
+use Rattle.flow_shop.specs.SequenceFaults.{sequence_fault}
+use Rattle.flow_shop.specs.Bound.{bound_of}
 use Rattle.flow_check.specs.Certificate.{line, title, ending, IsCertificate}
 use Rattle.flow_check.specs.declared.fault.CheckFault.{CheckFault}
 use Rattle.flow_check.specs.declared.fault.CheckFault.TheVariants.{Header, Size, Value, Sequence, NotAttained, Tree}

@@ -1,6 +1,6 @@
 -- What a fault says of a text.
 use Rattle.std.specs.Prelude.{ℕ, ◌≡◌, List, Err}
-use Rattle.flow_core.specs.Shop.{Shop}
+use Rattle.flow_shop.specs.Shop.{Shop}
 use Rattle.flow_check.specs.Certificate.{IsCertificate}
 use Rattle.flow_check.specs.CertificateFaults.{certificate_value}
 use Rattle.flow_check.specs.declared.fault.CheckFault.{CheckFault}

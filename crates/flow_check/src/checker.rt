@@ -2,7 +2,7 @@
 
 ghost use Rattle.std.specs.Prelude.{◌≡◌, ◌⊎◌, ℕ, IfOk, IfErr, Ok, Err};
 ghost use Rattle.std.specs.Str.{bytes_eq};
-ghost use Rattle.flow_core.specs.Sequences.{IsLeastMakespan};
+ghost use Rattle.flow_shop.specs.Sequences.{IsLeastMakespan};
 ghost use Rattle.flow_check.specs.Certificate.{IsCertificate, line, ending};
 ghost use Rattle.flow_check.specs.Check.{IsFirstFault, IsOfNoValue};
 ghost use Rattle.flow_check.specs.declared.fault.CheckFault.TheVariants.{Memory};
@@ -10,7 +10,7 @@ ghost use Rattle.flow_check.specs.declared.fault.CheckFault.TheVariants.{Memory}
 use crate::fault::CheckFault;
 use crate::heading::read_heading;
 use crate::trees::trees_end;
-use flow_core::Instance;
+use flow_shop::Instance;
 use std::alloc::Global;
 
 /// The last line, with its end.

@@ -1,6 +1,6 @@
 //! What stays the same while the trees of a certificate are read.
 
-use flow_core::{Instance, Row};
+use flow_shop::{Instance, Row};
 
 /// What a certificate claims: that no sequence of the instance has a makespan below the value. The trees in the text
 /// are to show it.

@@ -2,15 +2,16 @@
 
 ghost use Rattle.std.specs.Prelude.{◌≡◌, ℕ, ◌+◌, ◌-◌, ◌<◌, ◌≤◌, ◌++◌, List, IfSome, IfOk, IfErr, Ok, Err};
 ghost use Rattle.std.specs.Option.{IsSomeAnd};
-ghost use Rattle.flow_core.specs.Shop.{IsWithinLimits};
-ghost use Rattle.flow_core.specs.Paths.{span};
+ghost use Rattle.flow_shop.specs.Shop.{IsWithinLimits};
+ghost use Rattle.flow_shop.specs.Paths.{span};
 ghost use Rattle.flow_check.specs.Certificate.{IsVersion, line, title};
 ghost use Rattle.flow_check.specs.CertificateFaults.{certificate_value, cut_value};
 ghost use Rattle.flow_check.specs.internal.Heading.{BeginsWithJob, BeginsWithSize, BeginsWithSequence, end_of};
 
 use crate::fault::CheckFault;
 use crate::number::read_number;
-use flow_core::{Front, Instance, JobSet, MAX_DEPTH, MAX_VERSION, MIN_VERSION, front_push};
+use flow_limits::{MAX_DEPTH, MAX_VERSION, MIN_VERSION};
+use flow_shop::{Front, Instance, JobSet, front_push};
 
 /// The first line, up to the version.
 const TITLE: &[u8] = b"flowshop certificate ";

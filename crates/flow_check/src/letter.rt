@@ -1,7 +1,7 @@
 //! The byte that begins a tree: a machine's letter, a point, or a plus before the trees of the children.
 
 ghost use Rattle.std.specs.Prelude.{◌≡◌, ℕ, ◌+◌, ◌^◌, ◌<◌, ◌≤◌, List, IfOk};
-ghost use Rattle.flow_core.specs.Rows.{AreRows};
+ghost use Rattle.flow_shop.specs.Rows.{AreRows};
 ghost use Rattle.flow_check.specs.internal.Nodes.{IsChild, grown, left_here};
 ghost use Rattle.flow_check.specs.internal.Reader.{Stands, IsBack, LetterGives};
 

@@ -1,5 +1,5 @@
-//! The checker: reads a certificate, and returns the value that it proves least. It stands on flow_core alone, and
-//! computes its bounds by code of its own.
+//! The checker: reads a certificate, and returns the value that it proves least. It stands on flow_limits and flow_shop
+//! alone, and computes its bounds by code of its own.
 #![tactic(auto)]
 
 mod checker;

@@ -1,8 +1,8 @@
 //! Reading the lines of the trees, one tree in each.
 
 ghost use Rattle.std.specs.Prelude.{◌≡◌, ◌≢◌, ℕ, suc, ◌+◌, ◌-◌, ◌≤◌, List, [], ◌∷◌, ◌++◌, length, slice_index, IfOk};
-ghost use Rattle.flow_core.specs.Sequences.{extensions};
-ghost use Rattle.flow_core.specs.Rows.{AreRows};
+ghost use Rattle.flow_shop.specs.Sequences.{extensions};
+ghost use Rattle.flow_shop.specs.Rows.{AreRows};
 ghost use Rattle.flow_check.specs.internal.Links.{IsPlace};
 ghost use Rattle.flow_check.specs.internal.Reader.{Stands, IsBack, LinesGive, LineEnds};
 

@@ -1,18 +1,19 @@
 //! The nodes of the trees: what is kept of a list of jobs, and the machine bounds.
 
 ghost use Rattle.std.specs.Prelude.{◌≡◌, ℕ, ◌+◌, ◌-◌, ◌*◌, ◌≤◌, ◌<◌, List, [], ◌∷◌, ◌++◌, sum_by, suc, false};
-ghost use Rattle.flow_core.specs.Limits.{most_jobs, most_machines, greatest_time, greatest_completion};
-ghost use Rattle.flow_core.specs.Shop.{time};
-ghost use Rattle.flow_core.specs.Paths.{completion};
-ghost use Rattle.flow_core.specs.Front.{IsFrontOf, IsWithinFront};
-ghost use Rattle.flow_core.specs.Sequences.{has, jobs_left};
-ghost use Rattle.flow_core.specs.Bound.{bound_at};
-ghost use Rattle.flow_core.specs.Rows.{AreRows};
+ghost use Rattle.flow_shop.specs.Limits.{most_jobs, most_machines, greatest_time, greatest_completion};
+ghost use Rattle.flow_shop.specs.Shop.{time};
+ghost use Rattle.flow_shop.specs.Paths.{completion};
+ghost use Rattle.flow_shop.specs.Front.{IsFrontOf, IsWithinFront};
+ghost use Rattle.flow_shop.specs.Sequences.{has, jobs_left};
+ghost use Rattle.flow_shop.specs.Bound.{bound_at};
+ghost use Rattle.flow_shop.specs.Rows.{AreRows};
 ghost use Rattle.flow_check.specs.internal.Links.{AreLinks};
 ghost use Rattle.flow_check.specs.internal.Nodes.{IsNode, IsAt, AreLows, IsChild, grown, left_before};
 
 use crate::claim::Claim;
-use flow_core::{Instance, MAX_MACHINES};
+use flow_limits::MAX_MACHINES;
+use flow_shop::Instance;
 
 /// What is kept of a list of jobs. The machine bounds of the list and of its children are computed from it. A job's
 /// tail behind a machine is its time on all later machines. The two least tails behind a machine are found when the

@@ -1,15 +1,15 @@
 //! The reader of the trees: how it goes from a list of jobs to a child, and back.
 
 ghost use Rattle.std.specs.Prelude.{◌≡◌, ◌≢◌, ℕ, suc, ◌<◌, ◌≤◌, List, [], length, slice_index, IfOk};
-ghost use Rattle.flow_core.specs.Rows.{AreRows};
+ghost use Rattle.flow_shop.specs.Rows.{AreRows};
 ghost use Rattle.flow_check.specs.internal.Links.{AreLinks, IsPlace};
 ghost use Rattle.flow_check.specs.internal.Reader.{Stands, Opened, Closed, frame_at};
-ghost use Rattle.flow_core.specs.Limits.{most_jobs};
+ghost use Rattle.flow_shop.specs.Limits.{most_jobs};
 
 use crate::claim::Claim;
 use crate::node::Node;
 use crate::release::{Lags, forget, unknown_lags};
-use flow_core::Instance;
+use flow_shop::Instance;
 use std::alloc::{AllocError, Global};
 
 /// A place in the text of the trees.

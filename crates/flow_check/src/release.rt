@@ -3,18 +3,18 @@
 
 ghost use Rattle.std.specs.Prelude.{◌≡◌, ℕ, suc, ◌+◌, ◌-◌, ◌≤◌, List, ◌++◌, ◌∷◌, [], nat_le, slice_index, Some};
 ghost use Rattle.std.specs.Prelude.{length, ◌<◌, IfOk};
-ghost use Rattle.flow_core.specs.Limits.{most_machines};
-ghost use Rattle.flow_core.specs.Shop.{time_between};
-ghost use Rattle.flow_core.specs.Sequences.{jobs_left};
-ghost use Rattle.flow_core.specs.Bound.{bound_at, bound_of, front_of, release};
-ghost use Rattle.flow_core.specs.Rows.{AreRows};
+ghost use Rattle.flow_shop.specs.Limits.{most_machines};
+ghost use Rattle.flow_shop.specs.Shop.{time_between};
+ghost use Rattle.flow_shop.specs.Sequences.{jobs_left};
+ghost use Rattle.flow_shop.specs.Bound.{bound_at, bound_of, front_of, release};
+ghost use Rattle.flow_shop.specs.Rows.{AreRows};
 ghost use Rattle.flow_check.specs.internal.Links.{AreLinks};
 ghost use Rattle.flow_check.specs.internal.Nodes.{IsNode, IsAt, IsChild, grown, left_before};
 ghost use Rattle.flow_check.specs.internal.Lags.{AreTwoLeastLagsTo, AreKept, AreUnknown, IsLeastWithout, TakesIn};
 
 use crate::claim::Claim;
 use crate::node::{Node, bound};
-use flow_core::MAX_MACHINES;
+use flow_limits::MAX_MACHINES;
 use std::alloc::{AllocError, Global};
 
 /// The two least lags of the jobs left to one machine, from each machine up to it. A job's lag from a machine to
@@ -86,7 +86,8 @@ impl Lags {
     fn without(&self, from: u16, lag: u32) -> u32
         requires from { 1 ≤ from }
         requires to { from ≤ most_machines }
-        ensures { IsLeastWithout lag (slice_index self.now.least (from - 1)) (slice_index self.now.second (from - 1)) result }
+        ensures { IsLeastWithout lag (slice_index self.now.least (from - 1)) (slice_index self.now.second (from - 1))
+            result }
     {
         let place = from as usize - 1;
         if lag == self.least[place] {

@@ -1,8 +1,8 @@
 //! Reading one tree, byte by byte: a letter, a point, or a plus before the trees of the children.
 
 ghost use Rattle.std.specs.Prelude.{◌≡◌, ◌≢◌, ℕ, suc, ◌+◌, ◌≤◌, List, [], ◌∷◌, ◌++◌, length, slice_index, drop, IfOk};
-ghost use Rattle.flow_core.specs.Bound.{bound_of};
-ghost use Rattle.flow_core.specs.Rows.{AreRows};
+ghost use Rattle.flow_shop.specs.Bound.{bound_of};
+ghost use Rattle.flow_shop.specs.Rows.{AreRows};
 ghost use Rattle.flow_check.specs.CertificateFaults.{read_tree};
 ghost use Rattle.flow_check.specs.internal.Links.{IsPlace};
 ghost use Rattle.flow_check.specs.internal.Reader.{Stands, IsBack, TreeGives, children_read};

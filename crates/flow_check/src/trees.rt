@@ -7,7 +7,7 @@ use crate::claim::Claim;
 use crate::fault::CheckFault;
 use crate::heading::Heading;
 use crate::reader::{Spot, TreeReader};
-use flow_core::{Instance, rows};
+use flow_shop::{Instance, rows};
 use std::alloc::Global;
 
 /// The line of the first tree, counted from 1.

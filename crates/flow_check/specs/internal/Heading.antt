@@ -2,9 +2,9 @@
 use Rattle.std.specs.Prelude.{ℕ, ◌≡◌, ◌≤◌, ◌<◌, ◌+◌, ◌-◌, ◌*◌, ◌^◌, Bool, cond, ◌&&◌, not, nat_eq, nat_lt, List, []}
 use Rattle.std.specs.Prelude.{◌∷◌, ◌++◌}
 use Rattle.std.specs.Fmt.{decimal}
-use Rattle.flow_core.specs.Limits.{greatest_depth}
-use Rattle.flow_core.specs.Lines.{is_digit}
-use Rattle.flow_core.specs.Sequences.{IsSequence}
+use Rattle.flow_shop.specs.Limits.{greatest_depth}
+use Rattle.flow_shop.specs.Digits.{is_digit}
+use Rattle.flow_shop.specs.Sequences.{IsSequence}
 use Rattle.flow_check.specs.Certificate.{line, spaced}
 
 -- a text begins with a number below 2^64 in decimal, and a byte that ends it

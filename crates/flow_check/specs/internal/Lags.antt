@@ -2,9 +2,9 @@
 -- from there to the one before the other.
 use Rattle.std.specs.Prelude.{ℕ, ◌≡◌, ◌≢◌, ◌-◌, ◌<◌, ◌≤◌, List, length, map, min, max, slice_index}
 use Rattle.std.specs.Prelude.{slice_index_or, Option, None, IfSome}
-use Rattle.flow_core.specs.Shop.{Shop, time_between}
-use Rattle.flow_core.specs.Sequences.{jobs_left}
-use Rattle.flow_core.specs.internal.TwoLeast.{least_below, second_below}
+use Rattle.flow_shop.specs.Shop.{Shop, time_between}
+use Rattle.flow_shop.specs.Sequences.{jobs_left}
+use Rattle.flow_shop.specs.TwoLeast.{least_below, second_below}
 use Rattle.flow_check.specs.internal.Nodes.{unknown}
 use Rattle.flow_check.specs.declared.release.Lags.{Lags}
 

@@ -1,7 +1,7 @@
 -- The jobs left, linked: from 0 and from each job left a link leads to the next job left.
 use Rattle.std.specs.Prelude.{ℕ, zero, suc, ◌≡◌, ◌+◌, ◌≤◌, ◌<◌, true, false, not, List, length, filter, slice_index}
-use Rattle.flow_core.specs.Shop.{numbers}
-use Rattle.flow_core.specs.Sequences.{has}
+use Rattle.flow_shop.specs.Shop.{numbers}
+use Rattle.flow_shop.specs.Sequences.{has}
 
 -- the jobs from one on that a list does not have
 abbrev pub children : ℕ → List ℕ → ℕ → List ℕ

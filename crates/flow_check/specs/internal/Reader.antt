@@ -2,9 +2,9 @@
 use Rattle.std.specs.Prelude.{ℕ, zero, suc, ◌≡◌, ◌+◌, ◌-◌, ◌≤◌, ◌<◌, Bool, true, false, List, [], ◌∷◌, ◌++◌, length}
 use Rattle.std.specs.Prelude.{drop, slice_index, slice_index_or, slice_set, Result, Ok, Err}
 use Rattle.std.specs.List.{flat_map}
-use Rattle.flow_core.specs.Shop.{Shop}
-use Rattle.flow_core.specs.Bound.{bound_of}
-use Rattle.flow_core.specs.Sequences.{has, jobs_left, extensions}
+use Rattle.flow_shop.specs.Shop.{Shop}
+use Rattle.flow_shop.specs.Bound.{bound_of}
+use Rattle.flow_shop.specs.Sequences.{has, jobs_left, extensions}
 use Rattle.flow_check.specs.CertificateFaults.{read_tree, each_tree, then_read, after_tree, trees_value}
 use Rattle.flow_check.specs.internal.Lags.{AreKept, AreUnknown}
 use Rattle.flow_check.specs.internal.Links.{children, IsPlace}

@@ -1,6 +1,6 @@
 use Rattle.std.proofs.Common.{◌≡◌, ◌≢◌, Bool, true, false, nat_eq, ap, cond, sym, ◌∙◌, Err}
 use Rattle.std.proofs.lemmas.Bool.{eq-eqb, ne_eqb}
-use Rattle.flow_core.specs.Paths.{span}
+use Rattle.flow_shop.specs.Paths.{span}
 use Rattle.flow_check.specs.CertificateFaults.{certificate_value, header_value, cut_value, on_line}
 use Rattle.flow_check.specs.declared.fault.CheckFault.TheVariants.{Header, Value, Sequence, NotAttained}
 use Rattle.flow_check.proofs.Exact.{after_size, after_value}

@@ -1,9 +1,9 @@
 use Rattle.std.proofs.Common.{◌≡◌, ℕ, ◌+◌, ◌-◌, ◌≤◌, [], ◌∷◌, ◌++◌, ap, sym, slice_index, ◌∙◌, arith}
 use Rattle.std.proofs.lemmas.Bool.{false≢true}
-use Rattle.flow_core.specs.Limits.{most_jobs}
-use Rattle.flow_core.specs.Sequences.{has}
-use Rattle.flow_core.specs.Paths.{span}
-use Rattle.flow_core.proofs.Fronts.{front-within}
+use Rattle.flow_shop.specs.Limits.{most_jobs}
+use Rattle.flow_shop.specs.Sequences.{has}
+use Rattle.flow_shop.specs.Paths.{span}
+use Rattle.flow_shop.proofs.Fronts.{front-within}
 use Rattle.flow_check.proofs.SequenceLine.{begins, at-job, done-more, all-done, only-done}
 use Rattle.flow_check.proofs.heading.read_sequence.Goals as goal
 

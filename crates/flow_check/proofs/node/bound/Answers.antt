@@ -1,7 +1,7 @@
 use Rattle.std.proofs.Common.{◌≡◌, ℕ, suc, ◌+◌, ◌-◌, ◌*◌, ◌≤◌, List, [], Some, slice_index, ap, sym, subst, ◌∙◌, arith}
-use Rattle.flow_core.specs.Limits.{most_jobs, most_machines, greatest_time, greatest_completion}
-use Rattle.flow_core.specs.Shop.{time}
-use Rattle.flow_core.specs.Bound.{bound_at}
+use Rattle.flow_shop.specs.Limits.{most_jobs, most_machines, greatest_time, greatest_completion}
+use Rattle.flow_shop.specs.Shop.{time}
+use Rattle.flow_shop.specs.Bound.{bound_at}
 use Rattle.flow_check.specs.internal.Nodes.{IsAt, IsChild, grown, left_before}
 use Rattle.flow_check.proofs.NodeSteps.{node-within, work-fits, work-covers, own-bound, child-bound}
 use Rattle.flow_check.proofs.node.bound.Goals as goal

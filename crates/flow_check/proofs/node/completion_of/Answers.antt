@@ -1,8 +1,8 @@
 use Rattle.std.proofs.Common.{◌≡◌, ◌+◌, ◌-◌, ◌≤◌, max, slice_index, refl, ap, sym, ◌∙◌, arith}
-use Rattle.flow_core.specs.Limits.{greatest_completion}
-use Rattle.flow_core.specs.Shop.{time}
-use Rattle.flow_core.proofs.Recurrence.{after}
-use Rattle.flow_core.proofs.Fronts.{free_at, after-step, time-small}
+use Rattle.flow_shop.specs.Limits.{greatest_completion}
+use Rattle.flow_shop.specs.Shop.{time}
+use Rattle.flow_shop.proofs.Recurrence.{after}
+use Rattle.flow_shop.proofs.Fronts.{free_at, after-step, time-small}
 use Rattle.flow_check.proofs.NodeSteps.{child-completion}
 use Rattle.flow_check.proofs.node.completion_of.Goals as goal
 

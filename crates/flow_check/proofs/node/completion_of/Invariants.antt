@@ -1,7 +1,7 @@
 use Rattle.std.proofs.Common.{◌≡◌, ◌+◌, ◌-◌, ◌*◌, ◌≤◌}
-use Rattle.flow_core.specs.Limits.{greatest_time, greatest_completion}
-use Rattle.flow_core.proofs.Recurrence.{after}
-use Rattle.flow_core.proofs.Fronts.{free_at}
+use Rattle.flow_shop.specs.Limits.{greatest_time, greatest_completion}
+use Rattle.flow_shop.proofs.Recurrence.{after}
+use Rattle.flow_shop.proofs.Fronts.{free_at}
 use Rattle.flow_check.proofs.node.completion_of.Given as goal
 
 abbrev pub invariant-loop-earlier : goal.invariant-loop-earlier

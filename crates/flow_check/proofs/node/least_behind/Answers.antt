@@ -1,6 +1,6 @@
 use Rattle.std.proofs.Common.{◌≡◌, ℕ, ◌+◌, min, max, slice_index, ap, sym, ◌∙◌, arith}
-use Rattle.flow_core.specs.Shop.{time_between}
-use Rattle.flow_core.specs.internal.TwoLeast.{tails, least_below, second_below}
+use Rattle.flow_shop.specs.Shop.{time_between}
+use Rattle.flow_shop.specs.TwoLeast.{tails, least_below, second_below}
 use Rattle.flow_check.specs.internal.Links.{IsNext, children}
 use Rattle.flow_check.proofs.Links.{children-none, children-next, next-place, next-some}
 use Rattle.flow_check.proofs.node.least_behind.Goals as goal

@@ -1,6 +1,6 @@
 use Rattle.std.proofs.Common.{◌≡◌, ℕ, ◌+◌, ◌-◌, List}
-use Rattle.flow_core.specs.Sequences.{jobs_left}
-use Rattle.flow_core.specs.internal.TwoLeast.{tails, least_below, second_below}
+use Rattle.flow_shop.specs.Sequences.{jobs_left}
+use Rattle.flow_shop.specs.TwoLeast.{tails, least_below, second_below}
 use Rattle.flow_check.specs.internal.Nodes.{unknown}
 use Rattle.flow_check.specs.internal.Links.{AreLinks, IsPlace, children}
 use Rattle.flow_check.proofs.node.least_behind.Given as goal

@@ -1,7 +1,7 @@
 use Rattle.std.proofs.Common.{◌≡◌, ℕ, ◌+◌, ◌-◌, Bool, not, [], ◌∙◌, arith}
-use Rattle.flow_core.specs.Shop.{time}
-use Rattle.flow_core.specs.Sequences.{has}
-use Rattle.flow_core.proofs.JobsLeft.{kept, kept-step}
+use Rattle.flow_shop.specs.Shop.{time}
+use Rattle.flow_shop.specs.Sequences.{has}
+use Rattle.flow_shop.proofs.JobsLeft.{kept, kept-step}
 use Rattle.flow_check.proofs.node.time_of_all.Goals as goal
 
 pub loop-job-preserved : goal.loop-job-preserved

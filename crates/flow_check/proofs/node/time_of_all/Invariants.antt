@@ -1,8 +1,8 @@
 use Rattle.std.proofs.Common.{◌≡◌, ◌-◌, ◌*◌, ◌≤◌, not, [], sum_by}
 use Rattle.std.specs.List.{filter}
-use Rattle.flow_core.specs.Limits.{greatest_time}
-use Rattle.flow_core.specs.Shop.{numbers, time}
-use Rattle.flow_core.specs.Sequences.{has}
+use Rattle.flow_shop.specs.Limits.{greatest_time}
+use Rattle.flow_shop.specs.Shop.{numbers, time}
+use Rattle.flow_shop.specs.Sequences.{has}
 use Rattle.flow_check.proofs.node.time_of_all.Given as goal
 
 abbrev pub invariant-loop-job : goal.invariant-loop-job

@@ -1,13 +1,13 @@
 use Rattle.std.proofs.Common.{◌≡◌, ℕ, suc, ◌+◌, ◌-◌, ◌*◌, ◌<◌, ◌≤◌, List, [], ◌∷◌, ◌++◌, max, map, slice_index, refl}
 use Rattle.std.proofs.Common.{ap}
 use Rattle.std.proofs.Common.{ap₂, sym, ◌∙◌, arith}
-use Rattle.flow_core.specs.Limits.{most_machines, greatest_time, greatest_completion}
-use Rattle.flow_core.specs.Shop.{numbers, time}
-use Rattle.flow_core.specs.Least.{greatest, least}
-use Rattle.flow_core.specs.Sequences.{jobs_left}
-use Rattle.flow_core.proofs.Admissible.{front_of-is}
-use Rattle.flow_core.proofs.Recurrence.{after}
-use Rattle.flow_core.proofs.Fronts.{free_at, after-step, time-small}
+use Rattle.flow_shop.specs.Limits.{most_machines, greatest_time, greatest_completion}
+use Rattle.flow_shop.specs.Shop.{numbers, time}
+use Rattle.flow_shop.specs.Least.{greatest, least}
+use Rattle.flow_shop.specs.Sequences.{jobs_left}
+use Rattle.flow_shop.proofs.Admissible.{front_of-is}
+use Rattle.flow_shop.proofs.Recurrence.{after}
+use Rattle.flow_shop.proofs.Fronts.{free_at, after-step, time-small}
 use Rattle.flow_check.specs.internal.Lags.{lags}
 use Rattle.flow_check.proofs.NodeSteps.{node-within, child-completion}
 use Rattle.flow_check.proofs.Releases.{greatest-more, child-lag, child-release}

@@ -1,10 +1,10 @@
 use Rattle.std.proofs.Common.{◌≡◌, ℕ, suc, ◌+◌, ◌-◌, ◌*◌, ◌≤◌, List, [], ◌∷◌, ◌++◌, map, Some}
-use Rattle.flow_core.specs.Limits.{greatest_time, greatest_completion}
-use Rattle.flow_core.specs.Shop.{numbers}
-use Rattle.flow_core.specs.Least.{greatest, least}
-use Rattle.flow_core.specs.Sequences.{jobs_left}
-use Rattle.flow_core.proofs.Recurrence.{after}
-use Rattle.flow_core.proofs.Fronts.{free_at}
+use Rattle.flow_shop.specs.Limits.{greatest_time, greatest_completion}
+use Rattle.flow_shop.specs.Shop.{numbers}
+use Rattle.flow_shop.specs.Least.{greatest, least}
+use Rattle.flow_shop.specs.Sequences.{jobs_left}
+use Rattle.flow_shop.proofs.Recurrence.{after}
+use Rattle.flow_shop.proofs.Fronts.{free_at}
 use Rattle.flow_check.specs.internal.Lags.{AreTwoLeastLagsTo, lags}
 use Rattle.flow_check.specs.internal.Nodes.{IsNode, IsChild}
 use Rattle.flow_check.proofs.release.child_gain.Given as goal

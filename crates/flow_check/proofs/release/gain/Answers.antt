@@ -1,6 +1,6 @@
 use Rattle.std.proofs.Common.{◌≡◌, ℕ, suc, ◌+◌, ◌-◌, List, slice_index, sym, subst}
-use Rattle.flow_core.specs.Sequences.{jobs_left}
-use Rattle.flow_core.specs.Bound.{front_of, release}
+use Rattle.flow_shop.specs.Sequences.{jobs_left}
+use Rattle.flow_shop.specs.Bound.{front_of, release}
 use Rattle.flow_check.proofs.Releases.{release-gains, plain-gains}
 use Rattle.flow_check.specs.internal.Nodes.{IsAt, IsChild, grown, left_before}
 use Rattle.flow_check.proofs.release.gain.Goals as goal

@@ -1,7 +1,7 @@
 use Rattle.std.proofs.Common.{◌≡◌, ℕ, ◌+◌, ◌-◌, ◌≤◌, slice_index, replicate, ap, ap₂, sym, ◌∙◌, arith}
 use Rattle.std.proofs.lemmas.List.{get_or-replicate}
-use Rattle.flow_core.specs.Limits.{most_machines}
-use Rattle.flow_core.specs.internal.TwoLeast.{least_below, second_below}
+use Rattle.flow_shop.specs.Limits.{most_machines}
+use Rattle.flow_shop.specs.TwoLeast.{least_below, second_below}
 use Rattle.flow_check.specs.internal.Lags.{lags}
 use Rattle.flow_check.specs.internal.Links.{IsNext, children}
 use Rattle.flow_check.specs.internal.Nodes.{unknown}

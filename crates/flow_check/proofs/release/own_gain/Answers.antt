@@ -1,5 +1,5 @@
 use Rattle.std.proofs.Common.{◌≡◌, ℕ, suc, ◌+◌, ◌-◌, ◌≤◌, max, slice_index, ap, ap₂, sym, ◌∙◌, arith}
-use Rattle.flow_core.specs.Limits.{greatest_completion}
+use Rattle.flow_shop.specs.Limits.{greatest_completion}
 use Rattle.flow_check.proofs.NodeSteps.{node-within}
 use Rattle.flow_check.proofs.Releases.{greatest-more, own-late}
 use Rattle.flow_check.proofs.release.own_gain.Goals as goal

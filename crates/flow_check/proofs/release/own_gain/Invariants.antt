@@ -1,6 +1,6 @@
 use Rattle.std.proofs.Common.{◌≡◌, ◌+◌, ◌-◌, map, slice_index}
-use Rattle.flow_core.specs.Shop.{numbers}
-use Rattle.flow_core.specs.Least.{greatest}
+use Rattle.flow_shop.specs.Shop.{numbers}
+use Rattle.flow_shop.specs.Least.{greatest}
 use Rattle.flow_check.proofs.release.own_gain.Given as goal
 
 abbrev pub invariant-loop-from : goal.invariant-loop-from

@@ -1,6 +1,6 @@
 use Rattle.std.proofs.Common.{suc, sym, arith}
 use Rattle.std.proofs.lemmas.Bool.{le-leb}
-use Rattle.flow_core.specs.Bound.{bound_of}
+use Rattle.flow_shop.specs.Bound.{bound_of}
 use Rattle.flow_check.specs.internal.Nodes.{grown, left_before}
 use Rattle.flow_check.proofs.Releases.{version-stronger, gain-reaches}
 use Rattle.flow_check.proofs.release.reaches.Goals as goal

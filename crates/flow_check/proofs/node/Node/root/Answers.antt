@@ -1,7 +1,7 @@
-use Rattle.flow_core.specs.Limits.{most_machines}
+use Rattle.flow_shop.specs.Limits.{most_machines}
 use Rattle.std.proofs.Common.{refl, replicate, arith}
 use Rattle.flow_check.specs.internal.Nodes.{unknown}
-use Rattle.flow_core.proofs.Fronts.{front-empty}
+use Rattle.flow_shop.proofs.Fronts.{front-empty}
 use Rattle.flow_check.proofs.NodeSteps.{root-node}
 use Rattle.flow_check.proofs.node.Node.root.Goals as goal
 

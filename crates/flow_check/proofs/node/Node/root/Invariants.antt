@@ -1,7 +1,7 @@
 use Rattle.std.proofs.Common.{◌≡◌, ℕ, ◌-◌, ◌≤◌, ◌<◌, [], sum_by, length, slice_index}
-use Rattle.flow_core.specs.Limits.{most_machines}
-use Rattle.flow_core.specs.Shop.{time}
-use Rattle.flow_core.specs.Sequences.{jobs_left}
+use Rattle.flow_shop.specs.Limits.{most_machines}
+use Rattle.flow_shop.specs.Shop.{time}
+use Rattle.flow_shop.specs.Sequences.{jobs_left}
 use Rattle.flow_check.proofs.node.Node.root.Given as goal
 
 abbrev pub invariant-loop-machine : goal.invariant-loop-machine

@@ -1,8 +1,8 @@
 use Rattle.std.proofs.Common.{◌≡◌, ◌≢◌, ℕ, suc, ◌+◌, ◌-◌, ◌<◌, List, [], ◌∷◌, ◌++◌, length, drop, slice_index, sym, ap}
 use Rattle.std.proofs.Common.{subst, ◌∙◌, arith}
 use Rattle.std.proofs.lemmas.Grind.{get_or_default_zero}
-use Rattle.flow_core.specs.Bound.{bound_of}
-use Rattle.flow_core.specs.Sequences.{extensions}
+use Rattle.flow_shop.specs.Bound.{bound_of}
+use Rattle.flow_shop.specs.Sequences.{extensions}
 use Rattle.flow_check.specs.CertificateFaults.{trees_value}
 use Rattle.flow_check.specs.internal.Links.{IsNext, IsPlace}
 use Rattle.flow_check.specs.internal.Reader.{Stands, IsBack, Opened, awaited}

@@ -1,6 +1,6 @@
 use Rattle.std.proofs.Common.{◌≡◌, ℕ, suc, ◌≤◌, ◌+◌, ◌-◌, ◌++◌, length, drop, List}
-use Rattle.flow_core.specs.Bound.{bound_of}
-use Rattle.flow_core.specs.Sequences.{extensions}
+use Rattle.flow_shop.specs.Bound.{bound_of}
+use Rattle.flow_shop.specs.Sequences.{extensions}
 use Rattle.flow_check.specs.CertificateFaults.{trees_value}
 use Rattle.flow_check.specs.internal.Links.{IsPlace}
 use Rattle.flow_check.specs.internal.Reader.{Stands, IsBack, awaited}

@@ -1,7 +1,7 @@
 use Rattle.std.proofs.Common.{◌≡◌, ◌≢◌, ℕ, ◌+◌, ◌<◌, Bool, List, [], ◌∷◌, ◌++◌, length, drop, slice_index, Some, Result}
 use Rattle.std.proofs.Common.{Ok, Err, true, refl, sym, ap, subst, ◌∙◌, arith}
 use Rattle.std.proofs.lemmas.Grind.{get_or_default_zero}
-use Rattle.flow_core.specs.Bound.{bound_of}
+use Rattle.flow_shop.specs.Bound.{bound_of}
 use Rattle.flow_check.specs.CertificateFaults.{read_tree}
 use Rattle.flow_check.specs.internal.Links.{IsPlace}
 use Rattle.flow_check.specs.internal.Nodes.{IsChild}

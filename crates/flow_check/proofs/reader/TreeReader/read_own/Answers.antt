@@ -1,6 +1,6 @@
 use Rattle.std.proofs.Common.{suc, ◌+◌, drop, refl, subst, arith}
 use Rattle.flow_check.specs.internal.Reader.{TreeGives, children_read}
-use Rattle.flow_core.specs.Bound.{bound_of}
+use Rattle.flow_shop.specs.Bound.{bound_of}
 use Rattle.flow_check.specs.CertificateFaults.{read_tree}
 use Rattle.flow_check.proofs.Exits.{exit}
 use Rattle.flow_check.proofs.TreeReading.{letter-open, letter-whole, plus-gives, tree-fails}

@@ -1,6 +1,6 @@
 use Rattle.std.proofs.Common.{◌≡◌, ℕ, ◌-◌, ◌<◌, ◌≤◌, min, max, length, slice_index}
-use Rattle.flow_core.specs.Limits.{most_machines}
-use Rattle.flow_core.specs.Shop.{time_between}
+use Rattle.flow_shop.specs.Limits.{most_machines}
+use Rattle.flow_shop.specs.Shop.{time_between}
 use Rattle.flow_check.proofs.release.Lags.take_in.Given as goal
 
 abbrev pub invariant-loop-from : goal.invariant-loop-from
