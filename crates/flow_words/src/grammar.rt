@@ -8,19 +8,27 @@ const VERSION: &str = "1.0, certificate versions 1 and 2";
 
 /// The grammar of the command line.
 pub fn make_command<'a>(alloc: Global) -> Result<Command<'a>, AllocError> {
-    Command::new(alloc, "flowshop")
+    let command = Command::new(alloc, "flowshop")
         .about("Least makespans of permutation flow shops, with certificates")
         .after_help("Example: ./flowshop certify examples/taillard_20_5.txt 1 >certificate")
         .version(VERSION)
-        .subcommand_required(true)
-        .subcommand(certify_command(alloc)?)?
-        .subcommand(span_command(alloc)?)?
-        .subcommand(gen_command(alloc)?)?
-        .subcommand(neh_command(alloc)?)?
-        .subcommand(mirror_command(alloc)?)?
-        .subcommand(improve_command(alloc)?)?
-        .subcommand(solve_command(alloc)?)?
-        .subcommand(check_command(alloc)?)
+        .subcommand_required(true);
+    let command = with(Ok(command), certify_command(alloc));
+    let command = with(command, span_command(alloc));
+    let command = with(command, gen_command(alloc));
+    let command = with(command, neh_command(alloc));
+    let command = with(command, mirror_command(alloc));
+    let command = with(command, improve_command(alloc));
+    let command = with(command, solve_command(alloc));
+    with(command, check_command(alloc))
+}
+
+/// A command with one more below it, where both could be made.
+fn with<'a>(
+    command: Result<Command<'a>, AllocError>,
+    below: Result<Command<'a>, AllocError>,
+) -> Result<Command<'a>, AllocError> {
+    command?.subcommand(below?)
 }
 
 fn certify_command<'a>(alloc: Global) -> Result<Command<'a>, AllocError> {
@@ -33,93 +41,99 @@ mirrored one",
             "The certificate may be one of the mirrored instance: check it with --either.\nExample: ./flowshop \
 certify examples/three_machines.txt 1 >certificate",
         )
-        .arg(file(alloc))?
-        .arg(index(alloc))?
-        .arg(rounds(alloc))?
-        .arg(seed(alloc))?
-        .arg(start(alloc))?
-        .arg(version(alloc))
+        .args(vec![in alloc;
+            file(alloc),
+            index(alloc),
+            rounds(alloc),
+            seed(alloc),
+            start(alloc),
+            version(alloc),
+        ]?)
 }
 
 fn span_command<'a>(alloc: Global) -> Result<Command<'a>, AllocError> {
     Command::new(alloc, "span")
         .about("Prints the makespan of jobs in the given order")
         .after_help("Example: ./flowshop span examples/two_machines.txt 1 2 3 1")
-        .arg(file(alloc))?
-        .arg(index(alloc))?
-        .arg(jobs(alloc))
+        .args(vec![in alloc; file(alloc), index(alloc), jobs(alloc)]?)
 }
 
 fn gen_command<'a>(alloc: Global) -> Result<Command<'a>, AllocError> {
     Command::new(alloc, "gen")
         .about("Writes the instance of a seed, with its bounds")
         .after_help("Example: ./flowshop gen 20 5 873654221")
-        .arg(number(alloc, "JOBS", "How many jobs there are, 1 to 800"))?
-        .arg(number(alloc, "MACHINES", "How many machines there are, 1 to 26"))?
-        .arg(number(
-            alloc,
-            "SEED",
-            "The first state of Taillard's generator, 1 to 2147483646",
-        ))
+        .args(vec![in alloc;
+            number(alloc, "JOBS", "How many jobs there are, 1 to 800"),
+            number(alloc, "MACHINES", "How many machines there are, 1 to 26"),
+            number(
+                alloc,
+                "SEED",
+                "The first state of Taillard's generator, 1 to 2147483646",
+            ),
+        ]?)
 }
 
 fn neh_command<'a>(alloc: Global) -> Result<Command<'a>, AllocError> {
     Command::new(alloc, "neh")
         .about("Prints the starting sequence and its makespan")
         .after_help("Example: ./flowshop neh examples/three_machines.txt 1")
-        .arg(file(alloc))?
-        .arg(index(alloc))
+        .args(vec![in alloc; file(alloc), index(alloc)]?)
 }
 
 fn mirror_command<'a>(alloc: Global) -> Result<Command<'a>, AllocError> {
     Command::new(alloc, "mirror")
         .about("Writes a block with its machines in reverse order")
         .after_help("Example: ./flowshop mirror examples/two_machines.txt 1")
-        .arg(file(alloc))?
-        .arg(index(alloc))
+        .args(vec![in alloc; file(alloc), index(alloc)]?)
 }
 
 fn improve_command<'a>(alloc: Global) -> Result<Command<'a>, AllocError> {
     Command::new(alloc, "improve")
         .about("Prints a sequence that is no worse than a starting sequence, and its makespan")
         .after_help("Example: ./flowshop improve examples/taillard_20_5.txt 1 --rounds 100")
-        .arg(file(alloc))?
-        .arg(index(alloc))?
-        .arg(rounds(alloc))?
-        .arg(seed(alloc))?
-        .arg(start(alloc))
+        .args(vec![in alloc;
+            file(alloc),
+            index(alloc),
+            rounds(alloc),
+            seed(alloc),
+            start(alloc),
+        ]?)
 }
 
 fn solve_command<'a>(alloc: Global) -> Result<Command<'a>, AllocError> {
     Command::new(alloc, "solve")
         .about("Finds the least makespan, and writes a certificate of it")
         .after_help("Example: ./flowshop solve examples/three_machines.txt 1 --depth 0")
-        .arg(file(alloc))?
-        .arg(index(alloc))?
-        .arg(workers(alloc))?
-        .arg(depth(alloc))?
-        .arg(budget(alloc))?
-        .arg(version(alloc))?
-        .arg(start(alloc))?
-        .arg(flag(
-            alloc,
-            "mirrored",
-            "Solves the instance with its machines in reverse order, from the reversed start if one is given",
-        ))
+        .args(vec![in alloc;
+            file(alloc),
+            index(alloc),
+            workers(alloc),
+            depth(alloc),
+            budget(alloc),
+            version(alloc),
+            start(alloc),
+            flag(
+                alloc,
+                "mirrored",
+                "Solves the instance with its machines in reverse order, from the reversed start if one is given",
+            ),
+        ]?)
 }
 
 fn check_command<'a>(alloc: Global) -> Result<Command<'a>, AllocError> {
     Command::new(alloc, "check")
         .about("Checks a certificate, and prints the value that it proves least")
         .after_help("Example: ./flowshop check examples/three_machines.txt 1 certificate")
-        .arg(file(alloc))?
-        .arg(index(alloc))?
-        .arg(word(alloc, "CERT", "The file of the certificate"))?
-        .arg(flag(
-            alloc,
-            "either",
-            "Accepts a certificate of the mirrored instance too",
-        ))
+        .args(vec![in alloc;
+            file(alloc),
+            index(alloc),
+            word(alloc, "CERT", "The file of the certificate"),
+            flag(
+                alloc,
+                "either",
+                "Accepts a certificate of the mirrored instance too",
+            ),
+        ]?)
 }
 
 /// The file of a benchmark text.
