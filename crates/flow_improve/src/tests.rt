@@ -4,7 +4,7 @@ ghost use Rattle.std.specs.Prelude.{◌<◌, ◌≤◌};
 ghost use Rattle.flow_core.specs.Generator.{modulus};
 
 use crate::improve;
-use flow_bound::neh;
+use flow_bound::{neh, taillard_bound};
 use flow_core::{Instance, Sequence, generate, makespan};
 use std::alloc::Global;
 use std::test::Fail;
@@ -44,6 +44,52 @@ fn five_rounds_leave_the_start(rt: HostRuntime) -> Result<(), Fail> {
     let (sequence, makespan) = improved(rt.alloc(), &instance, 5, 7)?;
     assert_eq!(rt; makespan, 1286);
     assert_eq!(rt; sequence.jobs(), start.jobs());
+    Ok(())
+}
+
+/// Jobs, machines, the instance's seed, rounds and their seed; and the makespan that the plain program bench/improve.rs
+/// comes to.
+const LATER_ROUNDS: [([u32; 5], u64); 5] = [
+    ([20, 10, 587_595_453, 20, 3], 1596),
+    ([20, 10, 587_595_453, 50, 3], 1583),
+    ([20, 10, 587_595_453, 1_000, 3], 1582),
+    ([20, 10, 587_595_453, 50, 2_147_483_645], 1586),
+    ([21, 26, 8, 40, 1], 2638),
+];
+
+#[test]
+fn later_rounds_improve_too(rt: HostRuntime) -> Result<(), Fail> {
+    for ([jobs, machines, of_instance, rounds, seed], value) in LATER_ROUNDS {
+        let instance = generate(rt.alloc(), jobs, machines, of_instance)?;
+        assert!(rt; 1 <= seed && seed < 2_147_483_647);
+        let (sequence, makespan) = improved(rt.alloc(), &instance, rounds, seed)?;
+        assert_eq!(rt; makespan, value);
+        assert_eq!(rt; sequence.jobs().len(), jobs as usize);
+    }
+    Ok(())
+}
+
+// The values are those of the plain program bench/improve.rs. The start has a makespan of one more than the bound, which
+// the first round has; all these rounds would take hours.
+#[test]
+fn rounds_stop_at_the_bound(rt: HostRuntime) -> Result<(), Fail> {
+    let instance = generate(rt.alloc(), 6, 3, 17)?;
+    assert_eq!(rt; taillard_bound(&instance), 415);
+    for rounds in [5, u32::MAX] {
+        let (sequence, makespan) = improved(rt.alloc(), &instance, rounds, 1)?;
+        assert_eq!(rt; makespan, 415);
+        assert_eq!(rt; sequence.jobs(), [1, 6, 3, 2, 5, 4].as_slice());
+    }
+    Ok(())
+}
+
+// The value is that of the plain program bench/improve.rs. No sequence has the bound: all 40,320 were tried.
+#[test]
+fn rounds_end_above_the_bound(rt: HostRuntime) -> Result<(), Fail> {
+    let instance = generate(rt.alloc(), 8, 3, 12)?;
+    assert_eq!(rt; taillard_bound(&instance), 363);
+    let (_, makespan) = improved(rt.alloc(), &instance, 20, 1)?;
+    assert_eq!(rt; makespan, 369);
     Ok(())
 }
 
