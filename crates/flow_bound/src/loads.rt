@@ -16,7 +16,7 @@ use flow_core::{Front, Instance, JobSet, MAX_MACHINES};
 use std::marker::Model;
 
 /// The remaining work of each machine of an instance, where the jobs of a set are left. It stores no set.
-#[derive(Clone, Copy, Debug, PartialEq, Eq)]
+#[derive(Clone, Copy, Debug)]
 pub struct Loads {
     /// The number of machines.
     machines: u16,

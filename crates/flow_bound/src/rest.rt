@@ -20,7 +20,7 @@ use flow_core::{Front, Instance, JobSet, MAX_MACHINES};
 type Lags = [u32; MAX_MACHINES];
 
 /// The rest of a set of jobs: the remaining work of each machine, and the lags to it. It stores no set.
-#[derive(Clone, Copy, Debug, PartialEq, Eq)]
+#[derive(Clone, Copy, Debug)]
 pub struct Rest {
     /// The remaining work of each machine.
     loads: Loads,

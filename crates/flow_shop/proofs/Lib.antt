@@ -14,3 +14,4 @@ pub mod Mirrors
 pub mod ReversedSequence
 pub mod MirrorLemmas
 pub mod Lists
+pub mod LeastFound

@@ -43,9 +43,10 @@ pub fn released_bound_is_stronger()
     ensures { ReleasedBoundIsStronger }
 {}
 
-/// An instance has one least makespan.
+/// An instance has a least makespan, and only one.
 pub fn least_makespan_is_one()
-    ensures { (shop : Shop) (value other : ℕ) → IsLeastMakespan shop value → IsLeastMakespan shop other →
+    ensures some { (shop : Shop) → (value : ℕ) × IsLeastMakespan shop value }
+    ensures one { (shop : Shop) (value other : ℕ) → IsLeastMakespan shop value → IsLeastMakespan shop other →
         value ≡ other }
 {}
 
