@@ -30,7 +30,8 @@ pub record ReceivingEnd (T : Type 0) : Type 0 where
   pub received : List T
   pub known_items : List T
 
--- a settled lane, and all items that went through it in order
+-- a settled lane, all items that were sent on it, and all that were received, each in order
 pub record SettledLane (T : Type 0) : Type 0 where
   pub lane : Lane
-  pub items : List T
+  pub sent : List T
+  pub received : List T

@@ -18,7 +18,7 @@ impl<T> Model for Settled<T> {
 
     ghost Value = { SettledLane T };
 
-    ghost view = { λ s. record { lane = s.sender.lane; items = s.sender.sent } };
+    ghost view = { λ s. record { lane = s.sender.lane; sent = s.sender.sent; received = s.receiver.received } };
 
     ghost invariant = { λ s. (s.receiver.lane ≡ s.sender.lane) × (s.receiver.received ≡ s.sender.sent) };
 }
@@ -34,7 +34,8 @@ pub fn settle<T>(
     ensures within_capacity { length sender.sent ≤ length receiver.received + sender.lane.capacity }
     ensures ok_where_all_received { IsOk result ↔ (receiver.received ≡ sender.sent) }
     ensures settled { IfOk result
-        (λ settled. (settled.lane ≡ sender.lane) × (settled.items ≡ sender.sent)) }
+        (λ settled. (settled.lane ≡ sender.lane) × (settled.sent ≡ sender.sent)
+        × (settled.received ≡ receiver.received)) }
 
     // Neither end knows less than before.
     ensures sender_back { IfErr result (λ ends.

@@ -26,7 +26,7 @@ use Rattle.flow_pool.specs.internal.Start.{IsServed}
 use Rattle.flow_pool.specs.Hub.{HasCollected, hub_lanes, sent_lists, received_lists}
 use Rattle.flow_pool.specs.internal.HubSteps.{hub_slots}
 use Rattle.flow_pool.specs.internal.Settling.{IsCollected, ends_once, worker_tasks, worker_answers, pair_lanes}
-use Rattle.flow_pool.specs.internal.Settling.{pair_tasks, pair_answers}
+use Rattle.flow_pool.specs.internal.Settling.{pair_tasks, pair_answers, IsReceived}
 use Rattle.flow_pool.specs.Report.{IsDoneAnswer, AreWholeWork}
 use Rattle.flow_pool.proofs.Undeal.{same_from_dealt, All-from_dealt, length-dealt_from, All-dealt_from}
 use Rattle.flow_pool.proofs.Undeal.{dealt_from-range}
@@ -199,10 +199,10 @@ pub AreWholeWork-from_parts : (plan : Planned) (before hubs : List HubEnds) (end
     → HasCollected plan before hubs answers → All (IsServed plan) ends → All (IsDoneAnswer plan) answers
     → map pair_tasks lanes ≡ sent_lists hubs → map pair_tasks lanes ≡ map worker_tasks ends
     → map pair_answers lanes ≡ received_lists hubs → map pair_answers lanes ≡ map worker_answers ends
-    → map pair_lanes lanes ≡ map hub_lanes hubs → map hub_slots before
+    → All IsReceived lanes → map pair_lanes lanes ≡ map hub_lanes hubs → map hub_slots before
     ≡ by_lane plan.options.workers (λ lane. (run_slots, run_slots))
     → AreWholeWork plan lanes
-AreWholeWork-from_parts plan before hubs ends answers lanes has served done t0 t1 a0 a1 c0 c1 =
+AreWholeWork-from_parts plan before hubs ends answers lanes has served done t0 t1 a0 a1 back c0 c1 =
     let k = plan.options.workers in
     let n = prefix_count plan in
     let tasks : map pair_tasks lanes ≡ by_lane k (tasks_of k n) = t0 ∙ has.sent in
@@ -232,6 +232,7 @@ AreWholeWork-from_parts plan before hubs ends answers lanes has served done t0 t
             answers = All-same (IsDoneAnswer plan) _ _ (by_lane-at pair_answers
                 (λ lane. dealt k lane answers) lanes k got worker d here) (All-dealt_from
                 (IsDoneAnswer plan) k worker 0 answers done);
+            received = back worker d here;
             slots = (ap (λ (s : ℕ × ℕ). s.0) both, ap (λ (s : ℕ × ℕ). s.1) both);
           };
     }

@@ -20,12 +20,13 @@ pub record IsDoneAnswer (plan : Planned) (answer : Answer) : Type 0 where
   pub lawful : IsLawful plan answer.number answer.outcome
   pub done : IsDone answer.outcome
 
--- the settled lanes of a worker carried its tasks, and an answer to each prefix, lawful and `Done`; each has run_slots
--- slots
+-- on the settled lanes of a worker its tasks were sent, and an answer to each prefix, lawful and `Done`; what was sent
+-- was received; each has run_slots slots
 pub record IsWholeWork (plan : Planned) (worker : ℕ) (lanes : Settled Task × Settled Answer) : Type 0 where
-  pub tasks : lanes.0.items ≡ tasks_of plan.options.workers (prefix_count plan) worker
-  pub numbers : answered lanes.1.items ≡ share plan.options.workers (prefix_count plan) worker
-  pub answers : All (IsDoneAnswer plan) lanes.1.items
+  pub tasks : lanes.0.sent ≡ tasks_of plan.options.workers (prefix_count plan) worker
+  pub numbers : answered lanes.1.sent ≡ share plan.options.workers (prefix_count plan) worker
+  pub answers : All (IsDoneAnswer plan) lanes.1.sent
+  pub received : (lanes.0.received ≡ lanes.0.sent) × (lanes.1.received ≡ lanes.1.sent)
   pub slots : (lanes.0.lane.capacity ≡ run_slots) × (lanes.1.lane.capacity ≡ run_slots)
 
 -- there is one pair of settled lanes for each worker, in the order of the workers

@@ -4,7 +4,7 @@ ghost use Rattle.std.specs.Prelude.{◌≡◌, ◌≤◌, [], All, map, vec_len,
 ghost use Rattle.flow_pool.specs.Work.{worker_lanes};
 ghost use Rattle.flow_pool.specs.Hub.{hub_lanes, sent_lists, received_lists};
 ghost use Rattle.flow_pool.specs.internal.Settling.{IsCollected, IsAnswered, pair_lanes, pair_tasks, pair_answers};
-ghost use Rattle.flow_pool.specs.internal.Settling.{worker_answers, worker_tasks};
+ghost use Rattle.flow_pool.specs.internal.Settling.{worker_answers, worker_tasks, IsReceived};
 
 use crate::{Answer, HubEnds, Task, WorkerEnds};
 use flow_lanes::{Settled, settle};
@@ -17,8 +17,9 @@ fn settle_pair(hub: HubEnds, worker: WorkerEnds) -> LanePair
     requires lanes { hub_lanes hub ≡ worker_lanes worker }
     requires hub { IsCollected hub }
     requires worker { IsAnswered worker }
-    ensures tasks { (result.0.items ≡ hub.tasks.sent) × (result.0.items ≡ worker.tasks.received) }
-    ensures answers { (result.1.items ≡ hub.answers.received) × (result.1.items ≡ worker.answers.sent) }
+    ensures tasks { (result.0.sent ≡ hub.tasks.sent) × (result.0.sent ≡ worker.tasks.received) }
+    ensures answers { (result.1.sent ≡ hub.answers.received) × (result.1.sent ≡ worker.answers.sent) }
+    ensures received { IsReceived result }
     ensures lanes { pair_lanes result ≡ hub_lanes hub }
 {
     let HubEnds {
@@ -47,6 +48,7 @@ pub(crate) fn settle_all(hubs: Vec<HubEnds>, workers: Vec<WorkerEnds>, lanes: &m
         × (map pair_tasks lanes.new.items ≡ map worker_tasks workers.items) }
     ensures answers { (map pair_answers lanes.new.items ≡ received_lists hubs.items)
         × (map pair_answers lanes.new.items ≡ map worker_answers workers.items) }
+    ensures received { All IsReceived lanes.new.items }
     ensures lanes { map pair_lanes lanes.new.items ≡ map hub_lanes hubs.items }
 {
     let mut hubs = hubs;

@@ -43,10 +43,14 @@ worker_answers ends = ends.answers.sent
 abbrev pub pair_lanes : Settled Task × Settled Answer → Lane × Lane
 pair_lanes pair = (pair.0.lane, pair.1.lane)
 
--- the tasks that went through these lanes
+-- the tasks that were sent on these lanes
 abbrev pub pair_tasks : Settled Task × Settled Answer → List Task
-pair_tasks pair = pair.0.items
+pair_tasks pair = pair.0.sent
 
--- the answers that went through these lanes
+-- the answers that were sent on these lanes
 abbrev pub pair_answers : Settled Task × Settled Answer → List Answer
-pair_answers pair = pair.1.items
+pair_answers pair = pair.1.sent
+
+-- what was sent on these lanes was received
+abbrev pub IsReceived : Settled Task × Settled Answer → Type 0
+IsReceived pair = (pair.0.received ≡ pair.0.sent) × (pair.1.received ≡ pair.1.sent)
