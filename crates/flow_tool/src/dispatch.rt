@@ -1,12 +1,14 @@
 //! Which words of a command line run which command, and on which files.
 
-ghost use Rattle.std.specs.Prelude.{◌≡◌, false, Ok, OnOk, IfErr};
+ghost use Rattle.std.specs.Prelude.{◌≡◌, ◌↔◌, ◌⊎◌, false, true, Ok, OnOk, IfErr, IsErrOf};
+ghost use Rattle.flow_core.specs.declared.bytes.fault.ReadFault.TheVariants as read;
+ghost use Rattle.flow_core.specs.declared.bytes.fault.WriteFault.TheVariants as write;
 ghost use Rattle.flow_commands.specs.Commands.{AnswersCheck};
 ghost use Rattle.flow_core.specs.Limits.{most_certificate, most_text};
 ghost use Rattle.flow_commands.specs.Runs.{Came, CameFor, Ends, EndsBoth, Wrote, WroteBoth, WroteLeast};
 ghost use Rattle.flow_tool.specs.internal.Asked.{AnswersAsked, AnswersSearch, AnswersSearchFrom};
-ghost use Rattle.flow_tool.specs.internal.Asked.{EndsForText, EndsNamed, EndsOrder, RunOfOpened, WroteForText};
-ghost use Rattle.flow_tool.specs.internal.Asked.{WroteNamed, WroteOrder};
+ghost use Rattle.flow_tool.specs.internal.Asked.{EndsForText, EndsNamed, EndsOrder, FailedForText, FailedOfOpened};
+ghost use Rattle.flow_tool.specs.internal.Asked.{FailedOrder, RunOfOpened, WroteForText, WroteNamed, WroteOrder};
 
 use crate::inputs::Inputs;
 use crate::stop::Stop;
@@ -79,6 +81,10 @@ fn obey<R: Threads + Wait + Sync, I: Inputs, K: Sink>(
         (RunOfOpened (λ _. I.is_standard inputs.now) I.Standard.given I.Standard.has_ended)
         (RunOfOpened (I.opened inputs.now) I.File.given I.File.has_ended)
         (I.refused inputs.now) (out.new ≡ out.old) order.now (K.taken out.old) (K.taken out.new)) }
+    ensures read_device { IsErrOf result (Stop.Fault (ToolFault.Read read.Device)) → FailedOrder
+        (FailedOfOpened (λ _. I.is_standard inputs.now) I.Standard.has_failed)
+        (FailedOfOpened (I.opened inputs.now) I.File.has_failed) order.now }
+    ensures write_device { IsErrOf result (Stop.Fault (ToolFault.Write write.Device)) ↔ (K.has_failed out.new ≡ true) }
 {
     match order {
         Order::Gen {
@@ -116,6 +122,10 @@ fn obey_text<R: Threads + Wait + Sync, I: Inputs, S: Source, K: Sink>(
         (RunOfOpened (I.opened inputs.now) I.File.given I.File.has_ended) (I.refused inputs.now) index what.now
         (out.new ≡ out.old) (text.new ≡ text.old) (S.given text.old) (S.given text.new) (S.has_ended text.new)
         (K.taken out.old) (K.taken out.new)) }
+    ensures read_device { IsErrOf result (Stop.Fault (ToolFault.Read read.Device))
+        → (S.has_failed text.new ≡ true)
+        ⊎ FailedForText (FailedOfOpened (I.opened inputs.now) I.File.has_failed) what.now }
+    ensures write_device { IsErrOf result (Stop.Fault (ToolFault.Write write.Device)) ↔ (K.has_failed out.new ≡ true) }
 {
     match what {
         OfText::OfBlock { what } => Ok(obey_for_block(rt, alloc, text, index, what, out)?),
@@ -144,6 +154,8 @@ fn obey_for_block<R: Threads + Wait + Sync, S: Source, K: Sink>(
         (S.given text.old) (S.given text.new) (S.has_ended text.new)) }
     ensures ended { IfErr result (Ends (out.new ≡ out.old) most_text (AnswersAsked index what.now)
         (S.given text.old) (S.given text.new) (S.has_ended text.new) (K.taken out.old) (K.taken out.new)) }
+    ensures read_device { IsErrOf result (ToolFault.Read read.Device) ↔ (S.has_failed text.new ≡ true) }
+    ensures write_device { IsErrOf result (ToolFault.Write write.Device) ↔ (K.has_failed out.new ≡ true) }
 {
     match what {
         OfBlock::Span { jobs } => run_span(alloc, text, index, jobs.as_slice(), out),
@@ -169,6 +181,8 @@ fn search_block<R: Threads + Wait + Sync, S: Source, K: Sink>(
         (S.given text.old) (S.given text.new) (S.has_ended text.new)) }
     ensures ended { IfErr result (Ends (out.new ≡ out.old) most_text (AnswersSearch index search)
         (S.given text.old) (S.given text.new) (S.has_ended text.new) (K.taken out.old) (K.taken out.new)) }
+    ensures read_device { IsErrOf result (ToolFault.Read read.Device) ↔ (S.has_failed text.new ≡ true) }
+    ensures write_device { IsErrOf result (ToolFault.Write write.Device) ↔ (K.has_failed out.new ≡ true) }
 {
     match search {
         Search::Solve { run } => run_solve(
@@ -228,6 +242,9 @@ fn search_named<R: Threads + Wait + Sync, I: Inputs, S: Source, K: Sink>(
         (RunOfOpened (I.opened inputs.now) I.File.given I.File.has_ended) (I.refused inputs.now) start.now
         most_text (AnswersSearchFrom search) index (out.new ≡ out.old) (text.new ≡ text.old)
         (S.given text.old) (S.given text.new) (S.has_ended text.new) (K.taken out.old) (K.taken out.new)) }
+    ensures read_device { IsErrOf result (Stop.Fault (ToolFault.Read read.Device))
+        → (S.has_failed text.new ≡ true) ⊎ FailedOfOpened (I.opened inputs.now) I.File.has_failed start.now }
+    ensures write_device { IsErrOf result (Stop.Fault (ToolFault.Write write.Device)) ↔ (K.has_failed out.new ≡ true) }
 {
     let mut start = inputs.open(start).ok_or(Stop::Open)?;
     Ok(search_from(rt, alloc, text, index, &mut start, search, out)?)
@@ -252,6 +269,9 @@ fn search_from<R: Threads + Wait + Sync, S: Source, T: Source, K: Sink>(
     ensures ended { IfErr result (EndsBoth most_text (AnswersSearchFrom search) index (out.new ≡ out.old)
         (start.new ≡ start.old) (S.given text.old) (S.given text.new) (S.has_ended text.new)
         (T.given start.old) (T.given start.new) (T.has_ended start.new) (K.taken out.old) (K.taken out.new)) }
+    ensures read_device { IsErrOf result (ToolFault.Read read.Device)
+        ↔ ((S.has_failed text.new ≡ true) ⊎ (T.has_failed start.new ≡ true)) }
+    ensures write_device { IsErrOf result (ToolFault.Write write.Device) ↔ (K.has_failed out.new ≡ true) }
 {
     match search {
         Search::Solve { run } => solve_from(rt, alloc, text, index, start, run, out),
@@ -299,6 +319,9 @@ fn solve_from<R: Threads + Wait + Sync, S: Source, T: Source, K: Sink>(
     ensures ended { IfErr result (EndsBoth most_text (AnswersSearchFrom (Search.Solve run)) index (out.new ≡ out.old)
         (start.new ≡ start.old) (S.given text.old) (S.given text.new) (S.has_ended text.new)
         (T.given start.old) (T.given start.new) (T.has_ended start.new) (K.taken out.old) (K.taken out.new)) }
+    ensures read_device { IsErrOf result (ToolFault.Read read.Device)
+        ↔ ((S.has_failed text.new ≡ true) ⊎ (T.has_failed start.new ≡ true)) }
+    ensures write_device { IsErrOf result (ToolFault.Write write.Device) ↔ (K.has_failed out.new ≡ true) }
 {
     run_solve_from(
         rt,
@@ -338,6 +361,9 @@ fn check_named<I: Inputs, S: Source, K: Sink>(
         (RunOfOpened (I.opened inputs.now) I.File.given I.File.has_ended) (I.refused inputs.now) cert.now
         most_certificate (AnswersCheck either) index (out.new ≡ out.old) (text.new ≡ text.old)
         (S.given text.old) (S.given text.new) (S.has_ended text.new) (K.taken out.old) (K.taken out.new)) }
+    ensures read_device { IsErrOf result (Stop.Fault (ToolFault.Read read.Device))
+        → (S.has_failed text.new ≡ true) ⊎ FailedOfOpened (I.opened inputs.now) I.File.has_failed cert.now }
+    ensures write_device { IsErrOf result (Stop.Fault (ToolFault.Write write.Device)) ↔ (K.has_failed out.new ≡ true) }
 {
     let mut cert = inputs.open(cert).ok_or(Stop::Open)?;
     Ok(run_check(alloc, text, index, &mut cert, either, out)?)

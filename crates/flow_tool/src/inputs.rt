@@ -2,7 +2,6 @@
 
 ghost use Rattle.std.specs.Prelude.{◌≡◌, ℕ, List, false, IfNone, IfSome};
 
-use crate::stop::Stop;
 use flow_core::{Source, StdSource};
 use std::fs::File;
 use std::io::Input;
@@ -41,25 +40,18 @@ pub(crate) trait Inputs {
 #[derive(Drop)]
 pub(crate) struct StdInputs<'a, R: Input + Files> {
     rt: &'a R,
-    /// The folder `/`, opened three times (see `new`).
-    held: [R::File; 3],
 }
 
 impl<'a, R: Input + Files> StdInputs<'a, R> {
-    /// Opens the folder `/` three times and holds it, so that the descriptors 0, 1 and 2 are taken before any file is
-    /// opened. A descriptor that was closed when the program started is now the folder, from which no byte can be read
-    /// and to which none can be written. Otherwise the first file that a command opens would be taken for standard
-    /// input, standard output or standard error.
-    pub(crate) fn new(rt: &'a R) -> Result<StdInputs<'a, R>, Stop> {
-        Ok(StdInputs {
-            rt,
-            held: [hold(rt)?, hold(rt)?, hold(rt)?],
-        })
+    /// The inputs of this system. Nothing is opened yet.
+    pub(crate) fn new(rt: &'a R) -> StdInputs<'a, R> {
+        StdInputs { rt }
     }
-}
 
-fn hold<R: Files>(rt: &R) -> Result<R::File, Stop> {
-    File::open(rt, "/").map_err(|_| Stop::Open)
+    /// The folder `/`, opened for reading; none where it can't be opened.
+    fn hold(&self) -> Option<R::File> {
+        File::open(self.rt, "/").ok()
+    }
 }
 
 impl<'a, R: Input + Files> Inputs for StdInputs<'a, R> {
@@ -78,10 +70,14 @@ impl<'a, R: Input + Files> Inputs for StdInputs<'a, R> {
         StdSource::new(self.rt.reader())
     }
 
+    /// Opens a file while the folder `/` is open three times, so that the descriptors 0, 1 and 2 are taken. Otherwise,
+    /// where one of them was closed when the program started, the file would be taken for standard input, standard
+    /// output or standard error.
     fn open(&self, name: &str) -> Option<StdSource<R::File>> {
-        match File::open(self.rt, name) {
-            Ok(file) => Some(StdSource::new(file)),
-            Err(_) => None,
-        }
+        let _first = self.hold()?;
+        let _second = self.hold()?;
+        let _third = self.hold()?;
+        let file = File::open(self.rt, name).ok()?;
+        Some(StdSource::new(file))
     }
 }

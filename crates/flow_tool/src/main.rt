@@ -30,7 +30,7 @@ fn main(rt: HostRuntime) -> ExitCode {
 /// Reads the command line, and does what it asks for.
 fn run<T: Threads + Wait + Sync>(rt: &HostRuntime, threads: &T) -> Result<(), Stop> {
     let alloc = rt.alloc();
-    let inputs = StdInputs::new(rt)?;
+    let inputs = StdInputs::new(rt);
     let words: Vec<String> = match std::env::args(rt) {
         Ok(words) => words.collect(alloc)?,
         Err(error) if error.kind() == io::ErrorKind::OutOfMemory => return Err(Stop::Memory),

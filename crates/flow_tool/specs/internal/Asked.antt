@@ -1,6 +1,6 @@
 -- What is answered for what a command line asks, and what the run of an order comes to, by the files that its names
 -- open.
-use Rattle.std.specs.Prelude.{◌≡◌, ◌≢◌, ℕ, ◌⊎◌, Bool, List, Option, codes}
+use Rattle.std.specs.Prelude.{◌≡◌, ◌≢◌, ℕ, ◌⊎◌, Bool, true, List, Option, codes}
 use Rattle.flow_core.specs.Shop.{Shop}
 use Rattle.flow_words.specs.declared.order.Search.{Search}
 use Rattle.flow_words.specs.declared.order.Search.TheVariants as search
@@ -122,3 +122,23 @@ EndsOrder OfStandard OfFile refused Untouched (order.OfText file index what) tak
     ((stop ≡ Open) × (file.now ≢ codes "stdin") × refused file.now × Untouched)
     ⊎ RunOfText OfStandard OfFile file.now (λ unread given gives ended.
     EndsForText OfFile refused index what Untouched unread given gives ended taken takes stop)
+
+-- a file that the name opened has refused to be read
+abbrev pub FailedOfOpened :
+    {F : Type 0} → (List ℕ → F → Type 0) → (F → Bool) → List ℕ → Type 0
+FailedOfOpened {F} opened has_failed name =
+    (file : F) × (after : F) × opened name file × (has_failed after ≡ true)
+
+-- the second file that is named for what is asked of a text has refused to be read
+abbrev pub FailedForText : (List ℕ → Type 0) → OfText → Type 0
+FailedForText FileFailed (text.OfBlock what) = ⊥
+FailedForText FileFailed (text.SearchFrom start search) = FileFailed start.now
+FailedForText FileFailed (text.Check cert either) = FileFailed cert.now
+
+-- a source that an order names has refused to be read: standard input for its word, else the file of the text; or the
+-- second file
+abbrev pub FailedOrder : (List ℕ → Type 0) → (List ℕ → Type 0) → Order → Type 0
+FailedOrder StandardFailed FileFailed (order.Gen jobs machines seed) = ⊥
+FailedOrder StandardFailed FileFailed (order.OfText file index what) =
+    ((file.now ≡ codes "stdin") × StandardFailed file.now) ⊎ ((file.now ≢ codes "stdin") × FileFailed file.now)
+    ⊎ FailedForText FileFailed what
