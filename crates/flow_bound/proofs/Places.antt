@@ -134,7 +134,7 @@ distinct-insert (first ∷ rest) (suc at) job distinct fresh =
       distinct-insert rest at job distinct.1 parts.1,
     )
 
-All-insert : (P : ℕ → Type 0) (jobs : List ℕ) (at job : ℕ) → All P jobs → P job → All P (insert jobs at job)
+pub All-insert : (P : ℕ → Type 0) (jobs : List ℕ) (at job : ℕ) → All P jobs → P job → All P (insert jobs at job)
 All-insert P jobs at job all here =
     All-append P (take at jobs) (job
     ∷ drop at jobs) (All-take P at jobs all) (All-cons P job (drop at jobs) here (All-drop P at jobs all))
