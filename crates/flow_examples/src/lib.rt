@@ -15,8 +15,6 @@ mod changed_text;
 mod changes;
 #[cfg(test)]
 mod checker;
-#[cfg(test)]
-mod greatest;
 mod instances;
 mod outcomes;
 #[cfg(test)]
