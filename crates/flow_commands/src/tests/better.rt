@@ -11,6 +11,7 @@ use crate::{
 use flow_core::{
     MemorySink, MemorySource, ReadFault, SequenceFault, StartFault, TextFault, WriteFault,
 };
+use flow_pool::SolveFault;
 use flow_search::OptionFault;
 use std::alloc::Global;
 use std::test::Fail;
@@ -98,6 +99,34 @@ fn improve_prints_the_better_sequence(rt: HostRuntime) -> Result<(), Fail> {
     let start = started(alloc, text.bytes())?;
     assert!(rt; start.bytes().ends_with(b"\nmakespan 1286\n".as_slice()));
     assert!(rt; wrote(&improved(alloc, text.bytes(), 5, 7), start.bytes()));
+    Ok(())
+}
+
+/// Jobs, machines, the instance's seed, rounds and their seed; and the last line of what `improve` writes with them, which
+/// is that of bench/improve.rs.
+const LATER_ROUNDS: [([u32; 5], &[u8]); 6] = [
+    ([20, 10, 587_595_453, 50, 3], b"\nmakespan 1583\n"),
+    ([20, 10, 587_595_453, 1_000, 3], b"\nmakespan 1582\n"),
+    (
+        [20, 10, 587_595_453, 50, 2_147_483_645],
+        b"\nmakespan 1586\n",
+    ),
+    ([21, 26, 8, 40, 1], b"\nmakespan 2638\n"),
+    ([6, 3, 17, 100_000_000, 1], b"\nmakespan 415\n"),
+    ([8, 3, 12, 20, 1], b"\nmakespan 369\n"),
+];
+
+#[test]
+fn improve_makes_all_its_rounds(rt: HostRuntime) -> Result<(), Fail> {
+    let alloc = rt.alloc();
+    for ([jobs, machines, of_instance, rounds, seed], line) in LATER_ROUNDS {
+        let text = generated(alloc, jobs, machines, of_instance)?;
+        let ran = improved(alloc, text.bytes(), rounds, seed)?;
+        assert!(rt; ran.bytes().ends_with(line));
+        let start = started(alloc, text.bytes())?;
+        let again = improved_from(alloc, text.bytes(), start.bytes(), rounds, seed);
+        assert!(rt; wrote(&again, ran.bytes()));
+    }
     Ok(())
 }
 
@@ -223,6 +252,57 @@ fn certify_tries_the_next_budget(rt: HostRuntime) -> Result<(), Fail> {
     let ran = certified_from(alloc, text.bytes(), start.bytes(), 0, 1, 1);
     assert!(rt; wrote(&ran, own.bytes()));
     assert!(rt; wrote(&checked(alloc, text.bytes(), own.bytes()), b"optimal 616\n"));
+    Ok(())
+}
+
+/// Jobs, machines, the instance's seed, rounds and their seed; and the certificate that `certify` writes with them. The
+/// sequence is that of bench/improve.rs, and the tree that of a copy of bench/plain.rs that begins with it. In the first
+/// two rows only the last round comes to the least makespan; the first row begins at one more.
+const AFTER_ROUNDS: [([u32; 5], &[u8]); 3] = [
+    (
+        [6, 3, 17, 1, 1],
+        b"flowshop certificate 1\n6 3 0\n415\n1 6 3 2 5 4\n+BBBBBB\nend\n",
+    ),
+    (
+        [22, 6, 31, 26, 1],
+        b"flowshop certificate 1\n22 6 0\n1341\n\
+1 9 4 12 22 18 15 14 5 6 8 21 11 7 17 19 20 13 10 3 2 16\n+EDDEDDDDEDDEDDDDDDDDDE\nend\n",
+    ),
+    (
+        [22, 6, 31, 200, 2_147_483_645],
+        b"flowshop certificate 1\n22 6 0\n1341\n\
+1 9 12 22 19 4 15 14 18 21 8 6 7 17 3 13 20 5 11 2 10 16\n+EDDEDDDDEDDEDDDDDDDDDE\nend\n",
+    ),
+];
+
+#[test]
+fn certify_makes_all_its_rounds(rt: HostRuntime) -> Result<(), Fail> {
+    let alloc = rt.alloc();
+    for ([jobs, machines, of_instance, rounds, seed], certificate) in AFTER_ROUNDS {
+        let text = generated(alloc, jobs, machines, of_instance)?;
+        let ran = certified(alloc, text.bytes(), rounds, seed, 1);
+        assert!(rt; wrote(&ran, certificate));
+        let start = started(alloc, text.bytes())?;
+        let ran = certified_from(alloc, text.bytes(), start.bytes(), rounds, seed, 1);
+        assert!(rt; wrote(&ran, certificate));
+    }
+    Ok(())
+}
+
+/// Fourteen jobs on two machines: thirteen with times 1 and 1, and one with 10 and 10. The mirrored instance has the same
+/// times.
+const ONE_LONG_JOB: &[u8] =
+    b"a\n14 2 0 0 0\nb\n1 1 1 1 1 1 1 1 1 1 1 1 1 10\n1 1 1 1 1 1 1 1 1 1 1 1 1 10\n";
+
+// Each sequence has makespan 33, and no bound is above 24 before the long job has its place. So each order of the
+// thirteen is tried, of which there are 6,227,020,800, and all ten trees are over their budgets.
+#[test]
+fn certify_is_over_all_budgets(rt: HostRuntime) -> Result<(), Fail> {
+    let alloc = rt.alloc();
+    let mut out = MemorySink::new(alloc, ROOM);
+    let ran = run_certify(alloc, &mut all_of(ONE_LONG_JOB), 1, 0, 1, 1, &mut out);
+    assert_eq!(rt; ran, Err(ToolFault::Run(SolveFault::OverBudget(0))));
+    assert!(rt; out.bytes().is_empty());
     Ok(())
 }
 

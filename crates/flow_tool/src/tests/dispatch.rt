@@ -53,8 +53,11 @@ const MIRRORED_FROM_START: &[u8] = b"flowshop certificate 1\n3 3 0\n12\n2 1 3\n+
 /// program, by the definitions.
 const FROM_BEST: &[u8] = b"flowshop certificate 1\n3 3 0\n12\n3 1 2\n+BC+AB\nend\n";
 
-/// What each file holds. One that is broken refuses each call.
-const FILES: [(&str, &[u8]); 12] = [
+/// A start of the instance of three machines.
+const START: &[u8] = b"sequence 1 2 3\nmakespan 15\n";
+
+/// What each file holds, but for the one of the name `stdin`. One that is broken refuses each call.
+const FILES: [(&str, &[u8]); 11] = [
     ("text_three", THREE_MACHINES),
     ("text_both", BOTH),
     ("./stdin", THREE_MACHINES),
@@ -63,9 +66,8 @@ const FILES: [(&str, &[u8]); 12] = [
     ("of_two", OF_TWO_MACHINES),
     ("generated", GENERATED),
     ("of_mirror", OF_MIRROR),
-    ("start", b"sequence 1 2 3\nmakespan 15\n"),
+    ("start", START),
     ("other_start", b"sequence 1 2 3\nmakespan 14\n"),
-    ("stdin", DEPTH_1),
     ("broken", b""),
 ];
 
@@ -74,6 +76,8 @@ const FILES: [(&str, &[u8]); 12] = [
 #[derive(Drop)]
 struct Named {
     has_opened: Cell<bool>,
+    /// What the file of the name `stdin` holds.
+    of_stdin: &'static [u8],
 }
 
 impl Inputs for Named {
@@ -94,6 +98,9 @@ impl Inputs for Named {
     fn open(&self, name: &str) -> Option<MemorySource<'static>> {
         if self.has_opened.replace(true) && name.starts_with("text") {
             return None;
+        }
+        if name == "stdin" {
+            return Some(MemorySource::new(self.of_stdin, 9, None));
         }
         for (known, bytes) in FILES {
             if name == known {
@@ -121,15 +128,27 @@ fn words_of<'a>(alloc: Global, line: &'a str) -> Result<Vec<&'a str>, AllocError
     Ok(words)
 }
 
-/// Runs a command line: what it wrote, and its line on standard error.
+/// Runs a command line beside a certificate in the file of the name `stdin`: what it wrote, and its line on standard
+/// error.
 fn run_line<R: Threads + Wait + Sync>(
     rt: &R,
     alloc: Global,
     line: &str,
 ) -> Result<(MemorySink, String), AllocError> {
+    run_beside(rt, alloc, DEPTH_1, line)
+}
+
+/// The same beside a file of the name `stdin` that holds these bytes.
+fn run_beside<R: Threads + Wait + Sync>(
+    rt: &R,
+    alloc: Global,
+    of_stdin: &'static [u8],
+    line: &str,
+) -> Result<(MemorySink, String), AllocError> {
     let words = words_of(alloc, line)?;
     let inputs = Named {
         has_opened: Cell::new(false),
+        of_stdin,
     };
     let mut out = MemorySink::new(alloc, ROOM);
     let said = match run_words(rt, alloc, &inputs, words.as_slice(), &mut out) {
@@ -307,7 +326,7 @@ fn solve_takes_a_start_by_its_name(rt: HostRuntime) -> Result<(), Fail> {
         ),
         ("stdin 2 --start other_start", b"", "refused start 2"),
         ("stdin 2 --start generated", b"", "refused start 1"),
-        ("stdin 2 --start stdin", b"", "refused start 1"),
+        ("stdin 2 --depth 0 --start stdin", FROM_START, ""),
         ("generated 1 --start start", b"", "refused sequence Length"),
         ("stdin 3 --start other_start", b"", "refused index"),
         ("stdin 2 --start missing", b"", "failed open"),
@@ -317,7 +336,7 @@ fn solve_takes_a_start_by_its_name(rt: HostRuntime) -> Result<(), Fail> {
     ];
     for (words, bytes, refusal) in rows {
         let line = format!(in rt.alloc(); "solve {words}")?;
-        let (out, said) = run_line(&rt, rt.alloc(), line.as_str())?;
+        let (out, said) = run_beside(&rt, rt.alloc(), START, line.as_str())?;
         assert_eq!(rt; said.as_str(), refusal, "after {line}");
         assert!(rt; out.bytes() == bytes, "after {line}");
     }
@@ -622,6 +641,7 @@ fn other_words_are_refused(rt: HostRuntime) -> Result<(), Fail> {
     }
     let inputs = Named {
         has_opened: Cell::new(false),
+        of_stdin: b"",
     };
     let mut out = MemorySink::new(alloc, ROOM);
     let words = words_of(alloc, "--help")?;
