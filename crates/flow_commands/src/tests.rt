@@ -380,7 +380,7 @@ const OTHER_STARTS: [(&[u8], ToolFault); 12] = [
         b"sequence 2 1 3\nmakespan 13\nend\n",
         ToolFault::Start(StartFault::Line(3)),
     ),
-    (b"sequence\n", ToolFault::Sequence(SequenceFault::Length)),
+    (b"sequence\n", ToolFault::Start(StartFault::Line(1))),
     (
         b"sequence 2 1\nmakespan 14\n",
         ToolFault::Sequence(SequenceFault::Length),

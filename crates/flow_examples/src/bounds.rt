@@ -193,7 +193,8 @@ fn rests_of_three_machines_are_the_worked_ones(rt: HostRuntime) -> Result<(), Fa
         row.as_slice(),
         [(4, 4, 8), (8, 0, 10), (4, 0, 7)].as_slice()
     );
-    assert_eq!(rt; rest, Rest::of(&instance, &left));
+    let again = sums_tails_and_bounds(alloc, &instance, &Rest::of(&instance, &left), &front)?;
+    assert_eq!(rt; row.as_slice(), again.as_slice());
     Ok(())
 }
 

@@ -155,8 +155,8 @@ fn checker_reads_more_trees_than_a_plan_may_have(rt: HostRuntime) -> Result<(), 
     Ok(())
 }
 
-/// What stands behind a first line for the instance with three machines, and its first fault.
-const FIRST_FAULTS: [(&[u8], CheckFault); 19] = [
+/// What stands behind a first line for the instance with three machines, and its first fault in either version.
+const FIRST_FAULTS: [(&[u8], CheckFault); 18] = [
     (b"3 3\n012\n3 1\nx\nEND\n", CheckFault::Size),
     (b"3 3 0\n012\n3 1\nx\nEND\n", CheckFault::Value),
     (b"3 3 0\n12\n3 1\nx\nEND\n", CheckFault::Sequence),
@@ -174,7 +174,6 @@ const FIRST_FAULTS: [(&[u8], CheckFault); 19] = [
     ),
     // A tree that is weak, missing, or one too many.
     (b"3 3 1\n12\n3 1 2\nB\nC\n++.A\nend\n", CheckFault::Weak(7)),
-    (b"3 3 1\n12\n3 1 2\n+BC++.B\nend\n", CheckFault::Weak(5)),
     (b"3 3 1\n12\n3 1 2\nB\nC\nend\n", CheckFault::Tree(7)),
     (
         b"3 3 1\n12\n3 1 2\nB\nC\n++.B\n++.B\nend\n",
@@ -194,27 +193,36 @@ fn checker_names_first_fault(rt: HostRuntime) -> Result<(), Fail> {
     let instance = three_machines(alloc)?;
     let found = check(alloc, &instance, b"flowshop\n3 3\n012\n3 1\nx\nEND\n");
     assert_eq!(rt; found, Err(CheckFault::Header));
-    for (rest, fault) in FIRST_FAULTS {
-        assert_eq!(rt; checked(alloc, &instance, &[rest])?, Err(fault));
+    for title in [TITLE, TITLE_2] {
+        for (rest, fault) in FIRST_FAULTS {
+            let found = checked_behind(alloc, &instance, title, rest)?;
+            assert_eq!(rt; found, Err(fault), "behind {title:?}");
+        }
     }
+    // At the list 1 3 machine 3 has the bound 9 in version 1. Released by machine 2 it has 14, so that the tree of
+    // the first list ends behind it.
+    let rest = b"3 3 1\n12\n3 1 2\n+BC++.B\nend\n";
+    let found = checked_behind(alloc, &instance, TITLE, rest)?;
+    assert_eq!(rt; found, Err(CheckFault::Weak(5)));
+    let found = checked_behind(alloc, &instance, TITLE_2, rest)?;
+    assert_eq!(rt; found, Err(CheckFault::Tree(5)));
     Ok(())
 }
 
-/// The lines of the certificate at depth 0, without their ends.
-const LINES_AT_DEPTH_0: [&[u8]; 6] = [
-    b"flowshop certificate 1",
-    b"3 3 0",
-    b"12",
-    b"3 1 2",
-    b"+BC++.B",
-    b"end",
-];
+/// The lines of the certificate at depth 0 behind the first, without their ends.
+const LINES_AT_DEPTH_0: [&[u8]; 5] = [b"3 3 0", b"12", b"3 1 2", b"+BC++.B", b"end"];
 
-/// The certificate at depth 0 with other bytes as one of its lines, counted from 1.
-fn with_line(alloc: Global, changed: usize, bytes: &[u8]) -> Result<Vec<u8>, Fail> {
+/// The certificate at depth 0 behind a first line, with other bytes as one of its lines, counted from 1.
+fn with_line(alloc: Global, title: &[u8], changed: usize, bytes: &[u8]) -> Result<Vec<u8>, Fail> {
     let mut text = Vec::new(alloc);
+    if changed == 1 {
+        text.extend_from_slice(bytes)?;
+        text.push(b'\n')?;
+    } else {
+        text.extend_from_slice(title)?;
+    }
     for (index, line) in LINES_AT_DEPTH_0.iter().enumerate() {
-        let kept = if index + 1 == changed { bytes } else { line };
+        let kept = if index + 2 == changed { bytes } else { line };
         text.extend_from_slice(kept)?;
         text.push(b'\n')?;
     }
@@ -225,13 +233,16 @@ fn with_line(alloc: Global, changed: usize, bytes: &[u8]) -> Result<Vec<u8>, Fai
 fn lines_make_the_certificate(rt: HostRuntime) -> Result<(), Fail> {
     let alloc = rt.alloc();
     for (index, line) in LINES_AT_DEPTH_0.iter().enumerate() {
-        let text = with_line(alloc, index + 1, line)?;
+        let text = with_line(alloc, TITLE, index + 2, line)?;
         assert_eq!(rt; text.as_slice(), CERTIFICATE_AT_DEPTH_0.as_slice());
     }
+    let text = with_line(alloc, TITLE_2, 1, b"flowshop certificate 1")?;
+    assert_eq!(rt; text.as_slice(), CERTIFICATE_AT_DEPTH_0.as_slice());
     Ok(())
 }
 
-/// The number of a line, its fault, and bytes that have this fault as that line of the certificate at depth 0.
+/// The number of a line, its fault, and bytes that have this fault in either version as that line of the certificate at
+/// depth 0.
 const CHANGED_LINES: [(usize, CheckFault, &[&[u8]]); 9] = [
     (
         1,
@@ -315,13 +326,14 @@ const CHANGED_LINES: [(usize, CheckFault, &[&[u8]]); 9] = [
 /// The first of these lines for which the checker answers anything but this fault.
 fn first_other<'a>(
     alloc: Global,
+    title: &[u8],
     line: usize,
     fault: CheckFault,
     changes: &[&'a [u8]],
 ) -> Result<Option<&'a [u8]>, Fail> {
     let instance = three_machines(alloc)?;
     for bytes in changes {
-        let text = with_line(alloc, line, bytes)?;
+        let text = with_line(alloc, title, line, bytes)?;
         if check(alloc, &instance, text.as_slice()) != Err(fault) {
             return Ok(Some(bytes));
         }
@@ -331,9 +343,11 @@ fn first_other<'a>(
 
 #[test]
 fn checker_names_fault_of_each_changed_line(rt: HostRuntime) -> Result<(), Fail> {
-    for (line, fault, changes) in CHANGED_LINES {
-        let other = first_other(rt.alloc(), line, fault, changes)?;
-        assert_eq!(rt; other, None, "for {fault} in line {line}");
+    for title in [TITLE, TITLE_2] {
+        for (line, fault, changes) in CHANGED_LINES {
+            let other = first_other(rt.alloc(), title, line, fault, changes)?;
+            assert_eq!(rt; other, None, "for {fault} in line {line} behind {title:?}");
+        }
     }
     Ok(())
 }

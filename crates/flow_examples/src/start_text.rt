@@ -34,8 +34,8 @@ fn a_start_is_read(rt: HostRuntime) -> Result<(), Fail> {
     let start = start_of(alloc, b"sequence 65535 0 7 7")?;
     assert!(rt; start.jobs.as_slice() == [65_535, 0, 7, 7].as_slice());
     assert_eq!(rt; start.claim, None);
-    let start = start_of(alloc, b"sequence\nmakespan 4294967295")?;
-    assert!(rt; start.jobs.as_slice().is_empty());
+    let start = start_of(alloc, b"sequence 800\nmakespan 4294967295")?;
+    assert!(rt; start.jobs.as_slice() == [800].as_slice());
     assert_eq!(rt;
         start.claim,
         Some(Claim {
@@ -48,12 +48,14 @@ fn a_start_is_read(rt: HostRuntime) -> Result<(), Fail> {
 
 #[test]
 fn the_first_fault_of_a_start_is_named(rt: HostRuntime) -> Result<(), Fail> {
-    let rows: [(&[u8], usize); 20] = [
+    let rows: [(&[u8], usize); 22] = [
         (b"", 1),
         (b"\n", 2),
         (b" \r\n\t\n ", 4),
         (b"2 3 1\n", 1),
         (b"\n2 3 1\n", 2),
+        (b"sequence\n", 1),
+        (b"\n sequence \nmakespan 9\n", 2),
         (b"sequence2 3 1\n", 1),
         (b"Sequence 2 3 1\n", 1),
         (b"sequences 2 3 1\n", 1),
@@ -124,7 +126,7 @@ fn plain_reading(alloc: Global, text: &[u8]) -> Result<Plain, Fail> {
             continue;
         }
         if jobs.is_none() {
-            jobs = plain_numbers(alloc, "sequence", line, 65_535)?;
+            jobs = plain_numbers(alloc, "sequence", line, 65_535)?.filter(|jobs| !jobs.is_empty());
             if jobs.is_none() {
                 return Ok(Err(count));
             }

@@ -1,5 +1,5 @@
 -- Start text: what a text says as a start, or the line at which it is at fault.
-use Rattle.std.specs.Prelude.{ℕ, ◌+◌, Bool, true, ◌&&◌, nat_le, if◌then◌else◌, List, [], ◌∷◌, length, take, drop}
+use Rattle.std.specs.Prelude.{ℕ, ◌+◌, Bool, true, ◌&&◌, nat_lt, nat_le, if◌then◌else◌, List, [], ◌∷◌, length, take, drop}
 use Rattle.std.specs.Prelude.{Option, None, Some, Result, Ok, Err, codes}
 use Rattle.std.specs.List.{list_all}
 use Rattle.std.specs.Str.{bytes_eq}
@@ -44,11 +44,11 @@ greatest_job_number = 65535
 abbrev pub are_jobs : List ℕ → Bool
 are_jobs numbers = list_all (λ n. nat_le n greatest_job_number) numbers
 
--- the jobs on the line of a sequence
+-- the jobs on the line of a sequence, which has one at least
 abbrev pub jobs_on : List ℕ → Option (List ℕ)
 jobs_on line =
     elim (numbers_behind sequence_word line)
-    [ None ↦ None | Some numbers ↦ if are_jobs numbers then Some numbers else None ]
+    [ None ↦ None | Some numbers ↦ if nat_lt 0 (length numbers) && are_jobs numbers then Some numbers else None ]
 
 -- the only number of a list
 abbrev pub only : List ℕ → Option ℕ

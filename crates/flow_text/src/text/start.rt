@@ -132,13 +132,16 @@ fn numbers_behind(alloc: Global, word: &[u8], line: &Solid) -> Result<Vec<u32>, 
     }
 }
 
-/// The jobs on the line of a sequence; or the fault of the line.
+/// The jobs on the line of a sequence, one at least; or the fault of the line.
 #[tactic(auto, unfolding(crate::specs::StartText::sequence_word))]
 fn jobs_on(alloc: Global, line: &Solid) -> Result<Vec<u16>, StartFault>
     ensures value { IfOk result (λ jobs. jobs_on line.now.bytes.now ≡ Some jobs.items) }
     ensures refused { IfErr result (λ fault. IsOfLine (jobs_on line.now.bytes.now) line.now.number fault) }
 {
     let numbers = numbers_behind(alloc, SEQUENCE, line)?;
+    if numbers.is_empty() {
+        return Err(StartFault::Line(line.number));
+    }
     let mut jobs = Vec::new(alloc);
     for number in numbers.as_slice() {
         if *number > MAX_JOB_NUMBER {
