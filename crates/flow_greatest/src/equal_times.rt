@@ -3,7 +3,7 @@
 
 ghost use Rattle.std.specs.Prelude.{◌≡◌, IfOk};
 
-use flow_bound::neh;
+use flow_bound::{insertion_spans, neh};
 use flow_cert::write_certificate;
 use flow_check::{CheckFault, check};
 use flow_core::{Instance, MemorySink, Sequence, makespan, rows};
@@ -62,6 +62,35 @@ fn sequences_have_the_makespan(rt: HostRuntime) -> Result<(), Fail> {
     let (start, value) = neh(alloc, &instance)?;
     assert_eq!(rt; value, 824_999_175);
     assert!(rt; start.jobs() == backwards(alloc)?.as_slice());
+    Ok(())
+}
+
+/// The makespans of the first jobs of a sequence with the next job put in at each place.
+fn spans_with_next(
+    alloc: Global,
+    instance: &Instance,
+    sequence: &Sequence,
+    count: usize,
+) -> Result<Vec<u64>, Fail> {
+    let jobs = sequence.jobs();
+    if jobs.len() != instance.jobs() as usize || count >= jobs.len() {
+        return Err(Fail::from("no job is next"));
+    }
+    Ok(insertion_spans(alloc, instance, &jobs[..count], jobs[count])?)
+}
+
+#[test]
+fn all_places_are_equally_good(rt: HostRuntime) -> Result<(), Fail> {
+    let alloc = rt.alloc();
+    let instance = equal_times(alloc)?;
+    let jobs = upwards(alloc)?;
+    let sequence = Sequence::new(alloc, &instance, jobs.as_slice())?;
+    // One job more than 3 or 799 ends after 3 + 26 or 799 + 26 times.
+    for (count, places, span) in [(3, 4, 28_999_971), (799, 800, 824_999_175)] {
+        let found = spans_with_next(alloc, &instance, &sequence, count)?;
+        let spans = vec![in alloc; span; places]?;
+        assert_eq!(rt; found.as_slice(), spans.as_slice());
+    }
     Ok(())
 }
 

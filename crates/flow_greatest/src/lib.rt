@@ -9,3 +9,5 @@ mod equal_times;
 mod letters;
 #[cfg(test)]
 mod long_trees;
+#[cfg(test)]
+mod many_prefixes;
