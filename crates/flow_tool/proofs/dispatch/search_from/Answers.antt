@@ -3,6 +3,9 @@ use Rattle.flow_tool.proofs.dispatch.search_from.Goals as goal
 pub returns-in-Solve-clause-written : goal.returns-in-Solve-clause-written
 returns-in-Solve-clause-written g c = rw c.in-Solve.is c.solve_from.ensures.written
 
+pub returns-in-Improve-clause-written : goal.returns-in-Improve-clause-written
+returns-in-Improve-clause-written g c = rw c.in-Improve.is c.run_improve_from.ensures.written
+
 pub returns-in-Improve-clause-ended : goal.returns-in-Improve-clause-ended
 returns-in-Improve-clause-ended g c = rw c.in-Improve.is c.run_improve_from.ensures.ended
 
