@@ -1,5 +1,5 @@
 -- What comes of a run that may start only some of its workers.
-use Rattle.std.specs.Prelude.{◌≡◌, ℕ, ◌<◌, ◌≤◌, None, Some}
+use Rattle.std.specs.Prelude.{◌≡◌, ℕ, ◌<◌, ◌≤◌, None, Some, [], map, vec_len, vec_capacity}
 use Rattle.flow_core.specs.Paths.{span}
 use Rattle.flow_core.specs.Sequences.{IsSequence, IsLeastMakespan}
 use Rattle.flow_search.specs.Plans.{Planned}
@@ -9,8 +9,14 @@ use Rattle.flow_search.specs.declared.verdict.RunFault.{RunFault}
 use Rattle.flow_search.specs.declared.verdict.RunFault.TheVariants.{OverBudget, Memory}
 use Rattle.flow_pool.specs.declared.whole_run.Report.{Report}
 use Rattle.flow_pool.specs.declared.whole_run.Run.{Run}
-use Rattle.flow_pool.specs.declared.whole_run.Run.TheVariants.{Whole, UsedUp, Refused}
-use Rattle.flow_pool.specs.Report.{AreWholeWork}
+use Rattle.flow_pool.specs.declared.whole_run.Run.TheVariants.{Whole, Fault, UsedUp, Refused}
+use Rattle.flow_pool.specs.declared.whole_run.Made.{Made}
+use Rattle.flow_pool.specs.Deal.{by_lane}
+use Rattle.flow_pool.specs.Work.{prefix_count}
+use Rattle.flow_pool.specs.Hub.{CanCollect}
+use Rattle.flow_pool.specs.Report.{AreWholeWork, run_slots}
+use Rattle.flow_pool.specs.internal.HubSteps.{hub_slots}
+use Rattle.flow_pool.specs.internal.Start.{CanStart}
 
 -- the report of a whole run: its lanes carried the whole work, no tree is longer than the budget, and the verdict is
 -- that of the plan
@@ -22,13 +28,25 @@ pub record IsReport (plan : Planned) (report : Report) : Type 0 where
   pub attained : span plan.shop report.verdict.sequence ≡ report.verdict.value
   pub sequence : IsSequence plan.shop.jobs report.verdict.sequence
 
--- a run of so many starts is whole only where they are enough, and has used them up only where they are not
+-- `OverBudget` names the first prefix whose tree is longer than the budget
+abbrev pub IsRunFault : Planned → RunFault → Type 0
+IsRunFault plan (OverBudget number) = first_over_budget plan ≡ Some number
+IsRunFault plan Memory = Unit {0}
+
+-- a run of so many starts has a report or a fault only where they are enough, and has used them up only where they are
+-- not
 abbrev pub IsRun : Planned → ℕ → Run → Type 0
 IsRun plan starts (Whole report) = IsReport plan report × (plan.options.workers ≤ starts)
+IsRun plan starts (Fault fault) = IsRunFault plan fault × (plan.options.workers ≤ starts)
 IsRun plan starts UsedUp = starts < plan.options.workers
 IsRun plan starts (Refused refusal) = 0 < starts
 
--- `OverBudget` names the first prefix whose tree is longer than the budget, where the starts are enough
-abbrev pub IsRunFault : Planned → ℕ → RunFault → Type 0
-IsRunFault plan starts (OverBudget number) = (first_over_budget plan ≡ Some number) × (plan.options.workers ≤ starts)
-IsRunFault plan starts Memory = Unit {0}
+-- all lanes are new, of run_slots slots; the workers and the hub can start; there is room for all outcomes and lanes
+pub record IsMade (plan : Planned) (made : Made) : Type 0 where
+  pub some : 0 < plan.options.workers
+  pub workers : vec_len made.ends ≡ plan.options.workers
+  pub start : CanStart made.ends.items made.desk.hubs.items
+  pub collect : CanCollect plan made.desk.hubs.items made.desk.answers
+  pub slots : map hub_slots made.desk.hubs.items ≡ by_lane plan.options.workers (λ _. (run_slots, run_slots))
+  pub outcomes : (made.room.items ≡ []) × (prefix_count plan ≤ vec_capacity made.room)
+  pub lanes : (made.lanes.items ≡ []) × (plan.options.workers ≤ vec_capacity made.lanes)
