@@ -4,8 +4,8 @@ use Rattle.std.proofs.Common.{slice_index_or, set, ap, sym, ◌∙◌, subst, in
 use Rattle.std.proofs.lemmas.Bool.{cases_lt}
 use Rattle.std.proofs.lemmas.List.{get_or-set_other, get_or-set_same}
 use Rattle.std.proofs.lemmas.List.Elements.{recursion_from_All, All-cons}
-use Rattle.flow_core.specs.Sequences.{has, AreJobs}
-use Rattle.flow_core.proofs.JobsLeft.{kept, kept-more, kept-has, sum_by-ones, bool_cases}
+use Rattle.flow_shop.specs.Sequences.{has, AreJobs}
+use Rattle.flow_shop.proofs.JobsLeft.{kept, kept-more, kept-has, sum_by-ones, bool_cases}
 
 -- a row is written at a place
 pub row-written : (P : ℕ → List ℕ → Type 0) (rows : List (List ℕ)) (k : ℕ) (row : List ℕ) (j : ℕ) → k < length rows →

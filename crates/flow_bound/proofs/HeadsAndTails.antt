@@ -3,17 +3,17 @@ use Rattle.std.proofs.Common.{◌≡◌, ℕ, zero, suc, ◌+◌, ◌-◌, ◌<�
 use Rattle.std.proofs.Common.{slice_index, replicate, refl, ap, sym, ◌∙◌, inl, inr, arith}
 use Rattle.std.proofs.lemmas.Bool.{cases_lt}
 use Rattle.std.proofs.lemmas.List.{length-replicate, drop_all}
-use Rattle.flow_core.specs.Limits.{most_jobs, most_machines}
-use Rattle.flow_core.specs.Shop.{Shop, numbers, time, time_between, IsWithinLimits}
-use Rattle.flow_core.specs.Least.{greatest}
-use Rattle.flow_core.specs.Paths.{IsPath, weight, completion, span}
-use Rattle.flow_core.specs.Front.{IsFrontOf, IsWithinFront}
-use Rattle.flow_core.proofs.Extremes.{range-le-greatest, greatest-range-le}
-use Rattle.flow_core.proofs.Recurrence.{after, completed, completion-is, completion-after, after-same}
-use Rattle.flow_core.proofs.Recurrence.{time_between-none, time_between-first, weight-le-completed, completed-attained}
-use Rattle.flow_core.proofs.Recurrence.{path-up, path-le-greatest, greatest-path-le}
-use Rattle.flow_core.proofs.Admissible.{completed-append, after-later}
-use Rattle.flow_core.proofs.Fronts.{free_at, completion-small, zeros}
+use Rattle.flow_limits.specs.Limits.{most_jobs, most_machines}
+use Rattle.flow_shop.specs.Shop.{Shop, numbers, time, time_between, IsWithinLimits}
+use Rattle.flow_shop.specs.Least.{greatest}
+use Rattle.flow_shop.specs.Paths.{IsPath, weight, completion, span}
+use Rattle.flow_shop.specs.Front.{IsFrontOf, IsWithinFront}
+use Rattle.flow_shop.proofs.Extremes.{range-le-greatest, greatest-range-le}
+use Rattle.flow_shop.proofs.Recurrence.{after, completed, completion-is, completion-after, after-same}
+use Rattle.flow_shop.proofs.Recurrence.{time_between-none, time_between-first, weight-le-completed, completed-attained}
+use Rattle.flow_shop.proofs.Recurrence.{path-up, path-le-greatest, greatest-path-le}
+use Rattle.flow_shop.proofs.Admissible.{completed-append, after-later}
+use Rattle.flow_shop.proofs.Fronts.{free_at, completion-small, zeros}
 use Rattle.flow_bound.specs.Insertion.{tail, SpanIsOfHeadsAndTails}
 use Rattle.flow_bound.specs.internal.Tails.{AreTails}
 use Rattle.flow_bound.proofs.MachineLoads.{completed-grows}

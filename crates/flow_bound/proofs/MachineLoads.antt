@@ -6,15 +6,15 @@ use Rattle.std.proofs.lemmas.List.Sums.{sum_by-cons}
 use Rattle.std.proofs.lemmas.List.Elements.{recursion_from_All}
 use Rattle.std.proofs.lemmas.Bool.{false≢true}
 use Rattle.std.proofs.lemmas.Bool.Decides.{eqb_tells}
-use Rattle.flow_core.specs.Shop.{Shop, numbers, time, time_between, IsWithinLimits}
-use Rattle.flow_core.specs.Least.{least, greatest}
-use Rattle.flow_core.specs.Paths.{span}
-use Rattle.flow_core.specs.Sequences.{has, jobs_left, IsSequence}
-use Rattle.flow_core.proofs.Extremes.{greatest-range-le}
-use Rattle.flow_core.proofs.JobsLeft.{InRange, numbers-more, filter-more, has-filter, sum_by-jobs_left, least-le}
-use Rattle.flow_core.proofs.JobsLeft.{sequence-has}
-use Rattle.flow_core.proofs.Recurrence.{after, completed, completion-is, after-first}
-use Rattle.flow_core.proofs.Admissible.{after-here, after-later, rest-bound}
+use Rattle.flow_shop.specs.Shop.{Shop, numbers, time, time_between, IsWithinLimits}
+use Rattle.flow_shop.specs.Least.{least, greatest}
+use Rattle.flow_shop.specs.Paths.{span}
+use Rattle.flow_shop.specs.Sequences.{has, jobs_left, IsSequence}
+use Rattle.flow_shop.proofs.Extremes.{greatest-range-le}
+use Rattle.flow_shop.proofs.JobsLeft.{InRange, numbers-more, filter-more, has-filter, sum_by-jobs_left, least-le}
+use Rattle.flow_shop.proofs.JobsLeft.{sequence-has}
+use Rattle.flow_shop.proofs.Recurrence.{after, completed, completion-is, after-first}
+use Rattle.flow_shop.proofs.Admissible.{after-here, after-later, rest-bound}
 use Rattle.flow_bound.specs.Totals.{total}
 use Rattle.flow_bound.specs.Taillard.{machine_load, taillard_bound}
 use Rattle.flow_bound.proofs.Running.{head-step}

@@ -10,11 +10,11 @@ use Rattle.std.proofs.lemmas.Bool.Decides.{nat_tests, eqb_tells}
 use Rattle.std.proofs.lemmas.List.{get_or-take}
 use Rattle.std.proofs.lemmas.List.Folds.{list_all-map, list_any-append}
 use Rattle.std.proofs.lemmas.List.Elements.{All-append, All-cons, All-nil, All-take, All-drop}
-use Rattle.flow_core.specs.Shop.{Shop}
-use Rattle.flow_core.specs.Least.{first_least}
-use Rattle.flow_core.specs.Paths.{span}
-use Rattle.flow_core.specs.Sequences.{has, AreDistinct, AreJobs}
-use Rattle.flow_core.proofs.Recurrence.{completion-is}
+use Rattle.flow_shop.specs.Shop.{Shop}
+use Rattle.flow_shop.specs.Least.{first_least}
+use Rattle.flow_shop.specs.Paths.{span}
+use Rattle.flow_shop.specs.Sequences.{has, AreDistinct, AreJobs}
+use Rattle.flow_shop.proofs.Recurrence.{completion-is}
 use Rattle.flow_bound.specs.Neh.{insertions, inserted, all_inserted}
 
 first_least-map : {X Y : Type 0} (value : Y → ℕ) (g : X → Y) (xs : List X) →

@@ -1,8 +1,8 @@
 -- The release of a machine, machine by machine.
 use Rattle.std.proofs.Common.{◌≡◌, ℕ, ◌+◌, ◌-◌, ◌≤◌, List, [], ◌∷◌, map, slice_index, refl, arith}
-use Rattle.flow_core.specs.Shop.{Shop, time_between}
-use Rattle.flow_core.specs.Least.{least}
-use Rattle.flow_core.proofs.Recurrence.{time_between-none}
+use Rattle.flow_shop.specs.Shop.{Shop, time_between}
+use Rattle.flow_shop.specs.Least.{least}
+use Rattle.flow_shop.proofs.Recurrence.{time_between-none}
 use Rattle.flow_bound.specs.Loads.{least_between}
 
 -- when a machine is free, and then the least time that a job needs from there to another one

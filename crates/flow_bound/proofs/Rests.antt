@@ -5,13 +5,13 @@ use Rattle.std.specs.List.{filter, sum_by}
 use Rattle.std.proofs.lemmas.Bool.{cases_lt, eq-eqb}
 use Rattle.std.proofs.lemmas.Bool.Decides.{eqb_tells}
 use Rattle.std.proofs.lemmas.List.{get_or-set_other, get_or-set_same}
-use Rattle.flow_core.specs.Shop.{Shop, numbers, time, time_between}
-use Rattle.flow_core.specs.Least.{least}
-use Rattle.flow_core.specs.JobSet.{contains, members}
-use Rattle.flow_core.specs.Sequences.{has}
-use Rattle.flow_core.proofs.Recurrence.{time_between-first}
-use Rattle.flow_core.proofs.JobsLeft.{kept, kept-step, kept-more, filter-same, has-filter, least-le, sum_by-ones}
-use Rattle.flow_core.proofs.JobSetLemmas.{members-is}
+use Rattle.flow_shop.specs.Shop.{Shop, numbers, time, time_between}
+use Rattle.flow_shop.specs.Least.{least}
+use Rattle.flow_shop.specs.JobSet.{contains, members}
+use Rattle.flow_shop.specs.Sequences.{has}
+use Rattle.flow_shop.proofs.Recurrence.{time_between-first}
+use Rattle.flow_shop.proofs.JobsLeft.{kept, kept-step, kept-more, filter-same, has-filter, least-le, sum_by-ones}
+use Rattle.flow_shop.proofs.JobSetLemmas.{members-is}
 use Rattle.flow_bound.proofs.Steps.{capped, capped-step}
 use Rattle.flow_bound.proofs.Running.{capped-least-all}
 

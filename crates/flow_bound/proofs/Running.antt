@@ -5,15 +5,15 @@ use Rattle.std.specs.List.{sum_by}
 use Rattle.std.proofs.lemmas.Bool.{cases_lt}
 use Rattle.std.proofs.lemmas.List.{get_or-set_other, get_or-set_same}
 use Rattle.std.proofs.lemmas.List.Sums.{sum_by_push}
-use Rattle.flow_core.specs.Limits.{most_machines, greatest_time}
-use Rattle.flow_core.specs.Shop.{Shop, numbers, time, time_between, IsWithinLimits}
-use Rattle.flow_core.specs.Least.{least, greatest}
-use Rattle.flow_core.proofs.Extremes.{greatest-append, map-map-append}
-use Rattle.flow_core.proofs.Fronts.{zeros}
-use Rattle.flow_core.proofs.JobsLeft.{numbers-more}
-use Rattle.flow_core.proofs.Recurrence.{time_between-more, time_between-none}
-use Rattle.flow_core.proofs.Fronts.{zeros}
-use Rattle.flow_core.proofs.TwoLeast.{least-le-first}
+use Rattle.flow_limits.specs.Limits.{most_machines, greatest_time}
+use Rattle.flow_shop.specs.Shop.{Shop, numbers, time, time_between, IsWithinLimits}
+use Rattle.flow_shop.specs.Least.{least, greatest}
+use Rattle.flow_shop.proofs.Extremes.{greatest-append, map-map-append}
+use Rattle.flow_shop.proofs.Fronts.{zeros}
+use Rattle.flow_shop.proofs.JobsLeft.{numbers-more}
+use Rattle.flow_shop.proofs.Recurrence.{time_between-more, time_between-none}
+use Rattle.flow_shop.proofs.Fronts.{zeros}
+use Rattle.flow_shop.proofs.TwoLeast.{least-le-first}
 use Rattle.flow_bound.proofs.Steps.{capped, capped-push, capped-is, time_between-small}
 
 -- a value that is written for one more number

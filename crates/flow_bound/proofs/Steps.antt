@@ -3,17 +3,17 @@ use Rattle.std.proofs.Common.{◌≡◌, ℕ, zero, suc, ◌+◌, ◌-◌, ◌*�
 use Rattle.std.proofs.Common.{◌++◌, length, map, subst, refl, ap, ◌∙◌, inl, inr, arith}
 use Rattle.std.specs.List.{filter}
 use Rattle.std.proofs.lemmas.Bool.{cases_lt}
-use Rattle.flow_core.specs.Limits.{greatest_time}
-use Rattle.flow_core.specs.Shop.{Shop, numbers, time, time_between, IsWithinLimits}
-use Rattle.flow_core.specs.Least.{least}
-use Rattle.flow_core.proofs.JobsLeft.{sum_by-jobs_left, sum_by-ones, filter-more}
-use Rattle.flow_core.proofs.Recurrence.{time_between-more, time_between-none}
-use Rattle.flow_core.proofs.Fronts.{time-small}
-use Rattle.flow_core.specs.Paths.{span}
-use Rattle.flow_core.specs.Front.{IsFrontOf}
-use Rattle.flow_core.specs.Sequences.{jobs_left, IsSequence, Extends}
-use Rattle.flow_core.specs.Bound.{machine_bound, released_bound}
-use Rattle.flow_core.proofs.Admissible.{admissible-front, released-front}
+use Rattle.flow_limits.specs.Limits.{greatest_time}
+use Rattle.flow_shop.specs.Shop.{Shop, numbers, time, time_between, IsWithinLimits}
+use Rattle.flow_shop.specs.Least.{least}
+use Rattle.flow_shop.proofs.JobsLeft.{sum_by-jobs_left, sum_by-ones, filter-more}
+use Rattle.flow_shop.proofs.Recurrence.{time_between-more, time_between-none}
+use Rattle.flow_shop.proofs.Fronts.{time-small}
+use Rattle.flow_shop.specs.Paths.{span}
+use Rattle.flow_shop.specs.Front.{IsFrontOf}
+use Rattle.flow_shop.specs.Sequences.{jobs_left, IsSequence, Extends}
+use Rattle.flow_shop.specs.Bound.{machine_bound, released_bound}
+use Rattle.flow_shop.proofs.Admissible.{admissible-front, released-front}
 
 -- the least of a list and a cap
 abbrev pub capped : ℕ → List ℕ → ℕ

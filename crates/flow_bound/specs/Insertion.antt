@@ -1,8 +1,8 @@
 -- The makespan of a list with a job between two others: from the job's heads, and from the tails behind it.
 use Rattle.std.specs.Prelude.{ℕ, ◌≡◌, ◌+◌, List, [], ◌∷◌, ◌++◌, length, map}
-use Rattle.flow_core.specs.Shop.{Shop, numbers}
-use Rattle.flow_core.specs.Least.{greatest}
-use Rattle.flow_core.specs.Paths.{weight, paths, completion, span}
+use Rattle.flow_shop.specs.Shop.{Shop, numbers}
+use Rattle.flow_shop.specs.Least.{greatest}
+use Rattle.flow_shop.specs.Paths.{weight, paths, completion, span}
 
 -- the tail of a list from a machine: the greatest weight of a path over the list from there to the last machine
 unfoldable pub tail : Shop → List ℕ → ℕ → ℕ

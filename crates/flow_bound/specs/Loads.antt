@@ -1,7 +1,7 @@
 -- The remaining work of each machine, where some jobs are left.
 use Rattle.std.specs.Prelude.{ℕ, ◌≡◌, ◌+◌, ◌-◌, ◌≤◌, List, map, slice_index, sum_by}
-use Rattle.flow_core.specs.Shop.{Shop, time, time_between}
-use Rattle.flow_core.specs.Least.{least}
+use Rattle.flow_shop.specs.Shop.{Shop, time, time_between}
+use Rattle.flow_shop.specs.Least.{least}
 
 -- the remaining work: how many machines there are, and for each the time of the jobs left and their least tail
 pub record Remaining : Type 0 where

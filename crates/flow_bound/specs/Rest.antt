@@ -1,6 +1,6 @@
 -- The rest of some jobs: the loads of the machines, and the lags to each of them.
 use Rattle.std.specs.Prelude.{ℕ, ◌≡◌, ◌-◌, ◌<◌, ◌≤◌, List, [], slice_index, slice_index_or}
-use Rattle.flow_core.specs.Shop.{Shop}
+use Rattle.flow_shop.specs.Shop.{Shop}
 use Rattle.flow_bound.specs.Loads.{least_between, AreLoadsOf}
 use Rattle.flow_bound.specs.declared.rest.Rest.{Rest}
 

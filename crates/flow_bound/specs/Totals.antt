@@ -1,6 +1,6 @@
 -- A job's total: its time on all machines.
 use Rattle.std.specs.Prelude.{ℕ}
-use Rattle.flow_core.specs.Shop.{Shop, time_between}
+use Rattle.flow_shop.specs.Shop.{Shop, time_between}
 
 -- a job's time on all machines
 abbrev pub total : Shop → ℕ → ℕ

@@ -1,11 +1,11 @@
 //! The time of a job on the machines from one to another, and the least such time of a set of jobs.
 
 ghost use Rattle.std.specs.Prelude.{◌≡◌, ℕ, ◌+◌, ◌<◌, ◌≤◌, length, false};
-ghost use Rattle.flow_core.specs.Shop.{time_between};
-ghost use Rattle.flow_core.specs.JobSet.{contains, members};
+ghost use Rattle.flow_shop.specs.Shop.{time_between};
+ghost use Rattle.flow_shop.specs.JobSet.{contains, members};
 ghost use Rattle.flow_bound.specs.Loads.{least_between};
 
-use flow_core::{Instance, JobSet};
+use flow_shop::{Instance, JobSet};
 
 /// The time of a job on the machines from `first` to `last`.
 fn time_between(instance: &Instance, job: u16, first: u16, last: u16) -> u32

@@ -2,17 +2,18 @@
 
 ghost use Rattle.std.specs.Prelude.{◌≡◌, ℕ, ◌+◌, ◌-◌, ◌*◌, ◌<◌, ◌≤◌, min, List, Bool, true, false};
 ghost use Rattle.std.specs.Prelude.{length, slice_index, slice_set, sum_by};
-ghost use Rattle.flow_core.specs.Limits.{most_jobs, most_machines, greatest_time, greatest_completion};
-ghost use Rattle.flow_core.specs.Shop.{Shop, time, time_between};
-ghost use Rattle.flow_core.specs.Paths.{span};
-ghost use Rattle.flow_core.specs.Front.{IsFrontOf};
-ghost use Rattle.flow_core.specs.JobSet.{contains, members};
-ghost use Rattle.flow_core.specs.Sequences.{jobs_left, IsSequence, Extends};
-ghost use Rattle.flow_core.specs.Bound.{machine_bound};
+ghost use Rattle.flow_limits.specs.Limits.{most_jobs, most_machines, greatest_time, greatest_completion};
+ghost use Rattle.flow_shop.specs.Shop.{Shop, time, time_between};
+ghost use Rattle.flow_shop.specs.Paths.{span};
+ghost use Rattle.flow_shop.specs.Front.{IsFrontOf};
+ghost use Rattle.flow_shop.specs.JobSet.{contains, members};
+ghost use Rattle.flow_shop.specs.Sequences.{jobs_left, IsSequence, Extends};
+ghost use Rattle.flow_shop.specs.Bound.{machine_bound};
 ghost use Rattle.flow_bound.specs.Loads.{AreLoadsOf, least_tail};
 
 use crate::least::least_between;
-use flow_core::{Front, Instance, JobSet, MAX_MACHINES};
+use flow_limits::MAX_MACHINES;
+use flow_shop::{Front, Instance, JobSet};
 use std::marker::Model;
 
 /// The remaining work of each machine of an instance, where the jobs of a set are left. It stores no set.
@@ -28,7 +29,7 @@ pub struct Loads {
 
 impl Model for Loads {
     ghost use Rattle.std.specs.Prelude.{◌≤◌};
-    ghost use Rattle.flow_core.specs.Limits.{most_machines};
+    ghost use Rattle.flow_limits.specs.Limits.{most_machines};
     ghost use Rattle.flow_bound.specs.Loads.{Remaining};
 
     ghost Value = { Remaining };

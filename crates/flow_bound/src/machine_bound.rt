@@ -1,15 +1,15 @@
 //! The machine bound of a front.
 
 ghost use Rattle.std.specs.Prelude.{◌≡◌, ℕ, ◌<◌, ◌≤◌, List, length, false};
-ghost use Rattle.flow_core.specs.Paths.{span};
-ghost use Rattle.flow_core.specs.Front.{IsFrontOf, IsWithinFront};
-ghost use Rattle.flow_core.specs.JobSet.{contains, members};
-ghost use Rattle.flow_core.specs.Sequences.{jobs_left, IsSequence, Extends};
-ghost use Rattle.flow_core.specs.Bound.{machine_bound};
+ghost use Rattle.flow_shop.specs.Paths.{span};
+ghost use Rattle.flow_shop.specs.Front.{IsFrontOf, IsWithinFront};
+ghost use Rattle.flow_shop.specs.JobSet.{contains, members};
+ghost use Rattle.flow_shop.specs.Sequences.{jobs_left, IsSequence, Extends};
+ghost use Rattle.flow_shop.specs.Bound.{machine_bound};
 
 use crate::least::least_between;
 use crate::sums::sum_of;
-use flow_core::{Front, Instance, JobSet};
+use flow_shop::{Front, Instance, JobSet};
 
 /// The machine bound: when a machine is free, its time for the jobs of a set, and the least time that one of them needs
 /// behind it. Where the front is that of a list, and the set has the jobs that the list leaves, no

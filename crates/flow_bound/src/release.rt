@@ -1,16 +1,16 @@
 //! The release of a machine, and the released bound of a front.
 
 ghost use Rattle.std.specs.Prelude.{◌≡◌, ℕ, ◌+◌, ◌^◌, ◌<◌, ◌≤◌, List, length, false};
-ghost use Rattle.flow_core.specs.Limits.{greatest_completion};
-ghost use Rattle.flow_core.specs.Paths.{span};
-ghost use Rattle.flow_core.specs.Front.{IsFrontOf, IsWithinFront};
-ghost use Rattle.flow_core.specs.JobSet.{contains, members};
-ghost use Rattle.flow_core.specs.Sequences.{jobs_left, IsSequence, Extends};
-ghost use Rattle.flow_core.specs.Bound.{release, released_bound};
+ghost use Rattle.flow_limits.specs.Limits.{greatest_completion};
+ghost use Rattle.flow_shop.specs.Paths.{span};
+ghost use Rattle.flow_shop.specs.Front.{IsFrontOf, IsWithinFront};
+ghost use Rattle.flow_shop.specs.JobSet.{contains, members};
+ghost use Rattle.flow_shop.specs.Sequences.{jobs_left, IsSequence, Extends};
+ghost use Rattle.flow_shop.specs.Bound.{release, released_bound};
 
 use crate::least::least_between;
 use crate::sums::sum_of;
-use flow_core::{Front, Instance, JobSet};
+use flow_shop::{Front, Instance, JobSet};
 
 /// The release of a machine, before which no job of a set starts on it: for each machine up to this one, when it is
 /// free and then the least time that a job of the set needs from there to this machine; and the greatest of these.

@@ -2,18 +2,19 @@
 
 ghost use Rattle.std.specs.Prelude.{◌≡◌, ℕ, ◌+◌, ◌-◌, ◌^◌, ◌<◌, ◌≤◌, min, List, Bool, true, false};
 ghost use Rattle.std.specs.Prelude.{length, slice_index, slice_set};
-ghost use Rattle.flow_core.specs.Limits.{most_machines, greatest_completion};
-ghost use Rattle.flow_core.specs.Shop.{Shop, time_between};
-ghost use Rattle.flow_core.specs.Paths.{span};
-ghost use Rattle.flow_core.specs.Front.{IsFrontOf};
-ghost use Rattle.flow_core.specs.JobSet.{contains, members};
-ghost use Rattle.flow_core.specs.Sequences.{jobs_left, IsSequence, Extends};
-ghost use Rattle.flow_core.specs.Bound.{machine_bound, release, released_bound};
+ghost use Rattle.flow_limits.specs.Limits.{most_machines, greatest_completion};
+ghost use Rattle.flow_shop.specs.Shop.{Shop, time_between};
+ghost use Rattle.flow_shop.specs.Paths.{span};
+ghost use Rattle.flow_shop.specs.Front.{IsFrontOf};
+ghost use Rattle.flow_shop.specs.JobSet.{contains, members};
+ghost use Rattle.flow_shop.specs.Sequences.{jobs_left, IsSequence, Extends};
+ghost use Rattle.flow_shop.specs.Bound.{machine_bound, release, released_bound};
 ghost use Rattle.flow_bound.specs.Rest.{AreLags, IsRestOf};
 
 use crate::least::least_between;
 use crate::loads::Loads;
-use flow_core::{Front, Instance, JobSet, MAX_MACHINES};
+use flow_limits::MAX_MACHINES;
+use flow_shop::{Front, Instance, JobSet};
 
 /// The lags of a set of jobs to a machine: for each machine before it, the least time that a job of the set needs from
 /// there to it.

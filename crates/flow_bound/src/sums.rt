@@ -1,12 +1,13 @@
 //! Sums of times: of each job on several machines, and of a set of jobs on a machine.
 
 ghost use Rattle.std.specs.Prelude.{◌≡◌, ℕ, ◌+◌, ◌-◌, ◌*◌, ◌<◌, ◌≤◌, slice_index, sum_by, false};
-ghost use Rattle.flow_core.specs.Limits.{most_machines, greatest_time};
-ghost use Rattle.flow_core.specs.Shop.{time};
-ghost use Rattle.flow_core.specs.JobSet.{contains, members};
+ghost use Rattle.flow_limits.specs.Limits.{most_machines, greatest_time};
+ghost use Rattle.flow_shop.specs.Shop.{time};
+ghost use Rattle.flow_shop.specs.JobSet.{contains, members};
 ghost use Rattle.flow_bound.specs.internal.Times.{AreTimes};
 
-use flow_core::{Instance, JobSet, MAX_JOBS};
+use flow_limits::MAX_JOBS;
+use flow_shop::{Instance, JobSet};
 
 /// Adds each job's time on a machine to its sum.
 fn add_times(instance: &Instance, sums: &mut [u32; MAX_JOBS], machine: u16)

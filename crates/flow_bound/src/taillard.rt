@@ -1,16 +1,17 @@
 //! Taillard's lower bound on the makespan of every sequence.
 
 ghost use Rattle.std.specs.Prelude.{◌≡◌, ℕ, ◌-◌, ◌≤◌, List, map};
-ghost use Rattle.flow_core.specs.Shop.{numbers};
-ghost use Rattle.flow_core.specs.Least.{greatest};
-ghost use Rattle.flow_core.specs.Paths.{span};
-ghost use Rattle.flow_core.specs.Sequences.{IsSequence};
+ghost use Rattle.flow_shop.specs.Shop.{numbers};
+ghost use Rattle.flow_shop.specs.Least.{greatest};
+ghost use Rattle.flow_shop.specs.Paths.{span};
+ghost use Rattle.flow_shop.specs.Sequences.{IsSequence};
 ghost use Rattle.flow_bound.specs.Totals.{total};
 ghost use Rattle.flow_bound.specs.internal.Times.{AreTimes};
 ghost use Rattle.flow_bound.specs.Taillard.{machine_load, taillard_bound};
 
 use crate::sums::sum_times;
-use flow_core::{Instance, MAX_JOBS};
+use flow_limits::MAX_JOBS;
+use flow_shop::Instance;
 
 /// The greatest total of a job.
 fn greatest_total(instance: &Instance, totals: &[u32; MAX_JOBS]) -> u32

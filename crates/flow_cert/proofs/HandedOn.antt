@@ -3,7 +3,7 @@ use Rattle.std.proofs.Common.{◌≡◌, ℕ, List, [], ◌∷◌, Option, Resul
 use Rattle.std.proofs.Common.{append-nil, refl, sym, ap, subst, ◌∙◌, length-append}
 use Rattle.std.specs.Io.KnownBytes.{Appends}
 use Rattle.std.proofs.KnownBytes.{Appends-trans}
-use Rattle.flow_core.specs.Bytes.{AddsProperPrefix}
+use Rattle.flow_text.specs.Bytes.{AddsProperPrefix}
 use Rattle.flow_cert.specs.internal.Gathered.{HandsOn}
 
 pub on-err : {T E P : Type 0} (r : Result T E) → P → OnErr r P

@@ -7,19 +7,19 @@ use Rattle.std.specs.List.{AllZip, AllByRecursion, flat_map, filter, find, conca
 use Rattle.std.specs.Option.{option_map_or}
 use Rattle.std.proofs.lemmas.List.Elements.{All-from_recursion}
 use Rattle.std.proofs.lemmas.Bool.{leb-true, cases_Bool, cond-true, cond-false}
-use Rattle.flow_core.specs.Limits.{greatest_time, most_machines, most_jobs}
-use Rattle.flow_core.specs.Shop.{Shop, IsWithinLimits, numbers}
-use Rattle.flow_core.specs.Least.{least}
-use Rattle.flow_core.specs.Paths.{span}
-use Rattle.flow_core.specs.Sequences.{jobs_left, cut, IsSequence, IsLeastMakespan}
-use Rattle.flow_core.specs.Bound.{bound_of, letter}
-use Rattle.flow_core.proofs.Fronts.{completion-small}
+use Rattle.flow_limits.specs.Limits.{greatest_time, most_machines, most_jobs}
+use Rattle.flow_shop.specs.Shop.{Shop, IsWithinLimits, numbers}
+use Rattle.flow_shop.specs.Least.{least}
+use Rattle.flow_shop.specs.Paths.{span}
+use Rattle.flow_shop.specs.Sequences.{jobs_left, cut, IsSequence, IsLeastMakespan}
+use Rattle.flow_shop.specs.Bound.{bound_of, letter}
+use Rattle.flow_shop.proofs.Fronts.{completion-small}
 use Rattle.flow_search.specs.Search.{comes_before, in_force, tree_at, tree, sequences_from}
 use Rattle.flow_search.specs.Plans.{Planned, prefixes_of, trees_of, verdict_of}
 use Rattle.flow_search.specs.Verdicts.{IsVerdict}
 use Rattle.flow_search.specs.declared.verdict.Verdict.{Verdict}
-use Rattle.flow_core.specs.Limits.{greatest_version}
-use Rattle.flow_core.proofs.Lists.{find-some}
+use Rattle.flow_limits.specs.Limits.{greatest_version}
+use Rattle.flow_shop.proofs.Lists.{find-some}
 use Rattle.flow_search.proofs.Lists.{all-weaken}
 use Rattle.flow_search.proofs.Walk.{Fresh, IsLeft, fresh-push, jobs_left-are, extensions-are, range-all}
 use Rattle.flow_search.proofs.LeastVerdict.{cut-fresh, verdict_is_least}

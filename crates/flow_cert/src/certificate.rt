@@ -3,7 +3,7 @@
 ghost use Rattle.std.specs.Prelude.{◌≡◌, ◌↔◌, ◌++◌, false, true, length, map, decimal, is_err, IsErr, OnOk, OnErr};
 ghost use Rattle.std.specs.List.{flat_map};
 ghost use Rattle.std.specs.Io.KnownBytes.{Appends};
-ghost use Rattle.flow_core.specs.Bytes.{AddsProperPrefix};
+ghost use Rattle.flow_text.specs.Bytes.{AddsProperPrefix};
 ghost use Rattle.flow_search.specs.Plans.{prefixes_of};
 ghost use Rattle.flow_search.specs.Verdicts.{IsVerdict};
 ghost use Rattle.flow_check.specs.Certificate.{line, title};
@@ -12,8 +12,8 @@ ghost use Rattle.flow_cert.specs.PlanCertificates.{certificate_of, text_with};
 ghost use Rattle.flow_cert.specs.internal.HeadingText.{size_line, heading_with};
 
 use crate::gathered::Gathered;
-use flow_core::{Sink, WriteFault};
 use flow_search::{Plan, Verdict};
+use flow_text::{Sink, WriteFault};
 
 /// Adds the first line, with the version of the plan.
 fn add_title<S: Sink>(gathered: &mut Gathered, out: &mut S, plan: &Plan) -> Result<(), WriteFault>

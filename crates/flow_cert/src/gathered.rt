@@ -3,11 +3,11 @@
 ghost use Rattle.std.specs.Prelude.{◌≡◌, ℕ, ◌+◌, ◌≤◌, false, List, [], ◌∷◌, ◌++◌, length, take, decimal, is_err};
 ghost use Rattle.std.specs.Prelude.{OnOk, OnErr};
 ghost use Rattle.std.specs.Io.KnownBytes.{Appends};
-ghost use Rattle.flow_core.specs.Bytes.{AddsProperPrefix};
+ghost use Rattle.flow_text.specs.Bytes.{AddsProperPrefix};
 ghost use Rattle.flow_check.specs.Certificate.{line, spaced};
 ghost use Rattle.flow_cert.specs.internal.Gathered.{HandsOn};
 
-use flow_core::{Sink, WriteFault, put_all};
+use flow_text::{Sink, WriteFault, put_all};
 use itoa::Buffer;
 use std::marker::Model;
 

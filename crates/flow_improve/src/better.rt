@@ -1,14 +1,15 @@
 //! A better sequence than a given one.
 
 ghost use Rattle.std.specs.Prelude.{◌≡◌, ◌<◌, ◌≤◌, length, IfOk};
-ghost use Rattle.flow_core.specs.Generator.{modulus};
-ghost use Rattle.flow_core.specs.Paths.{span};
-ghost use Rattle.flow_core.specs.Sequences.{IsSequence};
+ghost use Rattle.flow_text.specs.Generator.{modulus};
+ghost use Rattle.flow_shop.specs.Paths.{span};
+ghost use Rattle.flow_shop.specs.Sequences.{IsSequence};
 ghost use Rattle.flow_improve.specs.internal.Rooms.{IsKnown};
 
 use crate::round::Rounds;
 use flow_bound::taillard_bound;
-use flow_core::{Instance, Sequence, Taillard, makespan};
+use flow_shop::{Instance, Sequence, makespan};
+use flow_text::Taillard;
 use std::alloc::{AllocError, Global};
 
 /// A sequence of an instance, and its makespan.

@@ -2,10 +2,10 @@
 
 ghost use Rattle.std.specs.Prelude.{◌≡◌, ◌-◌, ◌<◌, ◌≤◌, length, take, insert, slice_index, IfOk};
 ghost use Rattle.std.specs.List.Sorted.{IsPermutation};
-ghost use Rattle.flow_core.specs.Limits.{most_jobs};
-ghost use Rattle.flow_core.specs.Sequences.{IsSequence};
+ghost use Rattle.flow_limits.specs.Limits.{most_jobs};
+ghost use Rattle.flow_shop.specs.Sequences.{IsSequence};
 
-use flow_core::Taillard;
+use flow_text::Taillard;
 use std::alloc::{AllocError, Global};
 
 /// The jobs of an instance in the order of their numbers.

@@ -1,13 +1,14 @@
 //! Jobs placed in a list.
 
 ghost use Rattle.std.specs.Prelude.{◌≡◌, ◌+◌, ◌<◌, ◌≤◌, length, take, IfOk};
-ghost use Rattle.flow_core.specs.Paths.{span};
-ghost use Rattle.flow_core.specs.Sequences.{IsSequence};
+ghost use Rattle.flow_shop.specs.Paths.{span};
+ghost use Rattle.flow_shop.specs.Sequences.{IsSequence};
 ghost use Rattle.flow_improve.specs.internal.Rooms.{IsRoomFor};
 
 use crate::list::{place_of, put_in, take_out};
 use flow_bound::{Times, best_place};
-use flow_core::{Instance, MAX_MACHINES, Row, rows};
+use flow_limits::MAX_MACHINES;
+use flow_shop::{Instance, Row, rows};
 use std::alloc::{AllocError, Global};
 
 /// What the makespans of insertions are computed from, and room to compute them in. It is made once for all rounds.

@@ -1,13 +1,14 @@
 //! One round: a few jobs leave the list and are placed again, and then each job in turn, in passes.
 
 ghost use Rattle.std.specs.Prelude.{◌≡◌, ◌≤◌, length, IfOk};
-ghost use Rattle.flow_core.specs.Paths.{span};
-ghost use Rattle.flow_core.specs.Sequences.{IsSequence};
+ghost use Rattle.flow_shop.specs.Paths.{span};
+ghost use Rattle.flow_shop.specs.Sequences.{IsSequence};
 ghost use Rattle.flow_improve.specs.internal.Rooms.{IsRoundsFor};
 
 use crate::list::{numbers, shuffle, take_out};
 use crate::place::Room;
-use flow_core::{Instance, Taillard};
+use flow_shop::Instance;
+use flow_text::Taillard;
 use std::alloc::{AllocError, Global};
 
 /// How many jobs leave the list in a round, where there are so many.

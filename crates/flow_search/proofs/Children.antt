@@ -4,24 +4,24 @@ use Rattle.std.proofs.Common.{slice_index, refl, ap, sym, ◌∙◌, inl, inr, a
 use Rattle.std.specs.List.{filter}
 use Rattle.std.proofs.lemmas.List.{append-nil}
 use Rattle.std.proofs.lemmas.Bool.Decides.{eqb_tells}
-use Rattle.flow_core.specs.Limits.{most_machines, greatest_time}
-use Rattle.flow_core.specs.Shop.{Shop, numbers, time, time_between, IsWithinLimits}
-use Rattle.flow_core.specs.Paths.{completion}
-use Rattle.flow_core.specs.Front.{IsFrontOf, IsWithinFront}
-use Rattle.flow_core.specs.Sequences.{jobs_left}
-use Rattle.flow_core.specs.Bound.{bound_at, front_of, release, released_bound_at}
-use Rattle.flow_core.proofs.Recurrence.{after, completed, completion-is, completion-after, after-same}
-use Rattle.flow_core.proofs.Fronts.{free_at, front-within}
-use Rattle.flow_core.proofs.JobsLeft.{filter-more}
-use Rattle.flow_core.proofs.Admissible.{front_of-is}
-use Rattle.flow_core.specs.internal.TwoLeast.{tails, least_below, second_below}
+use Rattle.flow_limits.specs.Limits.{most_machines, greatest_time}
+use Rattle.flow_shop.specs.Shop.{Shop, numbers, time, time_between, IsWithinLimits}
+use Rattle.flow_shop.specs.Paths.{completion}
+use Rattle.flow_shop.specs.Front.{IsFrontOf, IsWithinFront}
+use Rattle.flow_shop.specs.Sequences.{jobs_left}
+use Rattle.flow_shop.specs.Bound.{bound_at, front_of, release, released_bound_at}
+use Rattle.flow_shop.proofs.Recurrence.{after, completed, completion-is, completion-after, after-same}
+use Rattle.flow_shop.proofs.Fronts.{free_at, front-within}
+use Rattle.flow_shop.proofs.JobsLeft.{filter-more}
+use Rattle.flow_shop.proofs.Admissible.{front_of-is}
+use Rattle.flow_shop.specs.TwoLeast.{tails, least_below, second_below}
 use Rattle.flow_search.specs.internal.Lows.{unknown}
 use Rattle.flow_search.specs.internal.Frames.{IsFrame, IsChild, left_from}
 use Rattle.flow_search.specs.declared.frame.Frame.{Frame}
-use Rattle.flow_core.proofs.Extremes.{map-map-append}
-use Rattle.flow_core.proofs.Taken.{left-sum, left-count, left-split, left-without, left_under}
-use Rattle.flow_core.proofs.TwoLeast.{Without, without-one, least-below-cap}
-use Rattle.flow_core.proofs.Fronts.{tail-small}
+use Rattle.flow_shop.proofs.Extremes.{map-map-append}
+use Rattle.flow_shop.proofs.Taken.{left-sum, left-count, left-split, left-without, left_under}
+use Rattle.flow_shop.proofs.TwoLeast.{Without, without-one, least-below-cap}
+use Rattle.flow_shop.proofs.Fronts.{tail-small}
 
 pub frame-within : (shop : Shop) (node : List ℕ) (left : ℕ) (frame : Frame) → IsWithinLimits shop →
     IsFrame shop node left frame →

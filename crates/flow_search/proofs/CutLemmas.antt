@@ -5,9 +5,9 @@ use Rattle.std.proofs.Math.Nat.{mul_assoc}
 use Rattle.std.specs.List.{filter, flat_map, concat, AllByRecursion}
 use Rattle.std.proofs.lemmas.List.{append-nil}
 use Rattle.std.proofs.lemmas.List.Folds.{concat-append}
-use Rattle.flow_core.specs.Shop.{numbers}
-use Rattle.flow_core.specs.Sequences.{has, jobs_left, extensions, cut}
-use Rattle.flow_core.proofs.JobsLeft.{kept, kept-has, sum_by-ones}
+use Rattle.flow_shop.specs.Shop.{numbers}
+use Rattle.flow_shop.specs.Sequences.{has, jobs_left, extensions, cut}
+use Rattle.flow_shop.proofs.JobsLeft.{kept, kept-has, sum_by-ones}
 use Rattle.flow_search.proofs.Walk.{Fresh, IsLeft, jobs_left-are, fresh-push}
 use Rattle.flow_search.proofs.Nodes.{filter-here, filter-skip, numbers-none, kept-both}
 

@@ -8,8 +8,8 @@ use Rattle.std.proofs.lemmas.List.Elements.{All-from_recursion, recursion_from_A
 use Rattle.std.proofs.lemmas.List.Kept.{AllPairs-cons}
 use Rattle.std.proofs.lemmas.Bool.{cases_order, false≢true, or_left, or_right, eq-eqb}
 use Rattle.std.proofs.lemmas.Bool.Decides.{eqb_tells}
-use Rattle.flow_core.specs.Sequences.{has, jobs_left, AreDistinct, AreJobs, extensions, cut, Extends}
-use Rattle.flow_core.proofs.JobsLeft.{has-filter}
+use Rattle.flow_shop.specs.Sequences.{has, jobs_left, AreDistinct, AreJobs, extensions, cut, Extends}
+use Rattle.flow_shop.proofs.JobsLeft.{has-filter}
 use Rattle.flow_search.specs.Search.{comes_before}
 use Rattle.flow_search.specs.Cuts.{CutHasDepth, CutIsWhole, CutIsOrdered, CutParts}
 use Rattle.flow_search.proofs.Lists.{all-at, all-append, all-weaken, all-flat_map, Above, above-range}

@@ -4,8 +4,8 @@ use Rattle.std.proofs.Common.{◌∷◌, ◌++◌, length, take, drop, slice_ind
 use Rattle.std.specs.List.{filter, range_with_len}
 use Rattle.std.proofs.lemmas.Bool.{cases_eq, cases_lt, false≢true, eq-eqb, or_left, or_right}
 use Rattle.std.proofs.lemmas.Bool.Decides.{eqb_tells}
-use Rattle.flow_core.specs.Sequences.{has}
-use Rattle.flow_core.proofs.JobsLeft.{bool_cases}
+use Rattle.flow_shop.specs.Sequences.{has}
+use Rattle.flow_shop.proofs.JobsLeft.{bool_cases}
 
 -- a list has what stands at each place, and nothing else
 

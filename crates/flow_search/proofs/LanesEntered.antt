@@ -25,9 +25,9 @@ use Rattle.std.proofs.lemmas.Bool.{cases_lt, eq-eqb, ne_eqb, not-true}
 use Rattle.std.proofs.lemmas.List.{get_or-set_other, get_or-set_same, take_more_set, length-take, append-nil}
 use Rattle.std.proofs.lemmas.List.{nil_from_length}
 use Rattle.std.proofs.lemmas.List.Sums.{sum_by-cons}
-use Rattle.flow_core.specs.Shop.{Shop, numbers, time, time_between}
-use Rattle.flow_core.specs.JobSet.{contains}
-use Rattle.flow_core.specs.Sequences.{has}
+use Rattle.flow_shop.specs.Shop.{Shop, numbers, time, time_between}
+use Rattle.flow_shop.specs.JobSet.{contains}
+use Rattle.flow_shop.specs.Sequences.{has}
 use Rattle.flow_search.specs.internal.Nodes.{IsAt}
 use Rattle.flow_search.specs.declared.eight.group.TheConstants.{GONE}
 use Rattle.flow_search.specs.declared.eight.group.LaneRow.{LaneRow}

@@ -7,8 +7,8 @@ use Rattle.std.proofs.lemmas.List.{append-nil, take_more, take_more_set, take-se
 use Rattle.std.proofs.lemmas.List.{get_or-set_same, get_or-append_right}
 use Rattle.std.proofs.Math.ListN.{drop_of_length-le}
 use Rattle.std.proofs.Math.Seq.{drop-cons, take-length}
-use Rattle.flow_core.specs.Shop.{Shop, numbers}
-use Rattle.flow_core.specs.Sequences.{jobs_left}
+use Rattle.flow_shop.specs.Shop.{Shop, numbers}
+use Rattle.flow_shop.specs.Sequences.{jobs_left}
 use Rattle.flow_search.specs.Search.{Bound}
 use Rattle.flow_search.specs.Walk.{walk, walk_each}
 use Rattle.flow_search.specs.internal.Nodes.{Gave, Opens, children_walked, incumbent_of, then_walk}

@@ -4,10 +4,10 @@ use Rattle.std.proofs.Common.{slice_index_or, set, refl, ap, sym, ◌∙◌, inl
 use Rattle.std.specs.List.{filter, range_with_len, sum_by}
 use Rattle.std.proofs.lemmas.Bool.{cases_eq, cases_order, false≢true, ne_eqb}
 use Rattle.std.proofs.lemmas.List.{get_or-set_other, get_or-set_same}
-use Rattle.flow_core.specs.Shop.{Shop, time}
-use Rattle.flow_core.specs.Paths.{completion}
-use Rattle.flow_core.specs.Sequences.{has, jobs_left}
-use Rattle.flow_core.proofs.JobsLeft.{bool_cases}
+use Rattle.flow_shop.specs.Shop.{Shop, time}
+use Rattle.flow_shop.specs.Paths.{completion}
+use Rattle.flow_shop.specs.Sequences.{has, jobs_left}
+use Rattle.flow_shop.proofs.JobsLeft.{bool_cases}
 use Rattle.flow_search.specs.declared.eight.group.TheConstants.{GONE}
 use Rattle.flow_search.specs.declared.eight.group.LaneRow.{LaneRow}
 use Rattle.flow_search.specs.declared.eight.group.Group.{Group}
@@ -15,7 +15,7 @@ use Rattle.flow_search.specs.declared.eight.group.LaneFrame.{LaneFrame}
 use Rattle.flow_search.specs.internal.Lanes.{IsLaneLeft, IsFrameOf, IsOpened, IsTested, job_of, child, lanes_of}
 use Rattle.flow_search.specs.Search.{Bound}
 use Rattle.flow_search.proofs.Increasing.{without-one, places-gone, size-filter}
-use Rattle.flow_core.proofs.Taken.{left-sum, left-count, has-other, has-more, has-same}
+use Rattle.flow_shop.proofs.Taken.{left-sum, left-count, has-other, has-more, has-same}
 
 -- a node that differs in the answers only
 at-same : (shop : Shop) (list : List ℕ) (group : Group) (a b : LaneFrame) → b.front ≡ a.front → b.sum ≡ a.sum →

@@ -5,16 +5,16 @@ use Rattle.std.proofs.Common.{sym, ◌∙◌, subst, inl, inr, arith}
 use Rattle.std.specs.List.{sum_by}
 use Rattle.std.proofs.lemmas.Bool.{cases_lt, cases_order}
 use Rattle.std.proofs.lemmas.List.{get_or-set_other, get_or-set_same}
-use Rattle.flow_core.specs.Limits.{most_jobs, greatest_time, greatest_completion}
-use Rattle.flow_core.specs.Shop.{Shop, time, time_between, IsWithinLimits}
-use Rattle.flow_core.specs.Least.{least}
-use Rattle.flow_core.specs.Paths.{completion}
-use Rattle.flow_core.specs.Sequences.{has, jobs_left}
-use Rattle.flow_core.specs.Bound.{bound_at}
-use Rattle.flow_core.proofs.Recurrence.{completion-push, completion-after}
-use Rattle.flow_core.proofs.Fronts.{front-within, time-small}
-use Rattle.flow_core.proofs.Admissible.{front_of-is}
-use Rattle.flow_core.proofs.JobsLeft.{kept, kept-more}
+use Rattle.flow_limits.specs.Limits.{most_jobs, greatest_time, greatest_completion}
+use Rattle.flow_shop.specs.Shop.{Shop, time, time_between, IsWithinLimits}
+use Rattle.flow_shop.specs.Least.{least}
+use Rattle.flow_shop.specs.Paths.{completion}
+use Rattle.flow_shop.specs.Sequences.{has, jobs_left}
+use Rattle.flow_shop.specs.Bound.{bound_at}
+use Rattle.flow_shop.proofs.Recurrence.{completion-push, completion-after}
+use Rattle.flow_shop.proofs.Fronts.{front-within, time-small}
+use Rattle.flow_shop.proofs.Admissible.{front_of-is}
+use Rattle.flow_shop.proofs.JobsLeft.{kept, kept-more}
 use Rattle.flow_search.specs.declared.eight.group.TheConstants.{GONE}
 use Rattle.flow_search.specs.declared.eight.group.LaneRow.{LaneRow}
 use Rattle.flow_search.specs.declared.eight.group.Group.{Group}
@@ -22,7 +22,7 @@ use Rattle.flow_search.specs.declared.eight.group.LaneFrame.{LaneFrame}
 use Rattle.flow_search.specs.Search.{Bound}
 use Rattle.flow_search.specs.internal.Lanes.{IsLeastOfOthers}
 use Rattle.flow_search.specs.internal.Lanes.{IsLaneLeft, IsFrameOf, IsUncutCount, IsSmallRow, job_of, child}
-use Rattle.flow_core.proofs.Taken.{left-sum, has-other}
+use Rattle.flow_shop.proofs.Taken.{left-sum, has-other}
 use Rattle.flow_search.proofs.JobsTaken.{left-here, left-child, least-is}
 
 -- the jobs of two lanes that are left differ

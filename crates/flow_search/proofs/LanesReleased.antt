@@ -3,16 +3,16 @@ use Rattle.std.proofs.Common.{◌≡◌, ◌≢◌, ℕ, ◌+◌, ◌-◌, ◌<�
 use Rattle.std.proofs.Common.{slice_index, slice_index_or, refl, ap, sym, ◌∙◌, arith}
 use Rattle.std.specs.List.{range_with_len, sum_by}
 use Rattle.std.proofs.lemmas.List.Sums.{sum_by-append}
-use Rattle.flow_core.specs.Limits.{most_machines}
-use Rattle.flow_core.specs.Shop.{Shop, numbers, time, time_between, IsWithinLimits}
-use Rattle.flow_core.specs.Least.{least, greatest}
-use Rattle.flow_core.specs.Sequences.{jobs_left}
-use Rattle.flow_core.specs.Bound.{release, released_bound_at, front_of}
-use Rattle.flow_core.proofs.Recurrence.{completion-push, time_between-first, time_between-none}
-use Rattle.flow_core.proofs.Fronts.{tail-small}
-use Rattle.flow_core.proofs.Extremes.{greatest-append, map-map-append}
-use Rattle.flow_core.proofs.Admissible.{front_of-is}
-use Rattle.flow_core.proofs.Taken.{range-split, left-sum}
+use Rattle.flow_limits.specs.Limits.{most_machines}
+use Rattle.flow_shop.specs.Shop.{Shop, numbers, time, time_between, IsWithinLimits}
+use Rattle.flow_shop.specs.Least.{least, greatest}
+use Rattle.flow_shop.specs.Sequences.{jobs_left}
+use Rattle.flow_shop.specs.Bound.{release, released_bound_at, front_of}
+use Rattle.flow_shop.proofs.Recurrence.{completion-push, time_between-first, time_between-none}
+use Rattle.flow_shop.proofs.Fronts.{tail-small}
+use Rattle.flow_shop.proofs.Extremes.{greatest-append, map-map-append}
+use Rattle.flow_shop.proofs.Admissible.{front_of-is}
+use Rattle.flow_shop.proofs.Taken.{range-split, left-sum}
 use Rattle.flow_search.specs.declared.eight.group.TheConstants.{GONE}
 use Rattle.flow_search.specs.declared.eight.group.LaneRow.{LaneRow}
 use Rattle.flow_search.specs.declared.eight.group.Group.{Group}

@@ -1,7 +1,7 @@
 -- Lanes whose machine bounds were tested before their released bounds.
 use Rattle.std.proofs.Common.{◌≡◌, ℕ, ◌+◌, ◌<◌, ◌≤◌, List, ap, inl, inr, arith}
 use Rattle.std.proofs.lemmas.Bool.{cases_lt}
-use Rattle.flow_core.specs.Shop.{Shop}
+use Rattle.flow_shop.specs.Shop.{Shop}
 use Rattle.flow_search.specs.Search.{Bound}
 use Rattle.flow_search.specs.internal.Lanes.{IsUncutCount}
 use Rattle.flow_search.proofs.LanesPassed.{IsPassed}

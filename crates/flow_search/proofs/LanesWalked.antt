@@ -4,9 +4,9 @@ use Rattle.std.proofs.Common.{◌++◌, Some, None, length, slice_index, refl, a
 use Rattle.std.proofs.Common.{length-append}
 use Rattle.std.specs.List.{find}
 use Rattle.std.proofs.lemmas.Bool.{eq-eqb, lt-ltb, or_left}
-use Rattle.flow_core.specs.Shop.{Shop, numbers}
-use Rattle.flow_core.specs.Sequences.{has, jobs_left}
-use Rattle.flow_core.specs.Bound.{letter}
+use Rattle.flow_shop.specs.Shop.{Shop, numbers}
+use Rattle.flow_shop.specs.Sequences.{has, jobs_left}
+use Rattle.flow_shop.specs.Bound.{letter}
 use Rattle.flow_search.specs.Search.{Bound}
 use Rattle.flow_search.specs.Walk.{walk, walk_each}
 use Rattle.flow_search.specs.internal.Nodes.{Wrote, Entered, Gave, Walked, walked, children_walked, incumbent_of}
@@ -15,7 +15,7 @@ use Rattle.flow_search.specs.declared.subtree.Search.{Search}
 use Rattle.flow_search.specs.declared.eight.group.Group.{Group}
 use Rattle.flow_search.specs.declared.eight.group.LaneFrame.{LaneFrame}
 use Rattle.flow_search.proofs.Walk.{Incumbent, answer_of}
-use Rattle.flow_core.proofs.Taken.{left-count}
+use Rattle.flow_shop.proofs.Taken.{left-count}
 use Rattle.flow_search.proofs.JobsTaken.{left-child}
 use Rattle.flow_search.proofs.UncutFound.{count-found}
 

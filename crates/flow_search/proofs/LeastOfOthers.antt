@@ -4,8 +4,8 @@ use Rattle.std.proofs.Common.{List, [], ◌∷◌, ◌++◌, slice_index, refl, 
 use Rattle.std.proofs.lemmas.Bool.{cases_lt, ne_eqb, false≢true}
 use Rattle.std.proofs.lemmas.Bool.Decides.{eqb_tells, nat_tests}
 use Rattle.std.proofs.lemmas.List.Folds.{list_any-append}
-use Rattle.flow_core.specs.Sequences.{has}
-use Rattle.flow_core.proofs.JobsLeft.{bool_cases}
+use Rattle.flow_shop.specs.Sequences.{has}
+use Rattle.flow_shop.proofs.JobsLeft.{bool_cases}
 use Rattle.flow_search.specs.internal.Lanes.{IsLeastOfOthers}
 
 -- a value is at most the number of each of some lanes, and that of a lane other than one

@@ -1,17 +1,17 @@
 -- What a job needs between two machines, from its row.
 use Rattle.std.proofs.Common.{◌≡◌, ℕ, ◌+◌, ◌-◌, ◌*◌, ◌<◌, ◌≤◌, List, [], ◌∷◌, ◌++◌, length, map, slice_index, ap, ◌∙◌}
 use Rattle.std.proofs.Common.{arith}
-use Rattle.flow_core.specs.Limits.{most_machines, greatest_time}
-use Rattle.flow_core.specs.Shop.{Shop, time_between, IsWithinLimits}
-use Rattle.flow_core.specs.Least.{least}
-use Rattle.flow_core.specs.internal.TwoLeast.{least_below}
-use Rattle.flow_core.specs.Sequences.{jobs_left}
-use Rattle.flow_core.proofs.TwoLeast.{Without, least-below-cap}
-use Rattle.flow_core.proofs.Taken.{left-count}
-use Rattle.flow_core.specs.Rows.{IsRow}
-use Rattle.flow_core.specs.declared.row.Row.{Row}
-use Rattle.flow_core.proofs.Recurrence.{time_between-first}
-use Rattle.flow_core.proofs.Fronts.{tail-small}
+use Rattle.flow_limits.specs.Limits.{most_machines, greatest_time}
+use Rattle.flow_shop.specs.Shop.{Shop, time_between, IsWithinLimits}
+use Rattle.flow_shop.specs.Least.{least}
+use Rattle.flow_shop.specs.TwoLeast.{least_below}
+use Rattle.flow_shop.specs.Sequences.{jobs_left}
+use Rattle.flow_shop.proofs.TwoLeast.{Without, least-below-cap}
+use Rattle.flow_shop.proofs.Taken.{left-count}
+use Rattle.flow_shop.specs.Rows.{IsRow}
+use Rattle.flow_shop.specs.declared.row.Row.{Row}
+use Rattle.flow_shop.proofs.Recurrence.{time_between-first}
+use Rattle.flow_shop.proofs.Fronts.{tail-small}
 use Rattle.flow_search.specs.internal.Lows.{time_to, unknown}
 use Rattle.flow_search.specs.internal.Lags.{IsLagged}
 use Rattle.flow_search.specs.declared.lows.Lows.{Lows}

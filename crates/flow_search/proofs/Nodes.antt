@@ -8,23 +8,23 @@ use Rattle.std.proofs.lemmas.Bool.Decides.{eqb_tells}
 use Rattle.std.proofs.lemmas.List.{get_or-set_other, get_or-set_same}
 use Rattle.std.proofs.lemmas.List.Folds.{list_any-append}
 use Rattle.std.proofs.lemmas.List.Elements.{recursion_from_All, All-from_recursion}
-use Rattle.flow_core.specs.Shop.{Shop, numbers, time, time_between, IsWithinLimits}
-use Rattle.flow_core.specs.Least.{least, greatest}
-use Rattle.flow_core.specs.Front.{IsFrontOf, IsWithinFront}
-use Rattle.flow_core.specs.JobSet.{contains, members}
-use Rattle.flow_core.specs.Sequences.{has, jobs_left}
-use Rattle.flow_core.specs.Bound.{letter, machine_bound, released_bound, release, bound_at, released_bound_at}
-use Rattle.flow_core.specs.Bound.{bound_of, front_of}
-use Rattle.flow_core.specs.Limits.{most_jobs, most_machines}
-use Rattle.flow_core.proofs.JobsLeft.{filter-same, kept, kept-more, kept-has, sum_by-ones}
-use Rattle.flow_core.proofs.Fronts.{front-within}
-use Rattle.flow_core.proofs.JobSetLemmas.{members-is}
-use Rattle.flow_core.proofs.Admissible.{front_of-is}
+use Rattle.flow_shop.specs.Shop.{Shop, numbers, time, time_between, IsWithinLimits}
+use Rattle.flow_shop.specs.Least.{least, greatest}
+use Rattle.flow_shop.specs.Front.{IsFrontOf, IsWithinFront}
+use Rattle.flow_shop.specs.JobSet.{contains, members}
+use Rattle.flow_shop.specs.Sequences.{has, jobs_left}
+use Rattle.flow_shop.specs.Bound.{letter, machine_bound, released_bound, release, bound_at, released_bound_at}
+use Rattle.flow_shop.specs.Bound.{bound_of, front_of}
+use Rattle.flow_limits.specs.Limits.{most_jobs, most_machines}
+use Rattle.flow_shop.proofs.JobsLeft.{filter-same, kept, kept-more, kept-has, sum_by-ones}
+use Rattle.flow_shop.proofs.Fronts.{front-within}
+use Rattle.flow_shop.proofs.JobSetLemmas.{members-is}
+use Rattle.flow_shop.proofs.Admissible.{front_of-is}
 use Rattle.flow_search.specs.Search.{Bound}
 use Rattle.flow_search.specs.internal.Nodes.{IsAt, Wrote, Walked, walked, children_walked, incumbent_of}
 use Rattle.flow_search.specs.declared.subtree.Search.{Search}
 use Rattle.flow_search.proofs.Walk.{Fresh, fresh-push, range-all, answer_of, has-at}
-use Rattle.flow_core.proofs.Lists.{find-some}
+use Rattle.flow_shop.proofs.Lists.{find-some}
 
 -- the first of the numbers
 pub numbers-next : (k n : ℕ) → k ≤ n → numbers k n ≡ k ∷ numbers (k + 1) n

@@ -6,13 +6,13 @@ use Rattle.std.proofs.lemmas.List.{take_more}
 use Rattle.std.proofs.lemmas.Bool.{cond-true, or_left, or_right, eq-eqb, false≢true}
 use Rattle.std.proofs.lemmas.Bool.Decides.{eqb_tells}
 use Rattle.std.proofs.lemmas.List.Elements.{All-from_recursion, recursion_from_All}
-use Rattle.flow_core.specs.declared.row.Row.{Row}
-use Rattle.flow_core.specs.Shop.{Shop}
-use Rattle.flow_core.specs.Front.{IsFrontOf}
-use Rattle.flow_core.specs.JobSet.{contains}
-use Rattle.flow_core.specs.Sequences.{has, AreJobs, AreDistinct, IsSequence, cut}
-use Rattle.flow_core.specs.Bound.{bound_of}
-use Rattle.flow_core.proofs.Admissible.{bound_is_admissible, released_bound_is_admissible}
+use Rattle.flow_shop.specs.declared.row.Row.{Row}
+use Rattle.flow_shop.specs.Shop.{Shop}
+use Rattle.flow_shop.specs.Front.{IsFrontOf}
+use Rattle.flow_shop.specs.JobSet.{contains}
+use Rattle.flow_shop.specs.Sequences.{has, AreJobs, AreDistinct, IsSequence, cut}
+use Rattle.flow_shop.specs.Bound.{bound_of}
+use Rattle.flow_shop.proofs.Admissible.{bound_is_admissible, released_bound_is_admissible}
 use Rattle.flow_search.specs.Search.{Bound, Found, tree, best}
 use Rattle.flow_search.specs.Walk.{walk, IsAdmissible}
 use Rattle.flow_search.specs.Plans.{Planned, IsPlan, prefixes_of, prefix_of, best_of, tree_of}

@@ -6,15 +6,15 @@ use Rattle.std.specs.List.{filter, find, range_with_len}
 use Rattle.std.proofs.lemmas.Bool.{cases_lt}
 use Rattle.std.proofs.lemmas.Bool.Decides.{eqb_tells}
 use Rattle.std.proofs.lemmas.List.{append-nil, get_or-set_other, get_or-set_same, ext_get_or, reverse-append}
-use Rattle.flow_core.specs.Limits.{most_jobs}
-use Rattle.flow_core.specs.Shop.{Shop, numbers}
-use Rattle.flow_core.specs.Front.{IsFrontOf}
-use Rattle.flow_core.specs.JobSet.{contains, members}
-use Rattle.flow_core.specs.Sequences.{has, jobs_left, AreJobs}
-use Rattle.flow_core.specs.Bound.{letter, front_of}
+use Rattle.flow_limits.specs.Limits.{most_jobs}
+use Rattle.flow_shop.specs.Shop.{Shop, numbers}
+use Rattle.flow_shop.specs.Front.{IsFrontOf}
+use Rattle.flow_shop.specs.JobSet.{contains, members}
+use Rattle.flow_shop.specs.Sequences.{has, jobs_left, AreJobs}
+use Rattle.flow_shop.specs.Bound.{letter, front_of}
 use Rattle.flow_search.specs.Search.{Bound}
-use Rattle.flow_core.proofs.JobsLeft.{bool_cases}
-use Rattle.flow_core.proofs.Admissible.{front_of-is}
+use Rattle.flow_shop.proofs.JobsLeft.{bool_cases}
+use Rattle.flow_shop.proofs.Admissible.{front_of-is}
 use Rattle.flow_bound.specs.Loads.{AreLoadsOf}
 use Rattle.flow_search.specs.Walk.{walk, walk_each}
 use Rattle.flow_search.specs.internal.Lows.{second_tail}
@@ -34,7 +34,7 @@ use Rattle.flow_search.specs.declared.frame.Frame.{Frame}
 use Rattle.flow_search.specs.declared.subtree.Search.{Search}
 use Rattle.flow_search.proofs.Walk.{Incumbent, answer_of}
 use Rattle.flow_search.proofs.Nodes.{at-child, size-set, members-are, left-count, put-back}
-use Rattle.flow_core.proofs.Taken.{has-other}
+use Rattle.flow_shop.proofs.Taken.{has-other}
 
 pub reverse-push : {A : Type 0} (xs new : List A) (x : A) → new ≡ xs ++ x ∷ [] → reverse new ≡ x ∷ reverse xs
 reverse-push xs new x e = ap reverse e ∙ reverse-append xs (x ∷ [])

@@ -6,10 +6,10 @@ use Rattle.std.specs.List.{find, flat_map, range_with_len, position, position_or
 use Rattle.std.specs.Option.{option_map_or}
 use Rattle.std.proofs.lemmas.Bool.{cases_Bool, cases_lt, leb-true, le-leb, lt-ltb, le-ltb}
 use Rattle.std.proofs.lemmas.List.{length-map}
-use Rattle.flow_core.specs.Shop.{Shop}
-use Rattle.flow_core.specs.Sequences.{jobs_left}
-use Rattle.flow_core.specs.Bound.{letter, bound_at, released_bound_at}
-use Rattle.flow_core.proofs.Admissible.{released_bound_is_stronger}
+use Rattle.flow_shop.specs.Shop.{Shop}
+use Rattle.flow_shop.specs.Sequences.{jobs_left}
+use Rattle.flow_shop.specs.Bound.{letter, bound_at, released_bound_at}
+use Rattle.flow_shop.proofs.Admissible.{released_bound_is_stronger}
 use Rattle.flow_search.specs.Search.{Bound, in_force, tree_at, tree, cutting_machine}
 use Rattle.flow_search.specs.Plans.{prefix_of, prefixes_of}
 use Rattle.flow_search.specs.Versions.{IsStronger, StrongerBoundsShortenTrees, SecondVersionShortensTrees}

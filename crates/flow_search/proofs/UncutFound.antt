@@ -3,7 +3,7 @@ use Rattle.std.proofs.Common.{◌≡◌, ℕ, zero, suc, ◌+◌, ◌-◌, ◌<�
 use Rattle.std.proofs.Common.{Some, None, find, refl, ap, sym, ◌∙◌, inl, inr, arith}
 use Rattle.std.specs.List.{range_with_len}
 use Rattle.std.proofs.lemmas.Bool.{cases_lt, le-leb, lt-leb, lt-ltb, le-ltb}
-use Rattle.flow_core.specs.Shop.{Shop, numbers}
+use Rattle.flow_shop.specs.Shop.{Shop, numbers}
 use Rattle.flow_search.specs.Search.{Bound}
 use Rattle.flow_search.specs.internal.Lanes.{IsUncutCount}
 

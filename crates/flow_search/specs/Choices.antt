@@ -1,8 +1,8 @@
 -- The options of a run, and why numbers are no options.
 use Rattle.std.specs.Prelude.{ℕ, ◌≤◌, nat_le, [], ◌∷◌, Option, Some, None, Result, Ok, Err, cond}
 use Rattle.std.specs.Int.{is_in_range}
-use Rattle.flow_core.specs.Refusals.{fault_unless, first_fault}
-use Rattle.flow_core.specs.Limits.{greatest_depth, least_version, greatest_version, most_workers, greatest_budget}
+use Rattle.flow_shop.specs.Refusals.{fault_unless, first_fault}
+use Rattle.flow_limits.specs.Limits.{greatest_depth, least_version, greatest_version, most_workers, greatest_budget}
 use Rattle.flow_search.specs.declared.options.OptionFault.{OptionFault}
 use Rattle.flow_search.specs.declared.options.OptionFault.TheVariants.{Workers, Depth, Budget, Version}
 

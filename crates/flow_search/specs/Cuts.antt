@@ -1,6 +1,6 @@
 -- Laws of a cut: which lists it has, in which order, and that each sequence extends exactly one of them.
 use Rattle.std.specs.Prelude.{ℕ, ◌≡◌, ◌<◌, ◌≤◌, true, List, [], length, slice_index_or, All, AllPairs, Contains}
-use Rattle.flow_core.specs.Sequences.{AreJobs, IsSequence, Extends, cut}
+use Rattle.flow_shop.specs.Sequences.{AreJobs, IsSequence, Extends, cut}
 use Rattle.flow_search.specs.Search.{comes_before}
 
 -- each list of a cut has distinct jobs of the instance, and the depth of the cut is how many

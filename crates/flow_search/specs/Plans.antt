@@ -1,11 +1,11 @@
 -- Plans: an instance, a starting sequence, options, and the prefixes into which the search is divided.
 use Rattle.std.specs.Prelude.{ℕ, ◌≡◌, ◌≤◌, nat_le, List, [], ◌∷◌, length, slice_index_or, Option, Some, None}
-use Rattle.flow_core.specs.Refusals.{fault_unless, first_fault}
-use Rattle.flow_core.specs.Limits.{most_prefixes}
-use Rattle.flow_core.specs.Shop.{Shop, IsWithinLimits}
-use Rattle.flow_core.specs.Paths.{span}
-use Rattle.flow_core.specs.Sequences.{IsSequence, cut}
-use Rattle.flow_core.specs.Bound.{bound_of}
+use Rattle.flow_shop.specs.Refusals.{fault_unless, first_fault}
+use Rattle.flow_limits.specs.Limits.{most_prefixes}
+use Rattle.flow_shop.specs.Shop.{Shop, IsWithinLimits}
+use Rattle.flow_shop.specs.Paths.{span}
+use Rattle.flow_shop.specs.Sequences.{IsSequence, cut}
+use Rattle.flow_shop.specs.Bound.{bound_of}
 use Rattle.flow_search.specs.Choices.{Choices, AreWithinLimits}
 use Rattle.flow_search.specs.Search.{Found, tree, trees, best, verdict}
 use Rattle.flow_search.specs.declared.plan.PlanFault.{PlanFault}

@@ -1,6 +1,6 @@
 -- Laws of the versions: a stronger bound has no longer trees, so a budget that suffices in version 1 does in version 2.
 use Rattle.std.specs.Prelude.{ℕ, ◌≡◌, ◌≤◌, List, length, None}
-use Rattle.flow_core.specs.Shop.{Shop}
+use Rattle.flow_shop.specs.Shop.{Shop}
 use Rattle.flow_search.specs.Choices.{in_version}
 use Rattle.flow_search.specs.Search.{Bound, tree}
 use Rattle.flow_search.specs.Plans.{Planned, tree_of}

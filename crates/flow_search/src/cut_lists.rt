@@ -2,10 +2,10 @@
 
 ghost use Rattle.std.specs.Prelude.{◌≡◌, ℕ, ◌<◌, ◌≤◌, ◌++◌, length, IfSome, IfNone, OnOk};
 ghost use Rattle.std.specs.List.{concat};
-ghost use Rattle.flow_core.specs.Limits.{most_jobs, most_prefixes};
-ghost use Rattle.flow_core.specs.Sequences.{has, extensions, cut};
+ghost use Rattle.flow_limits.specs.Limits.{most_jobs, most_prefixes};
+ghost use Rattle.flow_shop.specs.Sequences.{has, extensions, cut};
 
-use flow_core::MAX_PREFIXES;
+use flow_limits::MAX_PREFIXES;
 use std::alloc::AllocError;
 
 /// How many lists the cut has; `None` where there are more than `MAX_PREFIXES`.

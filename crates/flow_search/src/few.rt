@@ -1,9 +1,9 @@
 //! The walk of a subtree with at most eight jobs left.
 
 ghost use Rattle.std.specs.Prelude.{◌≡◌, ◌+◌, ◌-◌, ◌<◌, ◌≤◌, suc, true, false, length, filter, take, OnOk};
-ghost use Rattle.flow_core.specs.Shop.{numbers};
-ghost use Rattle.flow_core.specs.JobSet.{contains};
-ghost use Rattle.flow_core.specs.Bound.{bound_of};
+ghost use Rattle.flow_shop.specs.Shop.{numbers};
+ghost use Rattle.flow_shop.specs.JobSet.{contains};
+ghost use Rattle.flow_shop.specs.Bound.{bound_of};
 ghost use Rattle.flow_search.specs.internal.Nodes.{IsAt, Gave, Opens, children_walked};
 ghost use Rattle.flow_search.specs.internal.Lanes.{IsFrameOf, IsTested, IsLaneLeft, job_of};
 ghost use Rattle.flow_search.specs.internal.Lanes.{lane_walked, frame_at};
@@ -13,7 +13,7 @@ use crate::eight::{
 };
 use crate::setting::Setting;
 use crate::subtree::{Search, Stop};
-use flow_core::{Front, Instance, JobSet};
+use flow_shop::{Front, Instance, JobSet};
 
 /// The jobs of a set, at most eight, in increasing order, from the first place on.
 fn jobs_of(instance: &Instance, set: &JobSet, left: usize) -> [u16; 8]

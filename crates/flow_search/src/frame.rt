@@ -1,11 +1,11 @@
 //! What is kept of a node while its children are walked.
 
 ghost use Rattle.std.specs.Prelude.{◌≡◌, ℕ, suc, ◌-◌, ◌<◌, ◌≤◌, false, nat_le, List, [], ◌∷◌, ◌++◌, slice_index, find};
-ghost use Rattle.flow_core.specs.Shop.{Shop, IsWithinLimits, numbers};
-ghost use Rattle.flow_core.specs.JobSet.{contains, members};
-ghost use Rattle.flow_core.specs.Bound.{bound_at, released_bound_at};
-ghost use Rattle.flow_core.specs.Sequences.{jobs_left};
-ghost use Rattle.flow_core.specs.Rows.{AreRows, IsRow};
+ghost use Rattle.flow_shop.specs.Shop.{Shop, IsWithinLimits, numbers};
+ghost use Rattle.flow_shop.specs.JobSet.{contains, members};
+ghost use Rattle.flow_shop.specs.Bound.{bound_at, released_bound_at};
+ghost use Rattle.flow_shop.specs.Sequences.{jobs_left};
+ghost use Rattle.flow_shop.specs.Rows.{AreRows, IsRow};
 ghost use Rattle.flow_search.specs.internal.Lows.{AreLows, second_tail};
 ghost use Rattle.flow_search.specs.internal.Lags.{AreTwoLeastLags};
 ghost use Rattle.flow_search.specs.internal.Frames.{IsFrame, IsChild};
@@ -14,7 +14,8 @@ use crate::lows::{Lags, lows_of, without};
 use crate::release::release_at_child;
 use crate::setting::Setting;
 use flow_bound::Loads;
-use flow_core::{Front, JobSet, MAX_MACHINES};
+use flow_limits::MAX_MACHINES;
+use flow_shop::{Front, JobSet};
 
 /// A node with more than eight jobs left, whose children are walked.
 #[derive(Drop)]

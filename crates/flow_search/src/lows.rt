@@ -2,15 +2,16 @@
 //! is its time on the machines from there to the one before the other.
 
 ghost use Rattle.std.specs.Prelude.{◌≡◌, ◌≢◌, ℕ, ◌+◌, ◌-◌, ◌<◌, ◌≤◌, false, List, [], ◌∷◌, ◌++◌, slice_index};
-ghost use Rattle.flow_core.specs.Limits.{most_machines};
-ghost use Rattle.flow_core.specs.Shop.{Shop, IsWithinLimits};
-ghost use Rattle.flow_core.specs.JobSet.{contains, members};
-ghost use Rattle.flow_core.specs.Rows.{AreRows, IsRow};
+ghost use Rattle.flow_limits.specs.Limits.{most_machines};
+ghost use Rattle.flow_shop.specs.Shop.{Shop, IsWithinLimits};
+ghost use Rattle.flow_shop.specs.JobSet.{contains, members};
+ghost use Rattle.flow_shop.specs.Rows.{AreRows, IsRow};
 ghost use Rattle.flow_search.specs.internal.Lows.{AreLows, tail_at, time_to};
 ghost use Rattle.flow_search.specs.internal.Lags.{AreTwoLeastLags};
 
 use crate::setting::Setting;
-use flow_core::{JobSet, MAX_MACHINES, Row};
+use flow_limits::MAX_MACHINES;
+use flow_shop::{JobSet, Row};
 
 /// The two least of some jobs' numbers at each place, each the greatest number where there is no such job. Where two
 /// jobs have the least, both are the same.

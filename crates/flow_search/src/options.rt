@@ -3,7 +3,7 @@
 ghost use Rattle.std.specs.Prelude.{◌≡◌};
 ghost use Rattle.flow_search.specs.Choices.{AreWithinLimits, options_or_fault, version_or_fault};
 
-use flow_core::{MAX_BUDGET, MAX_DEPTH, MAX_VERSION, MAX_WORKERS, MIN_VERSION};
+use flow_limits::{MAX_BUDGET, MAX_DEPTH, MAX_VERSION, MAX_WORKERS, MIN_VERSION};
 use std::marker::Model;
 use thiserror::Error;
 

@@ -2,7 +2,7 @@
 
 ghost use Rattle.std.specs.Prelude.{◌≡◌, ℕ, ◌<◌, ◌≤◌, length, true, IfOk};
 ghost use Rattle.std.specs.Option.{option_map};
-ghost use Rattle.flow_core.specs.Sequences.{IsSequence};
+ghost use Rattle.flow_shop.specs.Sequences.{IsSequence};
 ghost use Rattle.flow_search.specs.Plans.{prefixes_of, tree_of, best_of};
 ghost use Rattle.flow_search.specs.internal.Nodes.{found_if};
 ghost use Rattle.flow_search.specs.Outcomes.{IsLawful, found_of};
@@ -11,7 +11,7 @@ use crate::eight::Lanes;
 use crate::plan::Plan;
 use crate::setting::Setting;
 use crate::subtree::{Search, Stop, explore};
-use flow_core::{Front, Instance, Sequence, front_push};
+use flow_shop::{Front, Instance, Sequence, front_push};
 use std::alloc::{AllocError, Global};
 
 /// The best sequence that extends a prefix. Its makespan is below that of the start.

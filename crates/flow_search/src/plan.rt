@@ -1,9 +1,9 @@
 //! Plans: an instance, its starting sequence, the options, and the prefixes into which the search is divided.
 
 ghost use Rattle.std.specs.Prelude.{◌≡◌, ℕ, ◌<◌, ◌≤◌, None, Some, length, IfOk, OnOk, IfErr};
-ghost use Rattle.flow_core.specs.Rows.{AreRows};
-ghost use Rattle.flow_core.specs.Paths.{span};
-ghost use Rattle.flow_core.specs.Sequences.{AreJobs, IsSequence, cut};
+ghost use Rattle.flow_shop.specs.Rows.{AreRows};
+ghost use Rattle.flow_shop.specs.Paths.{span};
+ghost use Rattle.flow_shop.specs.Sequences.{AreJobs, IsSequence, cut};
 ghost use Rattle.flow_bound.specs.Neh.{IsNeh};
 ghost use Rattle.flow_search.specs.Plans.{IsPlan, prefixes_of, prefix_of, plan_fault, but_memory};
 ghost use Rattle.flow_search.specs.declared.plan.PlanFault.TheVariants.{Memory};
@@ -11,7 +11,7 @@ ghost use Rattle.flow_search.specs.declared.plan.PlanFault.TheVariants.{Memory};
 use crate::cut_lists::{extend, prefix_count};
 use crate::options::Options;
 use flow_bound::neh;
-use flow_core::{Instance, Row, Sequence, makespan, rows};
+use flow_shop::{Instance, Row, Sequence, makespan, rows};
 use std::alloc::{AllocError, AllocFailed, Global};
 use std::marker::Model;
 use thiserror::Error;

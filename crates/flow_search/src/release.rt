@@ -2,14 +2,14 @@
 
 ghost use Rattle.std.specs.Prelude.{◌≡◌, ℕ, ◌+◌, ◌-◌, ◌*◌, ◌<◌, ◌≤◌, false, nat_le, List, [], ◌∷◌, ◌++◌, length};
 ghost use Rattle.std.specs.Prelude.{map, slice_index, find};
-ghost use Rattle.flow_core.specs.Limits.{most_machines, greatest_time, greatest_completion};
-ghost use Rattle.flow_core.specs.Shop.{Shop, numbers};
-ghost use Rattle.flow_core.specs.Least.{least};
-ghost use Rattle.flow_core.specs.Front.{IsWithinFront};
-ghost use Rattle.flow_core.specs.JobSet.{contains, members};
-ghost use Rattle.flow_core.specs.Bound.{release, released_bound};
-ghost use Rattle.flow_core.specs.Rows.{AreRows};
-ghost use Rattle.flow_core.specs.Sequences.{jobs_left};
+ghost use Rattle.flow_limits.specs.Limits.{most_machines, greatest_time, greatest_completion};
+ghost use Rattle.flow_shop.specs.Shop.{Shop, numbers};
+ghost use Rattle.flow_shop.specs.Least.{least};
+ghost use Rattle.flow_shop.specs.Front.{IsWithinFront};
+ghost use Rattle.flow_shop.specs.JobSet.{contains, members};
+ghost use Rattle.flow_shop.specs.Bound.{release, released_bound};
+ghost use Rattle.flow_shop.specs.Rows.{AreRows};
+ghost use Rattle.flow_shop.specs.Sequences.{jobs_left};
 ghost use Rattle.flow_bound.specs.Loads.{AreLoadsOf};
 ghost use Rattle.flow_search.specs.internal.Lows.{time_to, unknown};
 ghost use Rattle.flow_search.specs.internal.Lags.{IsLagged};
@@ -17,7 +17,8 @@ ghost use Rattle.flow_search.specs.internal.Lags.{IsLagged};
 use crate::lows::{Lows, lows_to, without};
 use crate::setting::Setting;
 use flow_bound::Loads;
-use flow_core::{Front, JobSet, MAX_MACHINES, Row};
+use flow_limits::MAX_MACHINES;
+use flow_shop::{Front, JobSet, Row};
 
 /// The release of a machine, by the least lag of the jobs left from each earlier machine to it.
 fn release_by(front: &Front, times: &[u32; MAX_MACHINES], machine: u16) -> u64

@@ -1,6 +1,6 @@
 //! What stays the same while a tree is walked.
 
-use flow_core::{Instance, Row};
+use flow_shop::{Instance, Row};
 
 /// What stays the same while a tree is walked.
 #[derive(Drop)]

@@ -2,14 +2,14 @@
 
 ghost use Rattle.std.specs.Prelude.{◌≡◌, ℕ, suc, ◌+◌, ◌<◌, ◌≤◌, true, false, nat_le, List, [], ◌∷◌, ◌++◌, length, find};
 ghost use Rattle.std.specs.Prelude.{Ok, Err, None, IfOk, OnOk};
-ghost use Rattle.flow_core.specs.Limits.{most_jobs};
-ghost use Rattle.flow_core.specs.Shop.{numbers};
-ghost use Rattle.flow_core.specs.Front.{IsWithinFront};
-ghost use Rattle.flow_core.specs.JobSet.{contains, members};
-ghost use Rattle.flow_core.specs.Bound.{machine_bound, bound_of};
+ghost use Rattle.flow_limits.specs.Limits.{most_jobs};
+ghost use Rattle.flow_shop.specs.Shop.{numbers};
+ghost use Rattle.flow_shop.specs.Front.{IsWithinFront};
+ghost use Rattle.flow_shop.specs.JobSet.{contains, members};
+ghost use Rattle.flow_shop.specs.Bound.{machine_bound, bound_of};
 ghost use Rattle.flow_bound.specs.Loads.{AreLoadsOf};
 ghost use Rattle.flow_search.specs.Walk.{walk};
-ghost use Rattle.flow_core.specs.Rows.{AreRows};
+ghost use Rattle.flow_shop.specs.Rows.{AreRows};
 ghost use Rattle.flow_search.specs.internal.Frames.{IsFrame};
 ghost use Rattle.flow_search.specs.internal.Lags.{AreTwoLeastLags};
 ghost use Rattle.flow_search.specs.internal.Nodes.{IsAt, IsFresh, Wrote, Saw, Entered, Left, incumbent_of};
@@ -23,7 +23,8 @@ use crate::lows::{Lags, Lows, renew_lags};
 use crate::release::releasing_machine;
 use crate::setting::Setting;
 use flow_bound::Loads;
-use flow_core::{Front, Instance, JobSet, MAX_MACHINES, front_push};
+use flow_limits::MAX_MACHINES;
+use flow_shop::{Front, Instance, JobSet, front_push};
 use std::alloc::{AllocError, AllocFailed, Global};
 
 /// Why a search ended early.

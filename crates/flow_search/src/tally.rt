@@ -1,8 +1,8 @@
 //! The results of the first prefixes of a plan, put together prefix by prefix.
 
 ghost use Rattle.std.specs.Prelude.{◌≡◌, ℕ, ◌+◌, ◌<◌, length, IfOk, OnOk};
-ghost use Rattle.flow_core.specs.Paths.{span};
-ghost use Rattle.flow_core.specs.Sequences.{IsSequence, IsLeastMakespan};
+ghost use Rattle.flow_shop.specs.Paths.{span};
+ghost use Rattle.flow_shop.specs.Sequences.{IsSequence, IsLeastMakespan};
 ghost use Rattle.flow_search.specs.Plans.{Planned, prefixes_of};
 ghost use Rattle.flow_search.specs.Outcomes.{IsLawful, first_over_budget};
 ghost use Rattle.flow_search.specs.Verdicts.{IsVerdict};

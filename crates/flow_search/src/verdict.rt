@@ -1,9 +1,9 @@
 //! The verdict of a plan, from the outcomes of its prefixes.
 
 ghost use Rattle.std.specs.Prelude.{◌≡◌, ℕ, ◌≤◌, ◌⊎◌, length, vec_len, None, Some, IfOk, OnOk, IfErr, All};
-ghost use Rattle.flow_core.specs.Limits.{most_prefixes};
-ghost use Rattle.flow_core.specs.Paths.{span};
-ghost use Rattle.flow_core.specs.Sequences.{IsSequence, IsLeastMakespan};
+ghost use Rattle.flow_limits.specs.Limits.{most_prefixes};
+ghost use Rattle.flow_shop.specs.Paths.{span};
+ghost use Rattle.flow_shop.specs.Sequences.{IsSequence, IsLeastMakespan};
 ghost use Rattle.flow_search.specs.Plans.{prefixes_of};
 ghost use Rattle.flow_search.specs.Outcomes.{AreLawful, IsDone, first_over_budget};
 ghost use Rattle.flow_search.specs.Verdicts.{IsVerdict, first_refusal};
@@ -12,7 +12,7 @@ ghost use Rattle.flow_search.specs.declared.verdict.RunFault.TheVariants.{Memory
 use crate::outcome::{Outcome, answer};
 use crate::plan::Plan;
 use crate::tally::Tally;
-use flow_core::Sequence;
+use flow_shop::Sequence;
 use std::alloc::{AllocError, Global};
 use thiserror::Error;
 

@@ -1,6 +1,6 @@
 -- The tails of a list, as insertions compute with them.
 use Rattle.std.specs.Prelude.{ℕ, ◌≡◌, ◌-◌, ◌≤◌, List, slice_index}
-use Rattle.flow_core.specs.Shop.{Shop}
+use Rattle.flow_shop.specs.Shop.{Shop}
 use Rattle.flow_bound.specs.Insertion.{tail}
 
 -- the tail of a list from each machine

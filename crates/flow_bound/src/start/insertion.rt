@@ -2,14 +2,15 @@
 
 ghost use Rattle.std.specs.Prelude.{◌≡◌, ℕ, ◌+◌, ◌<◌, ◌≤◌, List, [], ◌∷◌, ◌++◌, length, drop, insert, All};
 ghost use Rattle.std.specs.Prelude.{slice_index, slice_index_or, vec_len, IfOk, false};
-ghost use Rattle.flow_core.specs.Shop.{IsWithinLimits};
-ghost use Rattle.flow_core.specs.Paths.{span};
-ghost use Rattle.flow_core.specs.Front.{IsFrontOf, IsWithinFront};
-ghost use Rattle.flow_core.specs.Sequences.{has, AreJobs};
-ghost use Rattle.flow_core.specs.Rows.{AreRows};
+ghost use Rattle.flow_shop.specs.Shop.{IsWithinLimits};
+ghost use Rattle.flow_shop.specs.Paths.{span};
+ghost use Rattle.flow_shop.specs.Front.{IsFrontOf, IsWithinFront};
+ghost use Rattle.flow_shop.specs.Sequences.{has, AreJobs};
+ghost use Rattle.flow_shop.specs.Rows.{AreRows};
 ghost use Rattle.flow_bound.specs.internal.Tails.{AreTails};
 
-use flow_core::{Instance, MAX_MACHINES, Row, rows};
+use flow_limits::MAX_MACHINES;
+use flow_shop::{Instance, Row, rows};
 use std::alloc::{AllocError, Global};
 
 /// A time for each machine, that of machine 1 first.

@@ -1,14 +1,15 @@
 //! The starting sequence of Nawaz, Enscore and Ham.
 
 ghost use Rattle.std.specs.Prelude.{◌≡◌, ℕ, ◌<◌, ◌≤◌, length, insert, slice_index, All, IfOk};
-ghost use Rattle.flow_core.specs.Paths.{span};
-ghost use Rattle.flow_core.specs.Sequences.{IsSequence};
-ghost use Rattle.flow_core.specs.Rows.{AreRows};
+ghost use Rattle.flow_shop.specs.Paths.{span};
+ghost use Rattle.flow_shop.specs.Sequences.{IsSequence};
+ghost use Rattle.flow_shop.specs.Rows.{AreRows};
 ghost use Rattle.flow_bound.specs.Neh.{IsNeh};
 
 use crate::start::insertion::{Times, fill_spans};
 use crate::start::order::by_total;
-use flow_core::{Instance, MAX_MACHINES, Row, Sequence, rows};
+use flow_limits::MAX_MACHINES;
+use flow_shop::{Instance, Row, Sequence, rows};
 use std::alloc::{AllocError, Global};
 
 /// A place in a list, counted from 0, and the makespan with a job put in there.

@@ -1,9 +1,9 @@
 -- What rounds compute in.
 use Rattle.std.specs.Prelude.{◌≡◌, ◌≤◌, vec_len}
-use Rattle.flow_core.specs.Shop.{Shop}
-use Rattle.flow_core.specs.Paths.{span}
-use Rattle.flow_core.specs.Rows.{AreRows}
-use Rattle.flow_core.specs.Sequences.{IsSequence}
+use Rattle.flow_shop.specs.Shop.{Shop}
+use Rattle.flow_shop.specs.Paths.{span}
+use Rattle.flow_shop.specs.Rows.{AreRows}
+use Rattle.flow_shop.specs.Sequences.{IsSequence}
 use Rattle.flow_improve.specs.declared.place.Room.{Room}
 use Rattle.flow_improve.specs.declared.round.Rounds.{Rounds}
 use Rattle.flow_improve.specs.declared.better.Known.{Known}

@@ -1,7 +1,7 @@
 -- What comes of a run that may start only some of its workers.
 use Rattle.std.specs.Prelude.{◌≡◌, ℕ, ◌<◌, ◌≤◌, None, Some, [], map, vec_len, vec_capacity}
-use Rattle.flow_core.specs.Paths.{span}
-use Rattle.flow_core.specs.Sequences.{IsSequence, IsLeastMakespan}
+use Rattle.flow_shop.specs.Paths.{span}
+use Rattle.flow_shop.specs.Sequences.{IsSequence, IsLeastMakespan}
 use Rattle.flow_search.specs.Plans.{Planned}
 use Rattle.flow_search.specs.Outcomes.{first_over_budget}
 use Rattle.flow_search.specs.Verdicts.{IsVerdict}

@@ -1,6 +1,6 @@
 -- What holds before the workers are started, and after they have ended.
 use Rattle.std.specs.Prelude.{◌≡◌, ℕ, ◌<◌, ◌≤◌, List, length, map, All}
-use Rattle.flow_core.specs.Limits.{most_workers}
+use Rattle.flow_limits.specs.Limits.{most_workers}
 use Rattle.flow_pool.specs.declared.ends.HubEnds.{HubEnds}
 use Rattle.flow_pool.specs.declared.ends.WorkerEnds.{WorkerEnds}
 use Rattle.flow_pool.specs.declared.threads.Start.{Start}

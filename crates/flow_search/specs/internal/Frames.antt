@@ -1,9 +1,9 @@
 -- What is kept of the nodes whose children are walked, and what is still to be walked.
 use Rattle.std.specs.Prelude.{ℕ, suc, ◌≡◌, ◌+◌, ◌-◌, ◌≤◌, false, not, List, [], ◌∷◌, ◌++◌, length, filter, slice_index}
 use Rattle.std.specs.Prelude.{Option}
-use Rattle.flow_core.specs.Shop.{Shop, numbers}
-use Rattle.flow_core.specs.Front.{IsFrontOf}
-use Rattle.flow_core.specs.Sequences.{has, jobs_left, AreJobs}
+use Rattle.flow_shop.specs.Shop.{Shop, numbers}
+use Rattle.flow_shop.specs.Front.{IsFrontOf}
+use Rattle.flow_shop.specs.Sequences.{has, jobs_left, AreJobs}
 use Rattle.flow_bound.specs.Loads.{AreLoadsOf}
 use Rattle.flow_search.specs.Search.{Bound, Found}
 use Rattle.flow_search.specs.Walk.{walk, walk_each}

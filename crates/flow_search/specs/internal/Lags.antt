@@ -1,10 +1,10 @@
 -- The two least lags of some jobs to each machine. A job's lag from a machine to another is its time on the machines
 -- from there to the one before the other.
 use Rattle.std.specs.Prelude.{ℕ, suc, ◌≡◌, ◌-◌, ◌≤◌, List, length, slice_index_or}
-use Rattle.flow_core.specs.Shop.{Shop, IsWithinLimits}
-use Rattle.flow_core.specs.Sequences.{jobs_left}
-use Rattle.flow_core.specs.Rows.{IsRow}
-use Rattle.flow_core.specs.declared.row.Row.{Row}
+use Rattle.flow_shop.specs.Shop.{Shop, IsWithinLimits}
+use Rattle.flow_shop.specs.Sequences.{jobs_left}
+use Rattle.flow_shop.specs.Rows.{IsRow}
+use Rattle.flow_shop.specs.declared.row.Row.{Row}
 use Rattle.flow_search.specs.internal.Lows.{AreLows, time_to}
 use Rattle.flow_search.specs.internal.Frames.{IsChild}
 use Rattle.flow_search.specs.declared.lows.Lows.{Lows}

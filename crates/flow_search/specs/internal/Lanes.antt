@@ -2,11 +2,11 @@
 use Rattle.std.specs.Prelude.{ℕ, suc, ◌≡◌, ◌≢◌, ◌⊎◌, ◌+◌, ◌-◌, ◌*◌, ◌<◌, ◌≤◌, false, List, [], ◌∷◌, ◌++◌, slice_index}
 use Rattle.std.specs.Prelude.{slice_index_or, sum_by, length, drop, filter, nat_eq, Option}
 use Rattle.std.specs.List.{range_with_len}
-use Rattle.flow_core.specs.Limits.{most_machines, greatest_time, greatest_completion}
-use Rattle.flow_core.specs.Shop.{Shop, time, time_between}
-use Rattle.flow_core.specs.Paths.{completion}
-use Rattle.flow_core.specs.Front.{IsFrontOf}
-use Rattle.flow_core.specs.Sequences.{has, jobs_left}
+use Rattle.flow_limits.specs.Limits.{most_machines, greatest_time, greatest_completion}
+use Rattle.flow_shop.specs.Shop.{Shop, time, time_between}
+use Rattle.flow_shop.specs.Paths.{completion}
+use Rattle.flow_shop.specs.Front.{IsFrontOf}
+use Rattle.flow_shop.specs.Sequences.{has, jobs_left}
 use Rattle.flow_search.specs.Search.{Bound, Found}
 use Rattle.flow_search.specs.Walk.{walk, walk_each}
 use Rattle.flow_search.specs.internal.Nodes.{incumbent_of, then_walk}

@@ -1,7 +1,7 @@
 -- The two least numbers of some jobs.
 use Rattle.std.specs.Prelude.{ℕ, ◌≡◌, ◌+◌, ◌-◌, ◌<◌, List, map, slice_index}
-use Rattle.flow_core.specs.Shop.{Shop, time_between}
-use Rattle.flow_core.specs.internal.TwoLeast.{tails, least_below, second_below}
+use Rattle.flow_shop.specs.Shop.{Shop, time_between}
+use Rattle.flow_shop.specs.TwoLeast.{tails, least_below, second_below}
 use Rattle.flow_search.specs.declared.lows.Lows.{Lows}
 
 -- what stands for the least of no numbers: the greatest number of 32 bits

@@ -1,11 +1,11 @@
 -- The state of a search at a node, and how the steps of the code change it.
 use Rattle.std.specs.Prelude.{ℕ, ◌≡◌, ◌+◌, ◌-◌, ◌<◌, ◌≤◌, Bool, true, false, not, cond, nat_lt, nat_le, List, [], ◌∷◌}
 use Rattle.std.specs.Prelude.{◌++◌, length, find, slice_set, Option, Some, None}
-use Rattle.flow_core.specs.Limits.{most_jobs}
-use Rattle.flow_core.specs.Shop.{Shop, IsWithinLimits, numbers}
-use Rattle.flow_core.specs.Front.{IsFrontOf}
-use Rattle.flow_core.specs.JobSet.{contains}
-use Rattle.flow_core.specs.Sequences.{has, jobs_left, AreJobs}
+use Rattle.flow_limits.specs.Limits.{most_jobs}
+use Rattle.flow_shop.specs.Shop.{Shop, IsWithinLimits, numbers}
+use Rattle.flow_shop.specs.Front.{IsFrontOf}
+use Rattle.flow_shop.specs.JobSet.{contains}
+use Rattle.flow_shop.specs.Sequences.{has, jobs_left, AreJobs}
 use Rattle.flow_search.specs.Search.{Bound, Found}
 use Rattle.flow_search.specs.Walk.{walk, walk_each}
 use Rattle.flow_search.specs.declared.subtree.Search.{Search}

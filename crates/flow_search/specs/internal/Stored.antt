@@ -1,8 +1,8 @@
 -- What a plan keeps beside its parts: its prefixes, and the times of the jobs.
 use Rattle.std.specs.Prelude.{ℕ, ◌≡◌, List, length}
 use Rattle.std.specs.List.{concat}
-use Rattle.flow_core.specs.Rows.{AreRows}
-use Rattle.flow_core.specs.declared.row.Row.{Row}
+use Rattle.flow_shop.specs.Rows.{AreRows}
+use Rattle.flow_shop.specs.declared.row.Row.{Row}
 use Rattle.flow_search.specs.Plans.{Planned, prefixes_of, IsPlan}
 
 -- what is stored of a plan: how many prefixes there are, and their jobs, one prefix after another; and a row of times

@@ -2,7 +2,7 @@
 use Rattle.std.specs.Prelude.{ℕ, ◌≡◌, ◌≤◌, Bool, true, false, nat_lt, map, length, take, Option, Some, None}
 use Rattle.std.specs.Option.{option_map, option_to_list}
 use Rattle.std.specs.List.{flat_map, AllByRecursion}
-use Rattle.flow_core.specs.Least.{first_least}
+use Rattle.flow_shop.specs.Least.{first_least}
 use Rattle.flow_search.specs.Search.{best}
 use Rattle.flow_search.specs.Plans.{Planned, prefixes_of, trees_of}
 use Rattle.flow_search.specs.Outcomes.{found_of}

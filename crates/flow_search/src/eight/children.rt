@@ -1,14 +1,14 @@
 //! The children of a node, side by side: their fronts, and the machines that cut them.
 
 ghost use Rattle.std.specs.Prelude.{◌≡◌, ℕ, ◌+◌, ◌<◌, ◌≤◌, List, length, slice_index};
-ghost use Rattle.flow_core.specs.Bound.{bound_at, bound_of};
+ghost use Rattle.flow_shop.specs.Bound.{bound_at, bound_of};
 ghost use Rattle.flow_search.specs.internal.Lanes.{IsFrameOf, IsOpened, IsTested, AreSmallFrees, child, lanes_of};
 
 use crate::eight::group::{GONE, Group, LaneFrame};
 use crate::eight::numbers::{at_least, below, greater, others, sums, without};
 use crate::eight::releases::test_releases;
 use crate::setting::Setting;
-use flow_core::Instance;
+use flow_shop::Instance;
 
 /// Computes when each child leaves each machine, and how many machines there are before the first whose machine bound
 /// reaches a value.

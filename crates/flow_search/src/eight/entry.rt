@@ -1,14 +1,14 @@
 //! The first node of a subtree with at most eight jobs left.
 
 ghost use Rattle.std.specs.Prelude.{◌≡◌, ℕ, ◌<◌, ◌≤◌, List, length, slice_index, sum_by};
-ghost use Rattle.flow_core.specs.Limits.{greatest_time};
-ghost use Rattle.flow_core.specs.Shop.{time};
+ghost use Rattle.flow_limits.specs.Limits.{greatest_time};
+ghost use Rattle.flow_shop.specs.Shop.{time};
 ghost use Rattle.flow_search.specs.internal.Lanes.{AreJobsOf, IsFew, IsFrameOf};
 ghost use Rattle.flow_search.specs.declared.eight.group.TheConstants.{GONE};
 
 use crate::eight::group::{GONE, Group, LaneFrame, LaneRow};
 use crate::eight::numbers::sums;
-use flow_core::{Front, Instance};
+use flow_shop::{Front, Instance};
 
 /// The times of some jobs on a machine, each in its lane; 0 in the other lanes.
 fn times_of(instance: &Instance, jobs: &[u16], machine: u16) -> [u32; 8]

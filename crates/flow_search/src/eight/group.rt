@@ -1,6 +1,6 @@
 //! The jobs of a subtree in eight lanes, and its nodes.
 
-use flow_core::MAX_MACHINES;
+use flow_limits::MAX_MACHINES;
 
 /// What stands in a lane whose job is not left, above each time that a job needs behind a machine.
 pub const GONE: u32 = 536_870_912;

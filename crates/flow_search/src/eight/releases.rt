@@ -1,16 +1,16 @@
 //! The children of a node, side by side: the machines that cut them by their released bounds.
 
 ghost use Rattle.std.specs.Prelude.{◌≡◌, ◌≢◌, ℕ, ◌+◌, ◌*◌, ◌<◌, ◌≤◌, List, length, slice_index};
-ghost use Rattle.flow_core.specs.Limits.{most_machines, greatest_time, greatest_completion};
-ghost use Rattle.flow_core.specs.Shop.{Shop, IsWithinLimits};
-ghost use Rattle.flow_core.specs.Sequences.{jobs_left};
-ghost use Rattle.flow_core.specs.Bound.{bound_at, released_bound_at, release, front_of};
+ghost use Rattle.flow_limits.specs.Limits.{most_machines, greatest_time, greatest_completion};
+ghost use Rattle.flow_shop.specs.Shop.{Shop, IsWithinLimits};
+ghost use Rattle.flow_shop.specs.Sequences.{jobs_left};
+ghost use Rattle.flow_shop.specs.Bound.{bound_at, released_bound_at, release, front_of};
 ghost use Rattle.flow_search.specs.internal.Lanes.{IsOpened, IsTested, IsUncutCount, IsLaneLeft, AreSmallFrees, child};
 ghost use Rattle.flow_search.specs.declared.eight.group.TheConstants.{GONE};
 
 use crate::eight::group::{Group, LaneFrame};
 use crate::eight::numbers::{above, are_zeros, below, differences, greater, others, sums};
-use flow_core::Instance;
+use flow_shop::Instance;
 
 /// Computes for each child the release of the machine at a place, before which no job that the child leaves starts
 /// there. It stands in memory, since the compiler packs the lanes of a loop that stores them.

@@ -1,6 +1,6 @@
 use Rattle.std.proofs.Common.{◌≡◌, ◌-◌}
-use Rattle.flow_core.specs.Shop.{time_between}
-use Rattle.flow_core.specs.JobSet.{contains}
+use Rattle.flow_shop.specs.Shop.{time_between}
+use Rattle.flow_shop.specs.JobSet.{contains}
 use Rattle.flow_bound.proofs.Rests.{least_kept}
 use Rattle.flow_bound.proofs.least.least_between.Given as goal
 

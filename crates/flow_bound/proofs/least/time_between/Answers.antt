@@ -1,6 +1,6 @@
 use Rattle.std.proofs.Common.{◌≡◌, ℕ, ◌-◌, sym, ap, ◌∙◌, arith}
-use Rattle.flow_core.specs.Shop.{time_between}
-use Rattle.flow_core.proofs.Recurrence.{time_between-none}
+use Rattle.flow_shop.specs.Shop.{time_between}
+use Rattle.flow_shop.proofs.Recurrence.{time_between-none}
 use Rattle.flow_bound.proofs.Steps.{time_between-step, time_between-small}
 use Rattle.flow_bound.proofs.least.time_between.Goals as goal
 

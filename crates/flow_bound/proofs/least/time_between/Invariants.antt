@@ -1,5 +1,5 @@
 use Rattle.std.proofs.Common.{◌≡◌, ◌-◌}
-use Rattle.flow_core.specs.Shop.{time_between}
+use Rattle.flow_shop.specs.Shop.{time_between}
 use Rattle.flow_bound.proofs.least.time_between.Given as goal
 
 -- the time on the machines so far

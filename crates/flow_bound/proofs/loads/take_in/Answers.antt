@@ -1,7 +1,7 @@
 use Rattle.std.proofs.Common.{◌+◌, ◌-◌, ◌≤◌, min, slice_index, refl, sym, arith}
 use Rattle.std.proofs.lemmas.Grind.{common_steps}
-use Rattle.flow_core.specs.Shop.{time, time_between}
-use Rattle.flow_core.proofs.Recurrence.{time_between-none}
+use Rattle.flow_shop.specs.Shop.{time, time_between}
+use Rattle.flow_shop.proofs.Recurrence.{time_between-none}
 use Rattle.flow_bound.proofs.Running.{tail-small}
 use Rattle.flow_bound.proofs.Rests.{written, below-stay, tail-before}
 use Rattle.flow_bound.proofs.loads.take_in.Goals as goal

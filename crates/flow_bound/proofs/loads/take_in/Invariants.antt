@@ -1,6 +1,6 @@
 use Rattle.std.proofs.Common.{◌≡◌, ℕ, ◌+◌, ◌-◌, ◌<◌, ◌≤◌, min, length, slice_index}
-use Rattle.flow_core.specs.Limits.{most_machines}
-use Rattle.flow_core.specs.Shop.{time, time_between}
+use Rattle.flow_limits.specs.Limits.{most_machines}
+use Rattle.flow_shop.specs.Shop.{time, time_between}
 use Rattle.flow_bound.proofs.loads.take_in.Given as goal
 
 -- the sums and the least tails of the machines so far have the job, and the others not yet

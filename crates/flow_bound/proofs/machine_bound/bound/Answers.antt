@@ -1,6 +1,6 @@
 use Rattle.std.proofs.Common.{◌+◌, ◌-◌, ◌≤◌, slice_index, ap, arith}
-use Rattle.flow_core.specs.Limits.{greatest_completion}
-use Rattle.flow_core.specs.JobSet.{members}
+use Rattle.flow_limits.specs.Limits.{greatest_completion}
+use Rattle.flow_shop.specs.JobSet.{members}
 use Rattle.flow_bound.specs.Loads.{least_between}
 use Rattle.flow_bound.proofs.Steps.{admissible-members}
 use Rattle.flow_bound.proofs.machine_bound.bound.Goals as goal

@@ -1,8 +1,8 @@
 use Rattle.std.proofs.Common.{◌≡◌, ◌+◌, ◌-◌, ◌^◌, ◌≤◌, map}
-use Rattle.flow_core.specs.Limits.{greatest_completion}
-use Rattle.flow_core.specs.Shop.{numbers}
-use Rattle.flow_core.specs.Least.{greatest}
-use Rattle.flow_core.specs.JobSet.{members}
+use Rattle.flow_limits.specs.Limits.{greatest_completion}
+use Rattle.flow_shop.specs.Shop.{numbers}
+use Rattle.flow_shop.specs.Least.{greatest}
+use Rattle.flow_shop.specs.JobSet.{members}
 use Rattle.flow_bound.proofs.Releases.{start_from}
 use Rattle.flow_bound.proofs.release.release_of.Given as goal
 

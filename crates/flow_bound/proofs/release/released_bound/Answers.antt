@@ -1,5 +1,5 @@
 use Rattle.std.proofs.Common.{◌+◌, ap, arith}
-use Rattle.flow_core.specs.JobSet.{members}
+use Rattle.flow_shop.specs.JobSet.{members}
 use Rattle.flow_bound.specs.Loads.{least_between}
 use Rattle.flow_bound.proofs.Steps.{released-members}
 use Rattle.flow_bound.proofs.release.released_bound.Goals as goal

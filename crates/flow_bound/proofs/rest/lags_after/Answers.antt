@@ -1,9 +1,9 @@
 use Rattle.std.proofs.Common.{◌≡◌, ◌≢◌, ℕ, ◌+◌, ◌-◌, ◌*◌, ◌<◌, ◌≤◌, min, length, slice_index, ap, ◌∙◌, arith}
 use Rattle.std.proofs.lemmas.Grind.{common_steps}
-use Rattle.flow_core.specs.Limits.{most_machines, greatest_time}
-use Rattle.flow_core.specs.Shop.{time_between}
-use Rattle.flow_core.specs.JobSet.{members}
-use Rattle.flow_core.proofs.Recurrence.{time_between-first}
+use Rattle.flow_limits.specs.Limits.{most_machines, greatest_time}
+use Rattle.flow_shop.specs.Shop.{time_between}
+use Rattle.flow_shop.specs.JobSet.{members}
+use Rattle.flow_shop.proofs.Recurrence.{time_between-first}
 use Rattle.flow_bound.specs.Loads.{least_between}
 use Rattle.flow_bound.proofs.Running.{times-small}
 use Rattle.flow_bound.proofs.Rests.{least-with, written, tail-before}

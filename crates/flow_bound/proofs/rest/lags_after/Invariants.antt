@@ -1,7 +1,7 @@
 use Rattle.std.proofs.Common.{◌≡◌, ℕ, ◌+◌, ◌-◌, ◌<◌, ◌≤◌, length, slice_index}
-use Rattle.flow_core.specs.Limits.{most_machines}
-use Rattle.flow_core.specs.Shop.{time_between}
-use Rattle.flow_core.specs.JobSet.{members}
+use Rattle.flow_limits.specs.Limits.{most_machines}
+use Rattle.flow_shop.specs.Shop.{time_between}
+use Rattle.flow_shop.specs.JobSet.{members}
 use Rattle.flow_bound.specs.Loads.{least_between}
 use Rattle.flow_bound.proofs.rest.lags_after.Given as goal
 

@@ -1,9 +1,9 @@
 use Rattle.std.proofs.Common.{◌≡◌, ℕ, ◌-◌, ◌*◌, min, true, false, slice_index, sym, ap, ◌∙◌, arith}
 use Rattle.std.proofs.lemmas.Grind.{common_steps}
 use Rattle.std.proofs.lemmas.List.{get_or-replicate}
-use Rattle.flow_core.specs.Limits.{most_machines, greatest_time}
-use Rattle.flow_core.specs.Shop.{time_between}
-use Rattle.flow_core.specs.JobSet.{contains}
+use Rattle.flow_limits.specs.Limits.{most_machines, greatest_time}
+use Rattle.flow_shop.specs.Shop.{time_between}
+use Rattle.flow_shop.specs.JobSet.{contains}
 use Rattle.flow_bound.proofs.Running.{times-small}
 use Rattle.flow_bound.proofs.Rests.{least-take, least-skip, least-whole}
 use Rattle.flow_bound.proofs.rest.lags_of.Goals as goal

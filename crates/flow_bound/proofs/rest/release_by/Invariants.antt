@@ -1,7 +1,7 @@
 use Rattle.std.proofs.Common.{◌≡◌, ℕ, ◌+◌, ◌-◌, ◌^◌, ◌≤◌, max, List, map, slice_index}
-use Rattle.flow_core.specs.Limits.{greatest_completion}
-use Rattle.flow_core.specs.Shop.{Shop, numbers}
-use Rattle.flow_core.specs.Least.{greatest}
+use Rattle.flow_limits.specs.Limits.{greatest_completion}
+use Rattle.flow_shop.specs.Shop.{Shop, numbers}
+use Rattle.flow_shop.specs.Least.{greatest}
 use Rattle.flow_bound.specs.Rest.{AreLags}
 use Rattle.flow_bound.proofs.Releases.{start_from}
 use Rattle.flow_bound.proofs.rest.release_by.Given as goal

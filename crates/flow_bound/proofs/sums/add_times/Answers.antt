@@ -1,6 +1,6 @@
 use Rattle.std.proofs.Common.{◌≡◌, ◌+◌, ◌-◌, ◌<◌, length, slice_index, slice_index_or, arith}
 use Rattle.std.proofs.lemmas.Grind.{common_steps}
-use Rattle.flow_core.specs.Shop.{time}
+use Rattle.flow_shop.specs.Shop.{time}
 use Rattle.flow_bound.proofs.Running.{done-more, others-stay}
 use Rattle.flow_bound.proofs.sums.add_times.Goals as goal
 

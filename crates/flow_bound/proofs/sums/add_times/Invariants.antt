@@ -1,6 +1,6 @@
 use Rattle.std.proofs.Common.{◌≡◌, ℕ, ◌+◌, ◌-◌, ◌<◌, ◌≤◌, length, slice_index}
-use Rattle.flow_core.specs.Limits.{most_jobs}
-use Rattle.flow_core.specs.Shop.{time}
+use Rattle.flow_limits.specs.Limits.{most_jobs}
+use Rattle.flow_shop.specs.Shop.{time}
 use Rattle.flow_bound.proofs.sums.add_times.Given as goal
 
 -- the jobs so far have the machine's time, and the others not yet

@@ -1,6 +1,6 @@
 use Rattle.std.proofs.Common.{◌≡◌, ℕ, true, false, sym, ◌∙◌, arith}
-use Rattle.flow_core.specs.Shop.{time}
-use Rattle.flow_core.specs.JobSet.{contains}
+use Rattle.flow_shop.specs.Shop.{time}
+use Rattle.flow_shop.specs.JobSet.{contains}
 use Rattle.flow_bound.proofs.Rests.{sum-take, sum-skip, sum-whole}
 use Rattle.flow_bound.proofs.sums.sum_of.Goals as goal
 use Rattle.flow_bound.proofs.sums.sum_of.Goals.{then-contains, else-contains}

@@ -1,8 +1,8 @@
 use Rattle.std.proofs.Common.{◌≡◌, ◌-◌, ◌*◌, ◌≤◌}
-use Rattle.flow_core.specs.Limits.{greatest_time}
-use Rattle.flow_core.specs.Shop.{time}
-use Rattle.flow_core.specs.JobSet.{contains}
-use Rattle.flow_core.proofs.JobsLeft.{kept}
+use Rattle.flow_limits.specs.Limits.{greatest_time}
+use Rattle.flow_shop.specs.Shop.{time}
+use Rattle.flow_shop.specs.JobSet.{contains}
+use Rattle.flow_shop.proofs.JobsLeft.{kept}
 use Rattle.flow_bound.proofs.sums.sum_of.Given as goal
 
 -- the sum is that of the jobs so far that the set has

@@ -1,6 +1,6 @@
 use Rattle.std.proofs.Common.{◌≡◌, ◌+◌, ◌-◌, map, max, slice_index_or, arith}
-use Rattle.flow_core.specs.Least.{greatest}
-use Rattle.flow_core.specs.Shop.{numbers}
+use Rattle.flow_shop.specs.Least.{greatest}
+use Rattle.flow_shop.specs.Shop.{numbers}
 use Rattle.flow_bound.specs.Totals.{total}
 use Rattle.flow_bound.proofs.Running.{greatest-step}
 use Rattle.flow_bound.proofs.taillard.greatest_total.Goals as goal

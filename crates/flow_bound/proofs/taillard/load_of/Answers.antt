@@ -2,9 +2,9 @@ use Rattle.std.proofs.Common.{◌≡◌, ◌+◌, ◌-◌, ◌*◌, ◌<◌, ◌
 use Rattle.std.specs.List.{sum_by}
 use Rattle.std.proofs.lemmas.Grind.{common_steps}
 use Rattle.std.proofs.lemmas.List.{get_or-set_same}
-use Rattle.flow_core.specs.Limits.{most_machines, greatest_time}
-use Rattle.flow_core.specs.Shop.{numbers, time, time_between}
-use Rattle.flow_core.specs.Least.{least}
+use Rattle.flow_limits.specs.Limits.{most_machines, greatest_time}
+use Rattle.flow_shop.specs.Shop.{numbers, time, time_between}
+use Rattle.flow_shop.specs.Least.{least}
 use Rattle.flow_bound.proofs.Steps.{capped}
 use Rattle.flow_bound.proofs.Running.{done-more, others-stay, head-step, head-small, tail-small, time_between-split}
 use Rattle.flow_bound.proofs.Running.{sum-step, least-step, least-of-jobs}

@@ -1,7 +1,7 @@
 use Rattle.std.proofs.Common.{◌≡◌, ℕ, ◌+◌, ◌-◌, ◌*◌, ◌<◌, ◌≤◌, length, map, slice_index}
 use Rattle.std.specs.List.{sum_by}
-use Rattle.flow_core.specs.Limits.{most_jobs, greatest_time}
-use Rattle.flow_core.specs.Shop.{numbers, time, time_between}
+use Rattle.flow_limits.specs.Limits.{most_jobs, greatest_time}
+use Rattle.flow_shop.specs.Shop.{numbers, time, time_between}
 use Rattle.flow_bound.proofs.Steps.{capped}
 use Rattle.flow_bound.proofs.taillard.load_of.Given as goal
 

@@ -1,10 +1,10 @@
 use Rattle.std.proofs.Common.{◌≡◌, ◌+◌, ◌-◌, map, max, arith, ap, ◌∙◌}
-use Rattle.flow_core.specs.Limits.{most_jobs}
-use Rattle.flow_core.specs.Shop.{numbers, time_between}
-use Rattle.flow_core.specs.Least.{greatest}
+use Rattle.flow_limits.specs.Limits.{most_jobs}
+use Rattle.flow_shop.specs.Shop.{numbers, time_between}
+use Rattle.flow_shop.specs.Least.{greatest}
 use Rattle.flow_bound.specs.Totals.{total}
 use Rattle.flow_bound.specs.Taillard.{machine_load, taillard_bound}
-use Rattle.flow_core.proofs.Fronts.{zeros}
+use Rattle.flow_shop.proofs.Fronts.{zeros}
 use Rattle.flow_bound.proofs.Running.{times-none, greatest-step}
 use Rattle.flow_bound.proofs.MachineLoads.{taillard-below}
 use Rattle.flow_bound.proofs.taillard.taillard_bound.Goals as goal

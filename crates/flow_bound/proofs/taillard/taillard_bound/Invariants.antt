@@ -1,6 +1,6 @@
 use Rattle.std.proofs.Common.{◌≡◌, ◌-◌, map, max}
-use Rattle.flow_core.specs.Least.{greatest}
-use Rattle.flow_core.specs.Shop.{numbers}
+use Rattle.flow_shop.specs.Least.{greatest}
+use Rattle.flow_shop.specs.Shop.{numbers}
 use Rattle.flow_bound.specs.Totals.{total}
 use Rattle.flow_bound.specs.internal.Times.{AreTimes}
 use Rattle.flow_bound.specs.Taillard.{machine_load}

@@ -1,7 +1,7 @@
 use Rattle.std.proofs.Common.{◌∙◌, ap, sym, subst, arith}
 use Rattle.std.proofs.lemmas.List.{take_at}
-use Rattle.flow_core.specs.Paths.{span}
-use Rattle.flow_core.specs.Sequences.{IsSequence}
+use Rattle.flow_shop.specs.Paths.{span}
+use Rattle.flow_shop.specs.Sequences.{IsSequence}
 use Rattle.flow_improve.specs.internal.Rooms.{IsKnown}
 use Rattle.flow_improve.proofs.better.improve.Goals.{then-tried-current, else-tried-current}
 use Rattle.flow_improve.proofs.better.improve.Goals.{then-tried-best, else-tried-best}

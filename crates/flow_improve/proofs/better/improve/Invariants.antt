@@ -1,5 +1,5 @@
 use Rattle.std.proofs.Common.{◌≤◌}
-use Rattle.flow_core.specs.Paths.{span}
+use Rattle.flow_shop.specs.Paths.{span}
 use Rattle.flow_improve.specs.internal.Rooms.{IsRoundsFor, IsKnown}
 use Rattle.flow_improve.proofs.better.improve.Given as goal
 

@@ -1,5 +1,5 @@
 use Rattle.std.proofs.Common.{◌+◌, ◌-◌, arith, sym, subst}
-use Rattle.flow_core.specs.Sequences.{IsSequence}
+use Rattle.flow_shop.specs.Sequences.{IsSequence}
 use Rattle.flow_bound.proofs.ByTotal.{sequence-push}
 use Rattle.flow_improve.proofs.list.numbers.Goals as goal
 

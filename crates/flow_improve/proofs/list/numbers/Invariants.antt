@@ -1,5 +1,5 @@
 use Rattle.std.proofs.Common.{◌-◌}
-use Rattle.flow_core.specs.Sequences.{IsSequence}
+use Rattle.flow_shop.specs.Sequences.{IsSequence}
 use Rattle.flow_improve.proofs.list.numbers.Given as goal
 
 -- the jobs so far

@@ -1,6 +1,6 @@
 use Rattle.std.proofs.Common.{◌≡◌, ℕ, ◌+◌, ◌-◌, ◌++◌, ◌∷◌, [], List, vec_len, true, false, ap, sym, ◌∙◌, arith}
 use Rattle.std.specs.List.{concat}
-use Rattle.flow_core.specs.Sequences.{has, extensions}
+use Rattle.flow_shop.specs.Sequences.{has, extensions}
 use Rattle.flow_search.proofs.CutLemmas.{added, added-skip, added-taken}
 use Rattle.flow_search.proofs.Nodes.{take-last}
 use Rattle.flow_search.proofs.cut_lists.+extend.Goals as goal

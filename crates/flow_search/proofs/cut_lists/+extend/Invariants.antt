@@ -1,6 +1,6 @@
 use Rattle.std.proofs.Common.{◌≡◌, ◌++◌}
 use Rattle.std.specs.List.{concat}
-use Rattle.flow_core.specs.Sequences.{extensions}
+use Rattle.flow_shop.specs.Sequences.{extensions}
 use Rattle.flow_search.proofs.CutLemmas.{added}
 use Rattle.flow_search.proofs.cut_lists.+extend.Given as goal
 

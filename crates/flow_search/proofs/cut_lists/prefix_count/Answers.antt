@@ -1,5 +1,5 @@
 use Rattle.std.proofs.Common.{◌≡◌, ℕ, ◌+◌, ◌-◌, ◌*◌, ◌≤◌, length, ap, sym, ◌∙◌, arith}
-use Rattle.flow_core.specs.Sequences.{cut}
+use Rattle.flow_shop.specs.Sequences.{cut}
 use Rattle.flow_search.proofs.CutLemmas.{falling, cut-size, factor, at-least}
 use Rattle.flow_search.proofs.cut_lists.prefix_count.Goals as goal
 

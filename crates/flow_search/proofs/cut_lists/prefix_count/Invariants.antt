@@ -1,6 +1,6 @@
 use Rattle.std.proofs.Common.{◌≡◌, ◌-◌, ◌*◌, ◌≤◌, length}
-use Rattle.flow_core.specs.Limits.{most_prefixes}
-use Rattle.flow_core.specs.Sequences.{cut}
+use Rattle.flow_limits.specs.Limits.{most_prefixes}
+use Rattle.flow_shop.specs.Sequences.{cut}
 use Rattle.flow_search.proofs.CutLemmas.{falling}
 use Rattle.flow_search.proofs.cut_lists.prefix_count.Given as goal
 

@@ -1,8 +1,8 @@
 use Rattle.std.proofs.Common.{◌≡◌, ◌+◌, ◌++◌, true, sym, ◌∙◌, ap, inl, inr, arith, length, take, set}
 use Rattle.std.specs.List.{filter}
 use Rattle.std.proofs.lemmas.List.{length-set}
-use Rattle.flow_core.specs.Shop.{numbers}
-use Rattle.flow_core.specs.JobSet.{contains}
+use Rattle.flow_shop.specs.Shop.{numbers}
+use Rattle.flow_shop.specs.JobSet.{contains}
 use Rattle.flow_search.proofs.Nodes.{filter-skip}
 use Rattle.flow_search.proofs.LanesEntered.{gathered-more, gathered-all}
 use Rattle.flow_search.proofs.few.jobs_of.Goals as goal

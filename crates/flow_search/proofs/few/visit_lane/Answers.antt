@@ -2,7 +2,7 @@ use Rattle.std.proofs.Common.{◌≡◌, ℕ, ◌+◌, ◌≤◌, Bool, Err, Non
 use Rattle.std.proofs.Common.{arith}
 use Rattle.std.proofs.lemmas.Bool.{le-ltb}
 use Rattle.std.proofs.lemmas.Result.{err_from_is_err_and}
-use Rattle.flow_core.specs.Bound.{bound_of}
+use Rattle.flow_shop.specs.Bound.{bound_of}
 use Rattle.flow_search.specs.internal.Nodes.{incumbent_of}
 use Rattle.flow_search.specs.internal.Lanes.{IsUncutCount, child}
 use Rattle.flow_search.specs.declared.subtree.Stop.{Stop}

@@ -18,8 +18,8 @@ use Rattle.std.proofs.Common.{length-append}
 use Rattle.std.specs.List.{filter, range_with_len}
 use Rattle.std.proofs.lemmas.List.{length-set}
 use Rattle.std.proofs.lemmas.Result.{err_from_is_err_and}
-use Rattle.flow_core.specs.Shop.{Shop}
-use Rattle.flow_core.specs.Bound.{bound_of}
+use Rattle.flow_shop.specs.Shop.{Shop}
+use Rattle.flow_shop.specs.Bound.{bound_of}
 use Rattle.flow_search.specs.internal.Nodes.{Gave, Opens, children_walked, incumbent_of}
 use Rattle.flow_search.specs.internal.Lanes.{IsLaneLeft, IsFrameOf, IsOpened, IsTested, IsInLanes, job_of, child}
 use Rattle.flow_search.specs.internal.Lanes.{lane_walked, lanes_of, lane_path, frame_at}

@@ -1,5 +1,5 @@
 use Rattle.std.proofs.Common.{◌≡◌, ◌+◌, ◌-◌, ◌*◌, ◌<◌, length, reverse, take}
-use Rattle.flow_core.specs.Bound.{bound_of}
+use Rattle.flow_shop.specs.Bound.{bound_of}
 use Rattle.flow_search.specs.internal.Nodes.{children_walked}
 use Rattle.flow_search.specs.internal.Lanes.{IsInLanes, frame_at}
 use Rattle.flow_search.proofs.few.walk_lanes.Given as goal

@@ -1,9 +1,9 @@
 use Rattle.std.proofs.Common.{◌≡◌, ℕ, ◌+◌, ◌-◌, true, false, []}
 use Rattle.std.proofs.Common.{slice_index, slice_index_or, sym, ap, subst, ◌∙◌, arith}
 use Rattle.std.specs.List.{filter}
-use Rattle.flow_core.specs.Shop.{numbers}
-use Rattle.flow_core.specs.JobSet.{contains, members}
-use Rattle.flow_core.proofs.JobSetLemmas.{members-is}
+use Rattle.flow_shop.specs.Shop.{numbers}
+use Rattle.flow_shop.specs.JobSet.{contains, members}
+use Rattle.flow_shop.proofs.JobSetLemmas.{members-is}
 use Rattle.flow_search.specs.internal.Lows.{AreLows, tail_at}
 use Rattle.flow_search.proofs.Children.{filter-take, filter-leave}
 use Rattle.flow_search.proofs.lows.lows_of.Goals as goal

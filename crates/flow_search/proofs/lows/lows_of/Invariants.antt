@@ -1,7 +1,7 @@
 use Rattle.std.proofs.Common.{◌-◌}
 use Rattle.std.specs.List.{filter}
-use Rattle.flow_core.specs.Shop.{numbers}
-use Rattle.flow_core.specs.JobSet.{contains}
+use Rattle.flow_shop.specs.Shop.{numbers}
+use Rattle.flow_shop.specs.JobSet.{contains}
 use Rattle.flow_search.specs.internal.Lows.{AreLows, tail_at}
 use Rattle.flow_search.proofs.lows.lows_of.Given as goal
 

@@ -1,8 +1,8 @@
 use Rattle.std.proofs.Common.{◌≡◌, ℕ, ◌+◌, ◌-◌, true, false, [], sym, ap, subst, ◌∙◌, arith}
 use Rattle.std.specs.List.{filter}
-use Rattle.flow_core.specs.Shop.{numbers}
-use Rattle.flow_core.specs.JobSet.{contains}
-use Rattle.flow_core.proofs.JobSetLemmas.{members-is}
+use Rattle.flow_shop.specs.Shop.{numbers}
+use Rattle.flow_shop.specs.JobSet.{contains}
+use Rattle.flow_shop.proofs.JobSetLemmas.{members-is}
 use Rattle.flow_search.specs.internal.Lows.{AreLows, time_to}
 use Rattle.flow_search.proofs.Children.{filter-take, filter-leave}
 use Rattle.flow_search.proofs.lows.lows_to.Goals as goal

@@ -1,7 +1,7 @@
 use Rattle.std.proofs.Common.{rules, ◌≡◌, ◌≢◌, ℕ, ◌+◌, ◌-◌, ◌<◌, slice_index, set, ap, sym, ◌∙◌, inl, inr, arith}
 use Rattle.std.proofs.lemmas.Bool.{cases_lt}
 use Rattle.std.proofs.lemmas.List.{get_or-set_same, get_or-set_other, length-set}
-use Rattle.flow_core.specs.Limits.{most_machines}
+use Rattle.flow_limits.specs.Limits.{most_machines}
 use Rattle.flow_search.proofs.Needs.{row-needs-small, row-time-to}
 use Rattle.flow_search.proofs.lows.times_to.Goals as goal
 

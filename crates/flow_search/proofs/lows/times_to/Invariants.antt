@@ -1,5 +1,5 @@
 use Rattle.std.proofs.Common.{◌≡◌, ℕ, ◌+◌, ◌-◌, ◌<◌, length, slice_index}
-use Rattle.flow_core.specs.Limits.{most_machines}
+use Rattle.flow_limits.specs.Limits.{most_machines}
 use Rattle.flow_search.proofs.lows.times_to.Given as goal
 
 -- the places so far have what the job needs from there

@@ -1,8 +1,8 @@
 use Rattle.std.proofs.Common.{◌≡◌, ℕ, ◌+◌, ◌-◌, ◌<◌, ◌≤◌, ◌++◌, ◌∷◌, [], List, length, get_or, Err, Result, subst, ap}
 use Rattle.std.proofs.Common.{sym, ◌∙◌, arith}
 use Rattle.std.proofs.lemmas.Result.{err_from_is_err_and}
-use Rattle.flow_core.specs.Front.{IsFrontOf, IsWithinFront}
-use Rattle.flow_core.specs.Bound.{bound_of}
+use Rattle.flow_shop.specs.Front.{IsFrontOf, IsWithinFront}
+use Rattle.flow_shop.specs.Bound.{bound_of}
 use Rattle.flow_search.specs.Search.{tree}
 use Rattle.flow_search.specs.Plans.{Planned, prefix_of, best_of, tree_of}
 use Rattle.flow_search.specs.internal.Nodes.{walked, found_if}

@@ -1,8 +1,8 @@
 use Rattle.std.proofs.Common.{◌≡◌, ℕ, ◌+◌, ◌-◌, ◌*◌, ◌<◌, ◌≤◌, max, List, [], ◌∷◌, ◌++◌, map, slice_index}
-use Rattle.flow_core.specs.Limits.{most_machines, greatest_time, greatest_completion}
-use Rattle.flow_core.specs.Shop.{Shop, numbers}
-use Rattle.flow_core.specs.Least.{greatest}
-use Rattle.flow_core.specs.Sequences.{jobs_left}
+use Rattle.flow_limits.specs.Limits.{most_machines, greatest_time, greatest_completion}
+use Rattle.flow_shop.specs.Shop.{Shop, numbers}
+use Rattle.flow_shop.specs.Least.{greatest}
+use Rattle.flow_shop.specs.Sequences.{jobs_left}
 use Rattle.flow_search.specs.internal.Lags.{IsLagged}
 use Rattle.flow_search.proofs.LanesReleased.{need}
 use Rattle.flow_search.proofs.release.release_at_child.Given as goal

@@ -1,7 +1,7 @@
 use Rattle.std.proofs.Common.{◌≡◌, ◌+◌, ◌-◌, ◌≤◌, max, map, slice_index, ap, sym, ◌∙◌, arith}
-use Rattle.flow_core.specs.Shop.{numbers}
-use Rattle.flow_core.specs.Bound.{release}
-use Rattle.flow_core.specs.Least.{greatest}
+use Rattle.flow_shop.specs.Shop.{numbers}
+use Rattle.flow_shop.specs.Bound.{release}
+use Rattle.flow_shop.specs.Least.{greatest}
 use Rattle.flow_search.proofs.LanesReleased.{need, need-more, release-is}
 use Rattle.flow_search.proofs.release.release_by.Goals as goal
 

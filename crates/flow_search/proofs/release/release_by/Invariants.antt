@@ -1,7 +1,7 @@
 use Rattle.std.proofs.Common.{◌≡◌, ℕ, ◌+◌, ◌-◌, ◌<◌, ◌≤◌, max, List, map, slice_index}
-use Rattle.flow_core.specs.Limits.{greatest_completion}
-use Rattle.flow_core.specs.Shop.{Shop, numbers}
-use Rattle.flow_core.specs.Least.{least, greatest}
+use Rattle.flow_limits.specs.Limits.{greatest_completion}
+use Rattle.flow_shop.specs.Shop.{Shop, numbers}
+use Rattle.flow_shop.specs.Least.{least, greatest}
 use Rattle.flow_search.specs.internal.Lows.{time_to, unknown}
 use Rattle.flow_search.proofs.LanesReleased.{need}
 use Rattle.flow_search.proofs.release.release_by.Given as goal

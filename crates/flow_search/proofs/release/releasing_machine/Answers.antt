@@ -1,8 +1,8 @@
 use Rattle.std.proofs.Common.{◌≡◌, ℕ, ◌+◌, ◌≤◌, Bool, false, true, nat_le, List, ap, sym, ◌∙◌, arith}
 use Rattle.std.proofs.lemmas.Bool.{le-leb, lt-leb}
-use Rattle.flow_core.specs.Shop.{Shop}
-use Rattle.flow_core.specs.JobSet.{members}
-use Rattle.flow_core.specs.Bound.{released_bound}
+use Rattle.flow_shop.specs.Shop.{Shop}
+use Rattle.flow_shop.specs.JobSet.{members}
+use Rattle.flow_shop.specs.Bound.{released_bound}
 use Rattle.flow_search.proofs.Needs.{least-to}
 use Rattle.flow_search.proofs.Nodes.{find-here, find-skip}
 use Rattle.flow_search.proofs.release.releasing_machine.Goals as goal

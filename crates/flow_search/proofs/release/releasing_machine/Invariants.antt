@@ -1,8 +1,8 @@
 use Rattle.std.proofs.Common.{◌≡◌, nat_le}
 use Rattle.std.specs.List.{find}
-use Rattle.flow_core.specs.Shop.{numbers}
-use Rattle.flow_core.specs.JobSet.{members}
-use Rattle.flow_core.specs.Bound.{released_bound}
+use Rattle.flow_shop.specs.Shop.{numbers}
+use Rattle.flow_shop.specs.JobSet.{members}
+use Rattle.flow_shop.specs.Bound.{released_bound}
 use Rattle.flow_search.proofs.release.releasing_machine.Given as goal
 
 -- no machine so far reaches the value

@@ -1,7 +1,7 @@
 use Rattle.std.proofs.Common.{ℕ, suc, nat_le, List, [], ◌∷◌, ◌++◌, ap, sym, subst, ◌∙◌}
 use Rattle.std.specs.List.{find}
-use Rattle.flow_core.specs.Shop.{numbers}
-use Rattle.flow_core.specs.Sequences.{jobs_left}
+use Rattle.flow_shop.specs.Shop.{numbers}
+use Rattle.flow_shop.specs.Sequences.{jobs_left}
 use Rattle.flow_search.specs.internal.Frames.{IsChild}
 use Rattle.flow_search.specs.internal.Lags.{AreTwoLeastLags}
 use Rattle.flow_search.proofs.Nodes.{bound-one, bound-two, members-are}

@@ -1,5 +1,5 @@
 use Rattle.std.proofs.Common.{sym, ◌∙◌, arith}
-use Rattle.flow_core.specs.JobSet.{contains}
+use Rattle.flow_shop.specs.JobSet.{contains}
 use Rattle.flow_search.proofs.Nodes.{find-here, find-skip, find-past}
 use Rattle.flow_search.proofs.subtree.first_of.Goals as goal
 

@@ -1,7 +1,7 @@
 use Rattle.std.proofs.Common.{◌≡◌}
 use Rattle.std.specs.List.{find}
-use Rattle.flow_core.specs.Shop.{numbers}
-use Rattle.flow_core.specs.JobSet.{contains}
+use Rattle.flow_shop.specs.Shop.{numbers}
+use Rattle.flow_shop.specs.JobSet.{contains}
 use Rattle.flow_search.proofs.subtree.first_of.Given as goal
 
 -- no job so far is in the set

@@ -1,6 +1,6 @@
 use Rattle.std.proofs.Common.{◌≡◌, ℕ, ◌≤◌, Bool, false, true, nat_le, ap, sym, ◌∙◌, arith}
 use Rattle.std.proofs.lemmas.Bool.{le-leb, lt-leb}
-use Rattle.flow_core.specs.Bound.{machine_bound}
+use Rattle.flow_shop.specs.Bound.{machine_bound}
 use Rattle.flow_search.proofs.Nodes.{find-here, find-skip, find-past}
 use Rattle.flow_search.proofs.subtree.plain_machine.Goals as goal
 

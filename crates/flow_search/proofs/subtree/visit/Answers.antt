@@ -1,5 +1,5 @@
 use Rattle.std.proofs.Common.{◌≡◌, suc, ◌-◌, sym, subst, ◌∙◌, arith}
-use Rattle.flow_core.specs.Bound.{bound_of}
+use Rattle.flow_shop.specs.Bound.{bound_of}
 use Rattle.flow_search.specs.internal.Frames.{IsFrame}
 use Rattle.flow_search.specs.internal.Nodes.{IsAt}
 use Rattle.flow_search.proofs.Nodes.{machine-is}

@@ -2,11 +2,11 @@ use Rattle.std.proofs.Common.{◌≡◌, ℕ, suc, ◌+◌, ◌-◌, ◌≤◌, 
 use Rattle.std.proofs.Common.{length, reverse, take, slice_set, refl, sym, subst, ◌∙◌, ap, arith, length-append}
 use Rattle.std.specs.List.{find}
 use Rattle.std.proofs.lemmas.Result.{err_from_is_err_and}
-use Rattle.flow_core.specs.Limits.{most_jobs}
-use Rattle.flow_core.specs.Shop.{numbers}
-use Rattle.flow_core.specs.Front.{IsFrontOf}
-use Rattle.flow_core.specs.JobSet.{contains, members}
-use Rattle.flow_core.specs.Bound.{bound_of, front_of}
+use Rattle.flow_limits.specs.Limits.{most_jobs}
+use Rattle.flow_shop.specs.Shop.{numbers}
+use Rattle.flow_shop.specs.Front.{IsFrontOf}
+use Rattle.flow_shop.specs.JobSet.{contains, members}
+use Rattle.flow_shop.specs.Bound.{bound_of, front_of}
 use Rattle.flow_search.specs.Walk.{walk}
 use Rattle.flow_bound.specs.Loads.{AreLoadsOf}
 use Rattle.flow_search.specs.internal.Nodes.{IsAt, Left, Gave, Opens, children_walked, incumbent_of}

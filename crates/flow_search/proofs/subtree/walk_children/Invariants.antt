@@ -1,9 +1,9 @@
 use Rattle.std.proofs.Common.{◌≡◌, ◌+◌, ◌-◌, ◌*◌, length, reverse}
-use Rattle.flow_core.specs.Bound.{bound_of}
+use Rattle.flow_shop.specs.Bound.{bound_of}
 use Rattle.flow_search.specs.internal.Nodes.{children_walked}
 use Rattle.flow_search.specs.internal.Frames.{IsWalking}
 use Rattle.flow_search.specs.internal.Lags.{AreTwoLeastLags}
-use Rattle.flow_core.specs.JobSet.{members}
+use Rattle.flow_shop.specs.JobSet.{members}
 use Rattle.flow_search.proofs.subtree.walk_children.Given as goal
 
 abbrev pub invariant-walk : goal.invariant-walk

@@ -1,6 +1,6 @@
 use Rattle.std.proofs.Common.{◌≡◌, suc, [], ◌∷◌, ◌++◌, Err, Result, refl, sym, subst, ◌∙◌, ap}
 use Rattle.std.proofs.lemmas.Result.{err_from_is_err_and}
-use Rattle.flow_core.specs.Bound.{bound_of}
+use Rattle.flow_shop.specs.Bound.{bound_of}
 use Rattle.flow_search.specs.internal.Nodes.{IsAt, Walked, incumbent_of}
 use Rattle.flow_search.specs.declared.subtree.Stop.{Stop}
 use Rattle.flow_search.specs.declared.subtree.Stop.TheVariants.{OverBudget}

@@ -1,5 +1,5 @@
 use Rattle.std.proofs.Common.{◌≡◌, ◌+◌, ◌-◌, ◌≤◌, slice_index, refl, ap, arith}
-use Rattle.flow_core.specs.Sequences.{jobs_left}
+use Rattle.flow_shop.specs.Sequences.{jobs_left}
 use Rattle.flow_bound.proofs.Steps.{admissible-members}
 use Rattle.flow_bound.proofs.loads.Loads.bound.Goals as goal
 

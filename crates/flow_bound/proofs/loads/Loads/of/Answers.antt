@@ -1,11 +1,11 @@
 use Rattle.std.proofs.Common.{◌≡◌, ℕ, ◌+◌, ◌-◌, ◌*◌, min, true, false, slice_index, sym, ap, ◌∙◌, arith}
 use Rattle.std.proofs.lemmas.Grind.{common_steps}
 use Rattle.std.proofs.lemmas.List.{get_or-replicate}
-use Rattle.flow_core.specs.Limits.{most_machines, greatest_time}
-use Rattle.flow_core.specs.Shop.{time, time_between}
-use Rattle.flow_core.specs.JobSet.{contains}
-use Rattle.flow_core.proofs.Fronts.{zeros, time-small}
-use Rattle.flow_core.proofs.JobsLeft.{kept-small}
+use Rattle.flow_limits.specs.Limits.{most_machines, greatest_time}
+use Rattle.flow_shop.specs.Shop.{time, time_between}
+use Rattle.flow_shop.specs.JobSet.{contains}
+use Rattle.flow_shop.proofs.Fronts.{zeros, time-small}
+use Rattle.flow_shop.proofs.JobsLeft.{kept-small}
 use Rattle.flow_bound.proofs.Running.{tail-small}
 use Rattle.flow_bound.proofs.Rests.{sum-take, sum-skip, sum-whole, least-take, least-skip, least-whole}
 use Rattle.flow_bound.proofs.loads.Loads.of.Goals as goal

@@ -1,8 +1,8 @@
 use Rattle.std.proofs.Common.{◌≡◌, ℕ, ◌+◌, ◌-◌, ◌≤◌, length, slice_index}
-use Rattle.flow_core.specs.Limits.{most_machines}
-use Rattle.flow_core.specs.Shop.{time, time_between}
-use Rattle.flow_core.specs.JobSet.{contains}
-use Rattle.flow_core.proofs.JobsLeft.{kept}
+use Rattle.flow_limits.specs.Limits.{most_machines}
+use Rattle.flow_shop.specs.Shop.{time, time_between}
+use Rattle.flow_shop.specs.JobSet.{contains}
+use Rattle.flow_shop.proofs.JobsLeft.{kept}
 use Rattle.flow_bound.proofs.Rests.{least_kept}
 use Rattle.flow_bound.proofs.loads.Loads.of.Given as goal
 

@@ -2,10 +2,10 @@ use Rattle.std.proofs.Common.{◌≡◌, ◌≢◌, ◌+◌, ◌-◌, ◌*◌, �
 use Rattle.std.specs.List.{sum_by}
 use Rattle.std.proofs.lemmas.Bool.{false≢true}
 use Rattle.std.proofs.lemmas.Grind.{common_steps}
-use Rattle.flow_core.specs.Limits.{most_jobs, most_machines, greatest_time}
-use Rattle.flow_core.specs.Shop.{time, time_between}
-use Rattle.flow_core.specs.JobSet.{members}
-use Rattle.flow_core.proofs.Recurrence.{time_between-none}
+use Rattle.flow_limits.specs.Limits.{most_jobs, most_machines, greatest_time}
+use Rattle.flow_shop.specs.Shop.{time, time_between}
+use Rattle.flow_shop.specs.JobSet.{members}
+use Rattle.flow_shop.proofs.Recurrence.{time_between-none}
 use Rattle.flow_bound.specs.Loads.{least_between, least_tail}
 use Rattle.flow_bound.proofs.Running.{tail-small}
 use Rattle.flow_bound.proofs.Rests.{sum-with, least-with, written, tail-before}

@@ -1,8 +1,8 @@
 use Rattle.std.proofs.Common.{◌≡◌, ℕ, ◌+◌, ◌-◌, ◌<◌, ◌≤◌, length, slice_index}
 use Rattle.std.specs.List.{sum_by}
-use Rattle.flow_core.specs.Limits.{most_machines}
-use Rattle.flow_core.specs.Shop.{time, time_between}
-use Rattle.flow_core.specs.JobSet.{members}
+use Rattle.flow_limits.specs.Limits.{most_machines}
+use Rattle.flow_shop.specs.Shop.{time, time_between}
+use Rattle.flow_shop.specs.JobSet.{members}
 use Rattle.flow_bound.specs.Loads.{least_tail}
 use Rattle.flow_bound.proofs.loads.Loads.step.Given as goal
 

@@ -1,5 +1,5 @@
 use Rattle.std.proofs.Common.{◌+◌, ◌≤◌, refl, arith}
-use Rattle.flow_core.specs.Sequences.{jobs_left}
+use Rattle.flow_shop.specs.Sequences.{jobs_left}
 use Rattle.flow_bound.proofs.Steps.{released-members}
 use Rattle.flow_bound.proofs.rest.Rest.released_bound.Goals as goal
 

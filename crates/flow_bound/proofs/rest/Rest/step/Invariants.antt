@@ -1,6 +1,6 @@
 use Rattle.std.proofs.Common.{◌≡◌, ℕ, [], ◌-◌, ◌<◌, ◌≤◌, length, slice_index_or}
-use Rattle.flow_core.specs.Limits.{most_machines}
-use Rattle.flow_core.specs.JobSet.{members}
+use Rattle.flow_limits.specs.Limits.{most_machines}
+use Rattle.flow_shop.specs.JobSet.{members}
 use Rattle.flow_bound.specs.Rest.{AreLags}
 use Rattle.flow_bound.proofs.rest.Rest.step.Given as goal
 

@@ -2,10 +2,10 @@ use Rattle.std.proofs.Common.{ℕ, ◌+◌, ◌<◌, List, [], ◌∷◌, ◌++�
 use Rattle.std.proofs.Common.{slice_index_or, arith, sym, subst, ◌≡◌}
 use Rattle.std.specs.List.{insert}
 use Rattle.std.proofs.lemmas.List.{take_more}
-use Rattle.flow_core.specs.Shop.{Shop}
-use Rattle.flow_core.specs.Paths.{span}
-use Rattle.flow_core.specs.Front.{IsFrontOf}
-use Rattle.flow_core.proofs.Fronts.{front-empty, front-within}
+use Rattle.flow_shop.specs.Shop.{Shop}
+use Rattle.flow_shop.specs.Paths.{span}
+use Rattle.flow_shop.specs.Front.{IsFrontOf}
+use Rattle.flow_shop.proofs.Fronts.{front-empty, front-within}
 use Rattle.flow_bound.proofs.Filled.{number-written}
 use Rattle.flow_bound.proofs.HeadsAndTails.{tails-within}
 use Rattle.flow_bound.proofs.start.insertion.fill_spans.Goals as goal

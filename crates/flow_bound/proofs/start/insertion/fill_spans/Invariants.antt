@@ -1,7 +1,7 @@
 use Rattle.std.proofs.Common.{◌≡◌, ℕ, ◌<◌, take, slice_index}
 use Rattle.std.specs.List.{insert}
-use Rattle.flow_core.specs.Front.{IsFrontOf}
-use Rattle.flow_core.specs.Paths.{span}
+use Rattle.flow_shop.specs.Front.{IsFrontOf}
+use Rattle.flow_shop.specs.Paths.{span}
 use Rattle.flow_bound.proofs.start.insertion.fill_spans.Given as goal
 
 -- the places so far have their makespans

@@ -1,7 +1,7 @@
 use Rattle.std.proofs.Common.{◌≡◌, ◌+◌, ◌-◌, ◌∷◌, drop, length, length-drop, length-set, replicate, slice_index_or}
 use Rattle.std.proofs.Common.{arith, ap, sym, subst, ◌∙◌}
 use Rattle.std.proofs.lemmas.List.{drop_more}
-use Rattle.flow_core.specs.Limits.{most_machines}
+use Rattle.flow_limits.specs.Limits.{most_machines}
 use Rattle.flow_bound.specs.internal.Tails.{AreTails}
 use Rattle.flow_bound.proofs.Filled.{row-written}
 use Rattle.flow_bound.proofs.HeadsAndTails.{tails-end, tails-within}

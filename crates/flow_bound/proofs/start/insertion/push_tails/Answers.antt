@@ -3,9 +3,9 @@ use Rattle.std.proofs.Common.{inl, inr, arith, sym, ◌∙◌, ap}
 use Rattle.std.proofs.lemmas.Grind.{common_steps}
 use Rattle.std.proofs.lemmas.Bool.{cases_lt}
 use Rattle.std.proofs.lemmas.List.{get_or-set_other, get_or-set_same}
-use Rattle.flow_core.specs.Limits.{most_machines, greatest_completion}
-use Rattle.flow_core.specs.Shop.{time}
-use Rattle.flow_core.proofs.Fronts.{time-small}
+use Rattle.flow_limits.specs.Limits.{most_machines, greatest_completion}
+use Rattle.flow_shop.specs.Shop.{time}
+use Rattle.flow_shop.proofs.Fronts.{time-small}
 use Rattle.flow_bound.specs.Insertion.{tail}
 use Rattle.flow_bound.specs.internal.Tails.{AreTails}
 use Rattle.flow_bound.proofs.HeadsAndTails.{tail-past, tail-step}

@@ -1,5 +1,5 @@
 use Rattle.std.proofs.Common.{◌≡◌, ℕ, ◌+◌, ◌-◌, ◌*◌, ◌<◌, ◌≤◌, List, ◌∷◌, length, slice_index}
-use Rattle.flow_core.specs.Limits.{most_machines, greatest_time, greatest_completion}
+use Rattle.flow_limits.specs.Limits.{most_machines, greatest_time, greatest_completion}
 use Rattle.flow_bound.specs.Insertion.{tail}
 use Rattle.flow_bound.specs.internal.Tails.{AreTails}
 use Rattle.flow_bound.proofs.start.insertion.push_tails.Given as goal

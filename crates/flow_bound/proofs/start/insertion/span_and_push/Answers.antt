@@ -2,11 +2,11 @@ use Rattle.std.proofs.Common.{◌≡◌, ◌≢◌, ℕ, ◌+◌, ◌-◌, ◌<�
 use Rattle.std.proofs.Common.{sym, ◌∙◌}
 use Rattle.std.proofs.lemmas.Grind.{common_steps}
 use Rattle.std.proofs.lemmas.List.{get_or-set_other}
-use Rattle.flow_core.specs.Limits.{greatest_completion}
-use Rattle.flow_core.specs.Shop.{numbers, time}
-use Rattle.flow_core.specs.Least.{greatest}
-use Rattle.flow_core.proofs.Recurrence.{after}
-use Rattle.flow_core.proofs.Fronts.{free_at, after-step, done-more, front-push, time-small}
+use Rattle.flow_limits.specs.Limits.{greatest_completion}
+use Rattle.flow_shop.specs.Shop.{numbers, time}
+use Rattle.flow_shop.specs.Least.{greatest}
+use Rattle.flow_shop.proofs.Recurrence.{after}
+use Rattle.flow_shop.proofs.Fronts.{free_at, after-step, done-more, front-push, time-small}
 use Rattle.flow_bound.proofs.HeadsAndTails.{between-is}
 use Rattle.flow_bound.proofs.Running.{greatest-step}
 use Rattle.flow_bound.proofs.start.insertion.span_and_push.Goals as goal

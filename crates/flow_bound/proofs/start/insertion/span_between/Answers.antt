@@ -1,9 +1,9 @@
 use Rattle.std.proofs.Common.{◌≡◌, ℕ, ◌+◌, ◌-◌, ◌≤◌, [], map, slice_index, slice_index_or, arith, ap, sym, ◌∙◌}
-use Rattle.flow_core.specs.Limits.{greatest_completion}
-use Rattle.flow_core.specs.Shop.{numbers, time}
-use Rattle.flow_core.specs.Least.{greatest}
-use Rattle.flow_core.proofs.Recurrence.{after}
-use Rattle.flow_core.proofs.Fronts.{free_at, after-step, time-small}
+use Rattle.flow_limits.specs.Limits.{greatest_completion}
+use Rattle.flow_shop.specs.Shop.{numbers, time}
+use Rattle.flow_shop.specs.Least.{greatest}
+use Rattle.flow_shop.proofs.Recurrence.{after}
+use Rattle.flow_shop.proofs.Fronts.{free_at, after-step, time-small}
 use Rattle.flow_bound.proofs.HeadsAndTails.{between-is}
 use Rattle.flow_bound.proofs.Running.{greatest-step}
 use Rattle.flow_bound.proofs.start.insertion.span_between.Goals as goal

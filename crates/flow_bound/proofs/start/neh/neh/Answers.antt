@@ -1,8 +1,8 @@
 use Rattle.std.proofs.Common.{◌≡◌, ℕ, ◌+◌, List, [], ◌∷◌, ◌++◌, take, slice_index_or, false, arith, sym, ap, subst, ◌∙◌}
 use Rattle.std.specs.List.{insert}
 use Rattle.std.proofs.lemmas.List.{take_more}
-use Rattle.flow_core.specs.Paths.{span}
-use Rattle.flow_core.specs.Sequences.{has, AreJobs, IsSequence}
+use Rattle.flow_shop.specs.Paths.{span}
+use Rattle.flow_shop.specs.Sequences.{has, AreJobs, IsSequence}
 use Rattle.flow_bound.specs.Neh.{IsByTotal, inserted, all_inserted}
 use Rattle.flow_bound.proofs.Places.{inserted-is, all_inserted-push, jobs-insert, jobs-none, before-lacks, has-more}
 use Rattle.flow_bound.proofs.Places.{span-none}

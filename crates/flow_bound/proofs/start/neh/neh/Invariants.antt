@@ -1,6 +1,6 @@
 use Rattle.std.proofs.Common.{◌≡◌, ℕ, ◌<◌, [], length, take, vec_len}
-use Rattle.flow_core.specs.Paths.{span}
-use Rattle.flow_core.specs.Sequences.{has, AreJobs}
+use Rattle.flow_shop.specs.Paths.{span}
+use Rattle.flow_shop.specs.Sequences.{has, AreJobs}
 use Rattle.flow_bound.specs.Neh.{all_inserted}
 use Rattle.flow_bound.proofs.start.neh.neh.Given as goal
 

@@ -1,6 +1,6 @@
 use Rattle.std.proofs.Common.{◌≡◌, ◌+◌}
-use Rattle.flow_core.specs.Paths.{span}
-use Rattle.flow_core.specs.Sequences.{IsSequence}
+use Rattle.flow_shop.specs.Paths.{span}
+use Rattle.flow_shop.specs.Sequences.{IsSequence}
 use Rattle.flow_improve.specs.internal.Rooms.{IsRoomFor}
 use Rattle.flow_improve.proofs.place.Room.place_each.Given as goal
 

@@ -1,7 +1,7 @@
 use Rattle.std.proofs.Common.{◌≡◌, ◌∙◌, List, ℕ, arith, sym, subst}
 use Rattle.std.specs.List.Sorted.{IsPermutation}
 use Rattle.std.proofs.lemmas.List.{take_at}
-use Rattle.flow_core.specs.Sequences.{IsSequence}
+use Rattle.flow_shop.specs.Sequences.{IsSequence}
 use Rattle.flow_bound.proofs.ByTotal.{sequence-moved}
 use Rattle.flow_improve.proofs.round.Rounds.pass.Goals as goal
 

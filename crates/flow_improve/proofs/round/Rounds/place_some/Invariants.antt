@@ -1,5 +1,5 @@
 use Rattle.std.proofs.Common.{◌≡◌, ◌<◌}
-use Rattle.flow_core.specs.Sequences.{IsSequence}
+use Rattle.flow_shop.specs.Sequences.{IsSequence}
 use Rattle.flow_improve.specs.internal.Rooms.{IsRoundsFor}
 use Rattle.flow_improve.proofs.round.Rounds.place_some.Given as goal
 

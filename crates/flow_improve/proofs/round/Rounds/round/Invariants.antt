@@ -1,6 +1,6 @@
 use Rattle.std.proofs.Common.{◌≡◌}
-use Rattle.flow_core.specs.Paths.{span}
-use Rattle.flow_core.specs.Sequences.{IsSequence}
+use Rattle.flow_shop.specs.Paths.{span}
+use Rattle.flow_shop.specs.Sequences.{IsSequence}
 use Rattle.flow_improve.specs.internal.Rooms.{IsRoundsFor}
 use Rattle.flow_improve.proofs.round.Rounds.round.Given as goal
 

@@ -1,7 +1,7 @@
 use Rattle.std.proofs.Common.{rules, ◌≡◌, ◌∙◌, ◌-◌, ◌<◌, ◌≤◌, [], length, slice_index, slice_index_or, refl, subst, sym}
 use Rattle.std.proofs.Common.{arith}
 use Rattle.std.proofs.lemmas.List.{length-set}
-use Rattle.flow_core.specs.Limits.{most_machines}
+use Rattle.flow_limits.specs.Limits.{most_machines}
 use Rattle.flow_search.proofs.LanesPassed.{done-more}
 use Rattle.flow_search.specs.internal.Lanes.{IsLaneLeft}
 use Rattle.flow_search.proofs.LanesOpened.{time-within, child-at}

@@ -1,5 +1,5 @@
 use Rattle.std.proofs.Common.{◌≡◌, ℕ, ◌-◌, ◌<◌, [], length, slice_index, slice_index_or}
-use Rattle.flow_core.specs.Limits.{most_machines}
+use Rattle.flow_limits.specs.Limits.{most_machines}
 use Rattle.flow_search.proofs.eight.children.open_child.Given as goal
 
 -- the machines so far are those of the child

@@ -3,10 +3,10 @@ use Rattle.std.proofs.Common.{List, [], slice_index, refl, ap, sym, ◌∙◌, s
 use Rattle.std.proofs.Common.{inr, arith}
 use Rattle.std.proofs.lemmas.Bool.{cases_lt}
 use Rattle.std.proofs.lemmas.List.{length-set}
-use Rattle.flow_core.specs.Limits.{most_machines, greatest_time, greatest_completion}
-use Rattle.flow_core.specs.Shop.{Shop}
-use Rattle.flow_core.specs.Paths.{completion}
-use Rattle.flow_core.specs.Bound.{bound_at}
+use Rattle.flow_limits.specs.Limits.{most_machines, greatest_time, greatest_completion}
+use Rattle.flow_shop.specs.Shop.{Shop}
+use Rattle.flow_shop.specs.Paths.{completion}
+use Rattle.flow_shop.specs.Bound.{bound_at}
 use Rattle.flow_search.specs.internal.Lanes.{IsLaneLeft, IsFrameOf, IsUncutCount, child, job_of}
 use Rattle.flow_search.proofs.LanesPassed.{all-same, passed-start, passed-more, free-none, free-is, bound-is}
 use Rattle.flow_search.proofs.LanesPassed.{start-small, behind-small, sum-small, row-small, done-more}

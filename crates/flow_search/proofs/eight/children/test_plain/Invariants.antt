@@ -1,7 +1,7 @@
 use Rattle.std.proofs.Common.{◌≡◌, ◌≢◌, ℕ, ◌+◌, ◌*◌, ◌<◌, ◌≤◌, List, [], length, slice_index, slice_index_or}
-use Rattle.flow_core.specs.Limits.{most_machines, greatest_time, greatest_completion}
-use Rattle.flow_core.specs.Paths.{completion}
-use Rattle.flow_core.specs.Bound.{bound_at}
+use Rattle.flow_limits.specs.Limits.{most_machines, greatest_time, greatest_completion}
+use Rattle.flow_shop.specs.Paths.{completion}
+use Rattle.flow_shop.specs.Bound.{bound_at}
 use Rattle.flow_search.specs.internal.Lanes.{IsFrameOf, IsLaneLeft, child}
 use Rattle.flow_search.proofs.LanesPassed.{IsPassed}
 use Rattle.flow_search.proofs.eight.children.test_plain.Given as goal

@@ -1,8 +1,8 @@
 use Rattle.std.proofs.Common.{◌≡◌, ℕ, ◌+◌, ◌-◌, ◌<◌, ◌≤◌, slice_index, refl, ap, ◌∙◌, arith}
 use Rattle.std.proofs.lemmas.List.{length-set}
-use Rattle.flow_core.specs.Limits.{most_machines}
-use Rattle.flow_core.specs.Shop.{Shop, time_between}
-use Rattle.flow_core.proofs.Fronts.{front-within}
+use Rattle.flow_limits.specs.Limits.{most_machines}
+use Rattle.flow_shop.specs.Shop.{Shop, time_between}
+use Rattle.flow_shop.proofs.Fronts.{front-within}
 use Rattle.flow_search.specs.declared.eight.group.LaneRow.{LaneRow}
 use Rattle.flow_search.proofs.LanesEntered.{jobs-of, done-next, time_between-first, entered}
 use Rattle.flow_search.proofs.eight.entry.enter_few.Goals as goal

@@ -1,6 +1,6 @@
 use Rattle.std.proofs.Common.{◌≡◌, ℕ, ◌+◌, ◌-◌, ◌*◌, ◌<◌, ◌≤◌, length, slice_index}
-use Rattle.flow_core.specs.Limits.{most_machines, greatest_time}
-use Rattle.flow_core.specs.Shop.{time_between}
+use Rattle.flow_limits.specs.Limits.{most_machines, greatest_time}
+use Rattle.flow_shop.specs.Shop.{time_between}
 use Rattle.flow_search.proofs.LanesEntered.{AreDone}
 use Rattle.flow_search.proofs.eight.entry.enter_few.Given as goal
 

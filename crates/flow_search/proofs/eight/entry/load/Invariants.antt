@@ -1,7 +1,7 @@
 use Rattle.std.proofs.Common.{◌≡◌, ◌*◌, ◌≤◌, take}
 use Rattle.std.specs.List.{sum_by}
-use Rattle.flow_core.specs.Limits.{greatest_time}
-use Rattle.flow_core.specs.Shop.{time}
+use Rattle.flow_limits.specs.Limits.{greatest_time}
+use Rattle.flow_shop.specs.Shop.{time}
 use Rattle.flow_search.proofs.eight.entry.load.Given as goal
 
 abbrev pub invariant-loop-lane : goal.invariant-loop-lane

@@ -1,6 +1,6 @@
 use Rattle.std.proofs.Common.{◌≡◌, ℕ, ◌<◌, ◌≤◌, length, slice_index}
-use Rattle.flow_core.specs.Limits.{greatest_time}
-use Rattle.flow_core.specs.Shop.{time}
+use Rattle.flow_limits.specs.Limits.{greatest_time}
+use Rattle.flow_shop.specs.Shop.{time}
 use Rattle.flow_search.proofs.eight.entry.times_of.Given as goal
 
 abbrev pub invariant-loop-lane : goal.invariant-loop-lane

@@ -1,9 +1,9 @@
 use Rattle.std.proofs.Common.{◌≡◌, ◌≢◌, ℕ, ◌+◌, ◌*◌, ◌<◌, ◌≤◌, max, List, [], map, slice_index, slice_index_or}
-use Rattle.flow_core.specs.Limits.{most_machines, greatest_time, greatest_completion}
-use Rattle.flow_core.specs.Shop.{numbers}
-use Rattle.flow_core.specs.Least.{greatest}
-use Rattle.flow_core.specs.Sequences.{jobs_left}
-use Rattle.flow_core.specs.Bound.{front_of}
+use Rattle.flow_limits.specs.Limits.{most_machines, greatest_time, greatest_completion}
+use Rattle.flow_shop.specs.Shop.{numbers}
+use Rattle.flow_shop.specs.Least.{greatest}
+use Rattle.flow_shop.specs.Sequences.{jobs_left}
+use Rattle.flow_shop.specs.Bound.{front_of}
 use Rattle.flow_search.specs.internal.Lanes.{IsOpened, IsLaneLeft, child}
 use Rattle.flow_search.specs.declared.eight.group.TheConstants.{GONE}
 use Rattle.flow_search.proofs.LanesReleased.{need}

@@ -1,9 +1,9 @@
 use Rattle.std.proofs.Common.{◌≡◌, ℕ, ◌+◌, ◌*◌, ◌<◌, ◌≤◌, [], slice_index, sym, subst, ◌∙◌, inl, inr, arith}
 use Rattle.std.proofs.lemmas.Bool.{cases_lt}
-use Rattle.flow_core.specs.Limits.{most_machines, greatest_time, greatest_completion}
-use Rattle.flow_core.specs.Shop.{Shop}
-use Rattle.flow_core.specs.Bound.{bound_at, released_bound_at}
-use Rattle.flow_core.proofs.Admissible.{released_bound_is_stronger}
+use Rattle.flow_limits.specs.Limits.{most_machines, greatest_time, greatest_completion}
+use Rattle.flow_shop.specs.Shop.{Shop}
+use Rattle.flow_shop.specs.Bound.{bound_at, released_bound_at}
+use Rattle.flow_shop.proofs.Admissible.{released_bound_is_stronger}
 use Rattle.flow_search.specs.declared.eight.group.TheConstants.{GONE}
 use Rattle.flow_search.specs.declared.eight.group.LaneRow.{LaneRow}
 use Rattle.flow_search.specs.internal.Lanes.{IsUncutCount, child}

@@ -1,5 +1,5 @@
 use Rattle.std.proofs.Common.{◌≢◌, ℕ, ◌<◌, ◌≤◌, List, slice_index}
-use Rattle.flow_core.specs.Bound.{bound_at, released_bound_at}
+use Rattle.flow_shop.specs.Bound.{bound_at, released_bound_at}
 use Rattle.flow_search.specs.internal.Lanes.{IsTested, IsLaneLeft, child}
 use Rattle.flow_search.proofs.LanesPassed.{IsPassed}
 use Rattle.flow_search.proofs.eight.releases.uncut_by_releases.Given as goal

@@ -1,15 +1,15 @@
 use Rattle.std.proofs.Common.{◌≡◌, ℕ, ◌+◌, ◌-◌, ◌*◌, ◌<◌, ◌≤◌, suc, Bool, true, false, max, nat_le, List, [], ◌∷◌, ◌++◌}
 use Rattle.std.proofs.Common.{slice_index, slice_index_or, refl, ap, sym, ◌∙◌, arith}
 use Rattle.std.proofs.lemmas.Bool.{le-leb, lt-leb}
-use Rattle.flow_core.specs.Limits.{most_machines, greatest_time, greatest_completion}
-use Rattle.flow_core.specs.Shop.{time}
-use Rattle.flow_core.specs.Bound.{bound_at}
-use Rattle.flow_core.proofs.Recurrence.{after}
-use Rattle.flow_core.proofs.Fronts.{free_at, after-step, time-small}
+use Rattle.flow_limits.specs.Limits.{most_machines, greatest_time, greatest_completion}
+use Rattle.flow_shop.specs.Shop.{time}
+use Rattle.flow_shop.specs.Bound.{bound_at}
+use Rattle.flow_shop.proofs.Recurrence.{after}
+use Rattle.flow_shop.proofs.Fronts.{free_at, after-step, time-small}
 use Rattle.flow_search.specs.internal.Frames.{IsFrame, IsChild}
 use Rattle.flow_search.proofs.Children.{child-completion, child-bound, frame-within}
 use Rattle.flow_search.proofs.Nodes.{find-here, find-skip, find-past}
-use Rattle.flow_core.proofs.TwoLeast.{Without}
+use Rattle.flow_shop.proofs.TwoLeast.{Without}
 use Rattle.flow_search.proofs.frame.Frame.cutting_machine.Goals as goal
 use Rattle.flow_search.proofs.frame.Frame.cutting_machine.Goals.{After-from, After-from-in-loop-machine, then-row-place}
 use Rattle.flow_search.proofs.frame.Frame.cutting_machine.Goals.{else-row-place}

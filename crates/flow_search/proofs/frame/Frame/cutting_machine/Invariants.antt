@@ -1,10 +1,10 @@
 use Rattle.std.proofs.Common.{◌≡◌, ℕ, suc, ◌+◌, ◌-◌, ◌*◌, ◌≤◌, nat_le, List, [], ◌∷◌, ◌++◌}
 use Rattle.std.specs.List.{find}
-use Rattle.flow_core.specs.Limits.{greatest_time, greatest_completion}
-use Rattle.flow_core.specs.Shop.{numbers}
-use Rattle.flow_core.specs.Bound.{bound_at}
-use Rattle.flow_core.proofs.Recurrence.{after}
-use Rattle.flow_core.proofs.Fronts.{free_at}
+use Rattle.flow_limits.specs.Limits.{greatest_time, greatest_completion}
+use Rattle.flow_shop.specs.Shop.{numbers}
+use Rattle.flow_shop.specs.Bound.{bound_at}
+use Rattle.flow_shop.proofs.Recurrence.{after}
+use Rattle.flow_shop.proofs.Fronts.{free_at}
 use Rattle.flow_search.specs.internal.Frames.{IsFrame, IsChild}
 use Rattle.flow_search.proofs.frame.Frame.cutting_machine.Given as goal
 

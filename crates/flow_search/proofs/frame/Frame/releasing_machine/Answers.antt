@@ -2,16 +2,16 @@ use Rattle.std.proofs.Common.{rules, ◌≡◌, ℕ, ◌+◌, ◌-◌, ◌*◌, 
 use Rattle.std.proofs.Common.{◌∷◌, ◌++◌, set, slice_index, slice_index_or, refl, ap, sym, ◌∙◌, arith}
 use Rattle.std.proofs.lemmas.Bool.{le-leb, lt-leb}
 use Rattle.std.proofs.lemmas.List.{get_or-set_same, length-set}
-use Rattle.flow_core.specs.Limits.{most_machines, greatest_time, greatest_completion}
-use Rattle.flow_core.specs.Shop.{Shop, time}
-use Rattle.flow_core.specs.Paths.{completion}
-use Rattle.flow_core.specs.Sequences.{jobs_left}
-use Rattle.flow_core.specs.Bound.{bound_at, released_bound_at, front_of}
-use Rattle.flow_core.specs.declared.row.Row.{Row}
-use Rattle.flow_core.proofs.Admissible.{front_of-is, released_bound_is_stronger}
-use Rattle.flow_core.proofs.Recurrence.{after}
-use Rattle.flow_core.proofs.Fronts.{free_at, after-step, time-small}
-use Rattle.flow_core.proofs.TwoLeast.{Without}
+use Rattle.flow_limits.specs.Limits.{most_machines, greatest_time, greatest_completion}
+use Rattle.flow_shop.specs.Shop.{Shop, time}
+use Rattle.flow_shop.specs.Paths.{completion}
+use Rattle.flow_shop.specs.Sequences.{jobs_left}
+use Rattle.flow_shop.specs.Bound.{bound_at, released_bound_at, front_of}
+use Rattle.flow_shop.specs.declared.row.Row.{Row}
+use Rattle.flow_shop.proofs.Admissible.{front_of-is, released_bound_is_stronger}
+use Rattle.flow_shop.proofs.Recurrence.{after}
+use Rattle.flow_shop.proofs.Fronts.{free_at, after-step, time-small}
+use Rattle.flow_shop.proofs.TwoLeast.{Without}
 use Rattle.flow_search.specs.internal.Frames.{IsFrame, IsChild}
 use Rattle.flow_search.specs.internal.Lags.{AreTwoLeastLags, IsLagged}
 use Rattle.flow_search.specs.declared.lows.Lows.{Lows}

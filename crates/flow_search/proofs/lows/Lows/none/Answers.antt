@@ -1,5 +1,5 @@
 use Rattle.std.proofs.Common.{◌≡◌, ℕ, zero, suc, ◌<◌, slice_index, replicate, refl, arith}
-use Rattle.flow_core.specs.Limits.{most_machines}
+use Rattle.flow_limits.specs.Limits.{most_machines}
 use Rattle.flow_search.specs.internal.Lows.{unknown}
 use Rattle.flow_search.proofs.lows.Lows.none.Goals as goal
 

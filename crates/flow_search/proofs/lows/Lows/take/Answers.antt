@@ -1,10 +1,10 @@
 use Rattle.std.proofs.Common.{◌≡◌, ◌≢◌, ℕ, ◌<◌, min, max, map, set, slice_index, ap, sym, ◌∙◌, inl, inr, arith}
 use Rattle.std.proofs.lemmas.Bool.{cases_lt}
 use Rattle.std.proofs.lemmas.List.{get_or-set_same, get_or-set_other, length-set}
-use Rattle.flow_core.specs.Limits.{most_machines}
-use Rattle.flow_core.specs.internal.TwoLeast.{least_below, second_below}
+use Rattle.flow_limits.specs.Limits.{most_machines}
+use Rattle.flow_shop.specs.TwoLeast.{least_below, second_below}
 use Rattle.flow_search.specs.internal.Lows.{unknown}
-use Rattle.flow_core.proofs.TwoLeast.{least-push, second-push}
+use Rattle.flow_shop.proofs.TwoLeast.{least-push, second-push}
 use Rattle.flow_search.proofs.Children.{map-push}
 use Rattle.flow_search.proofs.lows.Lows.take.Goals as goal
 

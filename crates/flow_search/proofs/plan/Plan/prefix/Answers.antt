@@ -1,5 +1,5 @@
 use Rattle.std.proofs.Common.{◌≡◌, ◌+◌, ◌-◌, ◌*◌, ◌≤◌, length, take, drop, subst, ap, sym, ◌∙◌, arith}
-use Rattle.flow_core.specs.Sequences.{AreJobs}
+use Rattle.flow_shop.specs.Sequences.{AreJobs}
 use Rattle.flow_search.specs.Plans.{Planned, prefixes_of, prefix_of}
 use Rattle.flow_search.specs.internal.Stored.{IsStored}
 use Rattle.flow_search.proofs.CutLemmas.{joined-fits}

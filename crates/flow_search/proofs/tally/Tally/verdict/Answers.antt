@@ -1,5 +1,5 @@
 use Rattle.std.proofs.Common.{subst, sym}
-use Rattle.flow_core.specs.Sequences.{IsLeastMakespan}
+use Rattle.flow_shop.specs.Sequences.{IsLeastMakespan}
 use Rattle.flow_search.proofs.Tallies.{best-verdict, start-verdict, verdict-answers}
 use Rattle.flow_search.proofs.tally.Tally.verdict.Goals as goal
 
