@@ -123,7 +123,7 @@ EndsOrder OfStandard OfFile refused Untouched (order.OfText file index what) tak
     ⊎ RunOfText OfStandard OfFile file.now (λ unread given gives ended.
     EndsForText OfFile refused index what Untouched unread given gives ended taken takes stop)
 
--- a file that the name opened has refused to be read
+-- the name opened a file, and a source of that kind has refused to be read; that it is this file is not said
 abbrev pub FailedOfOpened :
     {F : Type 0} → (List ℕ → F → Type 0) → (F → Bool) → List ℕ → Type 0
 FailedOfOpened {F} opened has_failed name =
