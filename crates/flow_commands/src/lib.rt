@@ -17,8 +17,6 @@ mod printed;
 mod solve;
 mod span;
 mod start;
-#[cfg(test)]
-mod tests;
 
 pub use certify::{run_certify, run_certify_from};
 pub use check::run_check;

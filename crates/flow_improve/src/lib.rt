@@ -5,7 +5,5 @@ mod better;
 mod list;
 mod place;
 mod round;
-#[cfg(test)]
-mod tests;
 
 pub use better::improve;

@@ -8,8 +8,6 @@ ghost use Rattle.flow_lanes.specs.Lane.{most_slots};
 mod receiver;
 mod sender;
 mod settled;
-#[cfg(test)]
-mod tests;
 
 pub use receiver::Receiver;
 use rtrb::RingBuffer;

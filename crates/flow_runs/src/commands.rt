@@ -2,10 +2,10 @@
 
 ghost use Rattle.std.specs.Prelude.{◌≡◌, ◌<◌, None, false};
 
-use crate::{
+use flow_check::CheckFault;
+use flow_commands::{
     ImproveFault, ToolFault, run_check, run_gen, run_neh, run_solve, run_solve_from, run_span,
 };
-use flow_check::CheckFault;
 use flow_core::{
     InstanceFault, MemorySink, MemorySource, ReadFault, Refused, SequenceFault, Source, StartFault,
     TextFault, WriteFault,
@@ -651,7 +651,7 @@ fn span_stops_an_endless_source(rt: HostRuntime) -> Result<(), Fail> {
     Ok(())
 }
 
-/// Holds each of the first `count` prefixes until all of them were reached. (flow_pool tests `solve` with a gate of the
+/// Holds each of the first `count` prefixes until all of them were reached. (flow_threads tests `solve` with a gate of the
 /// same form: a crate does not see the tests of another.)
 #[derive(Drop)]
 struct Meeting {

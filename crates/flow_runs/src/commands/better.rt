@@ -4,7 +4,7 @@ use super::{
     DEPTH_0, Endless, FROM_STARTS, ONE_JOB, ROOM, Ran, THREE_MACHINES, all_of, checked, checked_as,
     refused, solved_from, wrote,
 };
-use crate::{
+use flow_commands::{
     ImproveFault, ToolFault, run_certify, run_certify_from, run_gen, run_improve, run_improve_from,
     run_neh,
 };

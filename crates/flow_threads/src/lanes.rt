@@ -1,7 +1,7 @@
 //! A lane used step by step in one thread, and a thousand items sent from one thread to another.
 ghost use Rattle.std.specs.Prelude.{◌≡◌};
 
-use crate::{Receiver, Sender, lane, settle};
+use flow_lanes::{Receiver, Sender, lane, settle};
 use std::sync::Wait;
 use std::test::Fail;
 use std::thread;

@@ -1,12 +1,11 @@
 //! How the rounds go, which no contract says.
 
 ghost use Rattle.std.specs.Prelude.{◌<◌, ◌≤◌};
-ghost use Rattle.flow_text.specs.Generator.{modulus};
+ghost use Rattle.flow_core.specs.Generator.{modulus};
 
-use crate::improve;
 use flow_bound::{neh, taillard_bound};
-use flow_shop::{Instance, Sequence, makespan};
-use flow_text::generate;
+use flow_core::{Instance, Sequence, generate, makespan};
+use flow_improve::improve;
 use std::alloc::Global;
 use std::test::Fail;
 

@@ -1,0 +1,7 @@
+//! Tests of what starts threads: lanes between two threads, workers and the hub, and whole runs.
+#![tactic(auto)]
+
+#[cfg(test)]
+mod lanes;
+#[cfg(test)]
+mod workers;
