@@ -1,8 +1,9 @@
 -- The jobs that a list leaves, and the links between them.
 use Rattle.std.proofs.Common.{◌≡◌, ◌≢◌, ℕ, zero, suc, ◌+◌, ◌-◌, ◌<◌, ◌≤◌, Bool, false, cond, not, List, [], ◌∷◌, ◌++◌}
-use Rattle.std.proofs.Common.{slice_index, slice_set, refl, ap, sym, ◌∙◌, subst, inl, inr, arith, set}
+use Rattle.std.proofs.Common.{length, slice_index, slice_set, refl, ap, sym, ◌∙◌, subst, inl, inr, arith, set}
 use Rattle.std.specs.List.{filter, range_with_len}
-use Rattle.std.proofs.lemmas.List.{get_or-set_same, get_or-set_other, set-set, set-get_or, length-set}
+use Rattle.std.proofs.lemmas.List.{get_or-set_same, get_or-set_other, set-set, set-get_or, length-set, length_push}
+use Rattle.std.proofs.lemmas.List.{get_or_append_left, get_or_at}
 use Rattle.std.proofs.lemmas.Bool.Decides.{eqb_tells}
 use Rattle.std.proofs.lemmas.Bool.{cases_lt, false≢true}
 use Rattle.flow_shop.specs.Sequences.{has}
@@ -74,6 +75,23 @@ next-place n list last (suc job) is = (is.1, λ low. is.2)
 
 pub start-place : (n : ℕ) (list : List ℕ) → IsPlace n list 0
 start-place n list = (omega arith, λ low. absurd (omega (arith, low)))
+
+-- at first the link of each place leads to the next job, and that of the last one to 0
+pub all-linked : (n : ℕ) (links : List ℕ) → length links ≡ n → ((k : ℕ) → k < n → slice_index links k ≡ k + 1) →
+    AreLinks n [] (links ++ 0 ∷ [])
+all-linked n links size each = record {
+  each = λ job at. elim (cases_lt job n) [
+    | inl under ↦
+        let next : slice_index (links ++ 0 ∷ []) job ≡ suc job =
+        get_or_append_left links (0 ∷ []) 0 job (omega (arith, size, under)) ∙ each job under ∙ omega arith in
+        subst (IsNext n [] job) (sym next) (omega arith, omega (arith, under), refl, λ k low high.
+        absurd (omega (arith, low, high)))
+    | inr over ↦
+        subst (IsNext n [] job) (sym (get_or_at links 0 [] 0 job (omega (arith, size, over, at.0))))
+        (λ k low high. absurd (omega (arith, over, low, high)))
+  ];
+  size = length_push links 0 ∙ ap (λ count. count + 1) size;
+}
 
 -- a job is taken out of the links
 

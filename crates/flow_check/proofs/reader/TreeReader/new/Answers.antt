@@ -1,0 +1,22 @@
+use Rattle.std.proofs.Common.{◌≡◌, suc, ◌-◌, [], sym, subst, ◌∙◌, arith}
+use Rattle.flow_check.specs.internal.Links.{AreLinks}
+use Rattle.flow_check.specs.internal.Nodes.{IsNode}
+use Rattle.flow_check.proofs.Readers.{none-kept}
+use Rattle.flow_check.proofs.reader.TreeReader.new.Goals as goal
+
+pub returns : goal.returns
+returns c =
+    let shop = c.args.instance.now in
+    let below = c.jobs-jobs.result - 1 in
+    let value : c.jobs-jobs.result ≡ shop.jobs = c.jobs-jobs.ensures.value in
+    let count : shop.jobs ≡ suc below = omega (arith, value, c.jobs-jobs.ensures.limits) in
+    record {
+      at = record {
+        is_node = subst (λ node. IsNode shop [] node (suc below))
+            (sym (c.in_ok-frames.ensures.each below (omega (arith, value, count))))
+            (subst (IsNode shop [] c.root.result) count c.root.ensures);
+        are_links = subst (λ jobs. AreLinks jobs [] c.in_ok-links.links.items) value c.in_ok-links.ensures;
+      };
+      room = c.in_ok-frames.ensures.size ∙ value;
+      lags = none-kept shop [] c.in_ok-lags.lags.items c.in_ok-lags.ensures;
+    }
