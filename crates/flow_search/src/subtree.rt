@@ -28,7 +28,7 @@ use flow_shop::{Front, Instance, JobSet, front_push};
 use std::alloc::{AllocError, AllocFailed, Global};
 
 /// Why a search ended early.
-#[derive(Clone, Copy, Debug, PartialEq, Eq)]
+#[derive(Clone, Copy)]
 pub enum Stop {
     /// The tree is longer than the budget.
     OverBudget,

@@ -3,7 +3,7 @@
 use crate::text::block::Block;
 
 /// What is wanted at the next line.
-#[derive(Clone, Copy, Debug, PartialEq, Eq)]
+#[derive(Clone, Copy)]
 pub(crate) enum Want {
     /// The label line of a head, or the end of the text.
     FirstLabel,
