@@ -7,6 +7,7 @@ ghost use Rattle.flow_improve.specs.internal.Reaches.{IsReached};
 
 mod bounds;
 mod kept;
+mod lanes;
 mod node;
 mod order;
 mod pass;

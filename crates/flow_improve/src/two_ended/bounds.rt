@@ -1,11 +1,18 @@
 //! The bounds of the children of a node, at both ends.
 
-ghost use Rattle.std.specs.Prelude.{◌≤◌, length};
+ghost use Rattle.std.specs.Prelude.{◌<◌, ◌≤◌};
 ghost use Rattle.flow_limits.specs.Limits.{most_jobs, most_machines};
 
+use crate::two_ended::lanes::{LANES, Lanes, at_least, greater, plus, sums};
 use crate::two_ended::node::{End, MachineTimes, Node, add, row_of};
-use flow_limits::MAX_JOBS;
+use flow_limits::{MAX_JOBS, MAX_MACHINES};
 use flow_shop::Row;
+
+/// How many groups of jobs side by side there are at most.
+const GROUPS: usize = MAX_JOBS / LANES;
+
+/// The times of jobs side by side, a row for each machine.
+type GroupTimes = [Lanes; MAX_MACHINES];
 
 /// What the bounds of a node's children are computed from.
 #[derive(Drop)]
@@ -33,40 +40,75 @@ impl Sums {
         }
     }
 
-    /// The bounds of the children of a job: put behind the prefix, and put before the suffix. No bound overflows.
-    fn bounds(&self, times: &MachineTimes, machines: usize) -> (u32, u32)
+    /// The bounds of the children of some jobs: put behind the prefix, and put before the suffix.
+    fn bounds(&self, times: &GroupTimes, machines: usize) -> (Lanes, Lanes)
         requires { machines ≤ most_machines }
     {
-        let mut head: u32 = 0;
-        let mut forward: u32 = 0;
-        let mut tail: u32 = 0;
-        let mut backward: u32 = 0;
+        let mut head = [0; LANES];
+        let mut forward = [0; LANES];
+        let mut tail = [0; LANES];
+        let mut backward = [0; LANES];
         for place in 0..machines {
-            let start = head.max(self.front[place]);
-            forward = forward.max(start.wrapping_add(self.with_back[place]));
-            head = start.wrapping_add(times[place]);
+            let start = at_least(&head, self.front[place]);
+            forward = greater(&forward, &plus(&start, self.with_back[place]));
+            head = sums(&start, &times[place]);
             let other = machines - 1 - place;
-            let end = tail.max(self.back[other]);
-            backward = backward.max(end.wrapping_add(self.with_front[other]));
-            tail = end.wrapping_add(times[other]);
+            let end = at_least(&tail, self.back[other]);
+            backward = greater(&backward, &plus(&end, self.with_front[other]));
+            tail = sums(&end, &times[other]);
         }
         (forward, backward)
     }
 }
 
+/// Writes the times of a job to its lane.
+fn write_lane(times: &mut GroupTimes, lane: usize, row: &Row, machines: usize)
+    requires lane { lane < 8 }
+    requires machines { machines ≤ most_machines }
+{
+    for place in 0..machines {
+        times[place][lane] = row.times[place];
+    }
+}
+
+/// Writes the times of some jobs side by side. Lanes behind the last job stay.
+fn write_lanes(times: &mut GroupTimes, jobs: &[u16], rows: &[Row], machines: usize)
+    requires { machines ≤ most_machines }
+{
+    for (lane, &job) in jobs.iter().take(LANES).enumerate() {
+        if let Some(row) = row_of(rows, job) {
+            write_lane(times, lane, row, machines);
+        }
+    }
+}
+
+/// The sum of the first bounds, which are so many.
+fn total(bounds: &[Lanes; GROUPS], count: usize) -> u64
+    requires { count ≤ most_jobs }
+{
+    let mut total: u64 = 0;
+    for place in 0..count {
+        total = total.wrapping_add(u64::from(bounds[place / LANES][place % LANES]));
+    }
+    total
+}
+
 /// The bounds of the children of a node, by the places of the free jobs.
 #[derive(Drop)]
 pub(crate) struct Bounds {
-    forward: [u32; MAX_JOBS],
-    backward: [u32; MAX_JOBS],
+    forward: [Lanes; GROUPS],
+    backward: [Lanes; GROUPS],
+    /// Room for the times of a group.
+    times: GroupTimes,
 }
 
 impl Bounds {
     /// Bounds to be written over.
     pub(crate) fn new() -> Bounds {
         Bounds {
-            forward: [0; MAX_JOBS],
-            backward: [0; MAX_JOBS],
+            forward: [[0; LANES]; GROUPS],
+            backward: [[0; LANES]; GROUPS],
+            times: [[0; LANES]; MAX_MACHINES],
         }
     }
 
@@ -75,30 +117,29 @@ impl Bounds {
     pub(crate) fn fill(&mut self, node: &Node, rows: &[Row], machines: usize) -> End
         requires { machines ≤ most_machines }
     {
-        let sums = Sums::of(node);
-        let mut total_forward: u64 = 0;
-        let mut total_backward: u64 = 0;
-        for (index, &job) in node.free().iter().enumerate() {
-            if let Some(row) = row_of(rows, job) {
-                let (forward, backward) = sums.bounds(&row.times, machines);
-                self.forward[index] = forward;
-                self.backward[index] = backward;
-                total_forward = total_forward.wrapping_add(u64::from(forward));
-                total_backward = total_backward.wrapping_add(u64::from(backward));
-            }
+        let ends = Sums::of(node);
+        let free = node.free();
+        for (group, jobs) in free.chunks(LANES).take(GROUPS).enumerate() {
+            write_lanes(&mut self.times, jobs, rows, machines);
+            let (forward, backward) = ends.bounds(&self.times, machines);
+            self.forward[group] = forward;
+            self.backward[group] = backward;
         }
-        if total_backward > total_forward {
+        if total(&self.backward, free.len()) > total(&self.forward, free.len()) {
             End::Suffix
         } else {
             End::Prefix
         }
     }
 
-    /// The bounds at an end.
-    pub(crate) fn at(&self, end: End) -> &[u32; MAX_JOBS] {
-        match end {
+    /// The bound of the child of the free job at a place, put at an end.
+    pub(crate) fn at(&self, end: End, place: usize) -> u32
+        requires { place < most_jobs }
+    {
+        let bounds = match end {
             End::Prefix => &self.forward,
             End::Suffix => &self.backward,
-        }
+        };
+        bounds[place / LANES][place % LANES]
     }
 }

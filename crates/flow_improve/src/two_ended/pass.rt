@@ -54,7 +54,8 @@ fn offer_children(
 {
     let end = bounds.fill(node, rows, machines);
     let same = order.kept_deficit(node, end, machines);
-    for (place, (&job, &bound)) in node.free().iter().zip(bounds.at(end).iter()).enumerate() {
+    for (place, &job) in node.free().iter().enumerate() {
+        let bound = bounds.at(end, place);
         if u64::from(bound) >= below || kept.drops(&order.key(bound, same)) {
             continue;
         }
