@@ -34,7 +34,7 @@ const REFUSED: u8 = 1;
 const WRONG: u8 = 2;
 
 /// How many groups of calls there are.
-const GROUPS: usize = 35;
+const GROUPS: usize = 36;
 
 /// Makes all calls: each group, also where one before it did not return what it should.
 fn found<T: Threads + Wait + Sync>(threads: &T, alloc: Global) -> [Result<(), Trouble>; GROUPS] {
@@ -50,6 +50,7 @@ fn found<T: Threads + Wait + Sync>(threads: &T, alloc: Global) -> [Result<(), Tr
         bounds::starting_sequence_is_found(alloc),
         bounds::insertions_are_tried(alloc),
         bounds::start_is_improved(alloc),
+        bounds::beam_is_searched(alloc),
         search::prefixes_are_answered(alloc),
         search::plan_starts_as_given(alloc),
         search::outcomes_are_concluded(alloc),

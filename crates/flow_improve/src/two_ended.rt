@@ -1,0 +1,182 @@
+//! The two-ended beam search: sequences built from both ends at once.
+
+ghost use Rattle.std.specs.Prelude.{◌≡◌, ◌≤◌, length, IfOk};
+ghost use Rattle.flow_shop.specs.Paths.{span};
+ghost use Rattle.flow_shop.specs.Sequences.{IsSequence};
+ghost use Rattle.flow_improve.specs.internal.Reaches.{IsReached};
+
+mod bounds;
+mod kept;
+mod lanes;
+mod node;
+mod order;
+mod pass;
+
+use crate::two_ended::order::Mode;
+use crate::two_ended::pass::Passes;
+use flow_bound::taillard_bound;
+use flow_shop::{Instance, Sequence, SequenceFault, makespan};
+use std::alloc::{AllocError, Global};
+
+/// The best sequence of a search.
+#[derive(Drop)]
+pub struct Reached {
+    /// The sequence.
+    pub sequence: Sequence,
+    /// Its makespan.
+    pub value: u64,
+    /// Whether the search ended because the makespan has Taillard's bound, or because a pass dropped nothing. No
+    /// contract says that no sequence has a smaller makespan then.
+    pub whole: bool,
+}
+
+/// The same jobs again, as a sequence of the instance.
+fn copied(alloc: Global, instance: &Instance, sequence: &Sequence) -> Result<Sequence, AllocError>
+    requires { length sequence.now ≡ instance.now.jobs }
+    ensures { IfOk result (λ copy. copy ≡ sequence.now) }
+{
+    // The jobs are a sequence, so an error is that memory ran out.
+    Sequence::new(alloc, instance, sequence.jobs()).map_err(|_| AllocError)
+}
+
+impl Reached {
+    /// Takes these jobs, where they are a sequence of a smaller makespan.
+    fn take(&mut self, alloc: Global, instance: &Instance, jobs: &[u16]) -> Result<(), AllocError>
+        requires { IsReached instance.now self.old }
+        ensures reached { IsReached instance.now self.new }
+        ensures least { self.new.value ≤ self.old.value }
+    {
+        match Sequence::new(alloc, instance, jobs) {
+            Ok(sequence) => {
+                let value = makespan(instance, &sequence);
+                if value < self.value {
+                    self.sequence = sequence;
+                    self.value = value;
+                }
+                Ok(())
+            }
+            Err(SequenceFault::Memory) => Err(AllocError),
+            // No pass gives such jobs.
+            Err(_) => Ok(()),
+        }
+    }
+}
+
+/// When a search ends.
+#[derive(Drop)]
+struct Limits {
+    /// Taillard's lower bound.
+    least: u64,
+    /// The most steps of a pass of width 1. One of another width has as many for each unit of its width.
+    narrow: u64,
+    /// The most steps of all passes.
+    work: u64,
+}
+
+impl Limits {
+    /// Those of an instance.
+    fn of(instance: &Instance, work: u64) -> Limits {
+        let jobs = u64::from(instance.jobs());
+        let machines = u64::from(instance.machines());
+        Limits {
+            least: taillard_bound(instance),
+            narrow: jobs
+                .saturating_mul(jobs.saturating_add(1))
+                .saturating_mul(machines),
+            work,
+        }
+    }
+
+    /// The most steps of a pass.
+    fn steps(&self, width: u32) -> u64 {
+        self.narrow.saturating_mul(u64::from(width))
+    }
+
+    /// A width that no pass exceeds, where none exceeds the given one.
+    fn widest(&self, width: u32) -> usize {
+        u64::from(width).min(self.work / self.narrow.max(1)) as usize
+    }
+}
+
+/// Makes a pass and takes the sequence that it comes to. Returns whether the search has ended, with this pass or before
+/// it.
+fn ends_with(
+    alloc: Global,
+    instance: &Instance,
+    limits: &Limits,
+    passes: &mut Passes,
+    reached: &mut Reached,
+    width: u32,
+    mode: Mode,
+) -> Result<bool, AllocError>
+    requires { IsReached instance.now reached.old }
+    ensures reached { IsReached instance.now reached.new }
+    ensures least { reached.new.value ≤ reached.old.value }
+{
+    if reached.value <= limits.least {
+        reached.whole = true;
+        return Ok(true);
+    }
+    if passes.steps.saturating_add(limits.steps(width)) > limits.work {
+        return Ok(true);
+    }
+    let is_whole = passes.pass(instance, width as usize, mode, reached.value)?;
+    if let Some(node) = passes.least() {
+        reached.take(alloc, instance, node.jobs(instance))?;
+    }
+    reached.whole = is_whole;
+    Ok(is_whole)
+}
+
+/// Makes passes of the widths 1, 2, 4 and so on, two of each, until the search has ended.
+fn search(
+    alloc: Global,
+    instance: &Instance,
+    limits: &Limits,
+    passes: &mut Passes,
+    reached: &mut Reached,
+    widest: u32,
+) -> Result<(), AllocError>
+    requires { IsReached instance.now reached.old }
+    ensures reached { IsReached instance.now reached.new }
+    ensures least { reached.new.value ≤ reached.old.value }
+{
+    for doublings in 0..32_u32 {
+        let width = 1_u32 << doublings;
+        if width > widest {
+            break;
+        }
+        if ends_with(alloc, instance, limits, passes, reached, width, Mode::Bound)?
+            || ends_with(alloc, instance, limits, passes, reached, width, Mode::Sum)?
+        {
+            break;
+        }
+    }
+    Ok(())
+}
+
+/// The best sequence of a two-ended beam search, and its makespan, which is at most that of the start. The search makes
+/// passes of the widths 1, 2, 4 and so on, up to the greatest, and no pass that might take more than so many steps in
+/// all. It takes its memory before the first pass, but for the sequences that it comes to.
+pub fn beam(
+    alloc: Global,
+    instance: &Instance,
+    start: &Sequence,
+    width: u32,
+    work: u64,
+) -> Result<Reached, AllocError>
+    requires start { length start.now ≡ instance.now.jobs }
+    ensures each { IfOk result (λ reached. IsSequence instance.now.jobs reached.sequence) }
+    ensures value { IfOk result (λ reached. reached.value ≡ span instance.now reached.sequence) }
+    ensures least { IfOk result (λ reached. reached.value ≤ span instance.now start.now) }
+{
+    let limits = Limits::of(instance, work);
+    let mut reached = Reached {
+        sequence: copied(alloc, instance, start)?,
+        value: makespan(instance, start),
+        whole: false,
+    };
+    let mut passes = Passes::new(alloc, instance, limits.widest(width))?;
+    search(alloc, instance, &limits, &mut passes, &mut reached, width)?;
+    Ok(reached)
+}
