@@ -84,8 +84,13 @@ all-linked n links size each = record {
     | inl under ↦
         let next : slice_index (links ++ 0 ∷ []) job ≡ suc job =
         get_or_append_left links (0 ∷ []) 0 job (omega (arith, size, under)) ∙ each job under ∙ omega arith in
-        subst (IsNext n [] job) (sym next) (omega arith, omega (arith, under), refl, λ k low high.
-        absurd (omega (arith, low, high)))
+        subst (IsNext n [] job) (sym next) (
+          omega arith,
+          omega (arith, under),
+          refl,
+          λ k low high.
+              absurd (omega (arith, low, high)),
+        )
     | inr over ↦
         subst (IsNext n [] job) (sym (get_or_at links 0 [] 0 job (omega (arith, size, over, at.0))))
         (λ k low high. absurd (omega (arith, over, low, high)))
