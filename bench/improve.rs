@@ -1,11 +1,15 @@
 //! The improvement of sequences in plain safe Rust, with no proofs and no other crates: a program to measure beside.
 //!
-//! It is written apart from the proved crates. It improves the starting sequence of a generated instance, and prints
-//! the makespan, the sequence, and how long a round took.
+//! It is written apart from the proved crates. It improves the starting sequence of a generated instance: by a two-ended
+//! beam search (`beam.rs`), by rounds from the start, and by rounds from the best of the beam. It prints the sequence and
+//! its makespan; and on standard error what each of the three came to, in how many steps, and how long it took.
 //!
-//! Build it with `rustc --edition 2024 -O bench/improve.rs`, and run it with jobs, machines, the instance's seed,
-//! rounds, and the seed of the rounds.
+//! Build it with `rustc --edition 2024 -O bench/improve.rs`, and run it with jobs, machines, the instance's seed, the
+//! greatest width of the beam, rounds, the seed of the rounds, and the steps of the whole in millions.
 
+mod beam;
+
+use beam::Beam;
 use std::cmp::Reverse;
 use std::env;
 use std::process::ExitCode;
@@ -18,6 +22,20 @@ const TAKEN_OUT: usize = 4;
 
 /// A time for each machine.
 type Row = [u32; MAX_MACHINES];
+
+/// A sequence and its makespan.
+#[derive(Clone, PartialEq)]
+struct Known {
+    jobs: Vec<usize>,
+    makespan: u32,
+}
+
+/// When rounds end, and the seed of their random numbers.
+struct Limits {
+    rounds: u32,
+    seed: u64,
+    steps: u64,
+}
 
 /// Taillard's random numbers.
 struct Generator {
@@ -127,46 +145,48 @@ impl Instance {
         best.1
     }
 
-    /// The starting sequence of Nawaz, Enscore and Ham, and its makespan.
-    fn start(&self) -> (Vec<usize>, u32) {
+    /// The starting sequence of Nawaz, Enscore and Ham.
+    fn start(&self) -> Known {
         let mut order: Vec<usize> = (0..self.times.len()).collect();
         order.sort_by_key(|&job| Reverse(self.total(job)));
         let mut tails = vec![[0; MAX_MACHINES]; order.len() + 1];
-        let mut list = Vec::with_capacity(order.len());
+        let mut jobs = Vec::with_capacity(order.len());
         let mut makespan = 0;
         for job in order {
-            makespan = self.place(&mut list, job, &mut tails);
+            makespan = self.place(&mut jobs, job, &mut tails);
         }
-        (list, makespan)
+        Known { jobs, makespan }
     }
 
-    /// The best sequence of so many rounds, its makespan, and how many rounds there were.
-    fn improve(&self, start: (Vec<usize>, u32), rounds: u32, seed: u64) -> (Vec<usize>, u32, u32) {
+    /// The best sequence of rounds from a start, how many rounds there were, and their steps.
+    fn rounds(&self, start: &Known, limits: &Limits) -> (Known, u32, u64) {
         let jobs = self.times.len();
         let least = self.lower_bound();
-        let mut generator = Generator { state: seed };
-        let (mut best, mut best_span) = start;
-        let (mut current, mut current_span) = (best.clone(), best_span);
+        let mut generator = Generator { state: limits.seed };
+        let (mut best, mut current) = (start.clone(), start.clone());
         let mut list = Vec::with_capacity(jobs);
         let mut taken = Vec::with_capacity(TAKEN_OUT);
         let mut order = Vec::with_capacity(jobs);
         let mut tails = vec![[0; MAX_MACHINES]; jobs + 1];
-        for round in 0..rounds {
-            if best_span == least {
-                return (best, best_span, round);
+        let mut steps = 0;
+        let taken_at = |length: usize| (3 * length * self.machines) as u64;
+        for round in 0..limits.rounds {
+            if best.makespan <= least || steps >= limits.steps {
+                return (best, round, steps);
             }
-            list.clone_from(&current);
+            list.clone_from(&current.jobs);
             taken.clear();
             for _ in 0..TAKEN_OUT.min(jobs) {
                 let place = generator.next(1, list.len());
                 taken.push(list.remove(place - 1));
             }
-            let mut span = 0;
+            let mut makespan = 0;
             for &job in &taken {
-                span = self.place(&mut list, job, &mut tails);
+                steps += taken_at(list.len());
+                makespan = self.place(&mut list, job, &mut tails);
             }
             loop {
-                let before = span;
+                let before = makespan;
                 order.clear();
                 order.extend(0..jobs);
                 for i in (2..=jobs).rev() {
@@ -176,57 +196,127 @@ impl Instance {
                 for &job in &order {
                     let place = list.iter().position(|&other| other == job);
                     list.remove(place.expect("each job is there"));
-                    span = self.place(&mut list, job, &mut tails);
+                    steps += taken_at(list.len());
+                    makespan = self.place(&mut list, job, &mut tails);
                 }
-                if span == before {
+                if makespan == before {
                     break;
                 }
             }
-            if span <= current_span {
-                current.clone_from(&list);
-                current_span = span;
+            if makespan <= current.makespan {
+                current.jobs.clone_from(&list);
+                current.makespan = makespan;
             }
-            if span < best_span {
-                best.clone_from(&list);
-                best_span = span;
+            if makespan < best.makespan {
+                best.jobs.clone_from(&list);
+                best.makespan = makespan;
             }
         }
-        (best, best_span, rounds)
+        (best, limits.rounds, steps)
+    }
+
+    /// The same, with a line on standard error.
+    fn rounds_told(&self, from: &str, start: &Known, limits: &Limits) -> Known {
+        let begin = Instant::now();
+        let (best, rounds, steps) = self.rounds(start, limits);
+        let took = begin.elapsed().as_secs_f64();
+        eprintln!("{rounds} rounds from {from}: {}, {steps} steps, {took:.6} seconds", best.makespan);
+        best
+    }
+
+    /// A beam, with a line on standard error; and whether it ended as whole.
+    fn beam_told(&self, start: &Known, width: u64, steps: u64) -> (Known, bool) {
+        let begin = Instant::now();
+        let mut beam = Beam::new(self, start.clone(), steps);
+        let is_whole = beam.run(width);
+        let took = begin.elapsed().as_secs_f64();
+        let (makespan, steps) = (beam.best.makespan, beam.steps);
+        eprintln!("beam: {makespan}, {steps} steps, whole {is_whole}, {took:.6} seconds");
+        (beam.best, is_whole)
     }
 }
 
-/// The five numbers on the command line, each in its range.
-fn numbers_of(words: &[String]) -> Option<[u64; 5]> {
-    let greatest = [800, MAX_MACHINES as u64, 2_147_483_646, 100_000_000, 2_147_483_646];
-    let least = [1, 1, 1, 0, 1];
-    if words.len() != 5 {
-        return None;
-    }
-    let mut numbers = [0; 5];
-    for i in 0..5 {
-        numbers[i] = words[i].parse().ok()?;
-        if numbers[i] < least[i] || numbers[i] > greatest[i] {
+/// The better of two, and on a tie the second.
+fn better(one: Known, other: Known) -> Known {
+    if one.makespan < other.makespan { one } else { other }
+}
+
+/// What is asked for on the command line.
+struct Asked {
+    jobs: usize,
+    machines: usize,
+    instance_seed: u64,
+    width: u64,
+    rounds: u32,
+    seed: u64,
+    millions: u64,
+}
+
+impl Asked {
+    /// The seven numbers, each in its range.
+    fn of(words: &[String]) -> Option<Asked> {
+        let least = [1, 1, 1, 0, 0, 1, 0];
+        let greatest = [800, 26, 2_147_483_646, 65_536, 100_000_000, 2_147_483_646, 1_000_000];
+        if words.len() != least.len() {
             return None;
         }
+        let mut numbers = [0; 7];
+        for (i, word) in words.iter().enumerate() {
+            numbers[i] = word.parse().ok()?;
+            if numbers[i] < least[i] || numbers[i] > greatest[i] {
+                return None;
+            }
+        }
+        let [jobs, machines, instance_seed, width, rounds, seed, millions] = numbers;
+        Some(Asked {
+            jobs: jobs as usize,
+            machines: machines as usize,
+            instance_seed,
+            width,
+            rounds: rounds as u32,
+            seed,
+            millions,
+        })
     }
-    Some(numbers)
+
+    fn limits(&self, steps: u64) -> Limits {
+        Limits { rounds: self.rounds, seed: self.seed, steps }
+    }
+
+    /// The best of the beam and of the rounds from both.
+    fn improve(&self, instance: &Instance, start: Known) -> Known {
+        let steps = self.millions * 1_000_000;
+        let least = instance.lower_bound();
+        let (beamed, is_whole) = instance.beam_told(&start, self.width, steps * 12 / 17);
+        if is_whole || beamed.makespan <= least {
+            return beamed;
+        }
+        let mut best = beamed.clone();
+        // Rounds from the same sequence would be the first ones of those below.
+        if beamed != start {
+            let known = instance.rounds_told("start", &start, &self.limits(steps / 17));
+            if known.makespan <= least {
+                return known;
+            }
+            best = better(known, best);
+        }
+        let known = instance.rounds_told("beam", &beamed, &self.limits(steps * 4 / 17));
+        better(best, known)
+    }
 }
 
 fn main() -> ExitCode {
     let words: Vec<String> = env::args().skip(1).collect();
-    let Some([jobs, machines, instance_seed, rounds, seed]) = numbers_of(&words) else {
-        eprintln!("improve JOBS MACHINES INSTANCE_SEED ROUNDS SEED");
+    let Some(asked) = Asked::of(&words) else {
+        eprintln!("improve JOBS MACHINES INSTANCE_SEED WIDTH ROUNDS SEED MILLIONS");
         return ExitCode::from(2);
     };
-    let instance = Instance::generate(jobs as usize, machines as usize, instance_seed);
+    let instance = Instance::generate(asked.jobs, asked.machines, asked.instance_seed);
     let start = instance.start();
-    let begin = Instant::now();
-    let (sequence, makespan, done) = instance.improve(start, rounds as u32, seed);
-    let took = begin.elapsed();
-    let words: Vec<String> = sequence.iter().map(|job| (job + 1).to_string()).collect();
+    eprintln!("start: {}, bound {}", start.makespan, instance.lower_bound());
+    let best = asked.improve(&instance, start);
+    let words: Vec<String> = best.jobs.iter().map(|job| (job + 1).to_string()).collect();
     println!("sequence {}", words.join(" "));
-    println!("makespan {makespan}");
-    let micros = took.as_secs_f64() * 1e6 / f64::from(done.max(1));
-    eprintln!("{done} rounds, {micros:.1} microseconds a round");
+    println!("makespan {}", best.makespan);
     ExitCode::SUCCESS
 }

@@ -1,8 +1,8 @@
 //! The time of a job on the machines from one to another, and the least such time of a set of jobs.
 
-ghost use Rattle.std.specs.Prelude.{◌≡◌, ℕ, ◌+◌, ◌<◌, ◌≤◌, length, false};
+ghost use Rattle.std.specs.Prelude.{◌≡◌, ◌+◌, ◌<◌, ◌≤◌, length};
 ghost use Rattle.flow_shop.specs.Shop.{time_between};
-ghost use Rattle.flow_shop.specs.JobSet.{contains, members};
+ghost use Rattle.flow_shop.specs.JobSet.{members, IsSetOf};
 ghost use Rattle.flow_bound.specs.Loads.{least_between};
 
 use flow_shop::{Instance, JobSet};
@@ -36,7 +36,7 @@ pub(crate) fn least_between(
     requires order { first ≤ last + 1 }
     requires to { last ≤ instance.now.machines }
     requires some { 0 < length (members set.now) }
-    requires jobs { (job : ℕ) → instance.now.jobs < job → contains set.now job ≡ false }
+    requires jobs { IsSetOf instance.now set.now }
     requires floor { floor ≤ least_between instance.now (members set.now) first last }
     ensures { result ≡ least_between instance.now (members set.now) first last }
 {

@@ -6,7 +6,7 @@ ghost use Rattle.flow_limits.specs.Limits.{most_jobs, most_machines, greatest_ti
 ghost use Rattle.flow_shop.specs.Shop.{Shop, time, time_between};
 ghost use Rattle.flow_shop.specs.Paths.{span};
 ghost use Rattle.flow_shop.specs.Front.{IsFrontOf};
-ghost use Rattle.flow_shop.specs.JobSet.{contains, members};
+ghost use Rattle.flow_shop.specs.JobSet.{contains, members, IsSetOf};
 ghost use Rattle.flow_shop.specs.Sequences.{jobs_left, IsSequence, Extends};
 ghost use Rattle.flow_shop.specs.Bound.{machine_bound};
 ghost use Rattle.flow_bound.specs.Loads.{AreLoadsOf, least_tail};
@@ -74,7 +74,7 @@ impl Loads {
     /// The loads of a set of jobs.
     pub fn of(instance: &Instance, set: &JobSet) -> Loads
         requires some { 0 < length (members set.now) }
-        requires jobs { (job : ℕ) → instance.now.jobs < job → contains set.now job ≡ false }
+        requires jobs { IsSetOf instance.now set.now }
         ensures loads { AreLoadsOf instance.now (members set.now) result }
     {
         let mut sums = [0; MAX_MACHINES];
@@ -98,7 +98,7 @@ impl Loads {
         requires job_to { job ≤ instance.now.jobs }
         requires out { contains after.now job ≡ false }
         requires some { 0 < length (members after.now) }
-        requires jobs { (job : ℕ) → instance.now.jobs < job → contains after.now job ≡ false }
+        requires jobs { IsSetOf instance.now after.now }
         requires loads { AreLoadsOf instance.now (members (slice_set after.now (job - 1) true)) self.now }
         ensures loads { AreLoadsOf instance.now (members after.now) result }
     {

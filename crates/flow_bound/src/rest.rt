@@ -6,7 +6,7 @@ ghost use Rattle.flow_limits.specs.Limits.{most_machines, greatest_completion};
 ghost use Rattle.flow_shop.specs.Shop.{Shop, time_between};
 ghost use Rattle.flow_shop.specs.Paths.{span};
 ghost use Rattle.flow_shop.specs.Front.{IsFrontOf};
-ghost use Rattle.flow_shop.specs.JobSet.{contains, members};
+ghost use Rattle.flow_shop.specs.JobSet.{contains, members, IsSetOf};
 ghost use Rattle.flow_shop.specs.Sequences.{jobs_left, IsSequence, Extends};
 ghost use Rattle.flow_shop.specs.Bound.{machine_bound, release, released_bound};
 ghost use Rattle.flow_bound.specs.Rest.{AreLags, IsRestOf};
@@ -20,7 +20,8 @@ use flow_shop::{Front, Instance, JobSet};
 /// there to it.
 type Lags = [u32; MAX_MACHINES];
 
-/// The rest of a set of jobs: the remaining work of each machine, and the lags to it. It stores no set.
+/// The rest of a set of jobs: the remaining work of each machine, and the lags to it. It stores no set. For callers
+/// alone: the search keeps `Loads`, and lags of its own.
 #[derive(Clone, Copy, Debug)]
 pub struct Rest {
     /// The remaining work of each machine.
@@ -55,7 +56,7 @@ fn lags_of(instance: &Instance, set: &JobSet, machine: u16) -> Lags
     requires from { 1 ≤ machine }
     requires to { machine ≤ instance.now.machines }
     requires some { 0 < length (members set.now) }
-    requires jobs { (job : ℕ) → instance.now.jobs < job → contains set.now job ≡ false }
+    requires jobs { IsSetOf instance.now set.now }
     ensures { AreLags instance.now (members set.now) machine result }
 {
     let mut lags = [u32::MAX; MAX_MACHINES];
@@ -76,7 +77,7 @@ fn lags_after(instance: &Instance, after: &JobSet, job: u16, machine: u16, lags:
     requires to { machine ≤ instance.now.machines }
     requires out { contains after.now job ≡ false }
     requires some { 0 < length (members after.now) }
-    requires jobs { (job : ℕ) → instance.now.jobs < job → contains after.now job ≡ false }
+    requires jobs { IsSetOf instance.now after.now }
     requires lags { AreLags instance.now (members (slice_set after.now (job - 1) true)) machine lags.now }
     ensures { AreLags instance.now (members after.now) machine result }
 {
@@ -100,7 +101,7 @@ fn lags_after(instance: &Instance, after: &JobSet, job: u16, machine: u16, lags:
 }
 
 /// The release of a machine, for every set with these lags to it.
-fn release_by(front: &Front, lags: &Lags, machine: u16) -> u64
+fn release_from_lags(front: &Front, lags: &Lags, machine: u16) -> u64
     requires from { 1 ≤ machine }
     requires to { machine ≤ most_machines }
     requires within { (place : ℕ) → place < machine → slice_index front.now place ≤ greatest_completion }
@@ -119,7 +120,7 @@ impl Rest {
     /// The rest of a set of jobs.
     pub fn of(instance: &Instance, set: &JobSet) -> Rest
         requires some { 0 < length (members set.now) }
-        requires jobs { (job : ℕ) → instance.now.jobs < job → contains set.now job ≡ false }
+        requires jobs { IsSetOf instance.now set.now }
         ensures rest { IsRestOf instance.now (members set.now) result }
     {
         let loads = Loads::of(instance, set);
@@ -137,7 +138,7 @@ impl Rest {
         requires job_to { job ≤ instance.now.jobs }
         requires out { contains after.now job ≡ false }
         requires some { 0 < length (members after.now) }
-        requires jobs { (job : ℕ) → instance.now.jobs < job → contains after.now job ≡ false }
+        requires jobs { IsSetOf instance.now after.now }
         requires rest { IsRestOf instance.now (members (slice_set after.now (job - 1) true)) self.now }
         ensures rest { IsRestOf instance.now (members after.now) result }
     {
@@ -148,13 +149,6 @@ impl Rest {
             lags[place] = lags_after(instance, after, job, machine, &self.lags[place]);
         }
         Rest { loads, lags }
-    }
-
-    /// The remaining work of each machine.
-    pub fn loads(&self) -> &Loads
-        ensures { result.now ≡ self.now.loads }
-    {
-        &self.loads
     }
 
     /// The time of all jobs of the set on a machine.
@@ -207,7 +201,7 @@ impl Rest {
             result ≤ span shop sequence }
     {
         prove!(machine <= self.loads.machines());
-        let release = release_by(front, &self.lags[machine as usize - 1], machine);
+        let release = release_from_lags(front, &self.lags[machine as usize - 1], machine);
         let work = u64::from(self.loads.sum(machine)) + u64::from(self.loads.tail(machine));
         release + work
     }

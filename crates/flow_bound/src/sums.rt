@@ -1,9 +1,9 @@
 //! Sums of times: of each job on several machines, and of a set of jobs on a machine.
 
-ghost use Rattle.std.specs.Prelude.{◌≡◌, ℕ, ◌+◌, ◌-◌, ◌*◌, ◌<◌, ◌≤◌, slice_index, sum_by, false};
+ghost use Rattle.std.specs.Prelude.{◌≡◌, ℕ, ◌+◌, ◌-◌, ◌*◌, ◌≤◌, slice_index, sum_by};
 ghost use Rattle.flow_limits.specs.Limits.{most_machines, greatest_time};
 ghost use Rattle.flow_shop.specs.Shop.{time};
-ghost use Rattle.flow_shop.specs.JobSet.{contains, members};
+ghost use Rattle.flow_shop.specs.JobSet.{members, IsSetOf};
 ghost use Rattle.flow_bound.specs.internal.Times.{AreTimes};
 
 use flow_limits::MAX_JOBS;
@@ -40,7 +40,7 @@ pub(crate) fn sum_times(instance: &Instance, sums: &mut [u32; MAX_JOBS], first: 
 pub(crate) fn sum_of(instance: &Instance, set: &JobSet, machine: u16) -> u32
     requires from { 1 ≤ machine }
     requires to { machine ≤ instance.now.machines }
-    requires jobs { (job : ℕ) → instance.now.jobs < job → contains set.now job ≡ false }
+    requires jobs { IsSetOf instance.now set.now }
     ensures { result ≡ sum_by (λ job. time instance.now job machine) (members set.now) }
 {
     let mut sum = 0;

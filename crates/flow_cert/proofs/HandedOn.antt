@@ -19,7 +19,7 @@ joined x first next front y tail rest before behind =
     ∙ ap (λ t. front ++ t) behind
     ∙ sym (append_assoc front tail rest)
 
--- one piece behind another
+-- one piece after the other
 pub then-hands : {a b c : Option (List ℕ)} {x y z first next : List ℕ} → HandsOn a b x first y → HandsOn b c y next z →
     HandsOn a c x (first ++ next) z
 then-hands {a = a} {b = b} {c = c} {x = x} {y = y} {z = z} {first = first} {next = next} h k = record {
@@ -28,7 +28,7 @@ then-hands {a = a} {b = b} {c = c} {x = x} {y = y} {z = z} {first = first} {next
   added = Appends-trans a b c h.front k.front h.added k.added;
 }
 
--- a piece that is not handed on whole, behind another
+-- a piece that is not handed on whole, after another
 pub then-stops : {a b : Option (List ℕ)} {x y first : List ℕ} (c : Option (List ℕ)) (next : List ℕ) →
     HandsOn a b x first y → AddsProperPrefix b c (y ++ next) → AddsProperPrefix a c (x ++ (first ++ next))
 then-stops {a = a} {b = b} {x = x} {y = y} {first = first} c next h (front, back, whole, some, added) = (
@@ -51,12 +51,12 @@ stops-within a b x done rest text is (front, back, whole, some, added) = (
   added,
 )
 
--- a text with some pieces behind it
+-- a text with some pieces after it
 abbrev pub behind : List ℕ → List (List ℕ) → List ℕ
 behind text [] = text
 behind text (piece ∷ pieces) = behind (text ++ piece) pieces
 
--- where a text is not handed on whole, nor is it with pieces behind it
+-- where a text is not handed on whole, nor is it with pieces after it
 pub stops-early : (a b : Option (List ℕ)) (x text : List ℕ) (pieces : List (List ℕ)) →
     AddsProperPrefix a b (x ++ text) → AddsProperPrefix a b (x ++ behind text pieces)
 stops-early a b x text [] h = h

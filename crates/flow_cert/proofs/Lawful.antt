@@ -14,7 +14,7 @@ use Rattle.flow_shop.specs.Paths.{span}
 use Rattle.flow_shop.specs.Sequences.{jobs_left, cut, IsSequence, IsLeastMakespan}
 use Rattle.flow_shop.specs.Bound.{bound_of, letter}
 use Rattle.flow_shop.proofs.Fronts.{completion-small}
-use Rattle.flow_search.specs.Search.{comes_before, in_force, tree_at, tree, sequences_from}
+use Rattle.flow_search.specs.Search.{comes_before, in_force, tree_at, tree, trees, sequences_from}
 use Rattle.flow_search.specs.Plans.{Planned, prefixes_of, trees_of, verdict_of}
 use Rattle.flow_search.specs.Verdicts.{IsVerdict}
 use Rattle.flow_search.specs.declared.verdict.Verdict.{Verdict}
@@ -117,7 +117,7 @@ tree-covers shop bound v start (suc left) prefix node low f short h fresh whole 
     (numbers 1 shop.machines)) refl
 
 -- the makespan of a sequence fits a word
-span-fits : (shop : Shop) (sequence : List ℕ) → IsWithinLimits shop → IsSequence shop.jobs sequence →
+pub span-fits : (shop : Shop) (sequence : List ℕ) → IsWithinLimits shop → IsSequence shop.jobs sequence →
     span shop sequence < 2 ^ 64
 span-fits shop sequence limits is =
     let small : span shop sequence ≤ (length sequence + shop.machines) * greatest_time =
@@ -125,6 +125,23 @@ span-fits shop sequence limits is =
     let few : length sequence + shop.machines ≤ most_jobs + most_machines =
     omega (arith, is.whole, limits.jobs, limits.machines) in
     omega (arith, small, few)
+
+-- the trees from a number cover each value up to it that no sequence is below
+pub trees-cover : (shop : Shop) (version v start depth : ℕ) → depth ≤ shop.jobs → v ≤ start →
+    ((s : List ℕ) → IsSequence shop.jobs s → v ≤ span shop s) →
+    AllZip (λ prefix part. Covers shop (bound_of version) v (shop.jobs - depth) prefix part) (cut shop.jobs depth)
+    (trees shop (bound_of version) start depth)
+trees-cover shop version v start depth short low least =
+    zip-map (λ p. Fresh shop.jobs p
+    × (length p ≡ 0 + depth)) (λ prefix part. Covers shop (bound_of version) v (shop.jobs - depth) prefix part)
+    (tree shop (bound_of version) start) (cut shop.jobs depth)
+    (λ p h.
+    let size : length p ≡ depth = omega (arith, h.1) in
+    subst (λ left. Covers shop (bound_of version) v left p (tree shop (bound_of version) start p))
+    (ap (λ n. shop.jobs - n) size)
+    (tree-covers shop (bound_of version) v start (shop.jobs - length p) p p low h.0 (omega (arith, size)) least h.0
+    (omega (arith, size))))
+    (cut-fresh shop.jobs depth [] (tt, tt))
 
 pub plan_is_certified : PlanIsCertified
 plan_is_certified plan is =
@@ -149,19 +166,7 @@ plan_is_certified plan is =
         fits = subst (λ n. n < 2 ^ 64) v.0.1 (span-fits shop (verdict_of plan).sequence is.shop_limits v.0.0);
         whole = v.0.0;
         attained = v.0.1;
-        covered = zip-map (λ p. Fresh shop.jobs p
-            × (length p ≡ 0 + depth)) (λ prefix part. Covers shop (bound_of plan.options.version) value
-            (shop.jobs - depth) prefix part)
-            (tree shop (bound_of plan.options.version) start.value) (cut shop.jobs depth)
-            (λ p h.
-            let size : length p ≡ depth = omega (arith, h.1) in
-            subst (λ left. Covers shop (bound_of plan.options.version) value left p
-            (tree shop (bound_of plan.options.version) start.value p)) (ap
-            (λ n. shop.jobs - n) size)
-            (tree-covers shop (bound_of plan.options.version) value start.value (shop.jobs - length p) p p low h.0
-            (omega (arith, size)) v.1.least h.0
-            (omega (arith, size))))
-            (cut-fresh shop.jobs depth [] (tt, tt));
+        covered = trees-cover shop plan.options.version value start.value depth short low v.1.least;
       },
       refl,
     )

@@ -12,7 +12,7 @@ abbrev pub gap_behind : List ℕ → List ℕ
 gap_behind [] = []
 gap_behind (n ∷ ns) = 32 ∷ []
 
--- what stands behind a number
+-- what stands after a number
 abbrev pub rest_behind : List ℕ → List ℕ
 rest_behind [] = []
 rest_behind (n ∷ ns) = 32 ∷ spaced (n ∷ ns)
@@ -55,7 +55,7 @@ one-more-number ns i n gap h is behind =
     ∙ ap (λ m. (spaced (take i ns) ++ gap_behind (take i ns)) ++ decimal m) (sym is)
     ∙ ap (λ t. (spaced (take i ns) ++ t) ++ decimal n) (sym behind)
 
--- behind a number there is a gap
+-- after a number there is a gap
 pub gap-more : (ns : List ℕ) (i : ℕ) → i < length ns → 32 ∷ [] ≡ gap_behind (take (i + 1) ns)
 gap-more ns i h = sym (ap gap_behind (take_more ns i 0 h) ∙ some (take i ns) (get_or ns i 0))
   where
@@ -93,3 +93,8 @@ one-more-line text xs i x bytes h at is =
     ∙ ap (λ y. flat_map line (map text (take i xs)) ++ (line (text y) ++ [])) (sym at)
     ∙ ap (λ t. flat_map line (map text (take i xs)) ++ t) (append-nil (line (text x)))
     ∙ ap (λ t. flat_map line (map text (take i xs)) ++ line t) (sym is)
+
+-- the line of two numbers, in pieces
+pub two-numbers : (a b : ℕ) → line (spaced (a ∷ b ∷ [])) ≡ (decimal a ++ 32 ∷ []) ++ line (decimal b)
+two-numbers a b =
+    append_assoc (decimal a) (32 ∷ decimal b) (10 ∷ []) ∙ sym (append_assoc (decimal a) (32 ∷ []) (line (decimal b)))

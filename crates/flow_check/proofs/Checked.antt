@@ -1,137 +1,161 @@
 -- What a checker gives that answers what a text is read as.
-use Rattle.std.proofs.Common.{◌≡◌, ◌⊎◌, inl, inr, ℕ, Bool, true, false, cond, ◌-◌, List, take, drop, length, IfErr}
-use Rattle.std.proofs.Common.{Result, Ok, Err, refl, ap, subst, sym, ◌∙◌}
+use Rattle.std.proofs.Common.{◌≡◌, ◌⊎◌, inr, ℕ, Bool, true, false, cond, ◌-◌, List, take, drop, length, IfErr}
+use Rattle.std.proofs.Common.{Result, Ok, Err, ap, subst, sym, ◌∙◌}
 use Rattle.std.specs.Str.{bytes_eq}
 use Rattle.std.proofs.lemmas.List.{take_rest}
 use Rattle.flow_shop.specs.Shop.{Shop, IsWithinLimits}
-use Rattle.flow_shop.specs.Sequences.{IsLeastMakespan}
-use Rattle.flow_check.specs.Certificate.{IsCertificate, line, ending}
-use Rattle.flow_check.specs.Check.{IsFirstFault, IsOfNoValue}
-use Rattle.flow_check.specs.CertificateFaults.{certificate_value, cut_value, end_value}
+use Rattle.flow_check.specs.Certificate.{Stated, stated_bounds, IsLawful, line, ending}
+use Rattle.flow_check.specs.Check.{IsFaultAs, IsUnlawfulAs}
+use Rattle.flow_check.specs.internal.Heading.{IsHeadingOf}
+use Rattle.flow_check.specs.internal.Reading.{text_value, stated_once, end_value}
 use Rattle.flow_check.specs.internal.Trees.{TreesGive}
+use Rattle.flow_check.specs.declared.bounds.Bounds.{Bounds}
 use Rattle.flow_check.specs.declared.fault.CheckFault.TheVariants.{Memory, Header, Size, Value, Sequence, NotAttained}
 use Rattle.flow_check.specs.declared.fault.CheckFault.TheVariants.{Tree, Weak, Low, End}
 use Rattle.flow_check.specs.declared.fault.CheckFault.{CheckFault}
+use Rattle.flow_check.specs.declared.heading.Heading.{Heading}
+use Rattle.flow_check.specs.declared.kind.TextKind.{TextKind}
 use Rattle.flow_check.proofs.Exact.{value_is_exact}
+use Rattle.flow_check.proofs.FaultsExact.{fault_is_exact, first-read}
 use Rattle.flow_check.proofs.TreesExact.{fault-value}
-use Rattle.flow_check.proofs.Sound.{certificate_is_sound}
 
--- a text that is read as a value is a lawful certificate of it, and the value is the least makespan
-pub value-least : (shop : Shop) (bytes : List ℕ) (value : ℕ) → IsWithinLimits shop →
-    certificate_value shop bytes ≡ Ok value → IsCertificate shop bytes value × IsLeastMakespan shop value
-value-least shop bytes value limits read =
-    let is = (value_is_exact shop bytes value limits).0 read in
-    (is, certificate_is_sound shop bytes value is)
+-- a text with a fault is no lawful one of its kind
+pub fault-lawless : (kind : TextKind) (shop : Shop) (bytes : List ℕ) (fault : CheckFault) → IsWithinLimits shop →
+    text_value kind shop bytes ≡ Err fault → (stated : Stated kind) → IsLawful kind shop bytes stated → ⊥
+fault-lawless kind shop bytes fault limits read stated is =
+    fault-value fault stated (sym read ∙ (value_is_exact kind shop bytes stated limits).1 is)
 
--- a text with a fault is a certificate of no value
-pub fault-lawless : (shop : Shop) (bytes : List ℕ) (fault : CheckFault) → IsWithinLimits shop →
-    certificate_value shop bytes ≡ Err fault → (value : ℕ) → IsCertificate shop bytes value → ⊥
-fault-lawless shop bytes fault limits read value is =
-    fault-value fault value (sym read ∙ (value_is_exact shop bytes value limits).1 is)
+-- what a fault that is read gives to the clauses of a check
 
--- what a read value or fault gives to the clauses of a check
+pub first-fault : (kind : TextKind) (shop : Shop) (bytes : List ℕ) (fault : CheckFault) → IsWithinLimits shop →
+    text_value kind shop bytes ≡ Err fault → IsFaultAs kind shop bytes fault
+first-fault kind shop bytes Memory limits e = tt
+first-fault kind shop bytes Header limits e = (fault_is_exact kind shop bytes Header limits).0 e
+first-fault kind shop bytes Size limits e = (fault_is_exact kind shop bytes Size limits).0 e
+first-fault kind shop bytes Value limits e = (fault_is_exact kind shop bytes Value limits).0 e
+first-fault kind shop bytes Sequence limits e = (fault_is_exact kind shop bytes Sequence limits).0 e
+first-fault kind shop bytes NotAttained limits e = (fault_is_exact kind shop bytes NotAttained limits).0 e
+first-fault kind shop bytes (Tree line) limits e = (fault_is_exact kind shop bytes (Tree line) limits).0 e
+first-fault kind shop bytes (Weak line) limits e = (fault_is_exact kind shop bytes (Weak line) limits).0 e
+first-fault kind shop bytes (Low line) limits e = (fault_is_exact kind shop bytes (Low line) limits).0 e
+first-fault kind shop bytes End limits e = (fault_is_exact kind shop bytes End limits).0 e
 
-pub first-fault : (shop : Shop) (bytes : List ℕ) (fault : CheckFault) → certificate_value shop bytes ≡ Err fault →
-    IsFirstFault shop bytes fault
-first-fault shop bytes Memory e = tt
-first-fault shop bytes Header e = e
-first-fault shop bytes Size e = e
-first-fault shop bytes Value e = e
-first-fault shop bytes Sequence e = e
-first-fault shop bytes NotAttained e = e
-first-fault shop bytes (Tree line) e = e
-first-fault shop bytes (Weak line) e = e
-first-fault shop bytes (Low line) e = e
-first-fault shop bytes End e = e
+pub unlawful : (kind : TextKind) (shop : Shop) (bytes : List ℕ) (fault : CheckFault) → IsWithinLimits shop →
+    IsFaultAs kind shop bytes fault → IsUnlawfulAs kind shop bytes fault
+unlawful kind shop bytes Memory limits e = tt
+unlawful kind shop bytes Header limits e =
+    fault-lawless kind shop bytes Header limits (first-read kind shop bytes Header limits e)
+unlawful kind shop bytes Size limits e =
+    fault-lawless kind shop bytes Size limits (first-read kind shop bytes Size limits e)
+unlawful kind shop bytes Value limits e =
+    fault-lawless kind shop bytes Value limits (first-read kind shop bytes Value limits e)
+unlawful kind shop bytes Sequence limits e =
+    fault-lawless kind shop bytes Sequence limits (first-read kind shop bytes Sequence limits e)
+unlawful kind shop bytes NotAttained limits e =
+    fault-lawless kind shop bytes NotAttained limits (first-read kind shop bytes NotAttained limits e)
+unlawful kind shop bytes (Tree line) limits e =
+    fault-lawless kind shop bytes (Tree line) limits (first-read kind shop bytes (Tree line) limits e)
+unlawful kind shop bytes (Weak line) limits e =
+    fault-lawless kind shop bytes (Weak line) limits (first-read kind shop bytes (Weak line) limits e)
+unlawful kind shop bytes (Low line) limits e =
+    fault-lawless kind shop bytes (Low line) limits (first-read kind shop bytes (Low line) limits e)
+unlawful kind shop bytes End limits e =
+    fault-lawless kind shop bytes End limits (first-read kind shop bytes End limits e)
 
-pub no-value : (shop : Shop) (bytes : List ℕ) (fault : CheckFault) → IsWithinLimits shop →
-    IsFirstFault shop bytes fault → IsOfNoValue shop bytes fault
-no-value shop bytes Memory limits e = tt
-no-value shop bytes Header limits e = fault-lawless shop bytes Header limits e
-no-value shop bytes Size limits e = fault-lawless shop bytes Size limits e
-no-value shop bytes Value limits e = fault-lawless shop bytes Value limits e
-no-value shop bytes Sequence limits e = fault-lawless shop bytes Sequence limits e
-no-value shop bytes NotAttained limits e = fault-lawless shop bytes NotAttained limits e
-no-value shop bytes (Tree line) limits e = fault-lawless shop bytes (Tree line) limits e
-no-value shop bytes (Weak line) limits e = fault-lawless shop bytes (Weak line) limits e
-no-value shop bytes (Low line) limits e = fault-lawless shop bytes (Low line) limits e
-no-value shop bytes End limits e = fault-lawless shop bytes End limits e
-
-abbrev pub refused : CheckFault → Result ℕ CheckFault
-refused fault = Err fault
-
--- a lawful certificate is refused where memory ran out alone
-pub only-memory : (shop : Shop) (bytes : List ℕ) (fault : CheckFault) (value : ℕ) → IsOfNoValue shop bytes fault →
-    IsCertificate shop bytes value → (refused fault ≡ Ok value) ⊎ (refused fault ≡ Err Memory)
-only-memory shop bytes Memory value none is = inr refl
-only-memory shop bytes Header value none is = absurd (none value is)
-only-memory shop bytes Size value none is = absurd (none value is)
-only-memory shop bytes Value value none is = absurd (none value is)
-only-memory shop bytes Sequence value none is = absurd (none value is)
-only-memory shop bytes NotAttained value none is = absurd (none value is)
-only-memory shop bytes (Tree line) value none is = absurd (none value is)
-only-memory shop bytes (Weak line) value none is = absurd (none value is)
-only-memory shop bytes (Low line) value none is = absurd (none value is)
-only-memory shop bytes End value none is = absurd (none value is)
+-- a lawful text is refused where memory ran out alone
+pub only-memory : {A : Type 0} (kind : TextKind) (shop : Shop) (bytes : List ℕ) (answer : Result A CheckFault)
+    (fault : CheckFault) (stated : Stated kind) (accepted : A) → answer ≡ Err fault →
+    IsUnlawfulAs kind shop bytes fault → IsLawful kind shop bytes stated →
+    (answer ≡ Ok accepted) ⊎ (answer ≡ Err Memory)
+only-memory kind shop bytes answer Memory stated accepted e none is = inr e
+only-memory kind shop bytes answer Header stated accepted e none is = absurd (none stated is)
+only-memory kind shop bytes answer Size stated accepted e none is = absurd (none stated is)
+only-memory kind shop bytes answer Value stated accepted e none is = absurd (none stated is)
+only-memory kind shop bytes answer Sequence stated accepted e none is = absurd (none stated is)
+only-memory kind shop bytes answer NotAttained stated accepted e none is = absurd (none stated is)
+only-memory kind shop bytes answer (Tree line) stated accepted e none is = absurd (none stated is)
+only-memory kind shop bytes answer (Weak line) stated accepted e none is = absurd (none stated is)
+only-memory kind shop bytes answer (Low line) stated accepted e none is = absurd (none stated is)
+only-memory kind shop bytes answer End stated accepted e none is = absurd (none stated is)
 
 -- the faults of the trees are those of the text
-pub trees-fault : (shop : Shop) (version depth value : ℕ) (bytes rest : List ℕ) (fault : CheckFault) →
-    certificate_value shop bytes ≡ cut_value shop version depth value rest → TreesGive shop version depth value rest
-    (Err fault) →
-    IsFirstFault shop bytes fault
-trees-fault shop version depth value bytes rest Memory e h = tt
-trees-fault shop version depth value bytes rest Header e h = e ∙ h
-trees-fault shop version depth value bytes rest Size e h = e ∙ h
-trees-fault shop version depth value bytes rest Value e h = e ∙ h
-trees-fault shop version depth value bytes rest Sequence e h = e ∙ h
-trees-fault shop version depth value bytes rest NotAttained e h = e ∙ h
-trees-fault shop version depth value bytes rest (Tree line) e h = e ∙ h
-trees-fault shop version depth value bytes rest (Weak line) e h = e ∙ h
-trees-fault shop version depth value bytes rest (Low line) e h = e ∙ h
-trees-fault shop version depth value bytes rest End e h = e ∙ h
+pub trees-fault : (kind : TextKind) (shop : Shop) (bytes : List ℕ) (heading : Heading) (fault : CheckFault) →
+    IsWithinLimits shop → IsHeadingOf kind shop bytes heading →
+    TreesGive shop heading.version heading.depth heading.bounds.lower heading.trees.now (Err fault) →
+    IsFaultAs kind shop bytes fault
+trees-fault kind shop bytes heading Memory limits e h = tt
+trees-fault kind shop bytes heading Header limits e h =
+    first-fault kind shop bytes Header limits (e.2 ∙ ap (stated_once e.0) h)
+trees-fault kind shop bytes heading Size limits e h =
+    first-fault kind shop bytes Size limits (e.2 ∙ ap (stated_once e.0) h)
+trees-fault kind shop bytes heading Value limits e h =
+    first-fault kind shop bytes Value limits (e.2 ∙ ap (stated_once e.0) h)
+trees-fault kind shop bytes heading Sequence limits e h =
+    first-fault kind shop bytes Sequence limits (e.2 ∙ ap (stated_once e.0) h)
+trees-fault kind shop bytes heading NotAttained limits e h =
+    first-fault kind shop bytes NotAttained limits (e.2 ∙ ap (stated_once e.0) h)
+trees-fault kind shop bytes heading (Tree line) limits e h =
+    first-fault kind shop bytes (Tree line) limits (e.2 ∙ ap (stated_once e.0) h)
+trees-fault kind shop bytes heading (Weak line) limits e h =
+    first-fault kind shop bytes (Weak line) limits (e.2 ∙ ap (stated_once e.0) h)
+trees-fault kind shop bytes heading (Low line) limits e h =
+    first-fault kind shop bytes (Low line) limits (e.2 ∙ ap (stated_once e.0) h)
+trees-fault kind shop bytes heading End limits e h =
+    first-fault kind shop bytes End limits (e.2 ∙ ap (stated_once e.0) h)
 
 -- what a checker answers with a fault
 
-pub none-at : (shop : Shop) (bytes : List ℕ) (answer : Result ℕ CheckFault) (fault : CheckFault) → IsWithinLimits shop →
-    answer ≡ Err fault → IsFirstFault shop bytes fault → IfErr answer (λ f. IsOfNoValue shop bytes f)
-none-at shop bytes answer fault limits is first =
-    subst (λ (r : Result ℕ CheckFault). IfErr r (λ f. IsOfNoValue shop bytes f)) (sym is)
-    (no-value shop bytes fault limits first)
+pub fault-at : {A : Type 0} (kind : TextKind) (shop : Shop) (bytes : List ℕ) (answer : Result A CheckFault)
+    (fault : CheckFault) → answer ≡ Err fault → IsFaultAs kind shop bytes fault →
+    IfErr answer (λ f. IsFaultAs kind shop bytes f)
+fault-at {A} kind shop bytes answer fault is first =
+    subst (λ (r : Result A CheckFault). IfErr r (λ f. IsFaultAs kind shop bytes f)) (sym is) first
 
-pub lawful-at : (shop : Shop) (bytes : List ℕ) (answer : Result ℕ CheckFault) (fault : CheckFault) →
-    IsWithinLimits shop → answer ≡ Err fault → IsFirstFault shop bytes fault → (value : ℕ) →
-    IsCertificate shop bytes value → (answer ≡ Ok value) ⊎ (answer ≡ Err Memory)
-lawful-at shop bytes answer fault limits is first value of_value =
-    subst (λ (r : Result ℕ CheckFault). (r ≡ Ok value)
-    ⊎ (r ≡ Err Memory)) (sym is) (only-memory shop bytes fault value
-    (no-value shop bytes fault limits first) of_value)
+pub none-at : {A : Type 0} (kind : TextKind) (shop : Shop) (bytes : List ℕ) (answer : Result A CheckFault)
+    (fault : CheckFault) → answer ≡ Err fault → IsUnlawfulAs kind shop bytes fault →
+    IfErr answer (λ f. IsUnlawfulAs kind shop bytes f)
+none-at {A} kind shop bytes answer fault is none =
+    subst (λ (r : Result A CheckFault). IfErr r (λ f. IsUnlawfulAs kind shop bytes f)) (sym is) none
 
 -- the last line
 
-pub checked-value : (shop : Shop) (version depth value end : ℕ) (bytes lines : List ℕ) (same : Bool) →
-    certificate_value shop bytes ≡ cut_value shop version depth value lines → TreesGive shop version depth value lines
-    (Ok end) →
-    same ≡ bytes_eq (take (length lines - end) (drop end lines)) (line ending) → same ≡ true →
-    certificate_value shop bytes ≡ Ok value
-checked-value shop version depth value end bytes lines same before trees is holds =
-    before ∙ trees.0 ∙ ap (λ xs. end_value value xs) (sym (take_rest lines end))
-    ∙ ap (λ b. cond b (Ok value) (Err End)) (sym is ∙ holds)
+-- what is read once the trees are read
+ended : (kind : TextKind) (shop : Shop) (bytes : List ℕ) (heading : Heading) (end : ℕ) (same : Bool) →
+    (is : IsHeadingOf kind shop bytes heading) →
+    TreesGive shop heading.version heading.depth heading.bounds.lower heading.trees.now (Ok end) →
+    same ≡ bytes_eq (take (length heading.trees.now - end) (drop end heading.trees.now)) (line ending) →
+    text_value kind shop bytes ≡ stated_once is.0 (cond same (Ok heading.bounds.lower) (Err End))
+ended kind shop bytes heading end same is trees test =
+    is.2 ∙ ap (stated_once is.0) (trees.0
+    ∙ ap (λ xs. end_value heading.bounds.lower xs) (sym (take_rest heading.trees.now end))
+    ∙ ap (λ b. cond b (Ok heading.bounds.lower) (Err End)) (sym test))
 
-pub checked-end : (shop : Shop) (version depth value end : ℕ) (bytes lines : List ℕ) (same : Bool) →
-    certificate_value shop bytes ≡ cut_value shop version depth value lines → TreesGive shop version depth value lines
-    (Ok end) →
-    same ≡ bytes_eq (take (length lines - end) (drop end lines)) (line ending) → same ≡ false →
-    certificate_value shop bytes ≡ Err End
-checked-end shop version depth value end bytes lines same before trees is no_end =
-    before ∙ trees.0 ∙ ap (λ xs. end_value value xs) (sym (take_rest lines end))
-    ∙ ap (λ b. cond b (Ok value) (Err End)) (sym is ∙ no_end)
+pub checked-stated : (kind : TextKind) (shop : Shop) (bytes : List ℕ) (heading : Heading) (end : ℕ) (same : Bool) →
+    (is : IsHeadingOf kind shop bytes heading) →
+    TreesGive shop heading.version heading.depth heading.bounds.lower heading.trees.now (Ok end) →
+    same ≡ bytes_eq (take (length heading.trees.now - end) (drop end heading.trees.now)) (line ending) →
+    same ≡ true → text_value kind shop bytes ≡ Ok is.0
+checked-stated kind shop bytes heading end same is trees test holds =
+    ended kind shop bytes heading end same is trees test
+    ∙ ap (λ b. stated_once is.0 (cond b (Ok heading.bounds.lower) (Err End))) holds
 
-abbrev accepted : ℕ → Result ℕ CheckFault
-accepted value = Ok value
+pub checked-end : (kind : TextKind) (shop : Shop) (bytes : List ℕ) (heading : Heading) (end : ℕ) (same : Bool) →
+    IsHeadingOf kind shop bytes heading →
+    TreesGive shop heading.version heading.depth heading.bounds.lower heading.trees.now (Ok end) →
+    same ≡ bytes_eq (take (length heading.trees.now - end) (drop end heading.trees.now)) (line ending) →
+    same ≡ false → text_value kind shop bytes ≡ Err End
+checked-end kind shop bytes heading end same is trees test no_end =
+    ended kind shop bytes heading end same is trees test
+    ∙ ap (λ b. stated_once is.0 (cond b (Ok heading.bounds.lower) (Err End))) no_end
 
--- a text that is read as a value is a lawful certificate of no other
-pub lawful-value : (shop : Shop) (bytes : List ℕ) (read value : ℕ) → IsWithinLimits shop →
-    certificate_value shop bytes ≡ Ok read → IsCertificate shop bytes value → (accepted read ≡ Ok value)
-    ⊎ (accepted read ≡ Err Memory)
-lawful-value shop bytes read value limits is of_value =
-    inl (sym is ∙ (value_is_exact shop bytes value limits).1 of_value)
+abbrev bounds_in : (kind : TextKind) → Bounds → Result (Stated kind) CheckFault → Bounds
+bounds_in kind other (Ok stated) = stated_bounds kind stated
+bounds_in kind other (Err fault) = other
+
+-- a text that is read as what it states is a lawful one for nothing else
+pub lawful-bounds : (kind : TextKind) (shop : Shop) (bytes : List ℕ) (read stated : Stated kind) →
+    IsWithinLimits shop → text_value kind shop bytes ≡ Ok read → IsLawful kind shop bytes stated →
+    stated_bounds kind read ≡ stated_bounds kind stated
+lawful-bounds kind shop bytes read stated limits is lawful =
+    ap (bounds_in kind (stated_bounds kind read))
+    (sym is ∙ (value_is_exact kind shop bytes stated limits).1 lawful)

@@ -1,16 +1,16 @@
--- A text is read as a value exactly where it is a lawful certificate of that value.
-use Rattle.std.proofs.Common.{◌≡◌, ◌&&◌, nat_eq, nat_lt, nat_le, ◌^◌, ℕ, zero, suc, ◌-◌, ◌<◌, ◌≤◌, Bool, true, cond}
-use Rattle.std.proofs.Common.{not, List, []}
+-- A text is read as what it states exactly where it is a lawful one of its kind.
+use Rattle.std.proofs.Common.{◌≡◌, ◌&&◌, nat_eq, nat_lt, nat_le, ◌^◌, ℕ, zero, suc, ◌-◌, ◌<◌, ◌≤◌, Bool, true, false}
+use Rattle.std.proofs.Common.{cond, not, List, []}
 use Rattle.std.proofs.Common.{◌∷◌, ◌++◌, length, Option, Some, None, Result, Ok, Err, refl, ap, sym, subst, ◌∙◌, inl}
 use Rattle.std.proofs.Common.{inr, arith, append_assoc, ap₂, ◌+◌}
 use Rattle.std.specs.Option.{option_map, option_map_or}
 use Rattle.std.specs.Str.{bytes_eq}
 use Rattle.std.specs.Cmp.Lexicographic.{bytes_decides}
 use Rattle.std.specs.Prelude.{codes}
-use Rattle.std.specs.Fmt.{decimal}
 use Rattle.std.specs.List.{AllByRecursion, list_all, flat_map}
 use Rattle.std.proofs.lemmas.List.Elements.{recursion_from_All}
 use Rattle.std.proofs.lemmas.Fmt.{decimal_digit}
+use Rattle.std.proofs.lemmas.Option.{none-some, same_Some}
 use Rattle.std.proofs.lemmas.Bool.{cases_Bool, eqb-true, leb-true, ltb-true, le-leb, lt-ltb, eq-eqb}
 use Rattle.flow_shop.specs.Limits.{most_jobs, most_machines, greatest_depth}
 use Rattle.flow_shop.specs.Shop.{Shop, IsWithinLimits}
@@ -20,14 +20,19 @@ use Rattle.flow_shop.specs.SequenceFaults.{sequence_fault}
 use Rattle.flow_shop.specs.declared.sequence.SequenceFault.{SequenceFault}
 use Rattle.flow_shop.specs.Bound.{bound_of}
 use Rattle.flow_shop.proofs.SequenceLemmas.{sequence-fault-none-is, is-fault-none}
-use Rattle.flow_check.specs.Certificate.{IsVersion, line, spaced, title, ending, certificate_text, Certifies}
-use Rattle.flow_check.specs.Certificate.{IsCertificate}
-use Rattle.flow_check.specs.CertificateFaults.{ValueIsExact, certificate_value, header_value, size_value, value_value}
-use Rattle.flow_check.specs.CertificateFaults.{sequence_value, cut_value, first_line, on_line, numbers_in, version_of}
+use Rattle.flow_check.specs.Certificate.{IsVersion, line, spaced, opening, title, ending, text_of, Shows, Stated}
+use Rattle.flow_check.specs.Certificate.{IsStated, stated_bounds, numbers_of, IsLawful}
+use Rattle.flow_check.specs.internal.Reading.{ValueIsExact, text_value, header_value, size_value, value_value}
+use Rattle.flow_check.specs.internal.Reading.{sequence_value, after_heading, stated_once, stated_by, cut_value}
+use Rattle.flow_check.specs.internal.Reading.{first_line, on_line, numbers_in, version_of}
+use Rattle.flow_check.specs.declared.bounds.Bounds.{Bounds}
+use Rattle.flow_check.specs.declared.kind.TextKind.{TextKind}
+use Rattle.flow_check.specs.declared.kind.TextKind.TheVariants.{Certificate, OfBounds}
 use Rattle.flow_check.specs.declared.fault.CheckFault.{CheckFault}
 use Rattle.flow_check.specs.declared.fault.CheckFault.TheVariants.{Header, Size, Value, Sequence, NotAttained}
 use Rattle.flow_shop.proofs.Lists.{find-some}
 use Rattle.flow_check.proofs.TreesExact.{trees-sound, trees-complete, fault-value, passes}
+use Rattle.flow_check.proofs.Sound.{shown-order}
 use Rattle.flow_check.proofs.Numbers.{both, off, Fit, IsPlain, numbers-sound, numbers-complete, spaced-plain}
 
 all-weaken : (P Q : ℕ → Type 0) (xs : List ℕ) → ((x : ℕ) → P x → Q x) → AllByRecursion P xs → AllByRecursion Q xs
@@ -59,25 +64,27 @@ first-line-is (byte ∷ bytes) = elim (cases_Bool (nat_eq byte 10)) [
       (mapped byte bytes (first_line bytes) (first-line-is bytes))
 ]
 
-on-line-of : (fault : CheckFault) (next : List ℕ → List ℕ →
-    Result ℕ CheckFault) (bytes : List ℕ) (o : Option (List ℕ × List ℕ)) (v : ℕ) → LineOf bytes o →
+on-line-of : {A : Type 0} (fault : CheckFault) (next : List ℕ → List ℕ →
+    Result A CheckFault) (bytes : List ℕ) (o : Option (List ℕ × List ℕ)) (v : A) → LineOf bytes o →
     option_map_or (λ r. next r.0 r.1) o (Err fault) ≡ Ok v →
     (text : List ℕ) × (rest : List ℕ) × (bytes ≡ text ++ 10 ∷ rest) × (next text rest ≡ Ok v)
 on-line-of fault next bytes None v h e = absurd (fault-value fault v e)
 on-line-of fault next bytes (Some r) v h e = (r.0, r.1, h, e)
 
-on-line-sound : (fault : CheckFault) (next : List ℕ → List ℕ → Result ℕ CheckFault) (bytes : List ℕ) (v : ℕ) →
+on-line-sound : {A : Type 0} (fault : CheckFault) (next : List ℕ → List ℕ → Result A CheckFault) (bytes : List ℕ)
+    (v : A) →
     on_line fault next bytes ≡ Ok v → (text : List ℕ) × (rest : List ℕ) × (bytes ≡ text ++ 10 ∷ rest)
     × (next text rest ≡ Ok v)
 on-line-sound fault next bytes v e = on-line-of fault next bytes (first_line bytes) v (first-line-is bytes) e
 
-first-line-complete : (text rest : List ℕ) → IsPlain text → first_line (text ++ 10 ∷ rest) ≡ Some (text, rest)
+pub first-line-complete : (text rest : List ℕ) → IsPlain text → first_line (text ++ 10 ∷ rest) ≡ Some (text, rest)
 first-line-complete [] rest h = refl
 first-line-complete (b ∷ bs) rest h =
     ap (λ t. cond t (Some ([], bs ++ 10 ∷ rest)) (option_map (put b) (first_line (bs ++ 10 ∷ rest)))) h.0
     ∙ ap (option_map (put b)) (first-line-complete bs rest h.1)
 
-pub on-line-complete : (fault : CheckFault) (next : List ℕ → List ℕ → Result ℕ CheckFault) (text rest : List ℕ) →
+pub on-line-complete : {A : Type 0} (fault : CheckFault) (next : List ℕ → List ℕ → Result A CheckFault)
+    (text rest : List ℕ) →
     IsPlain text → on_line fault next (text ++ 10 ∷ rest) ≡ next text rest
 on-line-complete fault next text rest h =
     ap (λ o. option_map_or (λ r. next r.0 r.1) o (Err fault)) (first-line-complete text rest h)
@@ -96,68 +103,147 @@ version-cases P one two (suc (suc zero)) is = two
 version-cases P one two (suc (suc (suc n))) is = absurd (omega (arith, is.1))
 
 -- the version's digit ends the title
-title-digit : (version : ℕ) → version < 10 →
-    title version ≡ codes "flowshop certificate " ++ (48 + version) ∷ []
-title-digit version small = ap (λ ds. codes "flowshop certificate " ++ ds) (decimal_digit version small)
+title-digit : (kind : TextKind) (version : ℕ) → version < 10 →
+    title kind version ≡ opening kind ++ (48 + version) ∷ []
+title-digit kind version small = ap (λ ds. opening kind ++ ds) (decimal_digit version small)
 
-pub title-known : (version : ℕ) → IsVersion version → version_of (title version) ≡ Some version
-title-known = version-cases (λ version. version_of (title version) ≡ Some version)
-    (ap (λ b. cond b (Some 1) (cond (bytes_eq (title 1) (title 2)) (Some 2) None)) (same (title 1)))
-    (ap₂ (λ two one. cond (bytes_eq two one) (Some 1) (cond (bytes_eq (title 2) (title 2)) (Some 2) None)) two one
-    ∙ ap (λ b. cond b (Some 2) None) (same (title 2)))
+-- the titles of the two versions differ
+titles-differ : (kind : TextKind) → bytes_eq (opening kind ++ 50 ∷ []) (opening kind ++ 49 ∷ []) ≡ false
+titles-differ Certificate = refl
+titles-differ OfBounds = refl
+
+pub title-known : (kind : TextKind) (version : ℕ) → IsVersion version →
+    version_of kind (title kind version) ≡ Some version
+title-known kind = version-cases (λ version. version_of kind (title kind version) ≡ Some version)
+    (ap (λ b. cond b (Some 1) (cond (bytes_eq (title kind 1) (title kind 2)) (Some 2) None)) (same (title kind 1)))
+    (ap (λ b. cond b (Some 1) (cond (bytes_eq (title kind 2) (title kind 2)) (Some 2) None)) apart
+    ∙ ap (λ b. cond b (Some 2) None) (same (title kind 2)))
   where
     same : (text : List ℕ) → bytes_eq text text ≡ true
     same text = (bytes_decides text text).1 refl
 
-    one : title 1 ≡ codes "flowshop certificate " ++ 49 ∷ []
-    one = title-digit 1 (omega arith)
+    apart : bytes_eq (title kind 2) (title kind 1) ≡ false
+    apart = ap₂ (λ two one. bytes_eq two one) (title-digit kind 2 (omega arith)) (title-digit kind 1 (omega arith))
+        ∙ titles-differ kind
 
-    two : title 2 ≡ codes "flowshop certificate " ++ 50 ∷ []
-    two = title-digit 2 (omega arith)
+plain-titles : (kind : TextKind) → IsPlain (opening kind ++ 49 ∷ []) × IsPlain (opening kind ++ 50 ∷ [])
+plain-titles Certificate = (
+  plain-test (codes "flowshop certificate " ++ 49 ∷ []) refl,
+  plain-test (codes "flowshop certificate " ++ 50 ∷ []) refl,
+)
+plain-titles OfBounds = (
+  plain-test (codes "flowshop bounds " ++ 49 ∷ []) refl,
+  plain-test (codes "flowshop bounds " ++ 50 ∷ []) refl,
+)
 
-pub title-plain : (version : ℕ) → IsVersion version → IsPlain (title version)
-title-plain = version-cases (λ version. IsPlain (title version))
-    (subst IsPlain (sym (title-digit 1 (omega arith))) (plain-test (codes "flowshop certificate " ++ 49 ∷ []) refl))
-    (subst IsPlain (sym (title-digit 2 (omega arith))) (plain-test (codes "flowshop certificate " ++ 50 ∷ []) refl))
+pub title-plain : (kind : TextKind) (version : ℕ) → IsVersion version → IsPlain (title kind version)
+title-plain kind = version-cases (λ version. IsPlain (title kind version))
+    (subst IsPlain (sym (title-digit kind 1 (omega arith))) (plain-titles kind).0)
+    (subst IsPlain (sym (title-digit kind 2 (omega arith))) (plain-titles kind).1)
 
-pub known-title : (text : List ℕ) (version : ℕ) → version_of text ≡ Some version →
-    IsVersion version × (text ≡ title version)
-known-title text version e =
+pub known-title : (kind : TextKind) (text : List ℕ) (version : ℕ) → version_of kind text ≡ Some version →
+    IsVersion version × (text ≡ title kind version)
+known-title kind text version e =
     let one : IsVersion 1 = (omega arith, omega arith) in
     let two : IsVersion 2 = (omega arith, omega arith) in
-    let is = find-some (λ v. bytes_eq text (title v)) IsVersion (1 ∷ 2 ∷ []) version (one, (two, tt)) e in
-    (is.1, (bytes_decides text (title version)).0 is.0)
+    let is = find-some (λ v. bytes_eq text (title kind v)) IsVersion (1 ∷ 2 ∷ []) version (one, (two, tt)) e in
+    (is.1, (bytes_decides text (title kind version)).0 is.0)
+
+-- the third line
+
+pub stated-plain : (kind : TextKind) (stated : Stated kind) → IsStated kind stated →
+    IsPlain (spaced (numbers_of kind stated))
+stated-plain Certificate value fits = spaced-plain (value ∷ []) (fits, tt)
+stated-plain OfBounds bounds fits = spaced-plain (bounds.lower ∷ bounds.upper ∷ []) (fits.0, (fits.1, tt))
+
+both-true : (a b : Bool) → a ≡ true → b ≡ true → (a && b) ≡ true
+both-true a b e f = ap (λ t. t && b) e ∙ f
+
+pub stated-known : (kind : TextKind) (stated : Stated kind) → IsStated kind stated →
+    stated_by kind (numbers_in (spaced (numbers_of kind stated))) ≡ Some stated
+stated-known Certificate value fits =
+    ap (stated_by Certificate) (numbers-complete value [] (fits, tt))
+    ∙ ap (λ b. cond b (Some value) None) (lt-ltb value (2 ^ 64) fits)
+stated-known OfBounds bounds fits =
+    ap (stated_by OfBounds) (numbers-complete bounds.lower (bounds.upper ∷ []) (fits.0, (fits.1, tt)))
+    ∙ ap (λ b. cond b (Some bounds) None)
+    (both-true (nat_lt bounds.lower (2 ^ 64)) (nat_lt bounds.upper (2 ^ 64))
+    (lt-ltb bounds.lower (2 ^ 64) fits.0) (lt-ltb bounds.upper (2 ^ 64) fits.1))
+
+-- what is stated where a test holds
+stated-if : {A : Type 0} (b : Bool) (value stated : A) → cond b (Some value) None ≡ Some stated →
+    (b ≡ true) × (value ≡ stated)
+stated-if true value stated e = (refl, same_Some value stated e)
+stated-if false value stated e = absurd (none-some stated e)
+
+-- numbers that state something are those of a third line
+pub states : (kind : TextKind) (numbers : Option (List ℕ)) (stated : Stated kind) →
+    stated_by kind numbers ≡ Some stated →
+    IsStated kind stated × (numbers ≡ Some (numbers_of kind stated))
+states Certificate None stated e = absurd (none-some stated e)
+states Certificate (Some []) stated e = absurd (none-some stated e)
+states Certificate (Some (a ∷ b ∷ ns)) stated e = absurd (none-some stated e)
+states Certificate (Some (value ∷ [])) stated e =
+    let is = stated-if (nat_lt value (2 ^ 64)) value stated e in (
+      subst (λ n. n < 2 ^ 64) is.1 (ltb-true value (2 ^ 64) is.0),
+      ap (λ n. Some (n ∷ [])) is.1,
+    )
+states OfBounds None stated e = absurd (none-some stated e)
+states OfBounds (Some []) stated e = absurd (none-some stated e)
+states OfBounds (Some (a ∷ [])) stated e = absurd (none-some stated e)
+states OfBounds (Some (a ∷ b ∷ n ∷ ns)) stated e = absurd (none-some stated e)
+states OfBounds (Some (lower ∷ upper ∷ [])) stated e =
+    let bounds : Bounds = record { lower = lower; upper = upper } in
+    let is = stated-if (nat_lt lower (2 ^ 64) && nat_lt upper (2 ^ 64)) bounds stated e in
+    let small = both (nat_lt lower (2 ^ 64)) (nat_lt upper (2 ^ 64)) is.0 in (
+      subst (IsStated OfBounds) is.1 (ltb-true lower (2 ^ 64) small.0, ltb-true upper (2 ^ 64) small.1),
+      ap (λ (b : Bounds). Some (b.lower ∷ b.upper ∷ [])) is.1,
+    )
+
+stated-fit : (kind : TextKind) (stated : Stated kind) → IsStated kind stated → Fit (numbers_of kind stated)
+stated-fit Certificate value fits = (fits, tt)
+stated-fit OfBounds bounds fits = (fits.0, (fits.1, tt))
+
+-- a text whose numbers state something is the third line of what they state
+pub stated-text : (kind : TextKind) (text : List ℕ) (stated : Stated kind) →
+    stated_by kind (numbers_in text) ≡ Some stated →
+    IsStated kind stated × (text ≡ spaced (numbers_of kind stated))
+stated-text kind text stated e =
+    let is = states kind (numbers_in text) stated e in
+    (is.0, numbers-sound text (numbers_of kind stated) is.1 (stated-fit kind stated is.0))
 
 -- the lines that the form prescribes
 
-abbrev pub after_header : Shop → ℕ → List ℕ → List ℕ → Result ℕ CheckFault
-after_header shop version text more = size_value shop version more (numbers_in text)
+abbrev pub after_header : (kind : TextKind) → Shop → ℕ → List ℕ → List ℕ → Result (Stated kind) CheckFault
+after_header kind shop version text more = size_value kind shop version more (numbers_in text)
 
-abbrev pub after_size : Shop → ℕ → ℕ → List ℕ → List ℕ → Result ℕ CheckFault
-after_size shop version depth text more = value_value shop version depth more (numbers_in text)
+abbrev pub after_size : (kind : TextKind) → Shop → ℕ → ℕ → List ℕ → List ℕ → Result (Stated kind) CheckFault
+after_size kind shop version depth text more = value_value kind shop version depth more (numbers_in text)
 
-abbrev pub after_value : Shop → ℕ → ℕ → ℕ → List ℕ → List ℕ → Result ℕ CheckFault
-after_value shop version depth value text more = sequence_value shop version depth value more (numbers_in text)
+abbrev pub after_stated :
+    (kind : TextKind) → Shop → ℕ → ℕ → Stated kind → List ℕ → List ℕ → Result (Stated kind) CheckFault
+after_stated kind shop version depth stated text more =
+    sequence_value kind shop version depth stated more (numbers_in text)
 
 pub four : (a b c d : Bool) → (a && b && c && d) ≡ true → (a ≡ true) × (b ≡ true) × (c ≡ true) × (d ≡ true)
 four a b c d e = let k = both (a && b && c) d e in let l = both (a && b) c k.0 in let m = both a b l.0 in
     (m.0, m.1, l.1, k.1)
 
-abbrev SizeOf : Shop → ℕ → List ℕ → Option (List ℕ) → ℕ → Type 0
-SizeOf shop version rest o v = (depth : ℕ) × (o ≡ Some (shop.jobs ∷ shop.machines ∷ depth ∷ [])) × (depth ≤ shop.jobs)
-    × (depth ≤ greatest_depth) × (on_line Value (after_size shop version depth) rest ≡ Ok v)
+abbrev SizeOf : (kind : TextKind) → Shop → ℕ → List ℕ → Option (List ℕ) → Stated kind → Type 0
+SizeOf kind shop version rest o s = (depth : ℕ) × (o ≡ Some (shop.jobs ∷ shop.machines ∷ depth ∷ []))
+    × (depth ≤ shop.jobs) × (depth ≤ greatest_depth)
+    × (on_line Value (after_size kind shop version depth) rest ≡ Ok s)
 
-size-sound : (shop : Shop) (version : ℕ) (rest : List ℕ) (o : Option (List ℕ)) (v : ℕ) → size_value shop version rest o
-    ≡ Ok v →
-    SizeOf shop version rest o v
-size-sound shop version rest None v e = absurd (fault-value Size v e)
-size-sound shop version rest (Some []) v e = absurd (fault-value Size v e)
-size-sound shop version rest (Some (a ∷ [])) v e = absurd (fault-value Size v e)
-size-sound shop version rest (Some (a ∷ b ∷ [])) v e = absurd (fault-value Size v e)
-size-sound shop version rest (Some (a ∷ b ∷ d ∷ x ∷ xs)) v e = absurd (fault-value Size v e)
-size-sound shop version rest (Some (a ∷ b ∷ d ∷ [])) v e =
+size-sound : (kind : TextKind) (shop : Shop) (version : ℕ) (rest : List ℕ) (o : Option (List ℕ)) (s : Stated kind) →
+    size_value kind shop version rest o ≡ Ok s → SizeOf kind shop version rest o s
+size-sound kind shop version rest None s e = absurd (fault-value Size s e)
+size-sound kind shop version rest (Some []) s e = absurd (fault-value Size s e)
+size-sound kind shop version rest (Some (a ∷ [])) s e = absurd (fault-value Size s e)
+size-sound kind shop version rest (Some (a ∷ b ∷ [])) s e = absurd (fault-value Size s e)
+size-sound kind shop version rest (Some (a ∷ b ∷ d ∷ x ∷ xs)) s e = absurd (fault-value Size s e)
+size-sound kind shop version rest (Some (a ∷ b ∷ d ∷ [])) s e =
     let p = passes (nat_eq a shop.jobs && nat_eq b shop.machines && nat_le d shop.jobs
-    && nat_le d greatest_depth) (on_line Value (after_size shop version d) rest) Size v e in
+    && nat_le d greatest_depth) (on_line Value (after_size kind shop version d) rest) Size s e in
     let t = four (nat_eq a shop.jobs) (nat_eq b shop.machines) (nat_le d shop.jobs) (nat_le d greatest_depth) p.0 in (
       d,
       ap (λ k. Some (k ∷ b ∷ d ∷ [])) (eqb-true a shop.jobs t.0)
@@ -168,42 +254,44 @@ size-sound shop version rest (Some (a ∷ b ∷ d ∷ [])) v e =
       p.1,
     )
 
-abbrev ValueOf : Shop → ℕ → ℕ → List ℕ → Option (List ℕ) → ℕ → Type 0
-ValueOf shop version depth rest o v = (value : ℕ) × (o ≡ Some (value ∷ [])) × (value < 2 ^ 64)
-    × (on_line Sequence (after_value shop version depth value) rest ≡ Ok v)
+-- a step of the reading that takes what was found, or else fails
+found-sound : {A B : Type 0} (next : A → Result B CheckFault) (o : Option A) (fault : CheckFault) (s : B) →
+    option_map_or next o (Err fault) ≡ Ok s → (found : A) × (o ≡ Some found) × (next found ≡ Ok s)
+found-sound next None fault s e = absurd (fault-value fault s e)
+found-sound next (Some found) fault s e = (found, refl, e)
 
-value-sound : (shop : Shop) (version : ℕ) (depth : ℕ) (rest : List ℕ) (o : Option (List ℕ)) (v : ℕ) →
-    value_value shop version depth rest o ≡ Ok v → ValueOf shop version depth rest o v
-value-sound shop version depth rest None v e = absurd (fault-value Value v e)
-value-sound shop version depth rest (Some []) v e = absurd (fault-value Value v e)
-value-sound shop version depth rest (Some (a ∷ b ∷ xs)) v e = absurd (fault-value Value v e)
-value-sound shop version depth rest (Some (value ∷ [])) v e =
-    let p = passes (nat_lt value (2 ^ 64)) (on_line Sequence (after_value shop version depth value) rest) Value v e in
-    (value, refl, ltb-true value (2 ^ 64) p.0, p.1)
+no-fault : {A : Type 0} (o : Option SequenceFault) (next : Result A CheckFault) (s : A) →
+    option_map_or (λ fault. Err Sequence) o next ≡ Ok s → (o ≡ None) × (next ≡ Ok s)
+no-fault None next s e = (refl, e)
+no-fault (Some fault) next s e = absurd (fault-value Sequence s e)
 
-no-fault : (o : Option SequenceFault) (next : Result ℕ CheckFault) (v : ℕ) →
-    option_map_or (λ fault. Err Sequence) o next ≡ Ok v → (o ≡ None) × (next ≡ Ok v)
-no-fault None next v e = (refl, e)
-no-fault (Some fault) next v e = absurd (fault-value Sequence v e)
+-- the value of what was read; another one where it failed
+abbrev worth : {A : Type 0} → A → Result A CheckFault → A
+worth other (Ok value) = value
+worth other (Err fault) = other
 
-abbrev SequenceOf : Shop → ℕ → ℕ → ℕ → List ℕ → Option (List ℕ) → ℕ → Type 0
-SequenceOf shop version depth value rest o v = (jobs : List ℕ) × (o ≡ Some jobs) × IsSequence shop.jobs jobs
-    × (span shop jobs ≡ value) × (cut_value shop version depth value rest ≡ Ok v)
+-- what is stated once the trees are read
+once-sound : {A : Type 0} (stated : A) (r : Result ℕ CheckFault) (s : A) → stated_once stated r ≡ Ok s →
+    (value : ℕ) × (r ≡ Ok value) × (stated ≡ s)
+once-sound stated (Ok value) s e = (value, refl, ap (worth stated) e)
+once-sound stated (Err fault) s e = absurd (fault-value fault s e)
 
-sequence-sound : (shop : Shop) (version : ℕ) (depth value : ℕ) (rest : List ℕ) (o : Option (List ℕ)) (v : ℕ) →
-    sequence_value shop version depth value rest o ≡ Ok v → SequenceOf shop version depth value rest o v
-sequence-sound shop version depth value rest None v e = absurd (fault-value Sequence v e)
-sequence-sound shop version depth value rest (Some jobs) v e =
-    let p = no-fault (sequence_fault shop.jobs jobs) (cond (nat_eq (span shop jobs) value)
-    (cut_value shop version depth value rest) (Err NotAttained)) v e in
-    let q = passes (nat_eq (span shop jobs) value) (cut_value shop version depth value rest) NotAttained v p.1 in
-    (jobs, refl, sequence-fault-none-is shop.jobs jobs p.0, eqb-true (span shop jobs) value q.0, q.1)
+abbrev SequenceOf : (kind : TextKind) → Shop → ℕ → ℕ → Stated kind → List ℕ → Option (List ℕ) → Stated kind → Type 0
+SequenceOf kind shop version depth stated rest o s = (jobs : List ℕ) × (o ≡ Some jobs) × IsSequence shop.jobs jobs
+    × (span shop jobs ≡ (stated_bounds kind stated).upper)
+    × (after_heading kind shop version depth stated rest ≡ Ok s)
 
-header-sound : (shop : Shop) (rest : List ℕ) (o : Option ℕ) (v : ℕ) →
-    option_map_or (λ version. on_line Size (after_header shop version) rest) o (Err Header) ≡ Ok v →
-    (version : ℕ) × (o ≡ Some version) × (on_line Size (after_header shop version) rest ≡ Ok v)
-header-sound shop rest None v e = absurd (fault-value Header v e)
-header-sound shop rest (Some version) v e = (version, refl, e)
+sequence-sound : (kind : TextKind) (shop : Shop) (version depth : ℕ) (stated : Stated kind) (rest : List ℕ)
+    (o : Option (List ℕ)) (s : Stated kind) → sequence_value kind shop version depth stated rest o ≡ Ok s →
+    SequenceOf kind shop version depth stated rest o s
+sequence-sound kind shop version depth stated rest None s e = absurd (fault-value Sequence s e)
+sequence-sound kind shop version depth stated rest (Some jobs) s e =
+    let upper : ℕ = (stated_bounds kind stated).upper in
+    let next : Result (Stated kind) CheckFault = after_heading kind shop version depth stated rest in
+    let p = no-fault (sequence_fault shop.jobs jobs) (cond (nat_eq (span shop jobs) upper) next (Err NotAttained)) s
+    e in
+    let q = passes (nat_eq (span shop jobs) upper) next NotAttained s p.1 in
+    (jobs, refl, sequence-fault-none-is shop.jobs jobs p.0, eqb-true (span shop jobs) upper q.0, q.1)
 
 -- the lines in a row
 glue : (a b c d f e : List ℕ) → a ++ 10 ∷ (b ++ 10 ∷ (c ++ 10 ∷ (d ++ 10 ∷ (f ++ e))))
@@ -257,45 +345,56 @@ size-fit shop depth limits shallow =
       ),
     )
 
-sound : (shop : Shop) (bytes : List ℕ) (v : ℕ) → IsWithinLimits shop → on_line Header (header_value shop) bytes ≡ Ok v →
-    IsCertificate shop bytes v
-sound shop bytes v limits e =
-    let l1 = on-line-sound Header (header_value shop) bytes v e in
-    let s1 = header-sound shop l1.1 (version_of l1.0) v l1.3 in
+sound : (kind : TextKind) (shop : Shop) (bytes : List ℕ) (s : Stated kind) → IsWithinLimits shop →
+    on_line Header (header_value kind shop) bytes ≡ Ok s → IsLawful kind shop bytes s
+sound kind shop bytes s limits e =
+    let l1 = on-line-sound Header (header_value kind shop) bytes s e in
+    let s1 = found-sound (λ version. on_line Size (after_header kind shop version) l1.1) (version_of kind l1.0) Header s
+    l1.3 in
     let version : ℕ = s1.0 in
-    let titled = known-title l1.0 version s1.1 in
-    let l2 = on-line-sound Size (after_header shop version) l1.1 v s1.2 in
-    let s2 = size-sound shop version l2.1 (numbers_in l2.0) v l2.3 in
-    let l3 = on-line-sound Value (after_size shop version s2.0) l2.1 v s2.4 in
-    let s3 = value-sound shop version s2.0 l3.1 (numbers_in l3.0) v l3.3 in
-    let l4 = on-line-sound Sequence (after_value shop version s2.0 s3.0) l3.1 v s3.3 in
-    let s4 = sequence-sound shop version s2.0 s3.0 l4.1 (numbers_in l4.0) v l4.3 in
-    let t = trees-sound shop (bound_of version) s3.0 (shop.jobs - s2.0) (cut shop.jobs s2.0) 5 l4.1 v s4.4 in
-    let is : IsCertificate shop bytes s3.0 = (
+    let titled = known-title kind l1.0 version s1.1 in
+    let l2 = on-line-sound Size (after_header kind shop version) l1.1 s s1.2 in
+    let s2 = size-sound kind shop version l2.1 (numbers_in l2.0) s l2.3 in
+    let depth : ℕ = s2.0 in
+    let l3 = on-line-sound Value (after_size kind shop version depth) l2.1 s s2.4 in
+    let s3 = found-sound (λ stated. on_line Sequence (after_stated kind shop version depth stated) l3.1)
+    (stated_by kind (numbers_in l3.0)) Value s l3.3 in
+    let third = stated-text kind l3.0 s3.0 s3.1 in
+    let l4 = on-line-sound Sequence (after_stated kind shop version depth s3.0) l3.1 s s3.2 in
+    let s4 = sequence-sound kind shop version depth s3.0 l4.1 (numbers_in l4.0) s l4.3 in
+    let lower : ℕ = (stated_bounds kind s3.0).lower in
+    let once = once-sound s3.0 (cut_value shop version depth lower l4.1) s s4.4 in
+    let t = trees-sound shop (bound_of version) lower (shop.jobs - depth) (cut shop.jobs depth) 5 l4.1 once.0 once.1 in
+    let is : IsLawful kind shop bytes s3.0 = (
       version,
-      s2.0,
+      depth,
       s4.0,
       t.0.0,
       record {
         known = titled.0;
         jobs_enough = s2.2;
         shallow = s2.3;
-        fits = s3.2;
+        fits = upper-fits kind s3.0 third.0;
         whole = s4.2;
         attained = s4.3;
         covered
             = t.0.2;
       },
-      chain bytes (title version) (spaced (shop.jobs ∷ shop.machines ∷ s2.0
-          ∷ [])) (decimal s3.0) (spaced s4.0) (flat_map line t.0.0)
+      chain bytes (title kind version) (spaced (shop.jobs ∷ shop.machines ∷ depth
+          ∷ [])) (spaced (numbers_of kind s3.0)) (spaced s4.0) (flat_map line t.0.0)
           (line ending) l1.0 l2.0 l3.0 l4.0 l1.1 l2.1 l3.1 l4.1
           l1.2 titled.1
-          l2.2 (numbers-sound l2.0 (shop.jobs ∷ shop.machines ∷ s2.0 ∷ []) s2.1 (size-fit shop s2.0 limits s2.3))
-          l3.2 (numbers-sound l3.0 (s3.0 ∷ []) s3.1 (s3.2, tt))
+          l2.2 (numbers-sound l2.0 (shop.jobs ∷ shop.machines ∷ depth ∷ []) s2.1 (size-fit shop depth limits s2.3))
+          l3.2 third.1
           l4.2 (numbers-sound l4.0 s4.0 s4.1 (sequence-fit shop.jobs s4.0 limits.jobs s4.2))
           t.0.1,
     ) in
-    subst (IsCertificate shop bytes) t.1 is
+    subst (IsLawful kind shop bytes) once.2 is
+  where
+    upper-fits : (kind : TextKind) (stated : Stated kind) → IsStated kind stated →
+        (stated_bounds kind stated).upper < 2 ^ 64
+    upper-fits Certificate value fits = fits
+    upper-fits OfBounds bounds fits = fits.1
 
 pub numbers-whole : (ns : List ℕ) → 0 < length ns → Fit ns → numbers_in (spaced ns) ≡ Some ns
 numbers-whole [] some h = absurd (omega arith)
@@ -311,47 +410,62 @@ size-true shop depth short shallow =
     ∙ ap (λ b. b && nat_le depth greatest_depth) (le-leb depth shop.jobs short)
     ∙ le-leb depth greatest_depth shallow
 
-complete : (shop : Shop) (version value depth : ℕ) (sequence : List ℕ) (trees : List (List ℕ)) → IsWithinLimits shop →
-    Certifies shop version value depth sequence trees →
-    on_line Header (header_value shop) (certificate_text shop version depth value sequence trees) ≡ Ok value
-complete shop version value depth sequence trees limits certifies =
+-- bounds that are shown fit a word
+pub shown-fit : (kind : TextKind) (shop : Shop) (stated : Stated kind) (version depth : ℕ) (sequence : List ℕ)
+    (trees : List (List ℕ)) →
+    Shows shop version (stated_bounds kind stated).lower (stated_bounds kind stated).upper depth sequence trees →
+    IsStated kind stated
+shown-fit Certificate shop value version depth sequence trees shows = shows.fits
+shown-fit OfBounds shop bounds version depth sequence trees shows =
+    let order = shown-order shop version bounds.lower bounds.upper depth sequence trees shows in
+    (omega (arith, order, shows.fits), shows.fits)
+
+complete : (kind : TextKind) (shop : Shop) (stated : Stated kind) (version depth : ℕ) (sequence : List ℕ)
+    (trees : List (List ℕ)) → IsWithinLimits shop →
+    Shows shop version (stated_bounds kind stated).lower (stated_bounds kind stated).upper depth sequence trees →
+    on_line Header (header_value kind shop) (text_of kind shop version depth stated sequence trees) ≡ Ok stated
+complete kind shop stated version depth sequence trees limits shows =
+    let lower : ℕ = (stated_bounds kind stated).lower in
+    let upper : ℕ = (stated_bounds kind stated).upper in
     let size : List ℕ = spaced (shop.jobs ∷ shop.machines ∷ depth ∷ []) in
+    let third : List ℕ = spaced (numbers_of kind stated) in
     let rest4 : List ℕ = flat_map line trees ++ line ending in
     let rest3 : List ℕ = spaced sequence ++ 10 ∷ rest4 in
-    let rest2 : List ℕ = decimal value ++ 10 ∷ rest3 in
+    let rest2 : List ℕ = third ++ 10 ∷ rest3 in
     let rest1 : List ℕ = size ++ 10 ∷ rest2 in
-    let size_fits : Fit (shop.jobs ∷ shop.machines ∷ depth ∷ []) = size-fit shop depth limits certifies.shallow in
-    let value_fits : Fit (value ∷ []) = (certifies.fits, tt) in
-    let sequence_fits : Fit sequence = sequence-fit shop.jobs sequence limits.jobs certifies.whole in
+    let size_fits : Fit (shop.jobs ∷ shop.machines ∷ depth ∷ []) = size-fit shop depth limits shows.shallow in
+    let stated_fits : IsStated kind stated = shown-fit kind shop stated version depth sequence trees shows in
+    let sequence_fits : Fit sequence = sequence-fit shop.jobs sequence limits.jobs shows.whole in
     let some_job : 1 ≤ shop.jobs = limits.some_job in
-    let last : Result ℕ CheckFault = cut_value shop version depth value rest4 in
-    ap (on_line Header (header_value shop)) (sym (glue (title version) size (decimal value) (spaced sequence)
+    let last : Result (Stated kind) CheckFault = after_heading kind shop version depth stated rest4 in
+    ap (on_line Header (header_value kind shop)) (sym (glue (title kind version) size third (spaced sequence)
     (flat_map line trees) (line ending)))
-    ∙ on-line-complete Header (header_value shop) (title version) rest1 (title-plain version certifies.known)
-    ∙ ap (λ o. option_map_or (λ version. on_line Size (after_header shop version) rest1) o (Err Header)) (title-known
-    version certifies.known)
-    ∙ on-line-complete Size (after_header shop version) size rest2 (spaced-plain (shop.jobs ∷ shop.machines ∷ depth
-    ∷ []) size_fits)
-    ∙ ap (size_value shop version rest2) (numbers-complete shop.jobs (shop.machines ∷ depth ∷ []) size_fits)
-    ∙ ap (λ b. cond b (on_line Value (after_size shop version depth) rest2) (Err Size))
-    (size-true shop depth certifies.jobs_enough certifies.shallow)
-    ∙ on-line-complete Value (after_size shop version depth) (decimal value) rest3
-    (spaced-plain (value ∷ []) value_fits)
-    ∙ ap (value_value shop version depth rest3) (numbers-complete value [] value_fits)
-    ∙ ap (λ b. cond b (on_line Sequence (after_value shop version depth value) rest3) (Err Value)) (lt-ltb value
-    (2 ^ 64) certifies.fits)
-    ∙ on-line-complete Sequence (after_value shop version depth value) (spaced sequence) rest4
+    ∙ on-line-complete Header (header_value kind shop) (title kind version) rest1
+    (title-plain kind version shows.known)
+    ∙ ap (λ o. option_map_or (λ version. on_line Size (after_header kind shop version) rest1) o (Err Header))
+    (title-known kind version shows.known)
+    ∙ on-line-complete Size (after_header kind shop version) size rest2
+    (spaced-plain (shop.jobs ∷ shop.machines ∷ depth ∷ []) size_fits)
+    ∙ ap (size_value kind shop version rest2) (numbers-complete shop.jobs (shop.machines ∷ depth ∷ []) size_fits)
+    ∙ ap (λ b. cond b (on_line Value (after_size kind shop version depth) rest2) (Err Size))
+    (size-true shop depth shows.jobs_enough shows.shallow)
+    ∙ on-line-complete Value (after_size kind shop version depth) third rest3 (stated-plain kind stated stated_fits)
+    ∙ ap (λ o. option_map_or (λ s. on_line Sequence (after_stated kind shop version depth s) rest3) o (Err Value))
+    (stated-known kind stated stated_fits)
+    ∙ on-line-complete Sequence (after_stated kind shop version depth stated) (spaced sequence) rest4
     (spaced-plain sequence sequence_fits)
-    ∙ ap (sequence_value shop version depth value rest4) (numbers-whole sequence (omega
-    (arith, certifies.whole.whole, some_job)) sequence_fits)
-    ∙ ap (λ o. option_map_or (λ fault. Err Sequence) o (cond (nat_eq (span shop sequence) value) last
-    (Err NotAttained))) (is-fault-none shop.jobs sequence certifies.whole)
-    ∙ ap (λ b. cond b last (Err NotAttained)) (eq-eqb (span shop sequence) value certifies.attained)
-    ∙ trees-complete shop (bound_of version) value (shop.jobs - depth) (cut shop.jobs depth) 5 trees certifies.covered
+    ∙ ap (sequence_value kind shop version depth stated rest4) (numbers-whole sequence (omega
+    (arith, shows.whole.whole, some_job)) sequence_fits)
+    ∙ ap (λ o. option_map_or (λ fault. Err Sequence) o (cond (nat_eq (span shop sequence) upper) last
+    (Err NotAttained))) (is-fault-none shop.jobs sequence shows.whole)
+    ∙ ap (λ b. cond b last (Err NotAttained)) (eq-eqb (span shop sequence) upper shows.attained)
+    ∙ ap (stated_once stated) (trees-complete shop (bound_of version) lower (shop.jobs - depth)
+    (cut shop.jobs depth) 5 trees shows.covered)
 
 pub value_is_exact : ValueIsExact
-unfolding certificate_value
-value_is_exact shop bytes value limits = (
-  λ e. sound shop bytes value limits e,
-  λ is. ap (on_line Header (header_value shop)) is.5 ∙ complete shop is.0 value is.1 is.2 is.3 limits is.4,
+unfolding text_value
+value_is_exact kind shop bytes stated limits = (
+  λ e. sound kind shop bytes stated limits e,
+  λ is. ap (on_line Header (header_value kind shop)) is.5
+      ∙ complete kind shop stated is.0 is.1 is.2 is.3 limits is.4,
 )

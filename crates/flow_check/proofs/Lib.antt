@@ -3,6 +3,9 @@ pub mod TreeBytes
 pub mod TreesExact
 pub mod Numbers
 pub mod Exact
+pub mod TreeFaults
+pub mod FirstFaults
+pub mod FaultsExact
 pub mod Checked
 pub mod Links
 pub mod NodeSteps
@@ -10,6 +13,7 @@ pub mod Releases
 pub mod Numerals
 pub mod SizeLine
 pub mod SequenceLine
+pub mod StatedLines
 pub mod HeadingLines
 pub mod Exits
 pub mod Readers

@@ -5,7 +5,7 @@ use Rattle.std.specs.List.{flat_map}
 use Rattle.flow_shop.specs.Shop.{Shop}
 use Rattle.flow_shop.specs.Bound.{bound_of}
 use Rattle.flow_shop.specs.Sequences.{extensions}
-use Rattle.flow_check.specs.CertificateFaults.{read_tree, after_tree, trees_value}
+use Rattle.flow_check.specs.internal.Reading.{read_tree, after_tree, trees_value}
 use Rattle.flow_check.specs.internal.Links.{children, IsNext}
 use Rattle.flow_check.specs.internal.Reader.{awaited, TreeGives, LineEnds, LinesGive}
 use Rattle.flow_check.specs.declared.fault.CheckFault.{CheckFault}
@@ -48,20 +48,20 @@ awaited-lines shop version value left more list last job place bytes rest is som
     ++ (awaited shop.jobs more list (job + 1) ++ rest)) place bytes) same
 
 -- the line of the next child comes first
-pub awaited-line : (shop : Shop) (version value left below more : ℕ) (list : List ℕ) (last job line : ℕ)
+pub awaited-line : (shop : Shop) (version value left child_left more : ℕ) (list : List ℕ) (last job line : ℕ)
     (bytes : List ℕ)
-    (rest : List (List ℕ)) → IsNext shop.jobs list last job → job ≢ 0 → more ≡ 1 → left ≡ suc below →
+    (rest : List (List ℕ)) → IsNext shop.jobs list last job → job ≢ 0 → more ≡ 1 → left ≡ suc child_left →
     trees_value shop (bound_of version) value (left - more) (awaited shop.jobs more list (last + 1) ++ rest) line bytes
-    ≡ trees_value shop (bound_of version) value below ((list ++ job ∷ [])
+    ≡ trees_value shop (bound_of version) value child_left ((list ++ job ∷ [])
     ∷ (awaited shop.jobs more list (job + 1) ++ rest)) line bytes
-awaited-line shop version value left below more list last job line bytes rest is some one deep =
-    let same : left - more ≡ below = omega (arith, one, deep) in
+awaited-line shop version value left child_left more list last job line bytes rest is some one deep =
+    let same : left - more ≡ child_left = omega (arith, one, deep) in
     let none : more - 1 ≡ 0 = omega (arith, one) in
     ap (λ ps. trees_value shop (bound_of version) value (left - more) ps line bytes)
     (awaited-next shop.jobs more list last job rest is some)
     ∙ ap (λ l. trees_value shop (bound_of version) value l (extensions shop.jobs (more - 1) (list ++ job ∷ [])
     ++ (awaited shop.jobs more list (job + 1) ++ rest)) line bytes) same
-    ∙ ap (λ m. trees_value shop (bound_of version) value below (extensions shop.jobs m (list ++ job ∷ [])
+    ∙ ap (λ m. trees_value shop (bound_of version) value child_left (extensions shop.jobs m (list ++ job ∷ [])
     ++ (awaited shop.jobs more list (job + 1) ++ rest)) line bytes) none
 
 abbrev Bad : Shop → ℕ → ℕ → ℕ → List (List ℕ) → ℕ → ℕ → List ℕ → CheckFault → Type 0

@@ -18,10 +18,10 @@ use Rattle.flow_shop.proofs.Extremes.{map-map-append}
 use Rattle.flow_shop.proofs.JobsLeft.{kept-small, filter-more}
 use Rattle.std.proofs.lemmas.Bool.Decides.{eqb_tells}
 use Rattle.flow_shop.specs.TwoLeast.{tails, least_below, second_below}
-use Rattle.flow_check.specs.internal.Nodes.{IsNode, AreKnown, AreLows, unknown}
+use Rattle.flow_check.specs.internal.Nodes.{IsNode, AreKnown, AreTwoLeastTails, no_least}
 use Rattle.flow_check.specs.internal.Links.{children}
 use Rattle.flow_check.specs.declared.node.Node.{Node}
-use Rattle.flow_check.specs.declared.node.Lows.{Lows}
+use Rattle.flow_check.specs.declared.node.TwoLeastTails.{TwoLeastTails}
 use Rattle.flow_shop.proofs.Taken.{left-sum, left-count, left-split, left-without, left_under}
 use Rattle.flow_shop.proofs.TwoLeast.{Without, without-one, least-below-cap}
 use Rattle.flow_shop.proofs.Fronts.{tail-small}
@@ -45,7 +45,7 @@ none-has (suc n) = omega (
 
 -- before any bound asks for a tail
 none-known : (shop : Shop) (list least second : List ℕ) →
-    ((machine : ℕ) → 1 ≤ machine → machine ≤ shop.machines → slice_index least (machine - 1) ≡ unknown) →
+    ((machine : ℕ) → 1 ≤ machine → machine ≤ shop.machines → slice_index least (machine - 1) ≡ no_least) →
     length least ≡ most_machines → length second ≡ most_machines → AreKnown shop list least second
 none-known shop list least second none least_size second_size = record {
   each = λ machine from to. inl (none machine from to);
@@ -54,16 +54,17 @@ none-known shop list least second none least_size second_size = record {
 }
 
 -- once a machine is asked for
-pub known-more : (shop : Shop) (list : List ℕ) (node : Node) (left machine : ℕ) (lows : Lows) → IsWithinLimits shop →
-    IsNode shop list node left → 1 ≤ machine → machine ≤ shop.machines → AreLows shop list machine lows →
+pub known-more : (shop : Shop) (list : List ℕ) (node : Node) (left machine : ℕ) (two : TwoLeastTails) →
+    IsWithinLimits shop →
+    IsNode shop list node left → 1 ≤ machine → machine ≤ shop.machines → AreTwoLeastTails shop list machine two →
     IsNode shop list (record {
       front = node.front;
       work = node.work;
       least =
-          set node.least (machine - 1) lows.least;
-      second = set node.second (machine - 1) lows.second;
+          set node.least (machine - 1) two.least;
+      second = set node.second (machine - 1) two.second;
     }) left
-known-more shop list node left machine lows limits is from to low = record {
+known-more shop list node left machine two limits is from to low = record {
   times = is.times;
   work = is.work;
   size = is.size;
@@ -71,29 +72,30 @@ known-more shop list node left machine lows limits is from to low = record {
     each = λ k low_k high_k. elim (eqb_tells k machine) [
       | inl same ↦
           let most : shop.machines ≤ most_machines = limits.machines in
-          let a : lows.least ≡ slice_index (set node.least (machine - 1) lows.least) (k - 1) = sym (ap (λ i. slice_index
-          (set node.least (machine - 1) lows.least) (i - 1)) same.1
-          ∙ get_or-set_same node.least (machine - 1) lows.least 0 (omega
+          let a : two.least ≡ slice_index (set node.least (machine - 1) two.least) (k - 1) = sym (ap (λ i. slice_index
+          (set node.least (machine - 1) two.least) (i - 1)) same.1
+          ∙ get_or-set_same node.least (machine - 1) two.least 0 (omega
           (arith, is.known.least_size, from, to, most))) in
-          let b : lows.second ≡ slice_index (set node.second (machine - 1) lows.second) (k - 1) = sym (ap
-          (λ i. slice_index (set node.second (machine - 1) lows.second) (i - 1)) same.1
-          ∙ get_or-set_same node.second (machine - 1) lows.second 0 (omega
+          let b : two.second ≡ slice_index (set node.second (machine - 1) two.second) (k - 1) = sym (ap
+          (λ i. slice_index (set node.second (machine - 1) two.second) (i - 1)) same.1
+          ∙ get_or-set_same node.second (machine - 1) two.second 0 (omega
           (arith, is.known.second_size, from, to, most))) in
-          let here : AreLows shop list k lows = subst (λ i. AreLows shop list i lows) (sym same.1) low in
+          let here : AreTwoLeastTails shop list k two = subst (λ i. AreTwoLeastTails shop list i two)
+          (sym same.1) low in
           inr (sym a ∙ here.0, sym b ∙ here.1)
       | inr other ↦
           let apart : k - 1 ≢ machine - 1 = omega (arith, other.1, low_k, from) in
-          let a : slice_index (set node.least (machine - 1) lows.least) (k - 1) ≡ slice_index node.least (k - 1) =
-          get_or-set_other node.least (machine - 1) (k - 1) lows.least 0 apart in
-          let b : slice_index (set node.second (machine - 1) lows.second) (k - 1) ≡ slice_index node.second (k - 1) =
-          get_or-set_other node.second (machine - 1) (k - 1) lows.second 0 apart in
+          let a : slice_index (set node.least (machine - 1) two.least) (k - 1) ≡ slice_index node.least (k - 1) =
+          get_or-set_other node.least (machine - 1) (k - 1) two.least 0 apart in
+          let b : slice_index (set node.second (machine - 1) two.second) (k - 1) ≡ slice_index node.second (k - 1) =
+          get_or-set_other node.second (machine - 1) (k - 1) two.second 0 apart in
           elim (is.known.each k low_k high_k) [
             | inl none ↦ inl (a ∙ none)
             | inr was ↦ inr (a ∙ was.0, b ∙ was.1)
           ]
     ];
-    least_size = length-set node.least (machine - 1) lows.least ∙ is.known.least_size;
-    second_size = length-set node.second (machine - 1) lows.second ∙ is.known.second_size;
+    least_size = length-set node.least (machine - 1) two.least ∙ is.known.least_size;
+    second_size = length-set node.second (machine - 1) two.second ∙ is.known.second_size;
   };
   count = is.count;
   some = is.some;
@@ -103,8 +105,8 @@ known-more shop list node left machine lows limits is from to low = record {
 pub root-node : (shop : Shop) (node : Node) → IsWithinLimits shop → IsFrontOf shop [] node.front →
     ((machine : ℕ) → 1 ≤ machine → machine ≤ shop.machines →
     slice_index node.work (machine - 1) ≡ sum_by (λ job. time shop job machine) (jobs_left shop.jobs [])) →
-    length node.work ≡ most_machines → node.least ≡ replicate most_machines unknown →
-    node.second ≡ replicate most_machines unknown → IsNode shop [] node shop.jobs
+    length node.work ≡ most_machines → node.least ≡ replicate most_machines no_least →
+    node.second ≡ replicate most_machines no_least → IsNode shop [] node shop.jobs
 root-node shop node limits times work size least second =
     let most : shop.machines ≤ most_machines = limits.machines in
     record {
@@ -112,7 +114,7 @@ root-node shop node limits times work size least second =
       work = work;
       size = size;
       known = none-known shop [] node.least node.second (λ machine from to. ap (λ l. slice_index l (machine - 1)) least
-          ∙ get_or-replicate most_machines (machine - 1) unknown 0 (omega (arith, from, to, most))) (ap length least)
+          ∙ get_or-replicate most_machines (machine - 1) no_least 0 (omega (arith, from, to, most))) (ap length least)
           (ap length second);
       count = omega arith;
       some = none-has shop.jobs;
@@ -124,7 +126,7 @@ pub child-node : (shop : Shop) (list : List ℕ) (node child : Node) (left job :
     IsFrontOf shop (list ++ job ∷ []) child.front → length child.work ≡ most_machines →
     ((machine : ℕ) → 1 ≤ machine → machine ≤ shop.machines →
     slice_index child.work (machine - 1) + time shop job machine ≡ slice_index node.work (machine - 1)) →
-    ((machine : ℕ) → 1 ≤ machine → machine ≤ shop.machines → slice_index child.least (machine - 1) ≡ unknown) →
+    ((machine : ℕ) → 1 ≤ machine → machine ≤ shop.machines → slice_index child.least (machine - 1) ≡ no_least) →
     length child.least ≡ most_machines → length child.second ≡ most_machines →
     IsNode shop (list ++ job ∷ []) child left
 child-node shop list node child left job limits is low high fresh times size less least least_size second_size =
@@ -170,9 +172,9 @@ same-without y z p q r s m n yz pq rs a b = elim (eqb_tells y p) [
 
 -- the least over the jobs left once a job is taken, from the two least before
 pub without-left : (f : ℕ → ℕ) (n : ℕ) (list : List ℕ) (job y p q m : ℕ) → 1 ≤ job → job ≤ n → has list job ≡ false →
-    p ≡ least_below unknown (map f (jobs_left n list)) →
-    q ≡ second_below unknown unknown (map f (jobs_left n list)) → y ≡ f job → Without y p q m →
-    m ≡ least_below unknown (map f (jobs_left n (list ++ job ∷ [])))
+    p ≡ least_below no_least (map f (jobs_left n list)) →
+    q ≡ second_below no_least no_least (map f (jobs_left n list)) → y ≡ f job → Without y p q m →
+    m ≡ least_below no_least (map f (jobs_left n (list ++ job ∷ [])))
 without-left f n list job y p q m low high fresh is_p is_q is_y picked =
     let us : List ℕ = left_under list job in
     let vs : List ℕ = children n list (job + 1) in
@@ -180,20 +182,21 @@ without-left f n list job y p q m low high fresh is_p is_q is_y picked =
     ap (map f) (left-split n list job low high fresh) ∙ map-map-append f us (job ∷ vs) in
     let rest : map f (jobs_left n (list ++ job ∷ [])) ≡ map f us ++ map f vs =
     ap (map f) (left-without n list job low high) ∙ map-map-append f us vs in
-    same-without y (f job) p (least_below unknown (map f us ++ f job ∷ map f vs)) q
-    (second_below unknown unknown (map f us ++ f job ∷ map f vs)) m (least_below unknown (map f us ++ map f vs)) is_y
-    (is_p ∙ ap (least_below unknown) whole) (is_q ∙ ap (second_below unknown unknown) whole) picked
-    (without-one (f job) unknown unknown (map f us) (map f vs) (omega arith))
-    ∙ sym (ap (least_below unknown) rest)
+    same-without y (f job) p (least_below no_least (map f us ++ f job ∷ map f vs)) q
+    (second_below no_least no_least (map f us ++ f job ∷ map f vs)) m (least_below no_least (map f us ++ map f vs)) is_y
+    (is_p ∙ ap (least_below no_least) whole) (is_q ∙ ap (second_below no_least no_least) whole) picked
+    (without-one (f job) no_least no_least (map f us) (map f vs) (omega arith))
+    ∙ sym (ap (least_below no_least) rest)
 
 -- the bound of a list with jobs left
-pub own-bound : (shop : Shop) (list : List ℕ) (node : Node) (left machine : ℕ) (lows : Lows) → IsWithinLimits shop →
-    IsNode shop list node (suc left) → 1 ≤ machine → machine ≤ shop.machines → AreLows shop list machine lows →
-    (slice_index node.front (machine - 1) + slice_index node.work (machine - 1) + lows.least
-    ≡ bound_at shop list machine) × (lows.least ≤ most_machines * greatest_time)
-own-bound shop list node left machine lows limits is from to low =
+pub own-bound : (shop : Shop) (list : List ℕ) (node : Node) (left machine : ℕ) (two : TwoLeastTails) →
+    IsWithinLimits shop →
+    IsNode shop list node (suc left) → 1 ≤ machine → machine ≤ shop.machines → AreTwoLeastTails shop list machine two →
+    (slice_index node.front (machine - 1) + slice_index node.work (machine - 1) + two.least
+    ≡ bound_at shop list machine) × (two.least ≤ most_machines * greatest_time)
+own-bound shop list node left machine two limits is from to low =
     let most : shop.machines ≤ most_machines = limits.machines in
-    let cap = least-below-cap unknown (most_machines * greatest_time) (λ job. time_between shop job (machine
+    let cap = least-below-cap no_least (most_machines * greatest_time) (λ job. time_between shop job (machine
     + 1) shop.machines) (jobs_left shop.jobs list) (omega (arith, is.some))
     (λ job. omega (arith, tail-small shop job (shop.machines - machine) machine limits (omega (arith, to)), most))
     (omega arith) in
@@ -202,21 +205,22 @@ own-bound shop list node left machine lows limits is from to low =
     (omega (arith, front, is.work machine from to, low.0, cap.0), omega (arith, low.0, cap.0, cap.1))
 
 -- the bound of a child with jobs left
-pub child-bound : (shop : Shop) (list : List ℕ) (node : Node) (left job machine free t tail behind : ℕ) (lows : Lows) →
+pub child-bound : (shop : Shop) (list : List ℕ) (node : Node) (left job machine free t tail behind : ℕ)
+    (two : TwoLeastTails) →
     IsWithinLimits shop → IsNode shop list node (suc (suc left)) → 1 ≤ machine → machine ≤ shop.machines →
-    1 ≤ job → job ≤ shop.jobs → has list job ≡ false → AreLows shop list machine lows →
+    1 ≤ job → job ≤ shop.jobs → has list job ≡ false → AreTwoLeastTails shop list machine two →
     free ≡ completion shop (list ++ job ∷ []) machine → t ≡ time shop job machine →
-    tail ≡ time_between shop job (machine + 1) shop.machines → Without tail lows.least lows.second behind →
+    tail ≡ time_between shop job (machine + 1) shop.machines → Without tail two.least two.second behind →
     (free + (slice_index node.work (machine - 1) - t) + behind ≡ bound_at shop (list ++ job ∷ []) machine)
     × (behind ≤ most_machines * greatest_time)
-child-bound shop list node left job machine free t tail behind lows limits is from to low high fresh are is_free is_t
+child-bound shop list node left job machine free t tail behind two limits is from to low high fresh are is_free is_t
     is_tail picked =
     let most : shop.machines ≤ most_machines = limits.machines in
     let f : ℕ → ℕ = λ j. time_between shop j (machine + 1) shop.machines in
-    let behind_is : behind ≡ least_below unknown (tails shop machine (jobs_left shop.jobs (list ++ job ∷ []))) =
-    without-left f shop.jobs list job tail lows.least lows.second behind low high fresh are.0 are.1 is_tail picked in
+    let behind_is : behind ≡ least_below no_least (tails shop machine (jobs_left shop.jobs (list ++ job ∷ []))) =
+    without-left f shop.jobs list job tail two.least two.second behind low high fresh are.0 are.1 is_tail picked in
     let count = left-count shop.jobs list job low high fresh in
-    let cap = least-below-cap unknown (most_machines * greatest_time) f (jobs_left shop.jobs (list ++ job
+    let cap = least-below-cap no_least (most_machines * greatest_time) f (jobs_left shop.jobs (list ++ job
     ∷ [])) (omega (arith, is.some, count))
     (λ j. omega (arith, tail-small shop j (shop.machines - machine) machine limits (omega (arith, to)), most))
     (omega arith) in

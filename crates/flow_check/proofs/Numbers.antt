@@ -12,7 +12,7 @@ use Rattle.std.proofs.lemmas.Str.Parse.{IsNumeralModel, IsDigitsTest, numerals_b
 use Rattle.std.proofs.lemmas.Bool.{leb-true, le-leb, eq-eqb, false≢true, ne_eqb}
 use Rattle.flow_check.specs.Certificate.{spaced}
 use Rattle.flow_shop.specs.Digits.{is_digit}
-use Rattle.flow_check.specs.CertificateFaults.{is_numeral, numbers_in}
+use Rattle.flow_check.specs.internal.Reading.{is_numeral, numbers_in}
 
 pub both : (a b : Bool) → (a && b) ≡ true → (a ≡ true) × (b ≡ true)
 both true b e = (refl, e)

@@ -13,7 +13,7 @@ use Rattle.flow_check.specs.internal.Heading.{BeginsWithNumber, is_further}
 abbrev chosen : Bool → Bool → ℕ → List ℕ → Option (ℕ × List ℕ) → Option (ℕ × List ℕ)
 chosen ends goes_on value rest next = cond ends (Some (value, rest)) (cond goes_on next None)
 
--- the number that is read from a text behind a value of earlier digits, if there were some
+-- the number that is read from a text after a value of earlier digits, if there were some
 abbrev pub scan : ℕ → ℕ → Bool → List ℕ → Option (ℕ × List ℕ)
 scan end value started [] = None
 scan end value started (byte ∷ bytes) =
@@ -83,7 +83,7 @@ further-is value started byte e =
     split true false c d e = cc
     split false b c d e = cc
 
--- behind a value, the number has the value's digits first
+-- after a value, the number has the value's digits first
 abbrev Behind : ℕ → ℕ → List ℕ → Option (ℕ × List ℕ) → Type 0
 Behind end value bytes None = Unit {0}
 Behind end value bytes (Some r) = (ds : List ℕ) × (bytes ≡ ds ++ end ∷ r.1) × (decimal r.0 ≡ decimal value ++ ds)

@@ -11,7 +11,7 @@ use Rattle.flow_check.specs.internal.Links.{AreLinks, IsPlace}
 use Rattle.flow_check.specs.internal.Nodes.{IsNode, IsAt, left_before, left_here}
 use Rattle.flow_check.specs.internal.Reader.{frame_at, here, above, Stands, IsBack, Opened, Closed}
 use Rattle.flow_check.specs.declared.node.Node.{Node}
-use Rattle.flow_check.specs.declared.release.Lags.{Lags}
+use Rattle.flow_check.specs.declared.release.TwoLeastLags.{TwoLeastLags}
 use Rattle.flow_check.specs.declared.reader.Frame.{Frame}
 use Rattle.flow_check.specs.declared.reader.TreeReader.{TreeReader}
 use Rattle.flow_check.proofs.Links.{next-some, links-out, links-back}
@@ -22,10 +22,10 @@ pub frame-is : (frames : List Frame) (place : ℕ) (f : Frame) → place < lengt
 frame-is frames place f within is = is ∙ get_or_default frames place f _ within
 
 -- jobs left at a list or its child, before and after the child is taken
-pub before-here : (child : Option ℕ) (below left : ℕ) → left_here child below ≡ suc left →
-    left_before child (suc left) ≡ suc below
-before-here None below left e = sym e
-before-here (Some job) below left e = ap suc (sym e)
+pub before-here : (child : Option ℕ) (child_left left : ℕ) → left_here child child_left ≡ suc left →
+    left_before child (suc left) ≡ suc child_left
+before-here None child_left left e = sym e
+before-here (Some job) child_left left e = ap suc (sym e)
 
 -- a list is reached by the same node, links and count
 pub at-same : (shop : Shop) (list : List ℕ) (node other : Node) (links same : List ℕ) (left right : ℕ) → node ≡ other →
@@ -35,75 +35,80 @@ at-same shop list node other links same left right e f g at =
     (IsAt shop list other same) (sym g) at))
 
 -- where no lags are known, those that are kept are any list's
-pub none-kept : (shop : Shop) (list : List ℕ) (kept : List (Option Lags)) → AreUnknown kept → AreKept shop list kept
+pub none-kept : (shop : Shop) (list : List ℕ) (kept : List (Option TwoLeastLags)) → AreUnknown kept →
+    AreKept shop list kept
 none-kept shop list kept none machine from within =
-    subst (λ (o : Option Lags). IfSome o (λ two. AreTwoLeastLagsTo shop list machine two))
+    subst (λ (o : Option TwoLeastLags). IfSome o (λ two. AreTwoLeastLagsTo shop list machine two))
     (sym (none (machine - 1) (omega (arith, from, within)))) tt
 
 -- the list's node may know more
-pub learnt : (shop : Shop) (old new : TreeReader) (f : Frame) → new.below ≡ old.below →
-    new.links.items ≡ old.links.items → new.frames.items ≡ set old.frames.items old.below f →
-    old.below < length old.frames.items →
-    ((list : List ℕ) → Stands shop list old → IsAt shop list f.node old.links.items (suc old.below)) →
+pub learnt : (shop : Shop) (old new : TreeReader) (f : Frame) → new.child_left ≡ old.child_left →
+    new.links.items ≡ old.links.items → new.frames.items ≡ set old.frames.items old.child_left f →
+    old.child_left < length old.frames.items →
+    ((list : List ℕ) → Stands shop list old → IsAt shop list f.node old.links.items (suc old.child_left)) →
     ((list : List ℕ) → Stands shop list old → AreKept shop list new.lags.items) → IsBack shop old new
-learnt shop old new f below links frames within kept lags = record {
-  below = below;
+learnt shop old new f child_left links frames within kept lags = record {
+  child_left = child_left;
   links = links;
-  size = ap length frames ∙ length-set old.frames.items old.below f;
-  others = λ place over. let apart : place ≢ old.below = omega (arith, over) in ap (λ fs. frame_at fs place) frames
-      ∙ get_or-set_other old.frames.items old.below place f _ apart;
+  size = ap length frames ∙ length-set old.frames.items old.child_left f;
+  others = λ place over. let apart : place ≢ old.child_left = omega (arith, over) in ap (λ fs. frame_at fs place) frames
+      ∙ get_or-set_other old.frames.items old.child_left place f _ apart;
   kept = λ list stands.
-      let there : frame_at new.frames.items new.below ≡ f = ap (frame_at new.frames.items) below
-      ∙ ap (λ fs. frame_at fs old.below) frames ∙ get_or-set_same old.frames.items old.below f _ within in
+      let there : frame_at new.frames.items new.child_left ≡ f = ap (frame_at new.frames.items) child_left
+      ∙ ap (λ fs. frame_at fs old.child_left) frames ∙ get_or-set_same old.frames.items old.child_left f _ within in
       record {
-        at = at-same shop list (here new) f.node new.links.items old.links.items (suc new.below) (suc old.below) (ap
-            (λ g. g.node) there) links (ap suc below) (kept list stands);
-        room = ap length frames ∙ length-set old.frames.items old.below f ∙ stands.room;
+        at = at-same shop list (here new) f.node new.links.items old.links.items (suc new.child_left)
+            (suc old.child_left) (ap
+            (λ g. g.node) there) links (ap suc child_left) (kept list stands);
+        room = ap length frames ∙ length-set old.frames.items old.child_left f ∙ stands.room;
         lags = lags list stands;
       };
 }
 
 -- frames that are written in two parts
-pub parts-set : (lower upper : List Frame) (below place : ℕ) (f kid : Frame) → length lower ≡ below → place < below →
-    set lower place kid ++ set upper 0 f ≡ set (set (lower ++ upper) below f) place kid
-parts-set lower upper below place f kid parted under =
-    let none : below - below ≡ 0 = omega arith in
+pub parts-set : (lower upper : List Frame) (child_left place : ℕ) (f kid : Frame) → length lower ≡ child_left →
+    place < child_left →
+    set lower place kid ++ set upper 0 f ≡ set (set (lower ++ upper) child_left f) place kid
+parts-set lower upper child_left place f kid parted under =
+    let none : child_left - child_left ≡ 0 = omega arith in
     let room : place < length lower = omega (arith, parted, under) in
-    sym (ap (λ fs. set fs place kid) (set-append_right lower upper below below f parted (omega arith))
+    sym (ap (λ fs. set fs place kid) (set-append_right lower upper child_left child_left f parted (omega arith))
     ∙ ap (λ i. set (lower ++ set upper i f) place kid) none
     ∙ set-append_left lower (set upper 0 f) place kid room)
 
 -- a child is opened
-pub opened : (shop : Shop) (last job value : ℕ) (old new : TreeReader) (f kid : Frame) → suc new.below ≡ old.below →
+pub opened : (shop : Shop) (last job value : ℕ) (old new : TreeReader) (f kid : Frame) → suc new.child_left
+    ≡ old.child_left →
     new.links.items ≡ slice_set old.links.items last value → value ≡ slice_index old.links.items job →
-    new.frames.items ≡ set (set old.frames.items old.below f) new.below kid → old.below < length old.frames.items →
+    new.frames.items ≡ set (set old.frames.items old.child_left f) new.child_left kid →
+    old.child_left < length old.frames.items →
     f ≡ record { node = here old; job = job; last = last } →
-    ((list : List ℕ) → IsNode shop list (here old) (suc old.below) → has list job ≡ false →
-    IsNode shop (list ++ job ∷ []) kid.node (suc new.below)) → AreUnknown new.lags.items →
+    ((list : List ℕ) → IsNode shop list (here old) (suc old.child_left) → has list job ≡ false →
+    IsNode shop (list ++ job ∷ []) kid.node (suc new.child_left)) → AreUnknown new.lags.items →
     Opened shop last job old new
-opened shop last job value old new f kid below links leads frames within is made none = record {
+opened shop last job value old new f kid child_left links leads frames within is made none = record {
   lags = none;
-  below = below;
+  child_left = child_left;
   links = links ∙ ap (slice_set old.links.items last) leads;
-  size = ap length frames ∙ length-set (set old.frames.items old.below f) new.below kid
-      ∙ length-set old.frames.items old.below f;
+  size = ap length frames ∙ length-set (set old.frames.items old.child_left f) new.child_left kid
+      ∙ length-set old.frames.items old.child_left f;
   frame =
-      let apart : old.below ≢ new.below = omega (arith, below) in
-      ap (λ fs. frame_at fs old.below) frames
-      ∙ get_or-set_other (set old.frames.items old.below f) new.below old.below kid _ apart
-      ∙ get_or-set_same old.frames.items old.below f _ within ∙ is;
+      let apart : old.child_left ≢ new.child_left = omega (arith, child_left) in
+      ap (λ fs. frame_at fs old.child_left) frames
+      ∙ get_or-set_other (set old.frames.items old.child_left f) new.child_left old.child_left kid _ apart
+      ∙ get_or-set_same old.frames.items old.child_left f _ within ∙ is;
   others = λ place over.
-      let apart : place ≢ new.below = omega (arith, over, below) in
-      let other : place ≢ old.below = omega (arith, over) in
+      let apart : place ≢ new.child_left = omega (arith, over, child_left) in
+      let other : place ≢ old.child_left = omega (arith, over) in
       ap (λ fs. frame_at fs place) frames
-      ∙ get_or-set_other (set old.frames.items old.below f) new.below place kid _ apart
-      ∙ get_or-set_other old.frames.items old.below place f _ other;
+      ∙ get_or-set_other (set old.frames.items old.child_left f) new.child_left place kid _ apart
+      ∙ get_or-set_other old.frames.items old.child_left place f _ other;
   child = λ list node fresh.
-      let room : new.below < length (set old.frames.items old.below f) =
-      omega (arith, length-set old.frames.items old.below f, within, below) in
-      let there : here new ≡ kid.node = ap (λ fs. (frame_at fs new.below).node) frames
-      ∙ ap (λ g. g.node) (get_or-set_same (set old.frames.items old.below f) new.below kid _ room) in
-      subst (λ n. IsNode shop (list ++ job ∷ []) n (suc new.below)) (sym there) (made list node fresh);
+      let room : new.child_left < length (set old.frames.items old.child_left f) =
+      omega (arith, length-set old.frames.items old.child_left f, within, child_left) in
+      let there : here new ≡ kid.node = ap (λ fs. (frame_at fs new.child_left).node) frames
+      ∙ ap (λ g. g.node) (get_or-set_same (set old.frames.items old.child_left f) new.child_left kid _ room) in
+      subst (λ n. IsNode shop (list ++ job ∷ []) n (suc new.child_left)) (sym there) (made list node fresh);
 }
 
 -- the frames above
@@ -118,17 +123,17 @@ same-above fs gs place (suc count) same =
 
 -- one more, once a child is opened
 pub above-opened : (shop : Shop) (last job base : ℕ) (old new : TreeReader) → Opened shop last job old new →
-    old.below ≤ base →
-    above new.frames.items new.below (base - new.below) ≡ record { node = here old; job = job; last = last }
-    ∷ above old.frames.items old.below (base - old.below)
+    old.child_left ≤ base →
+    above new.frames.items new.child_left (base - new.child_left) ≡ record { node = here old; job = job; last = last }
+    ∷ above old.frames.items old.child_left (base - old.child_left)
 above-opened shop last job base old new is deep =
-    let count : base - new.below ≡ suc (base - old.below) = omega (arith, is.below, deep) in
-    let next : new.below + 1 ≡ old.below = omega (arith, is.below) in
-    ap (above new.frames.items new.below) count
-    ∙ ap (λ k. frame_at new.frames.items k ∷ above new.frames.items k (base - old.below)) next
-    ∙ ap (λ f. f ∷ above new.frames.items old.below (base - old.below)) is.frame
+    let count : base - new.child_left ≡ suc (base - old.child_left) = omega (arith, is.child_left, deep) in
+    let next : new.child_left + 1 ≡ old.child_left = omega (arith, is.child_left) in
+    ap (above new.frames.items new.child_left) count
+    ∙ ap (λ k. frame_at new.frames.items k ∷ above new.frames.items k (base - old.child_left)) next
+    ∙ ap (λ f. f ∷ above new.frames.items old.child_left (base - old.child_left)) is.frame
     ∙ ap (λ r. record { node = here old; job = job; last = last }
-    ∷ r) (same-above new.frames.items old.frames.items old.below (base - old.below) is.others)
+    ∷ r) (same-above new.frames.items old.frames.items old.child_left (base - old.child_left) is.others)
 
 pub above-more : (frames : List Frame) (place base : ℕ) → place < base →
     above frames place (base - place) ≡ frame_at frames (suc place) ∷ above frames (suc place) (base - suc place)
@@ -138,20 +143,21 @@ above-more frames place base deep =
     ap (above frames place) count ∙ ap (λ k. frame_at frames k ∷ above frames k (base - suc place)) next
 
 -- one less, once a child is closed
-pub above-closed : (base : ℕ) (old new : TreeReader) → Closed (frame_at old.frames.items (suc old.below)) old new →
-    old.below < base →
-    above old.frames.items old.below (base - old.below) ≡ frame_at old.frames.items (suc old.below)
-    ∷ above new.frames.items new.below (base - new.below)
+pub above-closed : (base : ℕ) (old new : TreeReader) → Closed (frame_at old.frames.items (suc old.child_left)) old new →
+    old.child_left < base →
+    above old.frames.items old.child_left (base - old.child_left) ≡ frame_at old.frames.items (suc old.child_left)
+    ∷ above new.frames.items new.child_left (base - new.child_left)
 above-closed base old new is deep =
-    above-more old.frames.items old.below base deep
-    ∙ ap (λ k. frame_at old.frames.items (suc old.below) ∷ above old.frames.items k (base - k)) (sym is.below)
-    ∙ ap (λ fs. frame_at old.frames.items (suc old.below) ∷ above fs new.below (base - new.below)) (sym is.frames)
+    above-more old.frames.items old.child_left base deep
+    ∙ ap (λ k. frame_at old.frames.items (suc old.child_left) ∷ above old.frames.items k (base - k)) (sym is.child_left)
+    ∙ ap (λ fs. frame_at old.frames.items (suc old.child_left) ∷ above fs new.child_left (base - new.child_left))
+    (sym is.frames)
 
 -- a reader that did not move, and one that is back twice
 
 pub back-none : (shop : Shop) (r : TreeReader) → IsBack shop r r
 back-none shop r = record {
-  below = refl;
+  child_left = refl;
   links = refl;
   size = refl;
   others = λ place over. refl;
@@ -161,10 +167,10 @@ back-none shop r = record {
 
 pub back-twice : (shop : Shop) (a b c : TreeReader) → IsBack shop a b → IsBack shop b c → IsBack shop a c
 back-twice shop a b c p q = record {
-  below = q.below ∙ p.below;
+  child_left = q.child_left ∙ p.child_left;
   links = q.links ∙ p.links;
   size = q.size ∙ p.size;
-  others = λ place over. q.others place (omega (arith, over, p.below)) ∙ p.others place over;
+  others = λ place over. q.others place (omega (arith, over, p.child_left)) ∙ p.others place over;
   kept = λ list stands. q.kept list (p.kept list stands);
 }
 
@@ -190,36 +196,38 @@ opened-stands shop list last r o stands place some is =
 
 -- the frame of the list above stays while a child is read
 pub frame-kept : (shop : Shop) (last job : ℕ) (r o b : TreeReader) → Opened shop last job r o → IsBack shop o b →
-    frame_at b.frames.items (suc b.below) ≡ record { node = here r; job = job; last = last }
+    frame_at b.frames.items (suc b.child_left) ≡ record { node = here r; job = job; last = last }
 frame-kept shop last job r o b is back =
-    ap (λ k. frame_at b.frames.items (suc k)) back.below ∙ back.others (suc o.below) (omega arith)
-    ∙ ap (frame_at o.frames.items) is.below ∙ is.frame
+    ap (λ k. frame_at b.frames.items (suc k)) back.child_left ∙ back.others (suc o.child_left) (omega arith)
+    ∙ ap (frame_at o.frames.items) is.child_left ∙ is.frame
 
 -- a child was opened, read and closed
 pub closed-back : (shop : Shop) (last : ℕ) (r o b c : TreeReader) →
     Opened shop last (slice_index r.links.items last) r o → IsBack shop o b →
-    Closed (frame_at b.frames.items (suc b.below)) b c → IsBack shop r c
+    Closed (frame_at b.frames.items (suc b.child_left)) b c → IsBack shop r c
 closed-back shop last r o b c is back closed =
     let job : ℕ = slice_index r.links.items last in
     let frame = frame-kept shop last job r o b is back in
-    let below : c.below ≡ r.below = closed.below ∙ ap suc back.below ∙ is.below in
+    let child_left : c.child_left ≡ r.child_left = closed.child_left ∙ ap suc back.child_left ∙ is.child_left in
     let links : c.links.items ≡ r.links.items =
     closed.links ∙ ap (λ f. slice_set b.links.items f.last f.job) frame
     ∙ ap (λ l. slice_set l last job) (back.links ∙ is.links)
     ∙ links-back r.links.items last job (slice_index r.links.items job) refl in
     let node : here c ≡ here r =
-    ap (λ k. (frame_at c.frames.items k).node) closed.below ∙ ap (λ fs. (frame_at fs (suc b.below)).node) closed.frames
+    ap (λ k. (frame_at c.frames.items k).node) closed.child_left ∙ ap (λ fs. (frame_at fs
+    (suc b.child_left)).node) closed.frames
     ∙ ap (λ f. f.node) frame in
     let size : length c.frames.items ≡ length r.frames.items = ap length closed.frames ∙ back.size ∙ is.size in
     record {
-      below = below;
+      child_left = child_left;
       links = links;
       size = size;
       others = λ place over. ap (λ fs. frame_at fs place) closed.frames
-          ∙ back.others place (omega (arith, over, is.below)) ∙ is.others place over;
+          ∙ back.others place (omega (arith, over, is.child_left)) ∙ is.others place over;
       kept = λ list stands. record {
-        at = at-same shop list (here c) (here r) c.links.items r.links.items (suc c.below) (suc r.below) node links
-            (ap suc below) stands.at;
+        at = at-same shop list (here c) (here r) c.links.items r.links.items (suc c.child_left)
+            (suc r.child_left) node links
+            (ap suc child_left) stands.at;
         room = size ∙ stands.room;
         lags = none-kept shop list c.lags.items closed.lags;
       };

@@ -19,9 +19,9 @@ use Rattle.flow_shop.proofs.Recurrence.{after, time_between-first, time_between-
 use Rattle.flow_shop.proofs.Taken.{left-count}
 use Rattle.flow_shop.proofs.TwoLeast.{Without, least-below-cap}
 use Rattle.flow_check.specs.internal.Lags.{AreTwoLeastLagsTo, lags}
-use Rattle.flow_check.specs.internal.Nodes.{IsNode, unknown}
+use Rattle.flow_check.specs.internal.Nodes.{IsNode, no_least}
 use Rattle.flow_check.specs.declared.node.Node.{Node}
-use Rattle.flow_check.specs.declared.release.Lags.{Lags}
+use Rattle.flow_check.specs.declared.release.TwoLeastLags.{TwoLeastLags}
 use Rattle.flow_check.proofs.NodeSteps.{child-completion, without-left}
 
 -- the times up to a machine, and those from there on
@@ -104,13 +104,15 @@ greatest-same f g (suc n) same =
 -- where jobs are left, the number that stands for none takes no part
 pub least-lags : (shop : Shop) (from machine : ℕ) (jobs : List ℕ) → IsWithinLimits shop → 1 ≤ from →
     from ≤ machine → machine ≤ shop.machines → 0 < length jobs →
-    least_below unknown (lags shop from machine jobs) ≡ least (lags shop from machine jobs)
+    least_below no_least (lags shop from machine jobs) ≡ least (lags shop from machine jobs)
 least-lags shop from machine jobs limits low up high some =
-    (least-below-cap unknown (most_machines * greatest_time) (λ job. time_between shop job from (machine - 1)) jobs some
+    (least-below-cap no_least (most_machines * greatest_time) (λ job. time_between shop job from
+    (machine - 1)) jobs some
     (λ job. lag-small shop job from machine limits low up high) (omega arith)).0
 
 -- the release for the jobs left of a list
-pub own-release : (shop : Shop) (list : List ℕ) (node : Node) (left machine : ℕ) (two : Lags) → IsWithinLimits shop →
+pub own-release : (shop : Shop) (list : List ℕ) (node : Node) (left machine : ℕ) (two : TwoLeastLags) →
+    IsWithinLimits shop →
     IsNode shop list node (suc left) → machine ≤ shop.machines → AreTwoLeastLagsTo shop list machine two →
     greatest (map (λ from. slice_index node.front (from - 1) + slice_index two.least (from - 1)) (numbers 1 machine))
     ≡ release shop (front_of shop list) (jobs_left shop.jobs list) machine
@@ -125,7 +127,7 @@ own-release shop list node left machine two limits is high are =
     ap₂ (λ a b. a + b) front lag)
 
 -- the greatest that is found for a list is the release, which is at least the front
-pub own-late : (shop : Shop) (list : List ℕ) (node : Node) (left machine : ℕ) (two : Lags) (late end : ℕ) →
+pub own-late : (shop : Shop) (list : List ℕ) (node : Node) (left machine : ℕ) (two : TwoLeastLags) (late end : ℕ) →
     IsWithinLimits shop → IsNode shop list node (suc left) → 1 ≤ machine → machine ≤ shop.machines →
     AreTwoLeastLagsTo shop list machine two → late ≡ greatest (map (λ from. slice_index node.front (from - 1)
     + slice_index two.least (from - 1)) (numbers 1 end)) → end ≡ machine →
@@ -156,7 +158,7 @@ child-release shop list node left job machine is high =
     ∙ sym (front_of-is shop (list ++ job ∷ []) from low within)))
 
 -- the least lag of the jobs left of a list's child
-pub child-lag : (shop : Shop) (list : List ℕ) (node : Node) (left job from machine y m : ℕ) (two : Lags) →
+pub child-lag : (shop : Shop) (list : List ℕ) (node : Node) (left job from machine y m : ℕ) (two : TwoLeastLags) →
     IsWithinLimits shop → IsNode shop list node (suc (suc left)) → 1 ≤ job → job ≤ shop.jobs →
     has list job ≡ false → AreTwoLeastLagsTo shop list machine two → 1 ≤ from → from ≤ machine →
     machine ≤ shop.machines → y ≡ time_between shop job from (machine - 1) →

@@ -72,9 +72,14 @@ distinct-push job (j ∷ js) h new =
       distinct-push job js h.1 parts.1,
     )
 
--- the jobs that were read up to a place of the line: the set and the front are theirs, the text goes on behind them,
--- and
--- each sequence in whose line it goes on begins with them
+-- each sequence with whose line a text begins begins with these jobs, and the line goes on after them with this rest
+abbrev pub GoesOn : ℕ → List ℕ → List ℕ → List ℕ → Type 0
+GoesOn n text rest done =
+    (jobs after : List ℕ) → BeginsWithSequence n text jobs after → (more : List ℕ)
+    × (jobs ≡ done ++ more) × (rest ≡ ended (n - length done) more ++ after)
+
+-- the jobs that were read up to a place of the line: the set and the front are theirs, the text goes on after them,
+-- and each sequence in whose line it goes on begins with them
 pub record IsDone (shop : Shop) (text : List ℕ) (place : ℕ) (set : List Bool) (front rest done : List ℕ) : Type 0 where
   pub count : length done + 1 ≡ place
   pub range : InRange shop.jobs done
@@ -82,11 +87,18 @@ pub record IsDone (shop : Shop) (text : List ℕ) (place : ℕ) (set : List Bool
   pub times : IsFrontOf shop done front
   pub members : (job : ℕ) → 1 ≤ job → job ≤ most_jobs → contains set job ≡ has done job
   pub read : text ≡ ended shop.jobs done ++ rest
-  pub only : (jobs after : List ℕ) → BeginsWithSequence shop.jobs text jobs after → (more : List ℕ)
-      × (jobs ≡ done ++ more) × (rest ≡ ended (shop.jobs - length done) more ++ after)
+  pub only : GoesOn shop.jobs text rest done
 
 abbrev pub IsReadTo : Shop → List ℕ → ℕ → List Bool → List ℕ → List ℕ → Type 0
 IsReadTo shop text place set front rest = (done : List ℕ) × IsDone shop text place set front rest done
+
+-- before the first job the whole line is to come
+pub goes-on-at-first : (n : ℕ) (text : List ℕ) → 1 ≤ n → GoesOn n text text []
+goes-on-at-first n text some jobs after h = let none : n - 0 ≡ n = omega arith in (
+  jobs,
+  refl,
+  h.1 ∙ ap (λ xs. xs ++ after) (sym (ended-line n jobs h.0.whole some)) ∙ ap (λ k. ended k jobs ++ after) (sym none),
+)
 
 -- at the first place nothing was read
 pub begins : (shop : Shop) (text : List ℕ) (set : List Bool) (front : List ℕ) → 1 ≤ shop.jobs →
@@ -100,24 +112,18 @@ begins shop text set front some times empty = (
     times = times;
     members = λ job low high. empty job;
     read = refl;
-    only = λ jobs after h. let none : shop.jobs - 0 ≡ shop.jobs = omega arith in (
-      jobs,
-      refl,
-      h.1 ∙ ap (λ xs. xs ++ after) (sym (ended-line shop.jobs jobs h.0.whole some))
-          ∙ ap (λ n. ended n jobs ++ after) (sym none),
-    );
+    only = goes-on-at-first shop.jobs text some;
   },
 )
 
--- a sequence in whose line the text goes on has a next job at a place that is not behind the last
-next-job : (shop : Shop) (text : List ℕ) (place : ℕ) (set : List Bool) (front rest done : List ℕ) →
-    IsDone shop text place set front rest done → place ≤ shop.jobs → (jobs after : List ℕ) →
-    BeginsWithSequence shop.jobs text jobs after →
+-- a sequence in whose line the text goes on has a next job at a place that is not after the last
+next-job : (n : ℕ) (text rest done : List ℕ) → GoesOn n text rest done → length done < n → (jobs after : List ℕ) →
+    BeginsWithSequence n text jobs after →
     (job : ℕ) × (more : List ℕ) × (jobs ≡ done ++ job ∷ more)
-    × BeginsWithJob shop.jobs rest (end_of (shop.jobs - length done)) job (ended (shop.jobs - length done - 1) more
+    × BeginsWithJob n rest (end_of (n - length done)) job (ended (n - length done - 1) more
     ++ after) × (has done job ≡ false)
-next-job shop text place set front rest done is within jobs after h =
-    let k = is.only jobs after h in split k.0 k.1 k.2
+next-job n text rest done only within jobs after h =
+    let k = only jobs after h in split k.0 k.1 k.2
   where
     in-range : (n : ℕ) (xs ys : List ℕ) (j : ℕ) → InRange n (xs ++ j ∷ ys) → (1 ≤ j) × (j ≤ n)
     in-range n [] ys j h = h.0
@@ -128,32 +134,45 @@ next-job shop text place set front rest done is within jobs after h =
     fresh j ys true d e = absurd (false≢true (sym (apart done (j ∷ ys) j d e)
         ∙ ap (λ b. b || has ys j) (eq-eqb j j refl)))
 
-    split : (more : List ℕ) → jobs ≡ done ++ more → rest ≡ ended (shop.jobs - length done) more ++ after →
+    split : (more : List ℕ) → jobs ≡ done ++ more → rest ≡ ended (n - length done) more ++ after →
         (job : ℕ) × (more : List ℕ) × (jobs ≡ done ++ job ∷ more)
-        × BeginsWithJob shop.jobs rest (end_of (shop.jobs - length done)) job (ended
-        (shop.jobs - length done - 1) more ++ after) × (has done job ≡ false)
+        × BeginsWithJob n rest (end_of (n - length done)) job (ended
+        (n - length done - 1) more ++ after) × (has done job ≡ false)
     split [] e r =
-        let whole : length jobs ≡ shop.jobs = h.0.whole in
+        let whole : length jobs ≡ n = h.0.whole in
         let same : length jobs ≡ length done = ap length (e ∙ append-nil done) in
-        absurd (omega (arith, is.count))
+        absurd (omega (arith, within))
     split (j ∷ js) e r =
-        let range = recursion_from_All (λ job. (1 ≤ job) × (job ≤ shop.jobs)) jobs h.0.each.range in
-        let here = in-range shop.jobs done js j (subst (InRange shop.jobs) e range) in (
+        let range = recursion_from_All (λ job. (1 ≤ job) × (job ≤ n)) jobs h.0.each.range in
+        let here = in-range n done js j (subst (InRange n) e range) in (
           j,
           js,
           e,
           (
             here.0,
             here.1,
-            r
-                ∙ append_assoc (decimal j) (end_of (shop.jobs - length done)
-                ∷ ended (shop.jobs - length done - 1) js) after,
+            r ∙ append_assoc (decimal j) (end_of (n - length done) ∷ ended (n - length done - 1) js) after,
           ),
           fresh j js (has done j)
               (subst AreDistinct e h.0.each.distinct) refl,
         )
 
--- the byte behind a job, as the reader takes it
+-- one more job was read, and the text begins with no other
+goes-on-after : (n : ℕ) (text rest done : List ℕ) (job : ℕ) (next : List ℕ) → GoesOn n text rest done →
+    length done < n →
+    ((j : ℕ) (r : List ℕ) → BeginsWithJob n rest (end_of (n - length done)) j r → (job ≡ j) × (next ≡ r)) →
+    GoesOn n text next (done ++ job ∷ [])
+goes-on-after n text rest done job next goes within only jobs after h =
+    let is = next-job n text rest done goes within jobs after h in
+    let same = only is.0 (ended (n - length done - 1) is.1 ++ after) is.3 in
+    let left : n - length done - 1 ≡ n - length (done ++ job ∷ []) =
+    (let long : length (done ++ job ∷ []) ≡ length done + 1 = length_push done job in omega (arith, long)) in (
+      is.1,
+      is.2 ∙ ap (λ j. done ++ j ∷ is.1) (sym same.0) ∙ sym (append_assoc done (job ∷ []) is.1),
+      same.1 ∙ ap (λ k. ended k is.1 ++ after) left,
+    )
+
+-- the byte after a job, as the reader takes it
 read-end : (n m place len end : ℕ) → len + 1 ≡ place → place ≤ m → m ≡ n → end ≡ end_of (m + 1 - place) →
     end ≡ end_of (n - len)
 read-end n m place len end count within same is = let left : m + 1 - place ≡ n - len =
@@ -165,21 +184,38 @@ as-read n m text end other job rest same byte h =
     (h.0, omega (arith, h.1, same), h.2 ∙ ap (λ e. decimal job ++ e ∷ rest) (sym byte))
 
 -- the next job, as the reader takes it
+pub job-at : (n : ℕ) (text rest done : List ℕ) → GoesOn n text rest done → (place m end : ℕ) →
+    length done + 1 ≡ place → m ≡ n → place ≤ m → end ≡ end_of (m + 1 - place) →
+    (jobs after : List ℕ) → BeginsWithSequence n text jobs after → (job : ℕ) × (more : List ℕ)
+    × BeginsWithJob m rest end job more × (has done job ≡ false)
+job-at n text rest done goes place m end count same within byte jobs after h =
+    let left : ℕ = n - length done in
+    let next = next-job n text rest done goes (omega (arith, count, within, same)) jobs after h in
+    let more : List ℕ = ended (left - 1) next.1 ++ after in (
+      next.0,
+      more,
+      as-read n m rest (end_of left) end next.0 more same (read-end n m place (length done) end count within same byte)
+          next.3,
+      next.4,
+    )
+
 pub at-job : {shop : Shop} {text : List ℕ} {place : ℕ} {set : List Bool} {front rest done : List ℕ} →
     IsDone shop text place set front rest done → (m end : ℕ) → m ≡ shop.jobs → place ≤ m →
     end ≡ end_of (m + 1 - place) →
     (jobs after : List ℕ) → BeginsWithSequence shop.jobs text jobs after → (job : ℕ) × (more : List ℕ)
     × BeginsWithJob m rest end job more × (has done job ≡ false)
-at-job {shop} {text} {place} {set} {front} {rest} {done} is m end same within byte jobs after h =
-    let left : ℕ = shop.jobs - length done in
-    let next = next-job shop text place set front rest done is (omega (arith, within, same)) jobs after h in
-    let more : List ℕ = ended (left - 1) next.1 ++ after in (
-      next.0,
-      more,
-      as-read shop.jobs m rest (end_of left) end next.0 more same (read-end shop.jobs m place
-          (length done) end is.count within same byte) next.3,
-      next.4,
-    )
+at-job {shop} {text} {place} {set} {front} {rest} {done} is m end =
+    job-at shop.jobs text rest done is.only place m end is.count
+
+-- one more job was read, as the reader takes it
+pub goes-on-as-read : (n : ℕ) (text rest done : List ℕ) → GoesOn n text rest done → (place m end job : ℕ)
+    (next : List ℕ) → length done + 1 ≡ place → m ≡ n → place ≤ m → end ≡ end_of (m + 1 - place) →
+    ((j : ℕ) (r : List ℕ) → BeginsWithJob m rest end j r → (job ≡ j) × (next ≡ r)) →
+    GoesOn n text next (done ++ job ∷ [])
+goes-on-as-read n text rest done goes place m end job next count same within byte only =
+    goes-on-after n text rest done job next goes (omega (arith, count, within, same))
+    (λ j r h. only j r (as-read n m rest (end_of (n - length done)) end j r same
+    (read-end n m place (length done) end count within same byte) h))
 
 members-more : (set : List Bool) (done : List ℕ) (job k : ℕ) → length set ≡ most_jobs → 1 ≤ job → job ≤ most_jobs →
     1 ≤ k → k ≤ most_jobs → contains set k ≡ has done k → contains (set_at set (job - 1) true) k
@@ -228,15 +264,8 @@ done-next shop text place set front rest more times after job done is within lim
       members = λ k low high. ap (λ s. contains s k) inserted
           ∙ members-more set done job k size here.0 (omega (arith, here.1, limit)) low high (is.members k low high);
       read = is.read ∙ ap (λ xs. ended shop.jobs done ++ xs) here.2 ∙ ended-push shop.jobs job done after;
-      only = λ jobs rest_after h.
-          let next = next-job shop text place set front rest done is within jobs rest_after h in
-          let same = only next.0 (ended (shop.jobs - length done - 1) next.1 ++ rest_after) next.3 in
-          let left : shop.jobs - length done - 1 ≡ shop.jobs - length (done ++ job ∷ []) =
-          (let long : length (done ++ job ∷ []) ≡ length done + 1 = length_push done job in omega (arith, long)) in (
-            next.1,
-            next.2 ∙ ap (λ j. done ++ j ∷ next.1) (sym same.0) ∙ sym (append_assoc done (job ∷ []) next.1),
-            same.1 ∙ ap (λ n. ended n next.1 ++ rest_after) left,
-          );
+      only = goes-on-after shop.jobs text rest done job after is.only
+          (omega (arith, is.count, within)) only;
     }
 
 -- and it is as the reader takes it
@@ -257,7 +286,7 @@ done-more {shop} {text} {place} {set} {front} {rest} {done} is more times after 
     (λ j r h. only j r (as-read shop.jobs m rest (end_of left) end j r same is_end h))
     new size inserted pushed
 
--- behind the last place the sequence is read
+-- after the last place the sequence is read
 
 pub all-done : (shop : Shop) (text : List ℕ) (place : ℕ) (set : List Bool) (front rest done : List ℕ) →
     IsDone shop text place set front rest done → place ≡ shop.jobs + 1 → 1 ≤ shop.jobs →
@@ -276,15 +305,20 @@ all-done shop text place set front rest done is last some =
       is.read ∙ ap (λ xs. xs ++ rest) (ended-line shop.jobs done whole some),
     )
 
-pub only-done : (shop : Shop) (text : List ℕ) (place : ℕ) (set : List Bool) (front rest done : List ℕ) →
-    IsDone shop text place set front rest done → place ≡ shop.jobs + 1 →
-    (jobs after : List ℕ) → BeginsWithSequence shop.jobs text jobs after → (done ≡ jobs) × (rest ≡ after)
-only-done shop text place set front rest done is last jobs after h = let k = is.only jobs after h in split k.0 k.1 k.2
+pub goes-on-at-last : (n : ℕ) (text rest done : List ℕ) → GoesOn n text rest done → length done ≡ n →
+    (jobs after : List ℕ) → BeginsWithSequence n text jobs after → (done ≡ jobs) × (rest ≡ after)
+goes-on-at-last n text rest done goes last jobs after h = let k = goes jobs after h in split k.0 k.1 k.2
   where
-    split : (more : List ℕ) → jobs ≡ done ++ more → rest ≡ ended (shop.jobs - length done) more ++ after → (done ≡ jobs)
+    split : (more : List ℕ) → jobs ≡ done ++ more → rest ≡ ended (n - length done) more ++ after → (done ≡ jobs)
         × (rest ≡ after)
     split [] e r = (sym (e ∙ append-nil done), r)
     split (j ∷ js) e r =
-        let whole : length jobs ≡ shop.jobs = h.0.whole in
+        let whole : length jobs ≡ n = h.0.whole in
         let long : length jobs ≡ length done + length (j ∷ js) = ap length e ∙ length-append done (j ∷ js) in
-        absurd (omega (arith, whole, long, is.count, last))
+        absurd (omega (arith, whole, long, last))
+
+pub only-done : (shop : Shop) (text : List ℕ) (place : ℕ) (set : List Bool) (front rest done : List ℕ) →
+    IsDone shop text place set front rest done → place ≡ shop.jobs + 1 →
+    (jobs after : List ℕ) → BeginsWithSequence shop.jobs text jobs after → (done ≡ jobs) × (rest ≡ after)
+only-done shop text place set front rest done is last =
+    goes-on-at-last shop.jobs text rest done is.only (omega (arith, is.count, last))

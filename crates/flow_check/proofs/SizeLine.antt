@@ -1,17 +1,24 @@
--- The first line, and the line of an instance's size and a depth.
-use Rattle.std.proofs.Common.{◌≡◌, ℕ, ◌≤◌, ◌<◌, ◌^◌, List, [], ◌∷◌, ◌++◌, ap, ◌∙◌, append_assoc, arith}
-use Rattle.std.specs.Prelude.{codes}
+-- The first line, the line of an instance's size and a depth, and the line of a value or of two bounds.
+use Rattle.std.proofs.Common.{◌≡◌, ℕ, ◌+◌, ◌≤◌, ◌<◌, ◌^◌, true, false, nat_eq, List, [], ◌∷◌, ◌++◌, length, take, drop}
+use Rattle.std.proofs.Common.{Option, Some, None, IfSome, Bor, ap, sym, ◌∙◌, append_assoc, arith}
 use Rattle.std.specs.Fmt.{decimal}
+use Rattle.std.specs.Option.{MatchOption}
+use Rattle.std.specs.Cmp.Lexicographic.{pointwise}
+use Rattle.std.proofs.lemmas.Bool.Decides.{Decides-eqb}
+use Rattle.std.proofs.lemmas.Slice.Eq.{strip_prefix_is}
 use Rattle.flow_shop.specs.Limits.{greatest_depth}
-use Rattle.flow_check.specs.Certificate.{line, spaced, title}
-use Rattle.flow_check.specs.internal.Heading.{BeginsWithNumber, BeginsWithSize}
+use Rattle.flow_check.specs.Certificate.{line, spaced, title, opening}
+use Rattle.flow_check.specs.internal.Heading.{BeginsWithNumber, BeginsWithSize, BeginsWithStated}
+use Rattle.flow_check.specs.declared.bounds.Bounds.{Bounds}
+use Rattle.flow_check.specs.declared.kind.TextKind.{TextKind}
+use Rattle.flow_check.specs.declared.kind.TextKind.TheVariants.{Certificate, OfBounds}
 
 -- the first line ends in its version
-pub title-parts : (version : ℕ) (rest : List ℕ) →
-    line (title version) ++ rest ≡ codes "flowshop certificate " ++ (decimal version ++ 10 ∷ rest)
-title-parts version rest =
-    append_assoc (title version) (10 ∷ []) rest
-    ∙ append_assoc (codes "flowshop certificate ") (decimal version) (10 ∷ rest)
+pub title-parts : (kind : TextKind) (version : ℕ) (rest : List ℕ) →
+    line (title kind version) ++ rest ≡ opening kind ++ (decimal version ++ 10 ∷ rest)
+title-parts kind version rest =
+    append_assoc (title kind version) (10 ∷ []) rest
+    ∙ append_assoc (opening kind) (decimal version) (10 ∷ rest)
 
 -- its three numbers, each with the byte that ends it
 pub size-parts : (a b d : ℕ) (rest : List ℕ) → line (spaced (a ∷ b ∷ d ∷ [])) ++ rest ≡ decimal a ++ 32
@@ -28,3 +35,35 @@ first-number jobs machines text rest depth fits h = (fits, h.2 ∙ size-parts jo
 
 pub depth-fits : (depth : ℕ) → depth ≤ greatest_depth → depth < 2 ^ 64
 depth-fits depth h = let small : depth ≤ 3 = h in omega arith
+
+-- the two bounds, each with the byte that ends it
+pub bounds-parts : (a b : ℕ) (rest : List ℕ) →
+    line (spaced (a ∷ b ∷ [])) ++ rest ≡ decimal a ++ 32 ∷ (decimal b ++ 10 ∷ rest)
+bounds-parts a b rest =
+    append_assoc (decimal a ++ 32 ∷ decimal b) (10 ∷ []) rest
+    ∙ append_assoc (decimal a) (32 ∷ decimal b) (10 ∷ rest)
+
+-- the lower bound comes first, and the upper one after it
+pub first-bound : (text rest : List ℕ) (bounds : Bounds) → BeginsWithStated OfBounds text bounds rest →
+    BeginsWithNumber text 32 bounds.lower (decimal bounds.upper ++ 10 ∷ rest)
+first-bound text rest bounds h = (h.0.0, h.1 ∙ bounds-parts bounds.lower bounds.upper rest)
+
+-- a value alone
+pub value-number : (text rest : List ℕ) (value : ℕ) → BeginsWithStated Certificate text value rest →
+    BeginsWithNumber text 10 value rest
+value-number text rest value h = (h.0, h.1 ∙ append_assoc (decimal value) (10 ∷ []) rest)
+
+pub number-value : (text rest : List ℕ) (value : ℕ) → BeginsWithNumber text 10 value rest →
+    BeginsWithStated Certificate text value rest
+number-value text rest value h = (h.0, h.1 ∙ sym (append_assoc (decimal value) (10 ∷ []) rest))
+
+-- what begins with some bytes
+some-of : {A : Type 0} (P : Type 0) (Q : A → Type 0) (o : Option A) → MatchOption o P Q → IfSome o Q
+some-of P Q None h = tt
+some-of P Q (Some x) h = h
+
+pub stripped : (text start : List ℕ) (o : Option (Bor (List ℕ))) →
+    MatchOption o (pointwise nat_eq (take (length start) text) start ≡ false)
+    (λ x. (pointwise nat_eq (take (length start) text) start ≡ true) × (x.now ≡ drop (length start) text)
+    × (length x.now + length start ≡ length text)) → IfSome o (λ rest. text ≡ start ++ rest.now)
+stripped text start o h = some-of _ _ o (strip_prefix_is Decides-eqb text start o h)

@@ -7,7 +7,7 @@ use Rattle.std.proofs.Math.Seq.{drop-cons}
 use Rattle.flow_shop.specs.Shop.{Shop}
 use Rattle.flow_shop.specs.Bound.{bound_of}
 use Rattle.flow_shop.specs.Sequences.{has, jobs_left}
-use Rattle.flow_check.specs.CertificateFaults.{read_tree, each_tree, then_read}
+use Rattle.flow_check.specs.internal.Reading.{read_tree, each_tree, then_read}
 use Rattle.flow_check.specs.internal.Links.{children, AreLinks}
 use Rattle.flow_check.specs.internal.Nodes.{IsNode, IsAt}
 use Rattle.flow_check.specs.internal.Reader.{LetterGives, TreeGives, children_read, path, resume, IsStack, IsReading}
@@ -35,27 +35,28 @@ no-byte shop version value place zero list = refl
 no-byte shop version value place (suc left) list = refl
 
 pub reading-start : (shop : Shop) (version value place : ℕ) (root : List ℕ) (node : Node) (links : List ℕ)
-    (below from : ℕ)
-    (bytes : List ℕ) → IsAt shop root node links (suc below) →
-    IsReading shop version value place root (children_read shop version value place below root
-    (drop from bytes)) node links below 0 from bytes []
-reading-start shop version value place root node links below from bytes at = record {
+    (child_left from : ℕ)
+    (bytes : List ℕ) → IsAt shop root node links (suc child_left) →
+    IsReading shop version value place root (children_read shop version value place child_left root
+    (drop from bytes)) node links child_left 0 from bytes []
+reading-start shop version value place root node links child_left from bytes at = record {
   here = at;
-  behind = start-place shop.jobs root;
+  after_last = start-place shop.jobs root;
   stack = tt;
-  answer = then-done shop version value place root (suc below)
-      (children_read shop version value place below root (drop from bytes));
+  answer = then-done shop version value place root (suc child_left)
+      (children_read shop version value place child_left root (drop from bytes));
 }
 
 -- a plus, and the trees of the children
-plus-read : (shop : Shop) (version value place : ℕ) (root : List ℕ) (left below from : ℕ) (bytes : List ℕ) (byte : ℕ) →
-    left ≡ suc below → byte ≡ 43 → drop from bytes ≡ byte ∷ drop (from + 1) bytes →
+plus-read : (shop : Shop) (version value place : ℕ) (root : List ℕ) (left child_left from : ℕ) (bytes : List ℕ)
+    (byte : ℕ) →
+    left ≡ suc child_left → byte ≡ 43 → drop from bytes ≡ byte ∷ drop (from + 1) bytes →
     read_tree shop (bound_of version) value place left root (drop from bytes)
-    ≡ children_read shop version value place below root (drop (from + 1) bytes)
-plus-read shop version value place root left below from bytes byte e plus step =
+    ≡ children_read shop version value place child_left root (drop (from + 1) bytes)
+plus-read shop version value place root left child_left from bytes byte e plus step =
     ap (λ l. read_tree shop (bound_of version) value place l root (drop from bytes)) e
-    ∙ ap (read_tree shop (bound_of version) value place (suc below) root) step
-    ∙ ap (λ b. read_tree shop (bound_of version) value place (suc below) root (b ∷ drop (from + 1) bytes)) plus
+    ∙ ap (read_tree shop (bound_of version) value place (suc child_left) root) step
+    ∙ ap (λ b. read_tree shop (bound_of version) value place (suc child_left) root (b ∷ drop (from + 1) bytes)) plus
 
 gives-before : (from : ℕ) (bytes : List ℕ) (r : Result ℕ CheckFault) (read all : Result (List ℕ) CheckFault) →
     all ≡ read → TreeGives (from + 1) bytes r read → TreeGives from bytes r all
@@ -71,102 +72,113 @@ gives-before from bytes (Err (Weak p)) read all e h = e ∙ h
 gives-before from bytes (Err (Low p)) read all e h = e ∙ h
 gives-before from bytes (Err End) read all e h = e ∙ h
 
-pub plus-gives : (shop : Shop) (version value place : ℕ) (root : List ℕ) (left below from : ℕ) (bytes : List ℕ)
+pub plus-gives : (shop : Shop) (version value place : ℕ) (root : List ℕ) (left child_left from : ℕ) (bytes : List ℕ)
     (byte : ℕ)
-    (r : Result ℕ CheckFault) → left ≡ suc below → byte ≡ 43 → drop from bytes ≡ byte ∷ drop (from + 1) bytes →
-    TreeGives (from + 1) bytes r (children_read shop version value place below root (drop (from + 1) bytes)) →
+    (r : Result ℕ CheckFault) → left ≡ suc child_left → byte ≡ 43 → drop from bytes ≡ byte ∷ drop (from + 1) bytes →
+    TreeGives (from + 1) bytes r (children_read shop version value place child_left root (drop (from + 1) bytes)) →
     TreeGives from bytes r (read_tree shop (bound_of version) value place left root (drop from bytes))
-plus-gives shop version value place root left below from bytes byte r e plus step h =
-    gives-before from bytes r (children_read shop version value place below root (drop (from
+plus-gives shop version value place root left child_left from bytes byte r e plus step h =
+    gives-before from bytes r (children_read shop version value place child_left root (drop (from
     + 1) bytes)) (read_tree shop (bound_of version) value place left root (drop from bytes))
-    (plus-read shop version value place root left below from bytes byte e plus step) h
+    (plus-read shop version value place root left child_left from bytes byte e plus step) h
 
 -- the next child, where there is one
 pub reading-child : {shop : Shop} {version value place : ℕ} {root : List ℕ} {whole : Result
-    (List ℕ) CheckFault} {node : Node} {links : List ℕ} {below last at : ℕ} {bytes : List ℕ} {frames : List Frame} →
-    IsReading shop version value place root whole node links below last at bytes frames → slice_index links last ≢ 0 →
+    (List ℕ) CheckFault} {node : Node} {links : List ℕ} {child_left last at : ℕ} {bytes : List ℕ} {frames : List Frame}
+    →
+    IsReading shop version value place root whole node links child_left last at bytes frames →
+    slice_index links last ≢ 0 →
     (last < slice_index links last) × (1 ≤ slice_index links last) × (slice_index links last ≤ shop.jobs)
     × (has (path root frames) (slice_index links last) ≡ false)
 reading-child {shop} {root} {links} {last} {frames} i some =
-    next-some shop.jobs (path root frames) last (slice_index links last) (i.here.are_links.each last i.behind) some
+    next-some shop.jobs (path root frames) last (slice_index links last) (i.here.are_links.each last i.after_last) some
 
 -- the next child is read
 child-read : {shop : Shop} {version value place : ℕ} {root : List ℕ} {whole : Result
-    (List ℕ) CheckFault} {node : Node} {links : List ℕ} {below last at : ℕ} {bytes : List ℕ} {frames : List Frame}
+    (List ℕ) CheckFault} {node : Node} {links : List ℕ} {child_left last at : ℕ} {bytes : List ℕ} {frames : List Frame}
     (bs : List ℕ) →
-    IsReading shop version value place root whole node links below last at bytes frames → slice_index links last ≢ 0 →
+    IsReading shop version value place root whole node links child_left last at bytes frames →
+    slice_index links last ≢ 0 →
     drop at bytes ≡ bs →
-    whole ≡ then_read (then_read (read_tree shop (bound_of version) value place below
+    whole ≡ then_read (then_read (read_tree shop (bound_of version) value place child_left
     (path root frames ++ slice_index links last
-    ∷ []) bs) (each_tree (λ j. read_tree shop (bound_of version) value place below (path root frames ++ j
+    ∷ []) bs) (each_tree (λ j. read_tree shop (bound_of version) value place child_left (path root frames ++ j
     ∷ [])) (children shop.jobs (path root frames) (slice_index links last
-    + 1)))) (resume shop version value place root (suc below) frames)
-child-read {shop} {version} {value} {place} {root} {whole} {node} {links} {below} {last} {at} {bytes} {frames} bs i some
+    + 1)))) (resume shop version value place root (suc child_left) frames)
+child-read {shop} {version} {value} {place} {root} {whole} {node} {links} {child_left} {last} {at} {bytes} {frames} bs
+    i some
     dropped =
     let read : ℕ → List ℕ → Result (List ℕ) CheckFault =
-    λ j. read_tree shop (bound_of version) value place below (path root frames ++ j ∷ []) in
-    let k : List ℕ → Result (List ℕ) CheckFault = resume shop version value place root (suc below) frames in
+    λ j. read_tree shop (bound_of version) value place child_left (path root frames ++ j ∷ []) in
+    let k : List ℕ → Result (List ℕ) CheckFault = resume shop version value place root (suc child_left) frames in
     i.answer
     ∙ ap (λ js. then_read (each_tree read js (drop at bytes)) k) (children-next shop.jobs (path root frames) last
-    (slice_index links last) (i.here.are_links.each last i.behind) some)
+    (slice_index links last) (i.here.are_links.each last i.after_last) some)
     ∙ ap (λ b. then_read (each_tree read (slice_index links last
     ∷ children shop.jobs (path root frames) (slice_index links last + 1)) b) k) dropped
 
 pub reading-fault : {shop : Shop} {version value place : ℕ} {root : List ℕ} {whole : Result
-    (List ℕ) CheckFault} {node : Node} {links : List ℕ} {below last at : ℕ} {bytes : List ℕ} {frames : List Frame}
+    (List ℕ) CheckFault} {node : Node} {links : List ℕ} {child_left last at : ℕ} {bytes : List ℕ} {frames : List Frame}
     (bs : List ℕ) (fault : CheckFault) →
-    IsReading shop version value place root whole node links below last at bytes frames → slice_index links last ≢ 0 →
+    IsReading shop version value place root whole node links child_left last at bytes frames →
+    slice_index links last ≢ 0 →
     drop at bytes ≡ bs →
-    read_tree shop (bound_of version) value place below (path root frames ++ slice_index links last ∷ []) bs
+    read_tree shop (bound_of version) value place child_left (path root frames ++ slice_index links last ∷ []) bs
     ≡ Err fault →
     whole ≡ Err fault
-reading-fault {shop} {version} {value} {place} {root} {whole} {node} {links} {below} {last} {at} {bytes} {frames} bs
+reading-fault {shop} {version} {value} {place} {root} {whole} {node} {links} {child_left} {last} {at} {bytes} {frames}
+    bs
     fault i some
     dropped bad =
     child-read bs i some dropped
-    ∙ ap (λ r. then_read (then_read r (each_tree (λ j. read_tree shop (bound_of version) value place below
+    ∙ ap (λ r. then_read (then_read r (each_tree (λ j. read_tree shop (bound_of version) value place child_left
     (path root frames ++ j
     ∷ [])) (children shop.jobs (path root frames) (slice_index links last
-    + 1)))) (resume shop version value place root (suc below) frames)) bad
+    + 1)))) (resume shop version value place root (suc child_left) frames)) bad
 
 pub reading-leaf : {shop : Shop} {version value place : ℕ} {root : List ℕ} {whole : Result
-    (List ℕ) CheckFault} {node : Node} {links : List ℕ} {below last at : ℕ} {bytes : List ℕ} {frames : List Frame} →
-    IsReading shop version value place root whole node links below last at bytes frames → slice_index links last ≢ 0 →
-    read_tree shop (bound_of version) value place below (path root frames ++ slice_index links last ∷ [])
+    (List ℕ) CheckFault} {node : Node} {links : List ℕ} {child_left last at : ℕ} {bytes : List ℕ} {frames : List Frame}
+    →
+    IsReading shop version value place root whole node links child_left last at bytes frames →
+    slice_index links last ≢ 0 →
+    read_tree shop (bound_of version) value place child_left (path root frames ++ slice_index links last ∷ [])
     (drop at bytes)
     ≡ Ok (drop (at + 1) bytes) →
-    IsReading shop version value place root whole node links below (slice_index links last) (at + 1) bytes frames
-reading-leaf {shop} {version} {value} {place} {root} {whole} {node} {links} {below} {last} {at} {bytes} {frames} i some
+    IsReading shop version value place root whole node links child_left (slice_index links last) (at + 1) bytes frames
+reading-leaf {shop} {version} {value} {place} {root} {whole} {node} {links} {child_left} {last} {at} {bytes} {frames} i
+    some
     good =
     record {
       here = i.here;
-      behind = next-place shop.jobs (path root frames) last (slice_index links last)
-          (i.here.are_links.each last i.behind);
+      after_last = next-place shop.jobs (path root frames) last (slice_index links last)
+          (i.here.are_links.each last i.after_last);
       stack = i.stack;
       answer =
           child-read (drop at bytes) i some refl
-          ∙ ap (λ r. then_read (then_read r (each_tree (λ j. read_tree shop (bound_of version) value place below
+          ∙ ap (λ r. then_read (then_read r (each_tree (λ j. read_tree shop (bound_of version) value place child_left
           (path root frames
           ++ j ∷ [])) (children shop.jobs (path root frames) (slice_index links last
-          + 1)))) (resume shop version value place root (suc below) frames)) good;
+          + 1)))) (resume shop version value place root (suc child_left) frames)) good;
     }
 
 pub reading-dive : {shop : Shop} {version value place : ℕ} {root : List ℕ} {whole : Result
-    (List ℕ) CheckFault} {node : Node} {links : List ℕ} {below last at : ℕ} {bytes : List ℕ} {frames : List Frame}
+    (List ℕ) CheckFault} {node : Node} {links : List ℕ} {child_left last at : ℕ} {bytes : List ℕ} {frames : List Frame}
     (child : Node) (less : List ℕ) (lower byte : ℕ) (deeper : List Frame) →
-    IsReading shop version value place root whole node links below last at bytes frames → slice_index links last ≢ 0 →
+    IsReading shop version value place root whole node links child_left last at bytes frames →
+    slice_index links last ≢ 0 →
     drop at bytes ≡ byte ∷ drop (at + 1) bytes →
-    IsNode shop (path root frames ++ slice_index links last ∷ []) child below →
-    less ≡ slice_set links last (slice_index links (slice_index links last)) → below ≡ suc lower → byte ≡ 43 →
+    IsNode shop (path root frames ++ slice_index links last ∷ []) child child_left →
+    less ≡ slice_set links last (slice_index links (slice_index links last)) → child_left ≡ suc lower → byte ≡ 43 →
     deeper ≡ record { node = node; job = slice_index links last; last = last } ∷ frames →
     IsReading shop version value place root whole child less lower 0 (at + 1) bytes deeper
-reading-dive {shop} {version} {value} {place} {root} {whole} {node} {links} {below} {last} {at} {bytes} {frames} child
+reading-dive {shop} {version} {value} {place} {root} {whole} {node} {links} {child_left} {last} {at} {bytes} {frames}
+    child
     less lower
     byte deeper i some dropped is out e plus pushed =
     let job : ℕ = slice_index links last in
     let next = reading-child i some in
     let taken = links-out shop.jobs (path root frames) links last job
-    (slice_index links job) i.here.are_links i.behind refl some refl in
+    (slice_index links job) i.here.are_links i.after_last refl some refl in
     let back : slice_set less last job ≡ links = ap (λ l. slice_set l last job) out
     ∙ links-back links last job (slice_index links job) refl in
     let js : List ℕ = children shop.jobs (path root frames) (job + 1) in
@@ -177,14 +189,14 @@ reading-dive {shop} {version} {value} {place} {root} {whole} {node} {links} {bel
         are_links =
             subst (λ l. AreLinks shop.jobs (path root frames ++ job ∷ []) l) (sym out) taken;
       };
-      behind = start-place shop.jobs (path root frames ++ job ∷ []);
+      after_last = start-place shop.jobs (path root frames ++ job ∷ []);
       stack = (
         subst (λ l. IsAt shop (path root frames) node l (suc (suc lower))) (sym back) (subst (λ l. IsAt shop
             (path root frames) node links (suc l)) e i.here),
         next.1,
         next.2,
         next.3,
-        i.behind.0,
+        i.after_last.0,
         subst (λ l. IsStack shop root l (suc (suc (suc lower))) frames) (sym back) (subst (λ l. IsStack shop root links
             (suc (suc l)) frames) e i.stack),
       );
@@ -209,42 +221,51 @@ reading-dive {shop} {version} {value} {place} {root} {whole} {node} {links} {bel
 
 -- no child is left
 reading-none : {shop : Shop} {version value place : ℕ} {root : List ℕ} {whole : Result
-    (List ℕ) CheckFault} {node : Node} {links : List ℕ} {below last at : ℕ} {bytes : List ℕ} {frames : List Frame} →
-    IsReading shop version value place root whole node links below last at bytes frames → slice_index links last ≡ 0 →
-    whole ≡ resume shop version value place root (suc below) frames (drop at bytes)
-reading-none {shop} {version} {value} {place} {root} {whole} {node} {links} {below} {last} {at} {bytes} {frames} i none
+    (List ℕ) CheckFault} {node : Node} {links : List ℕ} {child_left last at : ℕ} {bytes : List ℕ} {frames : List Frame}
+    →
+    IsReading shop version value place root whole node links child_left last at bytes frames → slice_index links last
+    ≡ 0 →
+    whole ≡ resume shop version value place root (suc child_left) frames (drop at bytes)
+reading-none {shop} {version} {value} {place} {root} {whole} {node} {links} {child_left} {last} {at} {bytes} {frames} i
+    none
     =
     i.answer
-    ∙ ap (λ js. then_read (each_tree (λ j. read_tree shop (bound_of version) value place below (path root frames ++ j
-    ∷ [])) js (drop at bytes)) (resume shop version value place root (suc below) frames)) (children-none shop.jobs
-    (path root frames) last (slice_index links last) (i.here.are_links.each last i.behind) none)
+    ∙ ap (λ js. then_read (each_tree (λ j. read_tree shop (bound_of version) value place child_left
+    (path root frames ++ j
+    ∷ [])) js (drop at bytes)) (resume shop version value place root (suc child_left) frames)) (children-none shop.jobs
+    (path root frames) last (slice_index links last) (i.here.are_links.each last i.after_last) none)
 
 pub reading-done : {shop : Shop} {version value place : ℕ} {root : List ℕ} {whole : Result
-    (List ℕ) CheckFault} {node : Node} {links : List ℕ} {below last at : ℕ} {bytes : List ℕ} {frames : List Frame} →
-    IsReading shop version value place root whole node links below last at bytes frames → slice_index links last ≡ 0 →
+    (List ℕ) CheckFault} {node : Node} {links : List ℕ} {child_left last at : ℕ} {bytes : List ℕ} {frames : List Frame}
+    →
+    IsReading shop version value place root whole node links child_left last at bytes frames → slice_index links last
+    ≡ 0 →
     frames ≡ [] → whole ≡ Ok (drop at bytes)
-reading-done {shop} {version} {value} {place} {root} {whole} {node} {links} {below} {last} {at} {bytes} {frames} i none
+reading-done {shop} {version} {value} {place} {root} {whole} {node} {links} {child_left} {last} {at} {bytes} {frames} i
+    none
     empty =
-    reading-none i none ∙ ap (λ fs. resume shop version value place root (suc below) fs (drop at bytes)) empty
+    reading-none i none ∙ ap (λ fs. resume shop version value place root (suc child_left) fs (drop at bytes)) empty
 
 pub reading-up : {shop : Shop} {version value place : ℕ} {root : List ℕ} {whole : Result
-    (List ℕ) CheckFault} {node : Node} {links : List ℕ} {below last at : ℕ} {bytes : List ℕ} {frames : List Frame}
+    (List ℕ) CheckFault} {node : Node} {links : List ℕ} {child_left last at : ℕ} {bytes : List ℕ} {frames : List Frame}
     (back : List ℕ) (f : Frame) (higher : List Frame) →
-    IsReading shop version value place root whole node links below last at bytes frames → slice_index links last ≡ 0 →
+    IsReading shop version value place root whole node links child_left last at bytes frames → slice_index links last
+    ≡ 0 →
     frames ≡ f ∷ higher → back ≡ slice_set links f.last f.job →
-    IsReading shop version value place root whole f.node back (below + 1) f.job at bytes higher
-reading-up {shop} {version} {value} {place} {root} {whole} {node} {links} {below} {last} {at} {bytes} {frames} back f
+    IsReading shop version value place root whole f.node back (child_left + 1) f.job at bytes higher
+reading-up {shop} {version} {value} {place} {root} {whole} {node} {links} {child_left} {last} {at} {bytes} {frames}
+    back f
     higher i
     none popped is =
-    let was : IsReading shop version value place root whole node links below last at bytes (f ∷ higher) =
-    subst (IsReading shop version value place root whole node links below last at bytes) popped i in
+    let was : IsReading shop version value place root whole node links child_left last at bytes (f ∷ higher) =
+    subst (IsReading shop version value place root whole node links child_left last at bytes) popped i in
     let s = was.stack in
-    let more : suc below ≡ below + 1 = omega arith in
+    let more : suc child_left ≡ child_left + 1 = omega arith in
     subst (λ l. IsReading shop version value place root whole f.node back l f.job at bytes higher) more
     (record {
-      here = subst (λ l. IsAt shop (path root higher) f.node l (suc (suc below))) (sym is) s.0;
-      behind = (s.2, λ low. s.3);
-      stack = subst (λ l. IsStack shop root l (suc (suc (suc below))) higher) (sym is) s.5;
+      here = subst (λ l. IsAt shop (path root higher) f.node l (suc (suc child_left))) (sym is) s.0;
+      after_last = (s.2, λ low. s.3);
+      stack = subst (λ l. IsStack shop root l (suc (suc (suc child_left))) higher) (sym is) s.5;
       answer = reading-none was none;
     })
 

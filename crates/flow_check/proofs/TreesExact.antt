@@ -9,8 +9,8 @@ use Rattle.flow_shop.specs.Paths.{span}
 use Rattle.flow_shop.specs.Sequences.{jobs_left}
 use Rattle.flow_shop.specs.Bound.{letter}
 use Rattle.flow_check.specs.Certificate.{Covers, line, ending}
-use Rattle.flow_check.specs.CertificateFaults.{read_tree, each_tree, then_read, leaf_fault, cut_fault, is_letter}
-use Rattle.flow_check.specs.CertificateFaults.{after_tree, trees_value}
+use Rattle.flow_check.specs.internal.Reading.{read_tree, each_tree, then_read, leaf_fault, cut_fault, is_letter}
+use Rattle.flow_check.specs.internal.Reading.{after_tree, trees_value}
 use Rattle.std.specs.Str.{bytes_eq}
 use Rattle.std.specs.Cmp.Lexicographic.{bytes_decides}
 use Rattle.flow_check.specs.declared.fault.CheckFault.{CheckFault}
@@ -163,12 +163,12 @@ abbrev worth : Result ℕ CheckFault → ℕ
 worth (Ok value) = value
 worth (Err fault) = 0
 
-abbrev ValueOnly : Result ℕ CheckFault → Type 0
+abbrev ValueOnly : {A : Type 0} → Result A CheckFault → Type 0
 ValueOnly (Ok value) = Unit {0}
 ValueOnly (Err fault) = ⊥
 
-pub fault-value : (fault : CheckFault) (value : ℕ) → Err fault ≡ Ok value → ⊥
-fault-value fault value e = subst ValueOnly (sym e) tt
+pub fault-value : {A : Type 0} (fault : CheckFault) (value : A) → Err fault ≡ Ok value → ⊥
+fault-value {A} fault value e = subst (λ (r : Result A CheckFault). ValueOnly r) (sym e) tt
 
 abbrev valued : ℕ → Result ℕ CheckFault
 valued value = Ok value
@@ -176,8 +176,8 @@ valued value = Ok value
 value-same : (v w : ℕ) → valued v ≡ valued w → v ≡ w
 value-same v w e = ap worth e
 
-pub passes : (b : Bool) (next : Result ℕ CheckFault) (fault : CheckFault) (v : ℕ) → cond b next (Err fault) ≡ Ok v →
-    (b ≡ true) × (next ≡ Ok v)
+pub passes : {A : Type 0} (b : Bool) (next : Result A CheckFault) (fault : CheckFault) (v : A) →
+    cond b next (Err fault) ≡ Ok v → (b ≡ true) × (next ≡ Ok v)
 passes true next fault v e = (refl, e)
 passes false next fault v e = absurd (fault-value fault v e)
 

@@ -1,140 +1,109 @@
--- How a text is read as a certificate, line by line: to its value, or to its first fault.
-use Rattle.std.specs.Prelude.{◌≡◌, ℕ, zero, suc, ◌+◌, ◌-◌, ◌^◌, Bool, false, cond, not, ◌&&◌, nat_eq, nat_lt, nat_le}
-use Rattle.std.specs.Prelude.{List, [], ◌∷◌, ◌++◌, map, Option, Some, None, Result, Ok, Err}
-use Rattle.std.specs.Option.{option_map, option_map_or}
-use Rattle.std.specs.List.{find, list_all, slice_split}
-use Rattle.std.specs.Str.{bytes_eq}
-use Rattle.std.specs.Str.Parse.{digits_value}
-use Rattle.flow_shop.specs.Limits.{greatest_depth, least_version, greatest_version}
-use Rattle.flow_shop.specs.Digits.{is_digit}
-use Rattle.flow_shop.specs.Shop.{Shop, IsWithinLimits, numbers}
+-- The first fault of a text that is not a lawful one of its kind. The text is lawful up to a line, or up to a tree in a
+-- line, and does not go on lawfully there; the fault says what is missing or too low.
+use Rattle.std.specs.Prelude.{ℕ, zero, suc, ◌≡◌, ◌≢◌, ◌+◌, ◌-◌, ◌<◌, ◌≤◌, ◌⊎◌, List, [], ◌∷◌, ◌++◌}
+use Rattle.flow_shop.specs.Shop.{Shop, IsWithinLimits}
 use Rattle.flow_shop.specs.Paths.{span}
-use Rattle.flow_shop.specs.Sequences.{jobs_left, cut}
-use Rattle.flow_shop.specs.SequenceFaults.{sequence_fault}
-use Rattle.flow_shop.specs.Bound.{bound_of}
-use Rattle.flow_check.specs.Certificate.{line, title, ending, IsCertificate}
+use Rattle.flow_shop.specs.Sequences.{IsSequence, jobs_left, cut}
+use Rattle.flow_shop.specs.Bound.{bound_of, letter}
+use Rattle.flow_check.specs.Certificate.{Covers, IsVersion, IsDepth, IsStated, Stated, stated_bounds, IsLawful, point}
+use Rattle.flow_check.specs.Certificate.{plus, line_feed, line, ending, upto_title, upto_sizes, upto_stated, heading}
+use Rattle.flow_check.specs.declared.kind.TextKind.{TextKind}
+use Rattle.flow_check.specs.declared.kind.TextKind.TheVariants.{Certificate, OfBounds}
 use Rattle.flow_check.specs.declared.fault.CheckFault.{CheckFault}
-use Rattle.flow_check.specs.declared.fault.CheckFault.TheVariants.{Header, Size, Value, Sequence, NotAttained, Tree}
-use Rattle.flow_check.specs.declared.fault.CheckFault.TheVariants.{Weak, Low, End}
+use Rattle.flow_check.specs.declared.fault.CheckFault.TheVariants.{Memory, Header, Size, Value, Sequence, NotAttained}
+use Rattle.flow_check.specs.declared.fault.CheckFault.TheVariants.{Tree, Weak, Low, End}
 
--- the first line, without its end, and the text behind it
-abbrev pub first_line : List ℕ → Option (List ℕ × List ℕ)
-first_line [] = None
-first_line (byte ∷ bytes) =
-    cond (nat_eq byte 10) (Some ([], bytes)) (option_map (λ r. (byte ∷ r.0, r.1)) (first_line bytes))
+-- a text begins with another one
+abbrev pub BeginsWith : List ℕ → List ℕ → Type 0
+BeginsWith text start = (rest : List ℕ) × (text ≡ start ++ rest)
 
--- what the first line and the text behind it give; a fault where no line ends
-abbrev pub on_line : CheckFault → (List ℕ → List ℕ → Result ℕ CheckFault) → List ℕ → Result ℕ CheckFault
-on_line fault next bytes = option_map_or (λ r. next r.0 r.1) (first_line bytes) (Err fault)
+-- a text should have a lawful part for each item, one after the other. The parts of the first items are lawful, and
+-- this is the fault of the next item's
+abbrev pub HasFaultAmong :
+    (ℕ → List ℕ → Type 0) → (ℕ → List ℕ → CheckFault → Type 0) → List ℕ → List ℕ → CheckFault → Type 0
+HasFaultAmong lawful faulty [] text fault = ⊥
+HasFaultAmong lawful faulty (item ∷ items) text fault =
+    faulty item text fault
+    ⊎ ((part : List ℕ) × (rest : List ℕ) × (text ≡ part ++ rest) × lawful item part
+    × HasFaultAmong lawful faulty items rest fault)
 
--- whether a text is a number in decimal, without leading zeros
-abbrev pub is_numeral : List ℕ → Bool
-is_numeral [] = false
-is_numeral (digit ∷ []) = is_digit digit
-is_numeral (digit ∷ next ∷ digits) = not (nat_eq digit 48) && list_all is_digit (digit ∷ next ∷ digits)
+-- a text should begin with a tree that covers a value below a list with so many jobs left, and has this fault in it.
+-- Where no job is left: it begins with no point, or the makespan is below the value. Where jobs are left: it begins
+-- neither with a plus nor with the letter of a machine, or with the letter of a machine whose bound is below the value;
+-- or, after a plus, the trees of the list's children have the fault
+abbrev pub HasTreeFault : Shop → (Shop → List ℕ → ℕ → ℕ) → ℕ → ℕ → ℕ → List ℕ → List ℕ → CheckFault → Type 0
+HasTreeFault shop bound value place zero jobs text fault =
+    ((fault ≡ Tree place) × ¬ BeginsWith text (point ∷ []))
+    ⊎ ((fault ≡ Low place) × BeginsWith text (point ∷ []) × (span shop jobs < value))
+HasTreeFault shop bound value place (suc left) jobs text fault =
+    ((fault ≡ Tree place) × (¬ BeginsWith text (plus ∷ []))
+    × ((machine : ℕ) → 1 ≤ machine → machine ≤ shop.machines → ¬ BeginsWith text (letter machine ∷ [])))
+    ⊎ ((machine : ℕ) × (1 ≤ machine) × (machine ≤ shop.machines) × (fault ≡ Weak place)
+    × BeginsWith text (letter machine ∷ []) × (bound shop jobs machine < value))
+    ⊎ ((children : List ℕ) × (text ≡ plus ∷ children)
+    × HasFaultAmong (λ job. Covers shop bound value left (jobs ++ job ∷ []))
+    (λ job. HasTreeFault shop bound value place left (jobs ++ job ∷ [])) (jobs_left shop.jobs jobs) children fault)
 
--- the numbers of a line that holds numbers alone, with one space between them
-abbrev pub numbers_in : List ℕ → Option (List ℕ)
-numbers_in text =
-    let words = slice_split (λ byte. nat_eq byte 32) text in
-    cond (list_all is_numeral words) (Some (map (digits_value 10) words)) None
+-- a text should be the lines of a tree for each prefix, from this line on, and the last line. This is the fault of the
+-- first line: in its tree, or that it goes on after its tree; or the fault of a later line; or after the last tree the
+-- text is not the last line
+abbrev pub HasLineFault :
+    Shop → (Shop → List ℕ → ℕ → ℕ) → ℕ → ℕ → List (List ℕ) → ℕ → List ℕ → CheckFault → Type 0
+HasLineFault shop bound value left [] place text fault = (fault ≡ End) × (text ≢ line ending)
+HasLineFault shop bound value left (prefix ∷ prefixes) place text fault =
+    HasTreeFault shop bound value place left prefix text fault
+    ⊎ ((tree : List ℕ) × (rest : List ℕ) × (text ≡ tree ++ rest) × Covers shop bound value left prefix tree
+    × (((fault ≡ Tree place) × ¬ BeginsWith rest (line_feed ∷ []))
+    ⊎ ((lines : List ℕ) × (rest ≡ line_feed ∷ lines)
+    × HasLineFault shop bound value left prefixes (place + 1) lines fault)))
 
--- whether a byte is the letter of a machine of the instance
-abbrev pub is_letter : Shop → ℕ → Bool
-is_letter shop byte = nat_lt 64 byte && nat_le (byte - 64) shop.machines
+-- the first fault of a text, as one of a kind. The first tree stands in line 5
+abbrev pub HasFaultAs : TextKind → Shop → List ℕ → CheckFault → Type 0
+HasFaultAs kind shop text Memory = ⊥
+HasFaultAs kind shop text Header = (version : ℕ) → IsVersion version → ¬ BeginsWith text (upto_title kind version)
+HasFaultAs kind shop text Size =
+    (version : ℕ) × IsVersion version × BeginsWith text (upto_title kind version)
+    × ((depth : ℕ) → IsDepth shop depth → ¬ BeginsWith text (upto_sizes kind shop version depth))
+HasFaultAs kind shop text Value =
+    (version : ℕ) × (depth : ℕ) × IsVersion version × IsDepth shop depth
+    × BeginsWith text (upto_sizes kind shop version depth)
+    × ((stated : Stated kind) → IsStated kind stated →
+    ¬ BeginsWith text (upto_stated kind shop version depth stated))
+HasFaultAs kind shop text Sequence =
+    (version : ℕ) × (depth : ℕ) × (stated : Stated kind) × IsVersion version × IsDepth shop depth
+    × IsStated kind stated × BeginsWith text (upto_stated kind shop version depth stated)
+    × ((sequence : List ℕ) → IsSequence shop.jobs sequence →
+    ¬ BeginsWith text (heading kind shop version depth stated sequence))
+HasFaultAs kind shop text NotAttained =
+    (version : ℕ) × (depth : ℕ) × (stated : Stated kind) × (sequence : List ℕ) × IsVersion version
+    × IsDepth shop depth × IsStated kind stated × IsSequence shop.jobs sequence
+    × BeginsWith text (heading kind shop version depth stated sequence)
+    × (span shop sequence ≢ (stated_bounds kind stated).upper)
+HasFaultAs kind shop text fault =
+    (version : ℕ) × (depth : ℕ) × (stated : Stated kind) × (sequence : List ℕ) × IsVersion version
+    × IsDepth shop depth × IsStated kind stated × IsSequence shop.jobs sequence
+    × (span shop sequence ≡ (stated_bounds kind stated).upper)
+    × (lines : List ℕ) × (text ≡ heading kind shop version depth stated sequence ++ lines)
+    × HasLineFault shop (bound_of version) (stated_bounds kind stated).lower (shop.jobs - depth)
+    (cut shop.jobs depth) 5 lines fault
 
--- what is read next, from where the last part ended; a fault stays
-abbrev pub then_read : Result (List ℕ) CheckFault → (List ℕ → Result (List ℕ) CheckFault) → Result (List ℕ) CheckFault
-then_read (Ok rest) next = next rest
-then_read (Err fault) next = Err fault
+-- the first fault of a text that is no lawful certificate
+abbrev pub HasFirstFault : Shop → List ℕ → CheckFault → Type 0
+HasFirstFault shop text fault = HasFaultAs Certificate shop text fault
 
--- the trees of some jobs, one after the other
-abbrev pub each_tree : (ℕ → List ℕ → Result (List ℕ) CheckFault) → List ℕ → List ℕ → Result (List ℕ) CheckFault
-each_tree read [] bytes = Ok bytes
-each_tree read (job ∷ jobs) bytes = then_read (read job bytes) (each_tree read jobs)
+-- the first fault of a text that is no lawful text of bounds
+abbrev pub HasBoundsFault : Shop → List ℕ → CheckFault → Type 0
+HasBoundsFault shop text fault = HasFaultAs OfBounds shop text fault
 
--- a letter: of a machine or not, its bound high enough or not
-abbrev pub cut_fault : Bool → Bool → ℕ → List ℕ → Result (List ℕ) CheckFault
-cut_fault known strong place rest = cond known (cond strong (Ok rest) (Err (Weak place))) (Err (Tree place))
+-- each text of an instance is a lawful one of a kind for what it states, or has one first fault, and not both
+pub record IsJudgedAs (kind : TextKind) (shop : Shop) (text : List ℕ) : Type 0 where
+  pub some : ((stated : Stated kind) × IsLawful kind shop text stated)
+      ⊎ ((fault : CheckFault) × HasFaultAs kind shop text fault)
+  pub apart : (stated : Stated kind) (fault : CheckFault) → IsLawful kind shop text stated →
+      ¬ HasFaultAs kind shop text fault
+  pub one : (fault other : CheckFault) → HasFaultAs kind shop text fault → HasFaultAs kind shop text other →
+      fault ≡ other
 
--- a point, or not; its makespan high enough or not
-abbrev pub leaf_fault : Bool → Bool → ℕ → List ℕ → Result (List ℕ) CheckFault
-leaf_fault point high place rest = cond point (cond high (Ok rest) (Err (Low place))) (Err (Tree place))
-
--- the text behind a tree that covers a value below a list with so many jobs left; or the fault of its first faulty
--- byte
-abbrev pub read_tree : Shop → (Shop → List ℕ → ℕ → ℕ) → ℕ → ℕ → ℕ → List ℕ → List ℕ → Result (List ℕ) CheckFault
-read_tree shop bound value place zero jobs [] = Err (Tree place)
-read_tree shop bound value place zero jobs (byte ∷ rest) =
-    leaf_fault (nat_eq byte 46) (nat_le value (span shop jobs)) place rest
-read_tree shop bound value place (suc left) jobs [] = Err (Tree place)
-read_tree shop bound value place (suc left) jobs (byte ∷ rest) =
-    cond (nat_eq byte 43)
-    (each_tree (λ job. read_tree shop bound value place left (jobs ++ job ∷ [])) (jobs_left shop.jobs jobs) rest)
-    (cut_fault (is_letter shop byte) (nat_le value (bound shop jobs (byte - 64))) place rest)
-
--- what follows a whole tree: the end of its line, and the next lines
-abbrev pub after_tree : ℕ → (List ℕ → Result ℕ CheckFault) → Result (List ℕ) CheckFault → Result ℕ CheckFault
-after_tree place next (Ok []) = Err (Tree place)
-after_tree place next (Ok (byte ∷ rest)) = cond (nat_eq byte 10) (next rest) (Err (Tree place))
-after_tree place next (Err fault) = Err fault
-
--- the last line, and nothing behind it
-abbrev pub end_value : ℕ → List ℕ → Result ℕ CheckFault
-end_value value bytes = cond (bytes_eq bytes (line ending)) (Ok value) (Err End)
-
--- the lines from this one on: a tree for each prefix, and the last line
-abbrev pub trees_value : Shop → (Shop → List ℕ → ℕ → ℕ) → ℕ → ℕ → List (List ℕ) → ℕ → List ℕ → Result ℕ CheckFault
-trees_value shop bound value left [] place bytes = end_value value bytes
-trees_value shop bound value left (prefix ∷ prefixes) place bytes =
-    after_tree place (trees_value shop bound value left prefixes (place + 1))
-    (read_tree shop bound value place left prefix bytes)
-
--- the lines from the first tree on
-abbrev pub cut_value : Shop → ℕ → ℕ → ℕ → List ℕ → Result ℕ CheckFault
-cut_value shop version depth value bytes =
-    trees_value shop (bound_of version) value (shop.jobs - depth) (cut shop.jobs depth) 5 bytes
-
--- the numbers of the sequence's line, and the lines behind it
-abbrev pub sequence_value : Shop → ℕ → ℕ → ℕ → List ℕ → Option (List ℕ) → Result ℕ CheckFault
-sequence_value shop version depth value rest None = Err Sequence
-sequence_value shop version depth value rest (Some jobs) =
-    option_map_or (λ fault. Err Sequence) (sequence_fault shop.jobs jobs)
-    (cond (nat_eq (span shop jobs) value) (cut_value shop version depth value rest) (Err NotAttained))
-
--- the numbers of the value's line, and the lines behind it
-abbrev pub value_value : Shop → ℕ → ℕ → List ℕ → Option (List ℕ) → Result ℕ CheckFault
-value_value shop version depth rest (Some (value ∷ [])) =
-    cond (nat_lt value (2 ^ 64))
-    (on_line Sequence (λ text more. sequence_value shop version depth value more (numbers_in text)) rest) (Err Value)
-value_value shop version depth rest other = Err Value
-
--- the numbers of the size's line, and the lines behind it
-abbrev pub size_value : Shop → ℕ → List ℕ → Option (List ℕ) → Result ℕ CheckFault
-size_value shop version rest (Some (jobs ∷ machines ∷ depth ∷ [])) =
-    cond
-    (nat_eq jobs shop.jobs && nat_eq machines shop.machines && nat_le depth shop.jobs && nat_le depth greatest_depth)
-    (on_line Value (λ text more. value_value shop version depth more (numbers_in text)) rest)
-    (Err Size)
-size_value shop version rest other = Err Size
-
--- the version whose first line a text is
-abbrev pub version_of : List ℕ → Option ℕ
-version_of text = find (λ version. bytes_eq text (title version)) (numbers least_version greatest_version)
-
--- the first line, and the lines behind it
-abbrev pub header_value : Shop → List ℕ → List ℕ → Result ℕ CheckFault
-header_value shop text rest =
-    option_map_or (λ version. on_line Size (λ text more. size_value shop version more (numbers_in text)) rest)
-    (version_of text) (Err Header)
-
--- the value that a text proves, or its first fault
-unfoldable pub certificate_value : Shop → List ℕ → Result ℕ CheckFault
-certificate_value shop bytes = on_line Header (header_value shop) bytes
-
--- a text is read as a value exactly where it is a lawful certificate of that value
-abbrev pub ValueIsExact : Type 0
-ValueIsExact =
-    (shop : Shop) (bytes : List ℕ) (value : ℕ) → IsWithinLimits shop →
-    (certificate_value shop bytes ≡ Ok value → IsCertificate shop bytes value)
-    × (IsCertificate shop bytes value → certificate_value shop bytes ≡ Ok value)
+abbrev pub EachTextIsJudged : Type 0
+EachTextIsJudged =
+    (kind : TextKind) (shop : Shop) (text : List ℕ) → IsWithinLimits shop → IsJudgedAs kind shop text

@@ -1,4 +1,5 @@
 pub mod Certificate
 pub mod CertificateFaults
 pub mod Check
+pub mod Stated
 pub mod internal

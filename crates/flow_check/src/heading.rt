@@ -1,42 +1,55 @@
-//! The lines of a certificate before its trees.
+//! The lines of a text before its trees.
 
 ghost use Rattle.std.specs.Prelude.{◌≡◌, ℕ, ◌+◌, ◌-◌, ◌<◌, ◌≤◌, ◌++◌, List, IfSome, IfOk, IfErr, Ok, Err};
 ghost use Rattle.std.specs.Option.{IsSomeAnd};
 ghost use Rattle.flow_shop.specs.Shop.{IsWithinLimits};
 ghost use Rattle.flow_shop.specs.Paths.{span};
-ghost use Rattle.flow_check.specs.Certificate.{IsVersion, line, title};
-ghost use Rattle.flow_check.specs.CertificateFaults.{certificate_value, cut_value};
+ghost use Rattle.flow_check.specs.Certificate.{IsVersion, Stated, stated_bounds, line, title, opening};
+ghost use Rattle.flow_check.specs.internal.Reading.{text_value};
 ghost use Rattle.flow_check.specs.internal.Heading.{BeginsWithJob, BeginsWithSize, BeginsWithSequence, end_of};
+ghost use Rattle.flow_check.specs.internal.Heading.{BeginsWithStated, IsHeadingOf};
+ghost use Rattle.flow_check.specs.declared.bounds.Bounds.{Bounds};
+ghost use Rattle.flow_check.specs.declared.kind.TextKind.TheVariants.{Certificate, OfBounds};
 
+use crate::bounds::Bounds;
 use crate::fault::CheckFault;
+use crate::kind::TextKind;
 use crate::number::read_number;
 use flow_limits::{MAX_DEPTH, MAX_VERSION, MIN_VERSION};
 use flow_shop::{Front, Instance, JobSet, front_push};
 
-/// The first line, up to the version.
-const TITLE: &[u8] = b"flowshop certificate ";
-
 /// What the four lines before the trees say, where they have no fault. The sequence is not kept, since its makespan is
-/// the value.
+/// the upper bound.
 #[derive(Clone, Copy)]
 pub(crate) struct Heading<'a> {
-    /// The version of the certificate: 1 or 2. Each has its own bound.
+    /// The version of the text: 1 or 2. Each has its own bound of lists.
     pub(crate) version: u32,
     /// The depth of the cut: how many jobs each prefix has. There is one tree for each prefix.
     pub(crate) depth: u16,
-    /// The value.
-    pub(crate) value: u64,
+    /// The bounds. In a certificate its value is both.
+    pub(crate) bounds: Bounds,
     /// The text that follows, from the first tree on.
     pub(crate) trees: &'a [u8],
 }
 
+/// The text after the words with which a text of a kind begins.
+fn after_opening(kind: TextKind, text: &[u8]) -> Option<&[u8]>
+    ensures found { IfSome result (λ rest. text.now ≡ opening kind ++ rest.now) }
+    ensures only { (rest : List ℕ) → text.now ≡ opening kind ++ rest → IsSomeAnd result (λ r. r.now ≡ rest) }
+{
+    match kind {
+        TextKind::Certificate => text.strip_prefix(b"flowshop certificate "),
+        TextKind::OfBounds => text.strip_prefix(b"flowshop bounds "),
+    }
+}
+
 /// The version that the first line names, where a text begins with that line, and the text after it.
-fn read_title(text: &[u8]) -> Option<(u32, &[u8])>
-    ensures found { IfSome result (λ r. IsVersion r.0 × (text.now ≡ line (title r.0) ++ r.1.now)) }
-    ensures only { (version : ℕ) (rest : List ℕ) → IsVersion version → text.now ≡ line (title version) ++ rest →
+pub(crate) fn read_title(kind: TextKind, text: &[u8]) -> Option<(u32, &[u8])>
+    ensures found { IfSome result (λ r. IsVersion r.0 × (text.now ≡ line (title kind r.0) ++ r.1.now)) }
+    ensures only { (version : ℕ) (rest : List ℕ) → IsVersion version → text.now ≡ line (title kind version) ++ rest →
         IsSomeAnd result (λ r. (r.0 ≡ version) × (r.1.now ≡ rest)) }
 {
-    let number = text.strip_prefix(TITLE)?;
+    let number = after_opening(kind, text)?;
     let (version, rest) = read_number(number, b'\n')?;
     if version < u64::from(MIN_VERSION) || version > u64::from(MAX_VERSION) {
         return None;
@@ -46,7 +59,7 @@ fn read_title(text: &[u8]) -> Option<(u32, &[u8])>
 
 /// The depth in the line of the sizes, with which a text begins, and the text after that line. `None` where the text
 /// begins with no such line of so many jobs and machines.
-fn read_size(jobs: u16, machines: u16, text: &[u8]) -> Option<(u16, &[u8])>
+pub(crate) fn read_size(jobs: u16, machines: u16, text: &[u8]) -> Option<(u16, &[u8])>
     ensures found { IfSome result (λ r. BeginsWithSize jobs machines text.now r.0 r.1.now) }
     ensures only { (depth : ℕ) (rest : List ℕ) → BeginsWithSize jobs machines text.now depth rest →
         IsSomeAnd result (λ r. (r.0 ≡ depth) × (r.1.now ≡ rest)) }
@@ -63,8 +76,47 @@ fn read_size(jobs: u16, machines: u16, text: &[u8]) -> Option<(u16, &[u8])>
     Some((depth as u16, rest))
 }
 
+/// The value in the line with which a text begins, as both bounds, and the text after that line.
+fn read_value(text: &[u8]) -> Option<(Bounds, &[u8])>
+    ensures found { IfSome result (λ r. (value : ℕ) × BeginsWithStated Certificate text.now value r.1.now
+        × (r.0 ≡ stated_bounds Certificate value)) }
+    ensures only { (value : ℕ) (rest : List ℕ) → BeginsWithStated Certificate text.now value rest →
+        IsSomeAnd result (λ r. (r.0 ≡ stated_bounds Certificate value) × (r.1.now ≡ rest)) }
+{
+    let (value, rest) = read_number(text, b'\n')?;
+    let bounds = Bounds {
+        lower: value,
+        upper: value,
+    };
+    Some((bounds, rest))
+}
+
+/// The bounds in the line with which a text begins, and the text after that line.
+fn read_bounds(text: &[u8]) -> Option<(Bounds, &[u8])>
+    ensures found { IfSome result (λ r. BeginsWithStated OfBounds text.now r.0 r.1.now) }
+    ensures only { (bounds : Bounds) (rest : List ℕ) → BeginsWithStated OfBounds text.now bounds rest →
+        IsSomeAnd result (λ r. (r.0 ≡ bounds) × (r.1.now ≡ rest)) }
+{
+    let (lower, upper_text) = read_number(text, b' ')?;
+    let (upper, rest) = read_number(upper_text, b'\n')?;
+    Some((Bounds { lower, upper }, rest))
+}
+
+/// The bounds that the third line of a text of a kind states, and the text after that line.
+pub(crate) fn read_stated(kind: TextKind, text: &[u8]) -> Option<(Bounds, &[u8])>
+    ensures found { IfSome result (λ r. (stated : Stated kind) × BeginsWithStated kind text.now stated r.1.now
+        × (r.0 ≡ stated_bounds kind stated)) }
+    ensures only { (stated : Stated kind) (rest : List ℕ) → BeginsWithStated kind text.now stated rest →
+        IsSomeAnd result (λ r. (r.0 ≡ stated_bounds kind stated) × (r.1.now ≡ rest)) }
+{
+    match kind {
+        TextKind::Certificate => read_value(text),
+        TextKind::OfBounds => read_bounds(text),
+    }
+}
+
 /// The job with which a text begins, from 1 to `jobs`, and the text after the byte that ends it.
-fn read_job(text: &[u8], end: u8, jobs: u16) -> Option<(u16, &[u8])>
+pub(crate) fn read_job(text: &[u8], end: u8, jobs: u16) -> Option<(u16, &[u8])>
     requires { end < 48 }
     ensures found { IfSome result (λ r. BeginsWithJob jobs text.now end r.0 r.1.now) }
     ensures only { (job : ℕ) (rest : List ℕ) → BeginsWithJob jobs text.now end job rest →
@@ -78,9 +130,9 @@ fn read_job(text: &[u8], end: u8, jobs: u16) -> Option<(u16, &[u8])>
 }
 
 /// The byte that ends the job at a place, counted from 1, in a line of so many jobs.
-fn end_behind(place: u16, jobs: u16) -> u8
+pub(crate) fn end_after(place: u16, jobs: u16) -> u8
     ensures value { result ≡ end_of (jobs + 1 - place) }
-    ensures below { result < 48 }
+    ensures small { result < 48 }
 {
     if place == jobs { b'\n' } else { b' ' }
 }
@@ -98,7 +150,7 @@ fn read_sequence<'a>(instance: &Instance, text: &'a [u8]) -> Option<(u64, &'a [u
     let mut front = Front::empty();
     let mut rest = text;
     for place in 1..jobs + 1 {
-        let end = end_behind(place, jobs);
+        let end = end_after(place, jobs);
         let (job, after) = read_job(rest, end, jobs)?;
         if scheduled.contains(job) {
             return None;
@@ -110,39 +162,38 @@ fn read_sequence<'a>(instance: &Instance, text: &'a [u8]) -> Option<(u64, &'a [u
     Some((front.at(machines), rest))
 }
 
-/// Reads the lines before the trees. Returns what they say, or their first fault.
+/// Reads the lines before the trees of a text of a kind. Returns what they say, or their first fault.
 pub(crate) fn read_heading<'a>(
+    kind: TextKind,
     instance: &Instance,
     text: &'a [u8],
 ) -> Result<Heading<'a>, CheckFault>
     ensures limits { IsWithinLimits instance.now }
     ensures depth { IfOk result (λ heading. heading.depth ≤ instance.now.jobs) }
-    ensures found { IfOk result
-        (λ heading. certificate_value instance.now text.now
-        ≡ cut_value instance.now heading.version heading.depth heading.value heading.trees.now) }
-    ensures fault { IfErr result (λ fault. certificate_value instance.now text.now ≡ Err fault) }
+    ensures found { IfOk result (λ heading. IsHeadingOf kind instance.now text.now heading) }
+    ensures fault { IfErr result (λ fault. text_value kind instance.now text.now ≡ Err fault) }
 {
     let jobs = instance.jobs();
     let machines = instance.machines();
-    let Some((version, size_text)) = read_title(text) else {
+    let Some((version, size_text)) = read_title(kind, text) else {
         return Err(CheckFault::Header);
     };
-    let Some((depth, value_text)) = read_size(jobs, machines, size_text) else {
+    let Some((depth, stated_text)) = read_size(jobs, machines, size_text) else {
         return Err(CheckFault::Size);
     };
-    let Some((value, sequence_text)) = read_number(value_text, b'\n') else {
+    let Some((bounds, sequence_text)) = read_stated(kind, stated_text) else {
         return Err(CheckFault::Value);
     };
     let Some((makespan, trees)) = read_sequence(instance, sequence_text) else {
         return Err(CheckFault::Sequence);
     };
-    if makespan != value {
+    if makespan != bounds.upper {
         return Err(CheckFault::NotAttained);
     }
     Ok(Heading {
         version,
         depth,
-        value,
+        bounds,
         trees,
     })
 }

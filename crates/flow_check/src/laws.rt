@@ -1,7 +1,8 @@
 //! Laws of the definitions: each contract is a theorem, and no body does anything.
 
-ghost use Rattle.flow_check.specs.Certificate.{CertificateIsSound, ValueIsOne};
-ghost use Rattle.flow_check.specs.CertificateFaults.{ValueIsExact};
+ghost use Rattle.flow_check.specs.Certificate.{BoundsAreSound, CertificateIsSound, ValueIsOne};
+ghost use Rattle.flow_check.specs.CertificateFaults.{EachTextIsJudged};
+ghost use Rattle.flow_check.specs.internal.Reading.{ValueIsExact, FaultIsExact};
 
 /// The value of a lawful certificate, whoever made it, is the least makespan. No text is a certificate of two values.
 pub fn certificate_is_sound()
@@ -9,7 +10,20 @@ pub fn certificate_is_sound()
     ensures one { ValueIsOne }
 {}
 
-/// A text is read as a value exactly where it is a lawful certificate of that value.
+/// The bounds of a lawful text of bounds, whoever made it, hold: no sequence is below the lower one, a sequence has the
+/// upper one as its makespan, and the least makespan is between them.
+pub fn bounds_are_sound()
+    ensures { BoundsAreSound }
+{}
+
+/// A text is read as what it states exactly where it is a lawful one of its kind.
 pub fn value_is_exact()
     ensures { ValueIsExact }
+{}
+
+/// A text of a kind is lawful for what it states, or has one first fault, and not both. The definition of that fault is
+/// the one by which a text is read.
+pub fn fault_is_exact()
+    ensures judged { EachTextIsJudged }
+    ensures exact { FaultIsExact }
 {}

@@ -1,24 +1,24 @@
 //! The byte that begins a tree: a machine's letter, a point, or a plus before the trees of the children.
 
 ghost use Rattle.std.specs.Prelude.{◌≡◌, ℕ, ◌+◌, ◌^◌, ◌<◌, ◌≤◌, List, IfOk};
-ghost use Rattle.flow_shop.specs.Rows.{AreRows};
 ghost use Rattle.flow_check.specs.internal.Nodes.{IsChild, grown, left_here};
-ghost use Rattle.flow_check.specs.internal.Reader.{Stands, IsBack, LetterGives};
+ghost use Rattle.flow_check.specs.internal.Gives.{GivesLetter};
+ghost use Rattle.flow_check.specs.internal.Reader.{Stands, IsBack};
 
-use crate::claim::Claim;
 use crate::fault::CheckFault;
 use crate::node::makespan_at;
 use crate::reader::{Spot, TreeReader};
 use crate::release::reaches;
+use crate::trees_text::TreesText;
 
 /// How many jobs are left at a list, or at a child of it, where `below` jobs are left at each child.
-fn left_here(child: Option<u16>, below: usize) -> usize
-    requires { below ≤ 65535 }
-    ensures { result ≡ left_here child below }
+fn left_here(child: Option<u16>, child_left: usize) -> usize
+    requires { child_left ≤ 65535 }
+    ensures { result ≡ left_here child child_left }
 {
     match child {
-        None => below + 1,
-        Some(_) => below,
+        None => child_left + 1,
+        Some(_) => child_left,
     }
 }
 
@@ -27,31 +27,28 @@ impl TreeReader {
     /// the children follow, and false for a letter or a point, which is a whole tree.
     pub(crate) fn read_letter(
         &mut self,
-        claim: &Claim,
+        text: &TreesText,
         spot: Spot,
         child: Option<u16>,
     ) -> Result<bool, CheckFault>
-        requires rows { AreRows claim.now.instance.now claim.now.rows.now }
-        requires at { (list : List ℕ) × Stands claim.now.instance.now list self.old
-            × IsChild claim.now.instance.now.jobs list child }
-        ensures back { IsBack claim.now.instance.now self.old self.new }
-        ensures gives { (list : List ℕ) → Stands claim.now.instance.now list self.old →
-            IsChild claim.now.instance.now.jobs list child →
-            LetterGives claim.now.instance.now claim.now.version claim.now.value spot.line
-            (left_here child self.old.below)
-            (grown list child) spot.at claim.now.bytes.now result }
+        requires at { (list : List ℕ) × Stands text.now.shop.now list self.old
+            × IsChild text.now.shop.now.jobs list child }
+        ensures back { IsBack text.now.shop.now self.old self.new }
+        ensures gives { (list : List ℕ) → Stands text.now.shop.now list self.old →
+            IsChild text.now.shop.now.jobs list child →
+            GivesLetter text.now spot (left_here child self.old.child_left) (grown list child) result }
         ensures next { IfOk result (λ _. spot.at + 1 < 2 ^ 64) }
     {
-        if spot.at >= claim.bytes.len() {
+        if spot.at >= text.bytes.len() {
             return Err(CheckFault::Tree(spot.line));
         }
-        let byte = claim.bytes[spot.at];
-        let node = &mut self.frames[self.below].node;
-        if left_here(child, self.below) == 0 {
+        let byte = text.bytes[spot.at];
+        let node = &mut self.frames[self.child_left].node;
+        if left_here(child, self.child_left) == 0 {
             if byte != b'.' {
                 return Err(CheckFault::Tree(spot.line));
             }
-            if makespan_at(claim, node, child) < claim.value {
+            if makespan_at(text, node, child) < text.value {
                 return Err(CheckFault::Low(spot.line));
             }
             return Ok(false);
@@ -63,10 +60,10 @@ impl TreeReader {
             return Err(CheckFault::Tree(spot.line));
         }
         let machine = u16::from(byte - b'A') + 1;
-        if machine > claim.instance.machines() {
+        if machine > text.shop.machines() {
             return Err(CheckFault::Tree(spot.line));
         }
-        if !reaches(claim, node, &mut self.lags, &self.links, child, machine) {
+        if !reaches(text, node, &mut self.lags, &self.links, child, machine) {
             return Err(CheckFault::Weak(spot.line));
         }
         Ok(false)

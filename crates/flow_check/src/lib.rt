@@ -1,11 +1,13 @@
-//! The checker: reads a certificate, and returns the value that it proves least. It stands on flow_limits and flow_shop
-//! alone, and computes its bounds by code of its own.
+//! The checker: reads a certificate, and returns the value that it proves least; reads a text of bounds, and returns
+//! the bounds that it proves; or returns the sequence of such a text. It stands on flow_limits and flow_shop alone, and
+//! computes its bounds of lists by code of its own.
 #![tactic(auto)]
 
+mod bounds;
 mod checker;
-mod claim;
 mod fault;
 mod heading;
+mod kind;
 mod laws;
 mod letter;
 mod lines;
@@ -13,9 +15,14 @@ mod node;
 mod number;
 mod reader;
 mod release;
+mod stated;
 mod tree;
 mod trees;
+mod trees_text;
 
-pub use checker::check;
+pub use bounds::Bounds;
+pub use checker::{check, check_bounds};
 pub use fault::CheckFault;
-pub use laws::{certificate_is_sound, value_is_exact};
+pub use kind::TextKind;
+pub use laws::{bounds_are_sound, certificate_is_sound, fault_is_exact, value_is_exact};
+pub use stated::{check_bounds_sequence, check_sequence};

@@ -7,16 +7,16 @@ ghost use Rattle.flow_shop.specs.Paths.{completion};
 ghost use Rattle.flow_shop.specs.Front.{IsFrontOf, IsWithinFront};
 ghost use Rattle.flow_shop.specs.Sequences.{has, jobs_left};
 ghost use Rattle.flow_shop.specs.Bound.{bound_at};
-ghost use Rattle.flow_shop.specs.Rows.{AreRows};
 ghost use Rattle.flow_check.specs.internal.Links.{AreLinks};
-ghost use Rattle.flow_check.specs.internal.Nodes.{IsNode, IsAt, AreLows, IsChild, grown, left_before};
+ghost use Rattle.flow_check.specs.internal.Nodes.{IsNode, IsAt, AreTwoLeastTails, IsChild, IsLeastWithout};
+ghost use Rattle.flow_check.specs.internal.Nodes.{IsMachine, IsJob, grown, left_before};
 
-use crate::claim::Claim;
+use crate::trees_text::TreesText;
 use flow_limits::MAX_MACHINES;
 use flow_shop::Instance;
 
 /// What is kept of a list of jobs. The machine bounds of the list and of its children are computed from it. A job's
-/// tail behind a machine is its time on all later machines. The two least tails behind a machine are found when the
+/// tail after a machine is its time on all later machines. The two least tails after a machine are found when the
 /// first bound asks for them.
 #[derive(Clone, Copy)]
 pub(crate) struct Node {
@@ -24,16 +24,16 @@ pub(crate) struct Node {
     pub(crate) front: [u64; MAX_MACHINES],
     /// For each machine the sum of the times of the jobs left.
     work: [u64; MAX_MACHINES],
-    /// The least tail of the jobs left behind each machine. The greatest number means that it is not found yet.
+    /// The least tail of the jobs left after each machine. The greatest number means that it is not found yet.
     least: [u32; MAX_MACHINES],
     /// The second least tail, once the least is found. The child that takes the job with the least tail needs it.
     second: [u32; MAX_MACHINES],
 }
 
-/// The two least tails of the jobs left behind one machine. Where two jobs have the least tail, both are the same. The
+/// The two least tails of the jobs left after one machine. Where two jobs have the least tail, both are the same. The
 /// greatest number stands for a tail where there is no such job.
 #[derive(Drop)]
-pub(crate) struct Lows {
+pub(crate) struct TwoLeastTails {
     /// The least.
     least: u32,
     /// The second least.
@@ -42,8 +42,7 @@ pub(crate) struct Lows {
 
 /// The time of all jobs on a machine.
 fn time_of_all(instance: &Instance, machine: u16) -> u64
-    requires from { 1 ≤ machine }
-    requires to { machine ≤ instance.now.machines }
+    requires { IsMachine instance.now machine }
     ensures value { result ≡ sum_by (λ job. time instance.now job machine) (jobs_left instance.now.jobs []) }
 {
     let jobs = instance.jobs();
@@ -74,18 +73,16 @@ impl Node {
 
     /// Becomes the node of the child that has this job at its end, where `list` is the node of the list. Only the
     /// instance's machines are written.
-    pub(crate) fn become_child(&mut self, claim: &Claim, list: &Node, job: u16)
-        requires rows { AreRows claim.now.instance.now claim.now.rows.now }
-        requires at { (jobs : List ℕ) × (left : ℕ) × IsNode claim.now.instance.now jobs list.now left
+    pub(crate) fn become_child(&mut self, text: &TreesText, list: &Node, job: u16)
+        requires at { (jobs : List ℕ) × (left : ℕ) × IsNode text.now.shop.now jobs list.now left
             × (has jobs job ≡ false) }
-        requires from { 1 ≤ job }
-        requires to { job ≤ claim.now.instance.now.jobs }
-        ensures { (jobs : List ℕ) (left : ℕ) → IsNode claim.now.instance.now jobs list.now (suc left) →
+        requires job { IsJob text.now.shop.now job }
+        ensures { (jobs : List ℕ) (left : ℕ) → IsNode text.now.shop.now jobs list.now (suc left) →
             has jobs job ≡ false →
-            IsNode claim.now.instance.now (jobs ++ job ∷ []) self.new left }
+            IsNode text.now.shop.now (jobs ++ job ∷ []) self.new left }
     {
-        let row = &claim.rows[job as usize - 1];
-        let machines = claim.instance.machines();
+        let row = &text.rows[job as usize - 1];
+        let machines = text.shop.machines();
         let mut free = 0;
         for machine in 1..machines + 1 {
             let place = machine as usize - 1;
@@ -99,17 +96,15 @@ impl Node {
 }
 
 /// The completion time of a child on a machine, from the front of the list and the job at the child's end.
-fn completion_of(claim: &Claim, front: &[u64; MAX_MACHINES], job: u16, machine: u16) -> u64
-    requires rows { AreRows claim.now.instance.now claim.now.rows.now }
-    requires job_from { 1 ≤ job }
-    requires job_to { job ≤ claim.now.instance.now.jobs }
-    requires machine_to { machine ≤ claim.now.instance.now.machines }
-    requires within { IsWithinFront claim.now.instance.now front.now }
-    ensures value { (list : List ℕ) → IsFrontOf claim.now.instance.now list front.now →
-        result ≡ completion claim.now.instance.now (list ++ job ∷ []) machine }
+fn completion_of(text: &TreesText, front: &[u64; MAX_MACHINES], job: u16, machine: u16) -> u64
+    requires job { IsJob text.now.shop.now job }
+    requires machine_to { machine ≤ text.now.shop.now.machines }
+    requires within { IsWithinFront text.now.shop.now front.now }
+    ensures value { (list : List ℕ) → IsFrontOf text.now.shop.now list front.now →
+        result ≡ completion text.now.shop.now (list ++ job ∷ []) machine }
     ensures small { result ≤ greatest_completion + machine * greatest_time }
 {
-    let row = &claim.rows[job as usize - 1];
+    let row = &text.rows[job as usize - 1];
     let mut free = 0;
     for earlier in 1..machine + 1 {
         let place = earlier as usize - 1;
@@ -118,14 +113,19 @@ fn completion_of(claim: &Claim, front: &[u64; MAX_MACHINES], job: u16, machine: 
     free
 }
 
-/// Finds the two least tails of the jobs left behind a machine.
-fn least_behind(claim: &Claim, links: &[u16], machine: u16) -> Lows
-    requires rows { AreRows claim.now.instance.now claim.now.rows.now }
-    requires links { (list : List ℕ) × AreLinks claim.now.instance.now.jobs list links.now }
-    requires from { 1 ≤ machine }
-    requires to { machine ≤ claim.now.instance.now.machines }
-    ensures { (list : List ℕ) → AreLinks claim.now.instance.now.jobs list links.now →
-        AreLows claim.now.instance.now list machine result }
+/// The least of some numbers without one of them, from the two least of all.
+pub(crate) fn least_without(one: u32, least: u32, second: u32) -> u32
+    ensures { IsLeastWithout one least second result }
+{
+    if one == least { second } else { least }
+}
+
+/// Finds the two least tails of the jobs left after a machine.
+fn find_tails(text: &TreesText, links: &[u16], machine: u16) -> TwoLeastTails
+    requires links { (list : List ℕ) × AreLinks text.now.shop.now.jobs list links.now }
+    requires machine { IsMachine text.now.shop.now machine }
+    ensures { (list : List ℕ) → AreLinks text.now.shop.now.jobs list links.now →
+        AreTwoLeastTails text.now.shop.now list machine result }
 {
     let place = machine as usize - 1;
     let mut least = u32::MAX;
@@ -134,86 +134,80 @@ fn least_behind(claim: &Claim, links: &[u16], machine: u16) -> Lows
     'jobs: loop {
         let job = links[last as usize];
         if job == 0 {
-            return Lows { least, second };
+            return TwoLeastTails { least, second };
         }
-        let tail = claim.rows[job as usize - 1].tails[place];
+        let tail = text.rows[job as usize - 1].tails[place];
         second = second.min(least.max(tail));
         least = least.min(tail);
         last = job;
     }
 }
 
-/// The two least tails of the jobs left behind a machine: those that the node keeps, or else they are found and kept.
-fn lows_of(claim: &Claim, node: &mut Node, links: &[u16], machine: u16) -> Lows
-    requires rows { AreRows claim.now.instance.now claim.now.rows.now }
-    requires at { (list : List ℕ) × (left : ℕ) × IsAt claim.now.instance.now list node.old links.now left }
-    requires from { 1 ≤ machine }
-    requires to { machine ≤ claim.now.instance.now.machines }
-    ensures lows { (list : List ℕ) (left : ℕ) → IsAt claim.now.instance.now list node.old links.now left →
-        AreLows claim.now.instance.now list machine result }
-    ensures kept { (list : List ℕ) (left : ℕ) → IsAt claim.now.instance.now list node.old links.now left →
-        IsAt claim.now.instance.now list node.new links.now left }
+/// The two least tails of the jobs left after a machine: those that the node keeps, or else they are found and kept.
+fn tails_of(text: &TreesText, node: &mut Node, links: &[u16], machine: u16) -> TwoLeastTails
+    requires at { (list : List ℕ) × (left : ℕ) × IsAt text.now.shop.now list node.old links.now left }
+    requires machine { IsMachine text.now.shop.now machine }
+    ensures tails { (list : List ℕ) (left : ℕ) → IsAt text.now.shop.now list node.old links.now left →
+        AreTwoLeastTails text.now.shop.now list machine result }
+    ensures kept { (list : List ℕ) (left : ℕ) → IsAt text.now.shop.now list node.old links.now left →
+        IsAt text.now.shop.now list node.new links.now left }
 {
     let place = machine as usize - 1;
     let known = node.least[place];
     if known != u32::MAX {
-        return Lows {
+        return TwoLeastTails {
             least: known,
             second: node.second[place],
         };
     }
-    let lows = least_behind(claim, links, machine);
-    node.least[place] = lows.least;
-    node.second[place] = lows.second;
-    lows
+    let two = find_tails(text, links, machine);
+    node.least[place] = two.least;
+    node.second[place] = two.second;
+    two
 }
 
 /// The completion time of a list, or of a child of it, on the last machine.
-pub(crate) fn makespan_at(claim: &Claim, node: &Node, child: Option<u16>) -> u64
-    requires rows { AreRows claim.now.instance.now claim.now.rows.now }
-    requires at { (list : List ℕ) × (left : ℕ) × IsNode claim.now.instance.now list node.now left
-        × IsChild claim.now.instance.now.jobs list child }
-    ensures { (list : List ℕ) (left : ℕ) → IsNode claim.now.instance.now list node.now left →
-        result ≡ completion claim.now.instance.now (grown list child) claim.now.instance.now.machines }
+pub(crate) fn makespan_at(text: &TreesText, node: &Node, child: Option<u16>) -> u64
+    requires at { (list : List ℕ) × (left : ℕ) × IsNode text.now.shop.now list node.now left
+        × IsChild text.now.shop.now.jobs list child }
+    ensures { (list : List ℕ) (left : ℕ) → IsNode text.now.shop.now list node.now left →
+        result ≡ completion text.now.shop.now (grown list child) text.now.shop.now.machines }
 {
-    let machines = claim.instance.machines();
+    let machines = text.shop.machines();
     match child {
         None => node.front[machines as usize - 1],
-        Some(job) => completion_of(claim, &node.front, job, machines),
+        Some(job) => completion_of(text, &node.front, job, machines),
     }
 }
 
 /// The machine bound of a list, or of a child of it, where jobs are left.
 pub(crate) fn bound(
-    claim: &Claim,
+    text: &TreesText,
     node: &mut Node,
     links: &[u16],
     child: Option<u16>,
     machine: u16,
 ) -> u64
-    requires rows { AreRows claim.now.instance.now claim.now.rows.now }
     requires at { (list : List ℕ) × (left : ℕ)
-        × IsAt claim.now.instance.now list node.old links.now (left_before child (suc left))
-        × IsChild claim.now.instance.now.jobs list child }
-    requires from { 1 ≤ machine }
-    requires to { machine ≤ claim.now.instance.now.machines }
-    ensures kept { (list : List ℕ) (left : ℕ) → IsAt claim.now.instance.now list node.old links.now left →
-        IsAt claim.now.instance.now list node.new links.now left }
+        × IsAt text.now.shop.now list node.old links.now (left_before child (suc left))
+        × IsChild text.now.shop.now.jobs list child }
+    requires machine { IsMachine text.now.shop.now machine }
+    ensures kept { (list : List ℕ) (left : ℕ) → IsAt text.now.shop.now list node.old links.now left →
+        IsAt text.now.shop.now list node.new links.now left }
     ensures value { (list : List ℕ) (left : ℕ) →
-        IsAt claim.now.instance.now list node.old links.now (left_before child (suc left)) →
-        IsChild claim.now.instance.now.jobs list child →
-        result ≡ bound_at claim.now.instance.now (grown list child) machine }
+        IsAt text.now.shop.now list node.old links.now (left_before child (suc left)) →
+        IsChild text.now.shop.now.jobs list child →
+        result ≡ bound_at text.now.shop.now (grown list child) machine }
 {
-    let lows = lows_of(claim, node, links, machine);
+    let two = tails_of(text, node, links, machine);
     let place = machine as usize - 1;
     match child {
-        None => node.front[place] + node.work[place] + u64::from(lows.least),
+        None => node.front[place] + node.work[place] + u64::from(two.least),
         Some(job) => {
-            let row = &claim.rows[job as usize - 1];
-            let alone = row.tails[place] == lows.least;
-            let behind = if alone { lows.second } else { lows.least };
+            let row = &text.rows[job as usize - 1];
+            let tail = least_without(row.tails[place], two.least, two.second);
             let work = node.work[place] - u64::from(row.times[place]);
-            completion_of(claim, &node.front, job, machine) + work + u64::from(behind)
+            completion_of(text, &node.front, job, machine) + work + u64::from(tail)
         }
     }
 }

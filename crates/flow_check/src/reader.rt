@@ -1,21 +1,20 @@
 //! The reader of the trees: how it goes from a list of jobs to a child, and back.
 
 ghost use Rattle.std.specs.Prelude.{◌≡◌, ◌≢◌, ℕ, suc, ◌<◌, ◌≤◌, List, [], length, slice_index, IfOk};
-ghost use Rattle.flow_shop.specs.Rows.{AreRows};
 ghost use Rattle.flow_check.specs.internal.Links.{AreLinks, IsPlace};
 ghost use Rattle.flow_check.specs.internal.Reader.{Stands, Opened, Closed, frame_at};
 ghost use Rattle.flow_shop.specs.Limits.{most_jobs};
 
-use crate::claim::Claim;
 use crate::node::Node;
-use crate::release::{Lags, forget, unknown_lags};
+use crate::release::{TwoLeastLags, forget, unknown_lags};
+use crate::trees_text::TreesText;
 use flow_shop::Instance;
 use std::alloc::{AllocError, Global};
 
 /// A place in the text of the trees.
 #[derive(Clone, Copy)]
 pub(crate) struct Spot {
-    /// Its line, counted from 1 at the first line of the certificate.
+    /// Its line, counted from 1 at the first line of the text.
     pub(crate) line: usize,
     /// How many bytes of the text stand before it.
     pub(crate) at: usize,
@@ -43,9 +42,9 @@ pub(crate) struct TreeReader {
     pub(crate) frames: Vec<Frame>,
     /// In version 2 the two least lags of the list's jobs left to each machine, where they are found; in version 1
     /// there are none.
-    pub(crate) lags: Vec<Option<Lags>>,
+    pub(crate) lags: Vec<Option<TwoLeastLags>>,
     /// How many jobs are left at each child of the list: the place of the list's frame.
-    pub(crate) below: usize,
+    pub(crate) child_left: usize,
 }
 
 /// The linked list of the jobs left at the empty list, which are all jobs: the link of 0 is job 1, the link of each job
@@ -96,40 +95,41 @@ impl TreeReader {
             links,
             frames,
             lags,
-            below: jobs as usize - 1,
+            child_left: jobs as usize - 1,
         })
     }
 
     /// Goes to the child that has `job` at its end, where the link of `last` is `job`.
-    pub(crate) fn open(&mut self, claim: &Claim, last: u16, job: u16)
-        requires rows { AreRows claim.now.instance.now claim.now.rows.now }
-        requires at { (list : List ℕ) × Stands claim.now.instance.now list self.old
-            × IsPlace claim.now.instance.now.jobs list last }
+    pub(crate) fn open(&mut self, text: &TreesText, last: u16, job: u16)
+        requires at { (list : List ℕ) × Stands text.now.shop.now list self.old
+            × IsPlace text.now.shop.now.jobs list last }
         requires next { slice_index self.old.links.items last ≡ job }
         requires some { job ≢ 0 }
-        requires more { 0 < self.old.below }
-        ensures { Opened claim.now.instance.now last job self.old self.new }
+        requires more { 0 < self.old.child_left }
+        ensures { Opened text.now.shop.now last job self.old self.new }
     {
         self.links[last as usize] = self.links[job as usize];
-        let below = self.below;
-        let (lower, upper) = self.frames.as_mut_slice().split_at_mut(below);
+        let child_left = self.child_left;
+        let (lower, upper) = self.frames.as_mut_slice().split_at_mut(child_left);
         let frame = &mut upper[0];
         frame.job = job;
         frame.last = last;
-        lower[below - 1].node.become_child(claim, &frame.node, job);
-        self.below = below - 1;
+        lower[child_left - 1]
+            .node
+            .become_child(text, &frame.node, job);
+        self.child_left = child_left - 1;
         forget(self.lags.as_mut_slice());
     }
 
     /// Goes back to the list above, once the child is read. Returns the job that the child had at its end.
     pub(crate) fn close(&mut self) -> u16
-        requires above { suc self.old.below < length self.old.frames.items }
-        requires last { (frame_at self.old.frames.items (suc self.old.below)).last < length self.old.links.items }
-        ensures closed { Closed (frame_at self.old.frames.items (suc self.old.below)) self.old self.new }
-        ensures job { result ≡ (frame_at self.old.frames.items (suc self.old.below)).job }
+        requires above { suc self.old.child_left < length self.old.frames.items }
+        requires last { (frame_at self.old.frames.items (suc self.old.child_left)).last < length self.old.links.items }
+        ensures closed { Closed (frame_at self.old.frames.items (suc self.old.child_left)) self.old self.new }
+        ensures job { result ≡ (frame_at self.old.frames.items (suc self.old.child_left)).job }
     {
-        self.below += 1;
-        let frame = &self.frames[self.below];
+        self.child_left += 1;
+        let frame = &self.frames[self.child_left];
         let job = frame.job;
         self.links[frame.last as usize] = job;
         forget(self.lags.as_mut_slice());

@@ -3,17 +3,15 @@
 
 ghost use Rattle.std.specs.Prelude.{◌≡◌, ℕ, suc, ◌+◌, ◌-◌, ◌≤◌, List, ◌++◌, ◌∷◌, [], nat_le, slice_index, Some};
 ghost use Rattle.std.specs.Prelude.{length, ◌<◌, IfOk};
-ghost use Rattle.flow_shop.specs.Limits.{most_machines};
 ghost use Rattle.flow_shop.specs.Shop.{time_between};
 ghost use Rattle.flow_shop.specs.Sequences.{jobs_left};
 ghost use Rattle.flow_shop.specs.Bound.{bound_at, bound_of, front_of, release};
-ghost use Rattle.flow_shop.specs.Rows.{AreRows};
 ghost use Rattle.flow_check.specs.internal.Links.{AreLinks};
-ghost use Rattle.flow_check.specs.internal.Nodes.{IsNode, IsAt, IsChild, grown, left_before};
-ghost use Rattle.flow_check.specs.internal.Lags.{AreTwoLeastLagsTo, AreKept, AreUnknown, IsLeastWithout, TakesIn};
+ghost use Rattle.flow_check.specs.internal.Nodes.{IsNode, IsAt, IsChild, IsMachine, IsJob, grown, left_before};
+ghost use Rattle.flow_check.specs.internal.Lags.{AreTwoLeastLagsTo, AreKept, AreUnknown, TakesIn};
 
-use crate::claim::Claim;
-use crate::node::{Node, bound};
+use crate::node::{Node, bound, least_without};
+use crate::trees_text::TreesText;
 use flow_limits::MAX_MACHINES;
 use std::alloc::{AllocError, Global};
 
@@ -21,7 +19,7 @@ use std::alloc::{AllocError, Global};
 /// another is its time on the machines from there to the one before the other. Where two jobs have the least lag, both
 /// are the same. The greatest number stands for a lag where there is no such job.
 #[derive(Clone, Copy)]
-pub(crate) struct Lags {
+pub(crate) struct TwoLeastLags {
     /// The least, from machine 1 on.
     least: [u32; MAX_MACHINES],
     /// The second least. The child that takes the job with the least lag needs it.
@@ -29,7 +27,10 @@ pub(crate) struct Lags {
 }
 
 /// So many places for lags, none of them known.
-pub(crate) fn unknown_lags(alloc: Global, count: u16) -> Result<Vec<Option<Lags>>, AllocError>
+pub(crate) fn unknown_lags(
+    alloc: Global,
+    count: u16,
+) -> Result<Vec<Option<TwoLeastLags>>, AllocError>
     ensures { IfOk result (λ lags. AreUnknown lags.items) }
 {
     let mut lags = Vec::with_capacity(alloc, count as usize)?;
@@ -40,7 +41,7 @@ pub(crate) fn unknown_lags(alloc: Global, count: u16) -> Result<Vec<Option<Lags>
 }
 
 /// Forgets all lags that are known.
-pub(crate) fn forget(lags: &mut [Option<Lags>])
+pub(crate) fn forget(lags: &mut [Option<TwoLeastLags>])
     ensures size { length lags.new ≡ length lags.old }
     ensures none { AreUnknown lags.new }
 {
@@ -50,63 +51,43 @@ pub(crate) fn forget(lags: &mut [Option<Lags>])
 }
 
 /// A job's lag from a machine to another.
-fn lag(claim: &Claim, job: u16, from: u16, machine: u16) -> u32
-    requires rows { AreRows claim.now.instance.now claim.now.rows.now }
-    requires job_from { 1 ≤ job }
-    requires job_to { job ≤ claim.now.instance.now.jobs }
+fn lag(text: &TreesText, job: u16, from: u16, machine: u16) -> u32
+    requires job { IsJob text.now.shop.now job }
     requires from { 1 ≤ from }
     requires up { from ≤ machine }
-    requires to { machine ≤ claim.now.instance.now.machines }
-    ensures { result ≡ time_between claim.now.instance.now job from (machine - 1) }
+    requires to { machine ≤ text.now.shop.now.machines }
+    ensures { result ≡ time_between text.now.shop.now job from (machine - 1) }
 {
-    let row = &claim.rows[job as usize - 1];
+    let row = &text.rows[job as usize - 1];
     let first = from as usize - 1;
     let last = machine as usize - 1;
     row.times[first] + row.tails[first] - (row.times[last] + row.tails[last])
 }
 
-impl Lags {
+impl TwoLeastLags {
     /// Takes in the lags of one more job.
-    fn take_in(&mut self, claim: &Claim, job: u16, machine: u16)
-        requires rows { AreRows claim.now.instance.now claim.now.rows.now }
-        requires job_from { 1 ≤ job }
-        requires job_to { job ≤ claim.now.instance.now.jobs }
-        requires to { machine ≤ claim.now.instance.now.machines }
-        ensures { TakesIn claim.now.instance.now job machine self.old self.new }
+    fn take_in(&mut self, text: &TreesText, job: u16, machine: u16)
+        requires job { IsJob text.now.shop.now job }
+        requires to { machine ≤ text.now.shop.now.machines }
+        ensures { TakesIn text.now.shop.now job machine self.old self.new }
     {
         for from in 1..machine + 1 {
             let place = from as usize - 1;
-            let lag = lag(claim, job, from, machine);
+            let lag = lag(text, job, from, machine);
             self.second[place] = self.second[place].min(self.least[place].max(lag));
             self.least[place] = self.least[place].min(lag);
-        }
-    }
-
-    /// The least lag from a machine, once a job with this lag from there is taken.
-    fn without(&self, from: u16, lag: u32) -> u32
-        requires from { 1 ≤ from }
-        requires to { from ≤ most_machines }
-        ensures { IsLeastWithout lag (slice_index self.now.least (from - 1)) (slice_index self.now.second (from - 1))
-            result }
-    {
-        let place = from as usize - 1;
-        if lag == self.least[place] {
-            self.second[place]
-        } else {
-            self.least[place]
         }
     }
 }
 
 /// Finds the two least lags of the jobs left to a machine.
-fn lags_to(claim: &Claim, links: &[u16], machine: u16) -> Lags
-    requires rows { AreRows claim.now.instance.now claim.now.rows.now }
-    requires links { (list : List ℕ) × AreLinks claim.now.instance.now.jobs list links.now }
-    requires to { machine ≤ claim.now.instance.now.machines }
-    ensures { (list : List ℕ) → AreLinks claim.now.instance.now.jobs list links.now →
-        AreTwoLeastLagsTo claim.now.instance.now list machine result }
+fn find_lags(text: &TreesText, links: &[u16], machine: u16) -> TwoLeastLags
+    requires links { (list : List ℕ) × AreLinks text.now.shop.now.jobs list links.now }
+    requires to { machine ≤ text.now.shop.now.machines }
+    ensures { (list : List ℕ) → AreLinks text.now.shop.now.jobs list links.now →
+        AreTwoLeastLagsTo text.now.shop.now list machine result }
 {
-    let mut lags = Lags {
+    let mut lags = TwoLeastLags {
         least: [u32::MAX; MAX_MACHINES],
         second: [u32::MAX; MAX_MACHINES],
     };
@@ -116,49 +97,50 @@ fn lags_to(claim: &Claim, links: &[u16], machine: u16) -> Lags
         if job == 0 {
             return lags;
         }
-        lags.take_in(claim, job, machine);
+        lags.take_in(text, job, machine);
         last = job;
     }
 }
 
 /// The two least lags of the jobs left to a machine: those that are kept, or else they are found, and kept where
 /// there is a place for them.
-fn lags_of(claim: &Claim, kept: &mut [Option<Lags>], links: &[u16], machine: u16) -> Lags
-    requires rows { AreRows claim.now.instance.now claim.now.rows.now }
-    requires at { (list : List ℕ) × AreLinks claim.now.instance.now.jobs list links.now
-        × AreKept claim.now.instance.now list kept.old }
-    requires from { 1 ≤ machine }
-    requires to { machine ≤ claim.now.instance.now.machines }
+fn lags_of(
+    text: &TreesText,
+    kept: &mut [Option<TwoLeastLags>],
+    links: &[u16],
+    machine: u16,
+) -> TwoLeastLags
+    requires at { (list : List ℕ) × AreLinks text.now.shop.now.jobs list links.now
+        × AreKept text.now.shop.now list kept.old }
+    requires machine { IsMachine text.now.shop.now machine }
     ensures size { length kept.new ≡ length kept.old }
-    ensures lags { (list : List ℕ) → AreLinks claim.now.instance.now.jobs list links.now →
-        AreKept claim.now.instance.now list kept.old → AreTwoLeastLagsTo claim.now.instance.now list machine result }
-    ensures kept { (list : List ℕ) → AreLinks claim.now.instance.now.jobs list links.now →
-        AreKept claim.now.instance.now list kept.old → AreKept claim.now.instance.now list kept.new }
+    ensures lags { (list : List ℕ) → AreLinks text.now.shop.now.jobs list links.now →
+        AreKept text.now.shop.now list kept.old → AreTwoLeastLagsTo text.now.shop.now list machine result }
+    ensures kept { (list : List ℕ) → AreLinks text.now.shop.now.jobs list links.now →
+        AreKept text.now.shop.now list kept.old → AreKept text.now.shop.now list kept.new }
 {
     let place = machine as usize - 1;
     if place >= kept.len() {
-        return lags_to(claim, links, machine);
+        return find_lags(text, links, machine);
     }
     if let Some(known) = kept[place] {
         return known;
     }
-    let lags = lags_to(claim, links, machine);
+    let lags = find_lags(text, links, machine);
     kept[place] = Some(lags);
     lags
 }
 
 /// How much later than its front a machine is released for the jobs left of a list.
-fn own_gain(claim: &Claim, node: &Node, lags: &Lags, machine: u16) -> u64
-    requires rows { AreRows claim.now.instance.now claim.now.rows.now }
-    requires at { (list : List ℕ) × (left : ℕ) × IsNode claim.now.instance.now list node.now (suc left)
-        × AreTwoLeastLagsTo claim.now.instance.now list machine lags.now }
-    requires from { 1 ≤ machine }
-    requires to { machine ≤ claim.now.instance.now.machines }
-    ensures { (list : List ℕ) (left : ℕ) → IsNode claim.now.instance.now list node.now (suc left) →
-        AreTwoLeastLagsTo claim.now.instance.now list machine lags.now →
-        slice_index (front_of claim.now.instance.now list) (machine - 1) + result
-        ≡ release claim.now.instance.now (front_of claim.now.instance.now list)
-        (jobs_left claim.now.instance.now.jobs list) machine }
+fn own_gain(text: &TreesText, node: &Node, lags: &TwoLeastLags, machine: u16) -> u64
+    requires at { (list : List ℕ) × (left : ℕ) × IsNode text.now.shop.now list node.now (suc left)
+        × AreTwoLeastLagsTo text.now.shop.now list machine lags.now }
+    requires machine { IsMachine text.now.shop.now machine }
+    ensures { (list : List ℕ) (left : ℕ) → IsNode text.now.shop.now list node.now (suc left) →
+        AreTwoLeastLagsTo text.now.shop.now list machine lags.now →
+        slice_index (front_of text.now.shop.now list) (machine - 1) + result
+        ≡ release text.now.shop.now (front_of text.now.shop.now list)
+        (jobs_left text.now.shop.now.jobs list) machine }
 {
     let mut release: u64 = 0;
     for from in 1..machine + 1 {
@@ -170,27 +152,26 @@ fn own_gain(claim: &Claim, node: &Node, lags: &Lags, machine: u16) -> u64
 
 /// How much later than its front a machine is released for the jobs left of a list's child that has this job at its
 /// end.
-fn child_gain(claim: &Claim, node: &Node, lags: &Lags, job: u16, machine: u16) -> u64
-    requires rows { AreRows claim.now.instance.now claim.now.rows.now }
-    requires at { (list : List ℕ) × (left : ℕ) × IsNode claim.now.instance.now list node.now (suc (suc left))
-        × AreTwoLeastLagsTo claim.now.instance.now list machine lags.now
-        × IsChild claim.now.instance.now.jobs list (Some job) }
-    requires from { 1 ≤ machine }
-    requires to { machine ≤ claim.now.instance.now.machines }
-    ensures { (list : List ℕ) (left : ℕ) → IsNode claim.now.instance.now list node.now (suc (suc left)) →
-        AreTwoLeastLagsTo claim.now.instance.now list machine lags.now →
-        IsChild claim.now.instance.now.jobs list (Some job) →
-        slice_index (front_of claim.now.instance.now (list ++ job ∷ [])) (machine - 1) + result
-        ≡ release claim.now.instance.now (front_of claim.now.instance.now (list ++ job ∷ []))
-        (jobs_left claim.now.instance.now.jobs (list ++ job ∷ [])) machine }
+fn child_gain(text: &TreesText, node: &Node, lags: &TwoLeastLags, job: u16, machine: u16) -> u64
+    requires at { (list : List ℕ) × (left : ℕ) × IsNode text.now.shop.now list node.now (suc (suc left))
+        × AreTwoLeastLagsTo text.now.shop.now list machine lags.now
+        × IsChild text.now.shop.now.jobs list (Some job) }
+    requires machine { IsMachine text.now.shop.now machine }
+    ensures { (list : List ℕ) (left : ℕ) → IsNode text.now.shop.now list node.now (suc (suc left)) →
+        AreTwoLeastLagsTo text.now.shop.now list machine lags.now →
+        IsChild text.now.shop.now.jobs list (Some job) →
+        slice_index (front_of text.now.shop.now (list ++ job ∷ [])) (machine - 1) + result
+        ≡ release text.now.shop.now (front_of text.now.shop.now (list ++ job ∷ []))
+        (jobs_left text.now.shop.now.jobs (list ++ job ∷ [])) machine }
 {
-    let row = &claim.rows[job as usize - 1];
+    let row = &text.rows[job as usize - 1];
     let mut free = 0;
     let mut release: u64 = 0;
     for from in 1..machine + 1 {
         let place = from as usize - 1;
         free = node.front[place].max(free) + u64::from(row.times[place]);
-        let lag = lags.without(from, lag(claim, job, from, machine));
+        let own = lag(text, job, from, machine);
+        let lag = least_without(own, lags.least[place], lags.second[place]);
         release = release.max(free + u64::from(lag));
     }
     release - free
@@ -198,72 +179,68 @@ fn child_gain(claim: &Claim, node: &Node, lags: &Lags, job: u16, machine: u16) -
 
 /// How much the bound of the version is above the machine bound of a list, or of a child of it, where jobs are left.
 fn gain(
-    claim: &Claim,
+    text: &TreesText,
     node: &Node,
-    kept: &mut [Option<Lags>],
+    kept: &mut [Option<TwoLeastLags>],
     links: &[u16],
     child: Option<u16>,
     machine: u16,
 ) -> u64
-    requires rows { AreRows claim.now.instance.now claim.now.rows.now }
     requires at { (list : List ℕ) × (left : ℕ)
-        × IsAt claim.now.instance.now list node.now links.now (left_before child (suc left))
-        × AreKept claim.now.instance.now list kept.old
-        × IsChild claim.now.instance.now.jobs list child }
-    requires from { 1 ≤ machine }
-    requires to { machine ≤ claim.now.instance.now.machines }
+        × IsAt text.now.shop.now list node.now links.now (left_before child (suc left))
+        × AreKept text.now.shop.now list kept.old
+        × IsChild text.now.shop.now.jobs list child }
+    requires machine { IsMachine text.now.shop.now machine }
     ensures size { length kept.new ≡ length kept.old }
-    ensures kept { (list : List ℕ) → AreLinks claim.now.instance.now.jobs list links.now →
-        AreKept claim.now.instance.now list kept.old → AreKept claim.now.instance.now list kept.new }
+    ensures kept { (list : List ℕ) → AreLinks text.now.shop.now.jobs list links.now →
+        AreKept text.now.shop.now list kept.old → AreKept text.now.shop.now list kept.new }
     ensures value { (list : List ℕ) (left : ℕ) →
-        IsAt claim.now.instance.now list node.now links.now (left_before child (suc left)) →
-        AreKept claim.now.instance.now list kept.old →
-        IsChild claim.now.instance.now.jobs list child →
-        bound_at claim.now.instance.now (grown list child) machine + result
-        ≡ bound_of claim.now.version claim.now.instance.now (grown list child) machine }
+        IsAt text.now.shop.now list node.now links.now (left_before child (suc left)) →
+        AreKept text.now.shop.now list kept.old →
+        IsChild text.now.shop.now.jobs list child →
+        bound_at text.now.shop.now (grown list child) machine + result
+        ≡ bound_of text.now.version text.now.shop.now (grown list child) machine }
 {
-    if claim.version != 2 {
+    if text.version != 2 {
         return 0;
     }
-    let lags = lags_of(claim, kept, links, machine);
+    let lags = lags_of(text, kept, links, machine);
     match child {
-        None => own_gain(claim, node, &lags, machine),
-        Some(job) => child_gain(claim, node, &lags, job, machine),
+        None => own_gain(text, node, &lags, machine),
+        Some(job) => child_gain(text, node, &lags, job, machine),
     }
 }
 
 /// Whether the bound of the version on a machine reaches the value, for a list, or for a child of it, where jobs are
 /// left. The machine bound alone is often enough.
 pub(crate) fn reaches(
-    claim: &Claim,
+    text: &TreesText,
     node: &mut Node,
-    kept: &mut [Option<Lags>],
+    kept: &mut [Option<TwoLeastLags>],
     links: &[u16],
     child: Option<u16>,
     machine: u16,
 ) -> bool
-    requires rows { AreRows claim.now.instance.now claim.now.rows.now }
     requires at { (list : List ℕ) × (left : ℕ)
-        × IsAt claim.now.instance.now list node.old links.now (left_before child (suc left))
-        × AreKept claim.now.instance.now list kept.old
-        × IsChild claim.now.instance.now.jobs list child }
-    requires from { 1 ≤ machine }
-    requires to { machine ≤ claim.now.instance.now.machines }
-    ensures node { (list : List ℕ) (left : ℕ) → IsAt claim.now.instance.now list node.old links.now left →
-        IsAt claim.now.instance.now list node.new links.now left }
+        × IsAt text.now.shop.now list node.old links.now (left_before child (suc left))
+        × AreKept text.now.shop.now list kept.old
+        × IsChild text.now.shop.now.jobs list child }
+    requires machine { IsMachine text.now.shop.now machine }
+    ensures node { (list : List ℕ) (left : ℕ) → IsAt text.now.shop.now list node.old links.now left →
+        IsAt text.now.shop.now list node.new links.now left }
     ensures size { length kept.new ≡ length kept.old }
-    ensures kept { (list : List ℕ) → AreLinks claim.now.instance.now.jobs list links.now →
-        AreKept claim.now.instance.now list kept.old → AreKept claim.now.instance.now list kept.new }
+    ensures kept { (list : List ℕ) → AreLinks text.now.shop.now.jobs list links.now →
+        AreKept text.now.shop.now list kept.old → AreKept text.now.shop.now list kept.new }
     ensures value { (list : List ℕ) (left : ℕ) →
-        IsAt claim.now.instance.now list node.old links.now (left_before child (suc left)) →
-        AreKept claim.now.instance.now list kept.old →
-        IsChild claim.now.instance.now.jobs list child →
-        result ≡ nat_le claim.now.value
-        (bound_of claim.now.version claim.now.instance.now (grown list child) machine) }
+        IsAt text.now.shop.now list node.old links.now (left_before child (suc left)) →
+        AreKept text.now.shop.now list kept.old →
+        IsChild text.now.shop.now.jobs list child →
+        result ≡ nat_le text.now.value
+        (bound_of text.now.version text.now.shop.now (grown list child) machine) }
 {
-    let plain = bound(claim, node, links, child, machine);
-    if plain >= claim.value {
+    let plain = bound(text, node, links, child, machine);
+    if plain >= text.value {
         return true;
     }
-    claim.value - plain <= gain(claim, node, kept, links, child, machine)
+    text.value - plain <= gain(text, node, kept, links, child, machine)
 }

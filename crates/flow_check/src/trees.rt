@@ -1,12 +1,12 @@
-//! Reading the trees of a certificate.
+//! Reading the trees of a text.
 
 ghost use Rattle.std.specs.Prelude.{◌≤◌};
 ghost use Rattle.flow_check.specs.internal.Trees.{TreesGive};
 
-use crate::claim::Claim;
 use crate::fault::CheckFault;
 use crate::heading::Heading;
 use crate::reader::{Spot, TreeReader};
+use crate::trees_text::TreesText;
 use flow_shop::{Instance, rows};
 use std::alloc::Global;
 
@@ -20,16 +20,16 @@ pub(crate) fn trees_end(
     heading: &Heading,
 ) -> Result<usize, CheckFault>
     requires { heading.now.depth ≤ instance.now.jobs }
-    ensures { TreesGive instance.now heading.now.version heading.now.depth heading.now.value heading.now.trees.now
-        result }
+    ensures { TreesGive instance.now heading.now.version heading.now.depth heading.now.bounds.lower
+        heading.now.trees.now result }
 {
     let rows = rows(alloc, instance)?;
     let mut reader = TreeReader::new(alloc, instance, heading.version)?;
-    let claim = Claim {
-        instance,
+    let text = TreesText {
+        shop: instance,
         rows: rows.as_slice(),
         version: heading.version,
-        value: heading.value,
+        value: heading.bounds.lower,
         bytes: heading.trees,
     };
     let first = Spot {
@@ -37,9 +37,9 @@ pub(crate) fn trees_end(
         at: 0,
     };
     if heading.depth == 0 {
-        let end = reader.read_one_line(&claim, first)?;
+        let end = reader.read_one_line(&text, first)?;
         return Ok(end.at);
     }
-    let end = reader.read_lines(&claim, heading.depth, first)?;
+    let end = reader.read_lines(&text, heading.depth, first)?;
     Ok(end.at)
 }

@@ -1,6 +1,5 @@
 -- A verdict that is written is a lawful certificate.
-use Rattle.std.proofs.Common.{◌≡◌, refl, inl, inr, subst, List, length, ℕ, Option, Some}
-use Rattle.std.specs.Io.KnownBytes.{Appends}
+use Rattle.std.proofs.Common.{◌≡◌, ◌⊎◌, refl, sym, inl, inr, subst, List, length, ℕ, Option, None, Some, Ok, Err}
 use Rattle.flow_core.specs.Shop.{Shop}
 use Rattle.flow_core.specs.Mirror.{mirrored}
 use Rattle.flow_core.proofs.MirrorLemmas.{mirror-keeps-least}
@@ -8,35 +7,82 @@ use Rattle.flow_search.specs.Plans.{Planned, IsPlan, prefixes_of}
 use Rattle.flow_search.specs.Verdicts.{IsVerdict}
 use Rattle.flow_search.specs.declared.verdict.Verdict.{Verdict}
 use Rattle.flow_cert.specs.PlanCertificates.{certificate_of, text_with}
-use Rattle.flow_cert.proofs.Lawful.{verdict_is_certified}
-use Rattle.flow_commands.specs.Runs.{WroteCertificate, WroteEither}
-use Rattle.flow_commands.specs.internal.Tried.{IsOfEither}
+use Rattle.flow_cert.proofs.Lawful.{text-of-plan, verdict_is_certified}
+use Rattle.flow_requests.specs.declared.CertifyRequest.{CertifyRequest}
+use Rattle.flow_commands.specs.Answer.{Answer}
+use Rattle.flow_commands.specs.Certify.{AnswersCertify, WroteEither, all_over, certified, certify_fault}
+use Rattle.flow_commands.specs.Improve.{IsImproved}
+use Rattle.flow_commands.specs.declared.fault.CommandFault.{CommandFault}
+use Rattle.flow_commands.specs.Runs.{SinkRun, Took}
+use Rattle.flow_commands.specs.Solve.{WroteCertificate}
+use Rattle.flow_commands.specs.Start.{StartsFrom}
+use Rattle.flow_commands.specs.internal.Tried.{IsSearchedAs}
 
-pub wrote-certificate : (shop : Shop) (plan : Planned) (verdict : Verdict) (old new : Option (List ℕ)) →
+pub wrote-certificate : {K : Type 0} (shop : Shop) (plan : Planned) (verdict : Verdict) (sink : SinkRun K) →
     plan.shop ≡ shop → IsPlan plan → IsVerdict plan verdict →
-    Appends old new (text_with plan verdict) → WroteCertificate shop old new
-wrote-certificate shop plan verdict old new of is_plan is_verdict adds =
+    Took (text_with plan verdict) sink → WroteCertificate shop sink
+wrote-certificate shop plan verdict sink of is_plan is_verdict adds =
     let is = verdict_is_certified plan verdict is_plan is_verdict in
-    subst (λ s. WroteCertificate s old new) of (
+    subst (λ s. WroteCertificate s sink) of (
       certificate_of plan,
       verdict.value,
-      subst
-          (Appends old new) is.text adds,
+      subst (λ text. Took text sink) is.text adds,
       is.lawful,
       is.least,
     )
 
--- the same of a plan of the instance or of the mirrored one
-pub wrote-either : (shop : Shop) (plan : Planned) (verdict : Verdict) (old new : Option (List ℕ)) →
-    IsOfEither shop (Some (plan, verdict)) → Appends old new (text_with plan verdict) → WroteEither shop old new
-wrote-either shop plan verdict old new (is_plan, is_verdict, inl of) adds =
-    let w = wrote-certificate shop plan verdict old new of is_plan is_verdict adds in
+-- so a lawful certificate of one of them is written
+wrote-of : {K : Type 0} (shop : Shop) (plan : Planned) (verdict : Verdict) (sink : SinkRun K) →
+    (plan.shop ≡ shop) ⊎ (plan.shop ≡ mirrored shop) → IsPlan plan → IsVerdict plan verdict →
+    Took (text_with plan verdict) sink → WroteEither shop sink
+wrote-of shop plan verdict sink (inl of) is_plan is_verdict adds =
+    let w = wrote-certificate shop plan verdict sink of is_plan is_verdict adds in
     (w.0, w.1, w.2, inl w.3, w.4)
-wrote-either shop plan verdict old new (is_plan, is_verdict, inr of) adds =
-    let w = wrote-certificate (mirrored shop) plan verdict old new of is_plan is_verdict adds in
+wrote-of shop plan verdict sink (inr of) is_plan is_verdict adds =
+    let w = wrote-certificate (mirrored shop) plan verdict sink of is_plan is_verdict adds in
     (w.0, w.1, w.2, inr (refl, w.3), (mirror-keeps-least shop w.1).0 w.4)
 
+pub wrote-either : {K : Type 0} (given : Option ℕ) (shop : Shop) (start : List ℕ) (plan : Planned) (verdict : Verdict)
+    (sink : SinkRun K) → IsSearchedAs given shop start (Some (plan, verdict)) →
+    Took (text_with plan verdict) sink → WroteEither shop sink
+wrote-either given shop start plan verdict sink (jobs, worse, is, (of, is_plan, is_verdict)) adds =
+    wrote-of shop plan verdict sink of is_plan is_verdict adds
+
 -- its verdict has a tree for each prefix
-pub tree-for-each : (shop : Shop) (plan : Planned) (verdict : Verdict) → IsOfEither shop (Some (plan, verdict)) →
+pub tree-for-each : (given : Option ℕ) (shop : Shop) (start : List ℕ) (plan : Planned) (verdict : Verdict) →
+    IsSearchedAs given shop start (Some (plan, verdict)) →
     length verdict.trees.items ≡ length (prefixes_of plan)
-tree-for-each shop plan verdict (is_plan, is_verdict, of) = (verdict_is_certified plan verdict is_plan is_verdict).each
+tree-for-each given shop start plan verdict (jobs, worse, is, (of, is_plan, is_verdict)) =
+    (verdict_is_certified plan verdict is_plan is_verdict).each
+
+-- the text that is written is the certificate of the plan
+pub text-of-found : (given : Option ℕ) (shop : Shop) (start : List ℕ) (plan : Planned) (verdict : Verdict) →
+    IsSearchedAs given shop start (Some (plan, verdict)) → text_with plan verdict ≡ certificate_of plan
+text-of-found given shop start plan verdict (jobs, worse, is, (of, is_plan, is_verdict)) =
+    text-of-plan plan verdict is_verdict
+
+-- what is answered where the numbers are accepted
+accepted-answers : (request : CertifyRequest) (shop : Shop) (given : Option (List ℕ)) (answer : Answer) →
+    certify_fault request ≡ None →
+    (jobs : List ℕ) × IsImproved shop given jobs × (answer ≡ certified request.version shop jobs) →
+    AnswersCertify request shop given answer
+accepted-answers request shop given answer accepted is = rw (AnswersCertify, accepted) is
+
+-- what is answered for what was found
+pub found-answers : (request : CertifyRequest) (shop : Shop) (given : Option (List ℕ)) (start : List ℕ)
+    (plan : Planned) (verdict : Verdict) → certify_fault request ≡ None → StartsFrom shop given start →
+    IsSearchedAs request.version shop start (Some (plan, verdict)) →
+    AnswersCertify request shop given (Ok (certificate_of plan))
+found-answers request shop given start plan verdict accepted starts (jobs, worse, is, of) =
+    accepted-answers request shop given _ accepted (jobs, (start, starts, worse), sym is)
+
+pub none-answers : (request : CertifyRequest) (shop : Shop) (given : Option (List ℕ)) (start : List ℕ) →
+    certify_fault request ≡ None → StartsFrom shop given start → IsSearchedAs request.version shop start None →
+    AnswersCertify request shop given all_over
+none-answers request shop given start accepted starts (jobs, worse, is) =
+    accepted-answers request shop given _ accepted (jobs, (start, starts, worse), sym is)
+
+-- what is answered where they are refused
+pub refused-answers : (request : CertifyRequest) (shop : Shop) (given : Option (List ℕ)) (fault : CommandFault) →
+    certify_fault request ≡ Some fault → AnswersCertify request shop given (Err fault)
+refused-answers request shop given fault refused = rw (AnswersCertify, refused) refl

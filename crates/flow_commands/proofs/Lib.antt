@@ -1,6 +1,10 @@
 mod Certified
 mod Endings
+mod Given
+mod Improved
 mod Refused
+mod Scheduled
 mod Small
 mod Solved
-mod Tries
+mod Found
+mod Turned

@@ -1,4 +1,15 @@
-pub mod Commands
-pub mod Better
+pub mod Answer
+pub mod Block
+pub mod Certify
+pub mod Check
+pub mod Generate
+pub mod Improve
+pub mod Mirror
+pub mod Neh
+pub mod Printed
 pub mod Runs
+pub mod Schedule
+pub mod Solve
+pub mod Span
+pub mod Start
 pub mod internal

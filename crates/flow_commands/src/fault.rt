@@ -7,11 +7,11 @@ ghost use Rattle.flow_core.specs.declared.text.start.StartFault.TheVariants as s
 ghost use Rattle.flow_core.specs.declared.sequence.SequenceFault.TheVariants as sequence;
 ghost use Rattle.flow_core.specs.declared.instance.InstanceFault.TheVariants as instance;
 ghost use Rattle.flow_search.specs.declared.plan.PlanFault.TheVariants as plan;
-ghost use Rattle.flow_pool.specs.declared.whole_run.SolveFault.TheVariants as solve;
+ghost use Rattle.flow_pool.specs.declared.run.solve.SolveFault.TheVariants as solve;
 ghost use Rattle.flow_check.specs.declared.fault.CheckFault.TheVariants as check;
-ghost use Rattle.flow_commands.specs.declared.fault.ToolFault.TheVariants.{Memory, Read, Text, Start, Sequence};
-ghost use Rattle.flow_commands.specs.declared.fault.ToolFault.TheVariants.{Instance, Improve, Choice, Plan, Run};
-ghost use Rattle.flow_commands.specs.declared.fault.ToolFault.TheVariants.{Certificate, Write};
+ghost use Rattle.flow_commands.specs.declared.fault.CommandFault.TheVariants.{Memory, Read, Text, Start, Sequence};
+ghost use Rattle.flow_commands.specs.declared.fault.CommandFault.TheVariants.{Instance, Improve, Choice, Plan, Run};
+ghost use Rattle.flow_commands.specs.declared.fault.CommandFault.TheVariants.{Certificate, Write};
 
 use flow_check::CheckFault;
 use flow_core::{InstanceFault, ReadFault, SequenceFault, StartFault, TextFault, WriteFault};
@@ -23,17 +23,23 @@ use thiserror::Error;
 /// Why the numbers of an improvement are refused, in the order of the tests.
 #[derive(Clone, Copy, Debug, PartialEq, Eq, Error)]
 pub enum ImproveFault {
+    /// The greatest width of the beam is more than 65,536.
+    #[error("Width")]
+    Width,
     /// There are more than 100,000,000 rounds.
     #[error("Rounds")]
     Rounds,
     /// The seed is not from 1 to 2,147,483,646.
     #[error("Seed")]
     Seed,
+    /// There are more than 1,000,000 million steps.
+    #[error("Work")]
+    Work,
 }
 
 /// Why a command refused, in the order in which it is tested; its text is the line on standard error.
 #[derive(Clone, Copy, Debug, PartialEq, Eq, Error)]
-pub enum ToolFault {
+pub enum CommandFault {
     /// Memory ran out, in whatever layer.
     #[error("refused memory")]
     Memory,
@@ -55,7 +61,7 @@ pub enum ToolFault {
     /// No instance is generated.
     #[error("refused instance {0}")]
     Instance(InstanceFault),
-    /// The rounds or the seed of an improvement are refused.
+    /// The numbers of an improvement are refused.
     #[error("refused option {0}")]
     Improve(ImproveFault),
     /// The numbers are no options.
@@ -75,122 +81,125 @@ pub enum ToolFault {
     Write(WriteFault),
 }
 
-impl From<AllocError> for ToolFault {
+/// The fault of a command, under the name of the program's faults.
+pub type ToolFault = CommandFault;
+
+impl From<AllocError> for CommandFault {
     ghost from_gives = { λ _ given. given ≡ Memory };
 
-    fn from(_error: AllocError) -> ToolFault {
-        ToolFault::Memory
+    fn from(_error: AllocError) -> CommandFault {
+        CommandFault::Memory
     }
 }
 
-impl From<ReadFault> for ToolFault {
+impl From<ReadFault> for CommandFault {
     ghost from_gives = { λ fault given. given ≡ (elim fault [ read.Memory ↦ Memory | other ↦ Read other ]) };
 
-    fn from(fault: ReadFault) -> ToolFault {
+    fn from(fault: ReadFault) -> CommandFault {
         match fault {
-            ReadFault::Memory => ToolFault::Memory,
-            _ => ToolFault::Read(fault),
+            ReadFault::Memory => CommandFault::Memory,
+            _ => CommandFault::Read(fault),
         }
     }
 }
 
-impl From<TextFault> for ToolFault {
+impl From<TextFault> for CommandFault {
     ghost from_gives = { λ fault given. given ≡ (elim fault [ text.Memory ↦ Memory | other ↦ Text other ]) };
 
-    fn from(fault: TextFault) -> ToolFault {
+    fn from(fault: TextFault) -> CommandFault {
         match fault {
-            TextFault::Memory => ToolFault::Memory,
-            _ => ToolFault::Text(fault),
+            TextFault::Memory => CommandFault::Memory,
+            _ => CommandFault::Text(fault),
         }
     }
 }
 
-impl From<StartFault> for ToolFault {
+impl From<StartFault> for CommandFault {
     ghost from_gives = { λ fault given. given ≡ (elim fault [ start.Memory ↦ Memory | other ↦ Start other ]) };
 
-    fn from(fault: StartFault) -> ToolFault {
+    fn from(fault: StartFault) -> CommandFault {
         match fault {
-            StartFault::Memory => ToolFault::Memory,
-            _ => ToolFault::Start(fault),
+            StartFault::Memory => CommandFault::Memory,
+            _ => CommandFault::Start(fault),
         }
     }
 }
 
-impl From<SequenceFault> for ToolFault {
+impl From<SequenceFault> for CommandFault {
     ghost from_gives = { λ fault given. given ≡ (elim fault [ sequence.Memory ↦ Memory | other ↦ Sequence other ]) };
 
-    fn from(fault: SequenceFault) -> ToolFault {
+    fn from(fault: SequenceFault) -> CommandFault {
         match fault {
-            SequenceFault::Memory => ToolFault::Memory,
-            _ => ToolFault::Sequence(fault),
+            SequenceFault::Memory => CommandFault::Memory,
+            _ => CommandFault::Sequence(fault),
         }
     }
 }
 
-impl From<InstanceFault> for ToolFault {
+impl From<InstanceFault> for CommandFault {
     ghost from_gives = { λ fault given. given ≡ (elim fault [ instance.Memory ↦ Memory | other ↦ Instance other ]) };
 
-    fn from(fault: InstanceFault) -> ToolFault {
+    fn from(fault: InstanceFault) -> CommandFault {
         match fault {
-            InstanceFault::Memory => ToolFault::Memory,
-            _ => ToolFault::Instance(fault),
+            InstanceFault::Memory => CommandFault::Memory,
+            _ => CommandFault::Instance(fault),
         }
     }
 }
 
-impl From<ImproveFault> for ToolFault {
+impl From<ImproveFault> for CommandFault {
     ghost from_gives = { λ fault given. given ≡ Improve fault };
 
-    fn from(fault: ImproveFault) -> ToolFault {
-        ToolFault::Improve(fault)
+    fn from(fault: ImproveFault) -> CommandFault {
+        CommandFault::Improve(fault)
     }
 }
 
-impl From<OptionFault> for ToolFault {
+impl From<OptionFault> for CommandFault {
     ghost from_gives = { λ fault given. given ≡ Choice fault };
 
-    fn from(fault: OptionFault) -> ToolFault {
-        ToolFault::Choice(fault)
+    fn from(fault: OptionFault) -> CommandFault {
+        CommandFault::Choice(fault)
     }
 }
 
-impl From<PlanFault> for ToolFault {
+impl From<PlanFault> for CommandFault {
     ghost from_gives = { λ fault given. given ≡ (elim fault [ plan.Memory ↦ Memory | other ↦ Plan other ]) };
 
-    fn from(fault: PlanFault) -> ToolFault {
+    fn from(fault: PlanFault) -> CommandFault {
         match fault {
-            PlanFault::Memory => ToolFault::Memory,
-            _ => ToolFault::Plan(fault),
+            PlanFault::Memory => CommandFault::Memory,
+            _ => CommandFault::Plan(fault),
         }
     }
 }
 
-impl From<SolveFault> for ToolFault {
+impl From<SolveFault> for CommandFault {
     ghost from_gives = { λ fault given. given ≡ (elim fault [ solve.Memory ↦ Memory | other ↦ Run other ]) };
 
-    fn from(fault: SolveFault) -> ToolFault {
+    fn from(fault: SolveFault) -> CommandFault {
         match fault {
-            SolveFault::Memory => ToolFault::Memory,
-            _ => ToolFault::Run(fault),
+            SolveFault::Memory => CommandFault::Memory,
+            _ => CommandFault::Run(fault),
         }
     }
 }
 
-impl From<CheckFault> for ToolFault {
+impl From<CheckFault> for CommandFault {
     ghost from_gives = { λ fault given. given ≡ (elim fault [ check.Memory ↦ Memory | other ↦ Certificate other ]) };
 
-    fn from(fault: CheckFault) -> ToolFault {
+    fn from(fault: CheckFault) -> CommandFault {
         match fault {
-            CheckFault::Memory => ToolFault::Memory,
-            _ => ToolFault::Certificate(fault),
+            CheckFault::Memory => CommandFault::Memory,
+            _ => CommandFault::Certificate(fault),
         }
     }
 }
 
-impl From<WriteFault> for ToolFault {
+impl From<WriteFault> for CommandFault {
     ghost from_gives = { λ fault given. given ≡ Write fault };
 
-    fn from(fault: WriteFault) -> ToolFault {
-        ToolFault::Write(fault)
+    fn from(fault: WriteFault) -> CommandFault {
+        CommandFault::Write(fault)
     }
 }

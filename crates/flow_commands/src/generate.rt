@@ -3,10 +3,10 @@
 ghost use Rattle.std.specs.Prelude.{◌≡◌, ◌↔◌, false, true, Ok};
 ghost use Rattle.std.specs.Prelude.{IfOk, OnOk, IfErr, IsErrOf};
 ghost use Rattle.flow_core.specs.declared.bytes.fault.WriteFault.TheVariants as write;
-ghost use Rattle.flow_commands.specs.Commands.{AnswersGen, IsGeneratedText};
-ghost use Rattle.flow_commands.specs.Runs.{EndsAlone, Wrote};
+ghost use Rattle.flow_commands.specs.Generate.{AnswersGen, IsGeneratedText};
+ghost use Rattle.flow_commands.specs.Runs.{EndsAlone, Wrote, sink_run};
 
-use crate::fault::ToolFault;
+use crate::fault::CommandFault;
 use flow_bound::{neh, taillard_bound};
 use flow_core::{Block, Instance, Sink, block_text, generate, put_all};
 use std::alloc::{AllocError, Global};
@@ -33,12 +33,11 @@ pub fn run_gen<K: Sink>(
     machines: u32,
     seed: u32,
     out: &mut K,
-) -> Result<(), ToolFault>
+) -> Result<(), CommandFault>
     requires { K.has_failed out.old ≡ false }
-    ensures written { OnOk result (Wrote (AnswersGen jobs machines seed) (K.taken out.old) (K.taken out.new)) }
-    ensures ended { IfErr result (EndsAlone (out.new ≡ out.old) (AnswersGen jobs machines seed)
-        (K.taken out.old) (K.taken out.new)) }
-    ensures write_device { IsErrOf result (ToolFault.Write write.Device) ↔ (K.has_failed out.new ≡ true) }
+    ensures written { OnOk result (Wrote (AnswersGen jobs machines seed) (sink_run K.taken out.old out.new)) }
+    ensures ended { IfErr result (EndsAlone (AnswersGen jobs machines seed) (sink_run K.taken out.old out.new)) }
+    ensures write_device { IsErrOf result (CommandFault.Write write.Device) ↔ (K.has_failed out.new ≡ true) }
 {
     let instance = generate(alloc, jobs, machines, seed)?;
     let text = generated_text(alloc, seed, instance)?;

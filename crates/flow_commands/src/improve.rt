@@ -1,120 +1,128 @@
 //! The command `improve`.
 
 ghost use Rattle.std.specs.Prelude.{◌≡◌, ◌↔◌, ◌⊎◌, ◌≤◌, ◌<◌, false, true, None, Some, Ok, Err};
-ghost use Rattle.std.specs.Prelude.{OnOk, IfErr, IsErrOf};
+ghost use Rattle.std.specs.Prelude.{IfOk, OnOk, IfErr, IfSome, IsErrOf, is_some};
+ghost use Rattle.std.specs.Option.{ForSome};
 ghost use Rattle.flow_core.specs.Bytes.{Grows};
 ghost use Rattle.flow_core.specs.Generator.{modulus};
+ghost use Rattle.flow_core.specs.Paths.{span};
 ghost use Rattle.flow_core.specs.Sequences.{IsSequence};
 ghost use Rattle.flow_core.specs.declared.bytes.fault.ReadFault.TheVariants as read;
 ghost use Rattle.flow_core.specs.declared.bytes.fault.WriteFault.TheVariants as write;
-ghost use Rattle.flow_commands.specs.Better.{AnswersImprove, AnswersImproveStart, AnswersImproveFrom, improve_fault};
-ghost use Rattle.flow_commands.specs.Runs.{Came, Ends, EndsAlone, EndsBoth, Wrote, WroteBoth};
-ghost use Rattle.flow_core.specs.Limits.{most_text};
+ghost use Rattle.flow_commands.specs.Improve.{AnswersImprove, IsImproved, improve_fault};
+ghost use Rattle.flow_commands.specs.Runs.{EndsAlone, EndsFrom, HasFailed, Stands, Wrote, WroteFrom};
+ghost use Rattle.flow_commands.specs.Runs.{sink_run, source_run, start_run};
 
-use crate::block::read_block;
-use crate::fault::{ImproveFault, ToolFault};
+use crate::fault::{CommandFault, ImproveFault};
 use crate::printed::sequence_lines;
-use crate::start::read_given;
-use flow_bound::neh;
-use flow_core::{Instance, MAX_ROUNDS, MAX_SEED, Sequence, Sink, Source, put_all};
-use flow_improve::improve;
-use std::alloc::Global;
+use crate::start::{read_inputs, start_of};
+use flow_core::{
+    Instance, MAX_ROUNDS, MAX_SEED, MAX_WIDTH, MAX_WORK, Sequence, Sink, Source, put_all,
+};
+use flow_improve::{Effort, Reached, improve};
+use flow_requests::ImproveRequest;
+use std::alloc::{AllocError, Global};
 
-/// Nothing where the rounds and the seed are within their limits; else the first fault.
-pub(crate) fn test_improvement(rounds: u32, seed: u32) -> Result<(), ToolFault>
-    ensures accepted { OnOk result (improve_fault rounds seed ≡ None) }
-    ensures seed_from { OnOk result (1 ≤ seed) }
-    ensures seed_to { OnOk result (seed < modulus) }
-    ensures refused { IfErr result (λ fault. improve_fault rounds seed ≡ Some fault) }
+/// The effort of a request, where its numbers are within their limits; else the first fault.
+pub(crate) fn effort_of(request: ImproveRequest) -> Result<Effort, ImproveFault>
+    ensures accepted { OnOk result (improve_fault request ≡ None) }
+    ensures seed_from { IfOk result (λ effort. 1 ≤ effort.seed) }
+    ensures seed_to { IfOk result (λ effort. effort.seed < modulus) }
+    ensures refused { IfErr result (λ fault. improve_fault request ≡ Some (CommandFault.Improve fault)) }
 {
+    let ImproveRequest {
+        width,
+        rounds,
+        seed,
+        work,
+    } = request;
+    if width > MAX_WIDTH {
+        return Err(ImproveFault::Width);
+    }
     if rounds > MAX_ROUNDS {
-        return Err(ToolFault::Improve(ImproveFault::Rounds));
+        return Err(ImproveFault::Rounds);
     }
     if seed < 1 || seed > MAX_SEED {
-        return Err(ToolFault::Improve(ImproveFault::Seed));
+        return Err(ImproveFault::Seed);
     }
-    Ok(())
+    if work > MAX_WORK {
+        return Err(ImproveFault::Work);
+    }
+    Ok(Effort {
+        width,
+        rounds,
+        seed,
+        work,
+    })
 }
 
-/// Improves a starting sequence, and writes the better sequence and its makespan.
-fn improve_start<K: Sink>(
+/// A sequence of an instance that is no worse than the one to start from, with its makespan.
+fn improved(
     alloc: Global,
     instance: &Instance,
-    start: &Sequence,
-    rounds: u32,
-    seed: u32,
-    out: &mut K,
-) -> Result<(), ToolFault>
-    requires out_works { K.has_failed out.old ≡ false }
-    requires is_sequence { IsSequence instance.now.jobs start.now }
-    ensures written { OnOk result (Wrote (AnswersImproveStart rounds seed instance.now start.now)
-        (K.taken out.old) (K.taken out.new)) }
-    ensures ended { IfErr result (EndsAlone (out.new ≡ out.old) (AnswersImproveStart rounds seed instance.now start.now)
-        (K.taken out.old) (K.taken out.new)) }
-    ensures write_device { IsErrOf result (ToolFault.Write write.Device) ↔ (K.has_failed out.new ≡ true) }
-    ensures reads_nothing { IsErrOf result (ToolFault.Read read.Device) → ⊥ }
+    given: Option<Sequence>,
+    effort: &Effort,
+) -> Result<Reached, AllocError>
+    requires given { IfSome given (IsSequence instance.now.jobs) }
+    requires seed_from { 1 ≤ effort.now.seed }
+    requires seed_to { effort.now.seed < modulus }
+    ensures improved { IfOk result (λ better. IsImproved instance.now given better.sequence) }
+    ensures value { IfOk result (λ better. better.value ≡ span instance.now better.sequence) }
 {
-    test_improvement(rounds, seed)?;
-    let (better, value) = improve(alloc, instance, start, rounds, seed)?;
-    let lines = sequence_lines(alloc, better.jobs(), value)?;
+    let start = start_of(alloc, instance, given)?;
+    improve(alloc, instance, &start, effort)
+}
+
+/// Improves the sequence to start from, and writes the better sequence and its makespan.
+fn improve_block<K: Sink>(
+    alloc: Global,
+    instance: &Instance,
+    given: Option<Sequence>,
+    request: ImproveRequest,
+    out: &mut K,
+) -> Result<(), CommandFault>
+    requires out_works { K.has_failed out.old ≡ false }
+    requires given { IfSome given (IsSequence instance.now.jobs) }
+    ensures written { OnOk result (Wrote (AnswersImprove request instance.now given)
+        (sink_run K.taken out.old out.new)) }
+    ensures ended { IfErr result (EndsAlone (AnswersImprove request instance.now given)
+        (sink_run K.taken out.old out.new)) }
+    ensures write_device { IsErrOf result (CommandFault.Write write.Device) ↔ (K.has_failed out.new ≡ true) }
+    ensures reads_nothing { IsErrOf result (CommandFault.Read read.Device) → ⊥ }
+{
+    let effort = effort_of(request)?;
+    let better = improved(alloc, instance, given, &effort)?;
+    let lines = sequence_lines(alloc, better.sequence.jobs(), better.value)?;
     put_all(out, lines.as_slice())?;
     Ok(())
 }
 
-/// Improves the starting sequence of Nawaz, Enscore and Ham of the block that an index names, by so many rounds with
-/// the random numbers of a seed; writes the better sequence and its makespan.
-pub fn run_improve<S: Source, K: Sink>(
+/// Improves a starting sequence of the block that an index names: the one that a start text gives, or, where there is
+/// no such text, that of Nawaz, Enscore and Ham. Writes the better sequence and its makespan.
+pub fn run_improve<S: Source, T: Source, K: Sink>(
     alloc: Global,
     file: &mut S,
     index: u32,
-    rounds: u32,
-    seed: u32,
+    start: &mut Option<T>,
+    request: ImproveRequest,
     out: &mut K,
-) -> Result<(), ToolFault>
+) -> Result<(), CommandFault>
     requires file_works { S.has_failed file.old ≡ false }
+    requires start_works { ForSome start.old (λ source. T.has_failed source ≡ false) }
     requires out_works { K.has_failed out.old ≡ false }
-    ensures written { OnOk result (Came most_text
-        (λ text. Wrote (AnswersImprove index rounds seed text) (K.taken out.old) (K.taken out.new))
-        (S.given file.old) (S.given file.new) (S.has_ended file.new)) }
-    ensures ended { IfErr result (Ends (out.new ≡ out.old) most_text (AnswersImprove index rounds seed)
-        (S.given file.old) (S.given file.new) (S.has_ended file.new) (K.taken out.old) (K.taken out.new)) }
-    ensures read_device { IsErrOf result (ToolFault.Read read.Device) ↔ (S.has_failed file.new ≡ true) }
-    ensures write_device { IsErrOf result (ToolFault.Write write.Device) ↔ (K.has_failed out.new ≡ true) }
+    ensures written { OnOk result (WroteFrom (AnswersImprove request) index
+        (source_run S.given S.has_ended file.old file.new)
+        (start_run T.given T.has_ended start.old start.new) (sink_run K.taken out.old out.new)) }
+    ensures ended { IfErr result (EndsFrom (AnswersImprove request) index
+        (source_run S.given S.has_ended file.old file.new)
+        (start_run T.given T.has_ended start.old start.new) (sink_run K.taken out.old out.new)) }
+    ensures read_device { IsErrOf result (CommandFault.Read read.Device) ↔ ((S.has_failed file.new ≡ true)
+        ⊎ HasFailed T.has_failed (start_run T.given T.has_ended start.old start.new)) }
+    ensures write_device { IsErrOf result (CommandFault.Write write.Device) ↔ (K.has_failed out.new ≡ true) }
     ensures stands { Grows (S.given file.old) (S.given file.new) }
+    ensures start_stands { IfSome (start_run T.given T.has_ended start.old start.new) Stands }
+    ensures start_stays { is_some start.new ≡ is_some start.old }
 {
-    let block = read_block(alloc, file, index)?;
-    let (start, _) = neh(alloc, &block.instance)?;
-    improve_start(alloc, &block.instance, &start, rounds, seed, out)
-}
-
-/// Improves the sequence that a start text gives for the block that an index names, by so many rounds with the random
-/// numbers of a seed; writes the better sequence and its makespan.
-pub fn run_improve_from<S: Source, T: Source, K: Sink>(
-    alloc: Global,
-    file: &mut S,
-    index: u32,
-    start: &mut T,
-    rounds: u32,
-    seed: u32,
-    out: &mut K,
-) -> Result<(), ToolFault>
-    requires file_works { S.has_failed file.old ≡ false }
-    requires start_works { T.has_failed start.old ≡ false }
-    requires out_works { K.has_failed out.old ≡ false }
-    ensures written { OnOk result (WroteBoth most_text (AnswersImproveFrom rounds seed) index
-        (S.given file.old) (S.given file.new) (S.has_ended file.new)
-        (T.given start.old) (T.given start.new) (T.has_ended start.new) (K.taken out.old) (K.taken out.new)) }
-    ensures ended { IfErr result (EndsBoth most_text (AnswersImproveFrom rounds seed) index
-        (out.new ≡ out.old) (start.new ≡ start.old)
-        (S.given file.old) (S.given file.new) (S.has_ended file.new)
-        (T.given start.old) (T.given start.new) (T.has_ended start.new) (K.taken out.old) (K.taken out.new)) }
-    ensures read_device { IsErrOf result (ToolFault.Read read.Device)
-        ↔ ((S.has_failed file.new ≡ true) ⊎ (T.has_failed start.new ≡ true)) }
-    ensures write_device { IsErrOf result (ToolFault.Write write.Device) ↔ (K.has_failed out.new ≡ true) }
-    ensures stands { Grows (S.given file.old) (S.given file.new) }
-    ensures start_stands { Grows (T.given start.old) (T.given start.new) }
-{
-    let block = read_block(alloc, file, index)?;
-    let start = read_given(alloc, &block.instance, start)?;
-    improve_start(alloc, &block.instance, &start, rounds, seed, out)
+    let (block, given) = read_inputs(alloc, file, index, start)?;
+    improve_block(alloc, &block.instance, given, request, out)
 }

@@ -1,8 +1,8 @@
 //! The commands, over sources and sinks: each reads what it needs, and writes its output or refuses by its first fault.
 //!
-//! Each command has a file of its word. (`gen` is a word of the language, so its file is `generate`.) A new one needs a
-//! file here, its words in flow_words, and in flow_tool the line that runs it. What it writes is said in
-//! `specs/Commands.antt` and `specs/Better.antt`; a fault of a new kind stands in `fault`.
+//! Each command has a file of its word, and what it answers is said in the file of that name in `specs/`. (`gen` is a
+//! word of the language, so its files are `generate`.) What it is asked for stands in flow_requests; a fault of a new
+//! kind stands in `fault`.
 #![tactic(auto)]
 
 mod block;
@@ -14,16 +14,20 @@ mod improve;
 mod mirror;
 mod neh;
 mod printed;
+mod schedule;
 mod solve;
 mod span;
 mod start;
+mod tries;
 
-pub use certify::{run_certify, run_certify_from};
-pub use check::run_check;
-pub use fault::{ImproveFault, ToolFault};
+pub use certify::run_certify;
+pub use check::{run_check, run_check_as};
+pub use fault::{CommandFault, ImproveFault, ToolFault};
+pub use flow_requests::{CertifyRequest, CheckRequest, ImproveRequest, ScheduleForm, SolveRequest};
 pub use generate::run_gen;
-pub use improve::{run_improve, run_improve_from};
+pub use improve::run_improve;
 pub use mirror::run_mirror;
 pub use neh::run_neh;
-pub use solve::{run_solve, run_solve_from};
+pub use schedule::run_schedule;
+pub use solve::{run_solve, run_solve_as};
 pub use span::run_span;

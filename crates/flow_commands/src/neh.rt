@@ -4,12 +4,12 @@ ghost use Rattle.std.specs.Prelude.{◌≡◌, ◌↔◌, false, true, IfOk, OnO
 ghost use Rattle.flow_core.specs.Bytes.{Grows};
 ghost use Rattle.flow_core.specs.declared.bytes.fault.ReadFault.TheVariants as read;
 ghost use Rattle.flow_core.specs.declared.bytes.fault.WriteFault.TheVariants as write;
-ghost use Rattle.flow_commands.specs.Commands.{AnswersNeh, AnswersStart};
-ghost use Rattle.flow_commands.specs.Runs.{Came, Ends, Wrote};
+ghost use Rattle.flow_commands.specs.Neh.{AnswersNeh, AnswersStart};
+ghost use Rattle.flow_commands.specs.Runs.{Ends, WroteFor, sink_run, source_run};
 ghost use Rattle.flow_core.specs.Limits.{most_text};
 
 use crate::block::read_block;
-use crate::fault::ToolFault;
+use crate::fault::CommandFault;
 use crate::printed::sequence_lines;
 use flow_bound::neh;
 use flow_core::{Instance, Sink, Source, put_all};
@@ -29,16 +29,15 @@ pub fn run_neh<S: Source, K: Sink>(
     file: &mut S,
     index: u32,
     out: &mut K,
-) -> Result<(), ToolFault>
+) -> Result<(), CommandFault>
     requires file_works { S.has_failed file.old ≡ false }
     requires out_works { K.has_failed out.old ≡ false }
-    ensures written { OnOk result (Came most_text
-        (λ text. Wrote (AnswersNeh index text) (K.taken out.old) (K.taken out.new))
-        (S.given file.old) (S.given file.new) (S.has_ended file.new)) }
-    ensures ended { IfErr result (Ends (out.new ≡ out.old) most_text (AnswersNeh index)
-        (S.given file.old) (S.given file.new) (S.has_ended file.new) (K.taken out.old) (K.taken out.new)) }
-    ensures read_device { IsErrOf result (ToolFault.Read read.Device) ↔ (S.has_failed file.new ≡ true) }
-    ensures write_device { IsErrOf result (ToolFault.Write write.Device) ↔ (K.has_failed out.new ≡ true) }
+    ensures written { OnOk result (WroteFor most_text (AnswersNeh index)
+        (source_run S.given S.has_ended file.old file.new) (sink_run K.taken out.old out.new)) }
+    ensures ended { IfErr result (Ends most_text (AnswersNeh index)
+        (source_run S.given S.has_ended file.old file.new) (sink_run K.taken out.old out.new)) }
+    ensures read_device { IsErrOf result (CommandFault.Read read.Device) ↔ (S.has_failed file.new ≡ true) }
+    ensures write_device { IsErrOf result (CommandFault.Write write.Device) ↔ (K.has_failed out.new ≡ true) }
     ensures stands { Grows (S.given file.old) (S.given file.new) }
 {
     let block = read_block(alloc, file, index)?;

@@ -1,7 +1,7 @@
 //! The lines that commands print.
 
 ghost use Rattle.std.specs.Prelude.{◌≡◌, ◌++◌, IfOk, codes, decimal};
-ghost use Rattle.flow_commands.specs.Commands.{makespan_line, optimal_line, sequence_line};
+ghost use Rattle.flow_commands.specs.Printed.{makespan_line, optimal_line, sequence_line};
 
 use itoa::Buffer;
 use std::alloc::{AllocError, Global};

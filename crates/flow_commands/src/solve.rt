@@ -1,25 +1,27 @@
 //! The command `solve`.
 
-ghost use Rattle.std.specs.Prelude.{◌≡◌, ◌↔◌, ◌⊎◌, false, true, length, Ok, IfOk, OnOk, IfErr, IsErrOf};
+ghost use Rattle.std.specs.Prelude.{◌≡◌, ◌↔◌, ◌⊎◌, false, true, None, Ok, IfOk, OnOk, IfErr, IfSome, IsErrOf, is_some};
+ghost use Rattle.std.specs.Option.{ForSome};
 ghost use Rattle.flow_core.specs.Bytes.{Grows};
 ghost use Rattle.flow_core.specs.Sequences.{IsSequence};
 ghost use Rattle.flow_core.specs.declared.bytes.fault.ReadFault.TheVariants as read;
 ghost use Rattle.flow_core.specs.declared.bytes.fault.WriteFault.TheVariants as write;
-ghost use Rattle.flow_bound.specs.Neh.{IsNeh};
-ghost use Rattle.flow_search.specs.Plans.{IsPlan};
-ghost use Rattle.flow_commands.specs.Commands.{AnswersPlan, AnswersRun, AnswersSolve, AnswersSolveFrom};
-ghost use Rattle.flow_commands.specs.Commands.{asked_options, mirrored_if, reversed_if};
-ghost use Rattle.flow_commands.specs.Runs.{Came, CameFor, Ends, EndsAlone, EndsBoth};
-ghost use Rattle.flow_commands.specs.Runs.{Wrote, WroteBoth, WroteCertificate};
+ghost use Rattle.flow_search.specs.Plans.{IsPlan, but_memory, plan_fault};
+ghost use Rattle.flow_commands.specs.Block.{AnswersFor};
+ghost use Rattle.flow_commands.specs.Runs.{CameFor, Ends, EndsAlone, EndsFrom, HasFailed, Stands, Wrote, WroteFor};
+ghost use Rattle.flow_commands.specs.Runs.{WroteFrom, sink_run, source_run, start_run};
+ghost use Rattle.flow_commands.specs.Solve.{AnswersOptions, AnswersPlan, AnswersRun, AnswersSolve, WroteCertificate};
+ghost use Rattle.flow_commands.specs.Solve.{asked_options, mirrored_if, reversed_if};
+ghost use Rattle.flow_commands.specs.Start.{StartsFrom};
 ghost use Rattle.flow_core.specs.Limits.{most_text};
 
-use crate::block::read_block;
-use crate::fault::ToolFault;
-use crate::start::read_given;
+use crate::fault::CommandFault;
+use crate::start::read_inputs;
 use flow_cert::write_certificate;
-use flow_core::{Instance, Sequence, Sink, Source};
+use flow_core::{Instance, MemorySource, Sequence, Sink, Source};
 use flow_pool::{Gate, solve};
-use flow_search::{OptionFault, Options, Plan, prepare, prepare_from};
+use flow_requests::SolveRequest;
+use flow_search::{OptionFault, Options, Plan, PlanFault, prepare, prepare_from};
 use std::alloc::{AllocError, Global};
 use std::sync::Wait;
 use std::thread::Threads;
@@ -31,61 +33,62 @@ fn solve_plan<R: Threads + Wait + Sync, G: Gate + Sync, K: Sink>(
     plan: &Plan,
     gate: &G,
     out: &mut K,
-) -> Result<(), ToolFault>
+) -> Result<(), CommandFault>
     requires out_works { K.has_failed out.old ≡ false }
     requires is_plan { IsPlan plan.now }
-    ensures written { OnOk result (Wrote (AnswersRun plan.now) (K.taken out.old) (K.taken out.new)) }
-    ensures lawful { OnOk result (WroteCertificate plan.now.shop (K.taken out.old) (K.taken out.new)) }
-    ensures ended { IfErr result (EndsAlone (out.new ≡ out.old) (AnswersRun plan.now)
-        (K.taken out.old) (K.taken out.new)) }
-    ensures write_device { IsErrOf result (ToolFault.Write write.Device) ↔ (K.has_failed out.new ≡ true) }
+    ensures written { OnOk result (Wrote (AnswersRun plan.now) (sink_run K.taken out.old out.new)) }
+    ensures lawful { OnOk result (WroteCertificate plan.now.shop (sink_run K.taken out.old out.new)) }
+    ensures ended { IfErr result (EndsAlone (AnswersRun plan.now) (sink_run K.taken out.old out.new)) }
+    ensures write_device { IsErrOf result (CommandFault.Write write.Device) ↔ (K.has_failed out.new ≡ true) }
+    ensures reads_nothing { IsErrOf result (CommandFault.Read read.Device) → ⊥ }
 {
     let report = solve(rt, alloc, plan, gate)?;
     write_certificate(plan, &report.verdict, out)?;
     Ok(())
 }
 
-/// Solves an instance from the starting sequence of Nawaz, Enscore and Ham, and writes the certificate of its plan.
+/// The plan of an instance and options from a given sequence, or, where none is given, from that of Nawaz, Enscore and
+/// Ham.
+fn plan_of<'a>(
+    alloc: Global,
+    instance: &'a Instance,
+    given: Option<Sequence>,
+    options: Options,
+) -> Result<Plan<'a>, PlanFault>
+    requires { IfSome given (IsSequence instance.now.jobs) }
+    ensures shop { IfOk result (λ plan. plan.shop ≡ instance.now) }
+    ensures options { IfOk result (λ plan. plan.options ≡ options) }
+    ensures start { IfOk result (λ plan. StartsFrom instance.now given plan.start.sequence) }
+    ensures plan { IfOk result (λ plan. IsPlan plan) }
+    ensures accepted { OnOk result (plan_fault instance.now options ≡ None) }
+    ensures refused { IfErr result (λ fault. plan_fault instance.now options ≡ but_memory fault) }
+{
+    match given {
+        Some(start) => prepare_from(alloc, instance, start, options),
+        None => prepare(alloc, instance, options),
+    }
+}
+
+/// Solves an instance, and writes the certificate of its plan.
 fn solve_instance<R: Threads + Wait + Sync, G: Gate + Sync, K: Sink>(
     rt: &R,
     alloc: Global,
     instance: &Instance,
+    given: Option<Sequence>,
     options: Options,
     gate: &G,
     out: &mut K,
-) -> Result<(), ToolFault>
-    requires { K.has_failed out.old ≡ false }
-    ensures written { OnOk result (Wrote (AnswersPlan (IsNeh instance.now) instance.now options)
-        (K.taken out.old) (K.taken out.new)) }
-    ensures lawful { OnOk result (WroteCertificate instance.now (K.taken out.old) (K.taken out.new)) }
-    ensures ended { IfErr result (EndsAlone (out.new ≡ out.old) (AnswersPlan (IsNeh instance.now) instance.now options)
-        (K.taken out.old) (K.taken out.new)) }
-    ensures write_device { IsErrOf result (ToolFault.Write write.Device) ↔ (K.has_failed out.new ≡ true) }
-{
-    let plan = prepare(alloc, instance, options)?;
-    solve_plan(rt, alloc, &plan, gate, out)
-}
-
-/// Solves an instance from a sequence of it, and writes the certificate of its plan.
-fn solve_instance_from<R: Threads + Wait + Sync, G: Gate + Sync, K: Sink>(
-    rt: &R,
-    alloc: Global,
-    instance: &Instance,
-    start: Sequence,
-    options: Options,
-    gate: &G,
-    out: &mut K,
-) -> Result<(), ToolFault>
+) -> Result<(), CommandFault>
     requires out_works { K.has_failed out.old ≡ false }
-    requires is_sequence { IsSequence instance.now.jobs start }
-    ensures written { OnOk result (Wrote (AnswersPlan (λ jobs. jobs ≡ start) instance.now options)
-        (K.taken out.old) (K.taken out.new)) }
-    ensures lawful { OnOk result (WroteCertificate instance.now (K.taken out.old) (K.taken out.new)) }
-    ensures ended { IfErr result (EndsAlone (out.new ≡ out.old)
-        (AnswersPlan (λ jobs. jobs ≡ start) instance.now options) (K.taken out.old) (K.taken out.new)) }
-    ensures write_device { IsErrOf result (ToolFault.Write write.Device) ↔ (K.has_failed out.new ≡ true) }
+    requires given { IfSome given (IsSequence instance.now.jobs) }
+    ensures written { OnOk result (Wrote (AnswersPlan instance.now given options) (sink_run K.taken out.old out.new)) }
+    ensures lawful { OnOk result (WroteCertificate instance.now (sink_run K.taken out.old out.new)) }
+    ensures ended { IfErr result (EndsAlone (AnswersPlan instance.now given options)
+        (sink_run K.taken out.old out.new)) }
+    ensures write_device { IsErrOf result (CommandFault.Write write.Device) ↔ (K.has_failed out.new ≡ true) }
+    ensures reads_nothing { IsErrOf result (CommandFault.Read read.Device) → ⊥ }
 {
-    let plan = prepare_from(alloc, instance, start, options)?;
+    let plan = plan_of(alloc, instance, given, options)?;
     solve_plan(rt, alloc, &plan, gate, out)
 }
 
@@ -103,17 +106,60 @@ pub(crate) fn options_of(
 }
 
 /// The instance, or the mirrored one where that is asked for.
-fn turned(alloc: Global, instance: Instance, mirror: bool) -> Result<Instance, AllocError>
-    ensures { IfOk result (λ turned. turned ≡ mirrored_if mirror instance) }
+fn mirrored_if(alloc: Global, instance: Instance, mirrored: bool) -> Result<Instance, AllocError>
+    ensures { IfOk result (λ mirror. mirror ≡ mirrored_if mirrored instance) }
 {
-    if mirror {
+    if mirrored {
         return instance.mirrored(alloc);
     }
     Ok(instance)
 }
 
-/// Solves the block that an index names with so many workers, and writes the certificate of its plan, in a
-/// version; with `mirror` that of the mirrored instance.
+/// The given sequence, or the reversed one where the mirrored instance is asked for.
+fn reversed_if(given: Option<Sequence>, mirrored: bool) -> Option<Sequence>
+    ensures { result ≡ reversed_if mirrored given }
+{
+    let Some(sequence) = given else {
+        return None;
+    };
+    if mirrored {
+        return Some(sequence.reversed());
+    }
+    Some(sequence)
+}
+
+/// Solves a block as a request says, from a given sequence if there is one, and writes the certificate of its plan.
+fn solve_block<R: Threads + Wait + Sync, G: Gate + Sync, K: Sink>(
+    rt: &R,
+    alloc: Global,
+    instance: Instance,
+    given: Option<Sequence>,
+    request: SolveRequest,
+    gate: &G,
+    out: &mut K,
+) -> Result<(), CommandFault>
+    requires out_works { K.has_failed out.old ≡ false }
+    requires given { IfSome given (IsSequence instance.jobs) }
+    ensures written { OnOk result (Wrote (AnswersSolve request instance given) (sink_run K.taken out.old out.new)) }
+    ensures lawful { OnOk result (WroteCertificate (mirrored_if request.mirrored instance)
+        (sink_run K.taken out.old out.new)) }
+    ensures ended { IfErr result (EndsAlone (AnswersSolve request instance given) (sink_run K.taken out.old out.new)) }
+    ensures write_device { IsErrOf result (CommandFault.Write write.Device) ↔ (K.has_failed out.new ≡ true) }
+    ensures reads_nothing { IsErrOf result (CommandFault.Read read.Device) → ⊥ }
+{
+    let options = options_of(
+        request.workers,
+        request.depth,
+        request.budget,
+        request.version,
+    )?;
+    let given = reversed_if(given, request.mirrored);
+    let instance = mirrored_if(alloc, instance, request.mirrored)?;
+    solve_instance(rt, alloc, &instance, given, options, gate, out)
+}
+
+/// Solves the block that an index names, from the starting sequence of Nawaz, Enscore and Ham, and writes the
+/// certificate of its plan, in a version.
 pub fn run_solve<R: Threads + Wait + Sync, S: Source, G: Gate + Sync, K: Sink>(
     rt: &R,
     alloc: Global,
@@ -123,84 +169,74 @@ pub fn run_solve<R: Threads + Wait + Sync, S: Source, G: Gate + Sync, K: Sink>(
     depth: u32,
     budget: u32,
     version: u32,
-    mirror: bool,
     gate: &G,
     out: &mut K,
-) -> Result<(), ToolFault>
+) -> Result<(), CommandFault>
     requires file_works { S.has_failed file.old ≡ false }
     requires out_works { K.has_failed out.old ≡ false }
-    ensures written { OnOk result (Came most_text
-        (λ text. Wrote (AnswersSolve index workers depth budget version mirror text)
-        (K.taken out.old) (K.taken out.new))
-        (S.given file.old) (S.given file.new) (S.has_ended file.new)) }
-    ensures lawful { OnOk result (CameFor index
-        (λ shop. WroteCertificate (mirrored_if mirror shop) (K.taken out.old) (K.taken out.new))
-        (S.given file.old) (S.given file.new) (S.has_ended file.new)) }
-    ensures ended { IfErr result (Ends (out.new ≡ out.old) most_text
-        (AnswersSolve index workers depth budget version mirror) (S.given file.old) (S.given file.new)
-        (S.has_ended file.new) (K.taken out.old) (K.taken out.new)) }
-    ensures read_device { IsErrOf result (ToolFault.Read read.Device) ↔ (S.has_failed file.new ≡ true) }
-    ensures write_device { IsErrOf result (ToolFault.Write write.Device) ↔ (K.has_failed out.new ≡ true) }
+    ensures written { OnOk result (WroteFor most_text (AnswersFor index
+        (λ block. AnswersOptions block.instance None (asked_options workers depth budget version)))
+        (source_run S.given S.has_ended file.old file.new) (sink_run K.taken out.old out.new)) }
+    ensures lawful { OnOk result (CameFor index (λ shop. WroteCertificate shop (sink_run K.taken out.old out.new))
+        (source_run S.given S.has_ended file.old file.new)) }
+    ensures ended { IfErr result (Ends most_text (AnswersFor index
+        (λ block. AnswersOptions block.instance None (asked_options workers depth budget version)))
+        (source_run S.given S.has_ended file.old file.new) (sink_run K.taken out.old out.new)) }
+    ensures read_device { IsErrOf result (CommandFault.Read read.Device) ↔ (S.has_failed file.new ≡ true) }
+    ensures write_device { IsErrOf result (CommandFault.Write write.Device) ↔ (K.has_failed out.new ≡ true) }
     ensures stands { Grows (S.given file.old) (S.given file.new) }
 {
-    let block = read_block(alloc, file, index)?;
-    let options = options_of(workers, depth, budget, version)?;
-    let instance = turned(alloc, block.instance, mirror)?;
-    solve_instance(rt, alloc, &instance, options, gate, out)
+    let request = SolveRequest {
+        workers,
+        depth,
+        budget,
+        version,
+        mirrored: false,
+    };
+    run_solve_as(
+        rt,
+        alloc,
+        file,
+        index,
+        &mut None::<MemorySource>,
+        request,
+        gate,
+        out,
+    )
 }
 
-/// The sequence, or the reversed one where the mirrored instance is asked for.
-fn turned_start(start: Sequence, mirror: bool) -> Sequence
-    ensures value { result ≡ reversed_if mirror start }
-    ensures each { IsSequence (length start) result }
-{
-    if mirror {
-        return start.reversed();
-    }
-    start
-}
-
-/// Solves the block that an index names from a starting sequence, and writes the certificate of its plan, in a
-/// version; with `mirror` that of the mirrored instance, from the reversed sequence.
-pub fn run_solve_from<R: Threads + Wait + Sync, S: Source, T: Source, G: Gate + Sync, K: Sink>(
+/// Solves the block that an index names as a request says, and writes the certificate of its plan. It starts from the
+/// sequence that a start text gives, or, where there is no such text, from that of Nawaz, Enscore and Ham. Where the
+/// mirrored instance is asked for, it is solved in place of the block, from the reversed sequence of the text.
+pub fn run_solve_as<R: Threads + Wait + Sync, S: Source, T: Source, G: Gate + Sync, K: Sink>(
     rt: &R,
     alloc: Global,
     file: &mut S,
     index: u32,
-    start: &mut T,
-    workers: u32,
-    depth: u32,
-    budget: u32,
-    version: u32,
-    mirror: bool,
+    start: &mut Option<T>,
+    request: SolveRequest,
     gate: &G,
     out: &mut K,
-) -> Result<(), ToolFault>
+) -> Result<(), CommandFault>
     requires file_works { S.has_failed file.old ≡ false }
-    requires start_works { T.has_failed start.old ≡ false }
+    requires start_works { ForSome start.old (λ source. T.has_failed source ≡ false) }
     requires out_works { K.has_failed out.old ≡ false }
-    ensures written { OnOk result (WroteBoth most_text
-        (λ shop. AnswersSolveFrom mirror shop (asked_options workers depth budget version)) index
-        (S.given file.old) (S.given file.new) (S.has_ended file.new)
-        (T.given start.old) (T.given start.new) (T.has_ended start.new) (K.taken out.old) (K.taken out.new)) }
+    ensures written { OnOk result (WroteFrom (AnswersSolve request) index
+        (source_run S.given S.has_ended file.old file.new)
+        (start_run T.given T.has_ended start.old start.new) (sink_run K.taken out.old out.new)) }
     ensures lawful { OnOk result (CameFor index
-        (λ shop. WroteCertificate (mirrored_if mirror shop) (K.taken out.old) (K.taken out.new))
-        (S.given file.old) (S.given file.new) (S.has_ended file.new)) }
-    ensures ended { IfErr result (EndsBoth most_text
-        (λ shop. AnswersSolveFrom mirror shop (asked_options workers depth budget version)) index
-        (out.new ≡ out.old) (start.new ≡ start.old)
-        (S.given file.old) (S.given file.new) (S.has_ended file.new)
-        (T.given start.old) (T.given start.new) (T.has_ended start.new) (K.taken out.old) (K.taken out.new)) }
-    ensures read_device { IsErrOf result (ToolFault.Read read.Device)
-        ↔ ((S.has_failed file.new ≡ true) ⊎ (T.has_failed start.new ≡ true)) }
-    ensures write_device { IsErrOf result (ToolFault.Write write.Device) ↔ (K.has_failed out.new ≡ true) }
+        (λ shop. WroteCertificate (mirrored_if request.mirrored shop) (sink_run K.taken out.old out.new))
+        (source_run S.given S.has_ended file.old file.new)) }
+    ensures ended { IfErr result (EndsFrom (AnswersSolve request) index
+        (source_run S.given S.has_ended file.old file.new)
+        (start_run T.given T.has_ended start.old start.new) (sink_run K.taken out.old out.new)) }
+    ensures read_device { IsErrOf result (CommandFault.Read read.Device) ↔ ((S.has_failed file.new ≡ true)
+        ⊎ HasFailed T.has_failed (start_run T.given T.has_ended start.old start.new)) }
+    ensures write_device { IsErrOf result (CommandFault.Write write.Device) ↔ (K.has_failed out.new ≡ true) }
     ensures stands { Grows (S.given file.old) (S.given file.new) }
-    ensures start_stands { Grows (T.given start.old) (T.given start.new) }
+    ensures start_stands { IfSome (start_run T.given T.has_ended start.old start.new) Stands }
+    ensures start_stays { is_some start.new ≡ is_some start.old }
 {
-    let block = read_block(alloc, file, index)?;
-    let start = read_given(alloc, &block.instance, start)?;
-    let options = options_of(workers, depth, budget, version)?;
-    let instance = turned(alloc, block.instance, mirror)?;
-    let start = turned_start(start, mirror);
-    solve_instance_from(rt, alloc, &instance, start, options, gate, out)
+    let (block, given) = read_inputs(alloc, file, index, start)?;
+    solve_block(rt, alloc, block.instance, given, request, gate, out)
 }

@@ -5,12 +5,12 @@ ghost use Rattle.flow_core.specs.Bytes.{Grows};
 ghost use Rattle.flow_core.specs.SequenceFaults.{sequence_fault, but_memory};
 ghost use Rattle.flow_core.specs.declared.bytes.fault.ReadFault.TheVariants as read;
 ghost use Rattle.flow_core.specs.declared.bytes.fault.WriteFault.TheVariants as write;
-ghost use Rattle.flow_commands.specs.Commands.{AnswersSpan, span_answer};
-ghost use Rattle.flow_commands.specs.Runs.{Came, Ends, Wrote};
+ghost use Rattle.flow_commands.specs.Span.{AnswersSpan, span_answer};
+ghost use Rattle.flow_commands.specs.Runs.{Ends, WroteFor, sink_run, source_run};
 ghost use Rattle.flow_core.specs.Limits.{most_text};
 
 use crate::block::read_block;
-use crate::fault::ToolFault;
+use crate::fault::CommandFault;
 use crate::printed::makespan_line;
 use flow_core::{Instance, Sequence, SequenceFault, Sink, Source, makespan, put_all};
 use std::alloc::Global;
@@ -31,16 +31,15 @@ pub fn run_span<S: Source, K: Sink>(
     index: u32,
     jobs: &[u16],
     out: &mut K,
-) -> Result<(), ToolFault>
+) -> Result<(), CommandFault>
     requires file_works { S.has_failed file.old ≡ false }
     requires out_works { K.has_failed out.old ≡ false }
-    ensures written { OnOk result (Came most_text
-        (λ text. Wrote (AnswersSpan index jobs.now text) (K.taken out.old) (K.taken out.new))
-        (S.given file.old) (S.given file.new) (S.has_ended file.new)) }
-    ensures ended { IfErr result (Ends (out.new ≡ out.old) most_text (AnswersSpan index jobs.now)
-        (S.given file.old) (S.given file.new) (S.has_ended file.new) (K.taken out.old) (K.taken out.new)) }
-    ensures read_device { IsErrOf result (ToolFault.Read read.Device) ↔ (S.has_failed file.new ≡ true) }
-    ensures write_device { IsErrOf result (ToolFault.Write write.Device) ↔ (K.has_failed out.new ≡ true) }
+    ensures written { OnOk result (WroteFor most_text (AnswersSpan index jobs.now)
+        (source_run S.given S.has_ended file.old file.new) (sink_run K.taken out.old out.new)) }
+    ensures ended { IfErr result (Ends most_text (AnswersSpan index jobs.now)
+        (source_run S.given S.has_ended file.old file.new) (sink_run K.taken out.old out.new)) }
+    ensures read_device { IsErrOf result (CommandFault.Read read.Device) ↔ (S.has_failed file.new ≡ true) }
+    ensures write_device { IsErrOf result (CommandFault.Write write.Device) ↔ (K.has_failed out.new ≡ true) }
     ensures stands { Grows (S.given file.old) (S.given file.new) }
 {
     let block = read_block(alloc, file, index)?;

@@ -6,7 +6,7 @@ pub use Rattle.flow_shop.proofs.Admissible
 pub use Rattle.flow_shop.proofs.InstanceLemmas
 pub use Rattle.flow_shop.proofs.SequenceLemmas
 pub use Rattle.flow_shop.proofs.JobSetLemmas
-pub use Rattle.flow_shop.proofs.Turns
+pub use Rattle.flow_shop.proofs.Transposes
 pub use Rattle.flow_shop.proofs.Taken
 pub use Rattle.flow_shop.proofs.TwoLeast
 pub use Rattle.flow_shop.proofs.RowSteps

@@ -12,6 +12,7 @@ pub use Rattle.flow_shop.specs.JobSet
 pub use Rattle.flow_shop.specs.Refusals
 pub use Rattle.flow_shop.specs.InstanceFaults
 pub use Rattle.flow_shop.specs.SequenceFaults
+pub use Rattle.flow_shop.specs.Characters
 pub use Rattle.flow_shop.specs.Digits
 pub use Rattle.flow_text.specs.Generator
 pub use Rattle.flow_text.specs.Bytes

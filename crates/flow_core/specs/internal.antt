@@ -1,5 +1,5 @@
 pub use Rattle.flow_shop.specs.TwoLeast
-pub use Rattle.flow_shop.specs.internal.Turned
+pub use Rattle.flow_shop.specs.internal.Transposed
 pub use Rattle.flow_shop.specs.internal.Same
 pub use Rattle.flow_text.specs.internal.TextWalk
 pub use Rattle.flow_text.specs.internal.StartSteps

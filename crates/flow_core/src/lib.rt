@@ -10,8 +10,8 @@ pub mod text;
 
 pub use flow_limits::{
     BUDGETS, MAX_BUDGET, MAX_CERTIFICATE, MAX_DEPTH, MAX_JOBS, MAX_MACHINES, MAX_NUMBER,
-    MAX_PREFIXES, MAX_ROUNDS, MAX_SEED, MAX_TEXT, MAX_TIME, MAX_VERSION, MAX_WORKERS, MIN_VERSION,
-    limits_are_those_stated,
+    MAX_PREFIXES, MAX_ROUNDS, MAX_SEED, MAX_TEXT, MAX_TIME, MAX_VERSION, MAX_WIDTH, MAX_WORK,
+    MAX_WORKERS, MIN_VERSION, limits_are_those_stated,
 };
 pub use flow_shop::{
     Front, Instance, InstanceFault, JobSet, Row, Sequence, SequenceFault, bound_is_admissible,

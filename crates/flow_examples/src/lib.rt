@@ -6,6 +6,8 @@
 #[cfg(test)]
 mod bounds;
 #[cfg(test)]
+mod bounds_text;
+#[cfg(test)]
 mod bytes;
 #[cfg(test)]
 mod changed_certificate;

@@ -1,11 +1,17 @@
-//! Better sequences: by iterated greedy search (Ruiz and Stützle), and by a two-ended beam search.
+//! Better sequences: by a two-ended beam search, by iterated greedy search (Ruiz and Stützle), and by both.
 #![tactic(auto)]
 
-mod better;
+mod draws;
+mod effort;
+mod improvement;
 mod list;
 mod place;
+mod reached;
 mod round;
+mod rounds;
 mod two_ended;
 
-pub use better::improve;
-pub use two_ended::{Reached, beam};
+pub use effort::Effort;
+pub use improvement::{improve, rounds_of_both};
+pub use reached::Reached;
+pub use two_ended::beam;

@@ -1,11 +1,10 @@
-//! What a round does with its list of jobs, and with the order of a pass.
+//! What a round does with its list of jobs.
 
 ghost use Rattle.std.specs.Prelude.{◌≡◌, ◌-◌, ◌<◌, ◌≤◌, length, take, insert, slice_index, IfOk};
 ghost use Rattle.std.specs.List.Sorted.{IsPermutation};
 ghost use Rattle.flow_limits.specs.Limits.{most_jobs};
 ghost use Rattle.flow_shop.specs.Sequences.{IsSequence};
 
-use flow_text::Taillard;
 use std::alloc::{AllocError, Global};
 
 /// The jobs of an instance in the order of their numbers.
@@ -18,18 +17,6 @@ pub(crate) fn numbers(alloc: Global, jobs: u16) -> Result<Vec<u16>, AllocError>
         numbers.push(job)?;
     }
     Ok(numbers)
-}
-
-/// Puts a list in an order that is drawn: each entry from the last to the second is swapped with one that is not behind
-/// it.
-pub(crate) fn shuffle(draws: &mut Taillard, list: &mut [u16])
-    requires { length list.old ≤ most_jobs }
-    ensures { IsPermutation list.old list.new }
-{
-    for index in (1..list.len()).rev() {
-        let other = draws.next(1, index as u32 + 1) as usize - 1;
-        list.swap(index, other);
-    }
 }
 
 /// The place of a job that stands in the list, counted from 0.

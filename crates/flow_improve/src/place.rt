@@ -17,6 +17,8 @@ pub(crate) struct Room {
     rows: Vec<Row>,
     tails: Vec<Times>,
     spans: Vec<u64>,
+    /// The steps so far: three for each job of a list in which a job is placed, and each machine.
+    pub(crate) steps: u64,
 }
 
 impl Room {
@@ -29,6 +31,7 @@ impl Room {
             rows: rows(alloc, instance)?,
             tails: vec![in alloc; [0; MAX_MACHINES]; jobs]?,
             spans: vec![in alloc; 0; jobs]?,
+            steps: 0,
         })
     }
 
@@ -42,6 +45,8 @@ impl Room {
         ensures list { IsSequence instance.now.jobs list.new }
         ensures makespan { result ≡ span instance.now (take (count + 1) list.new) }
     {
+        let machines = usize::from(instance.machines());
+        self.steps = self.steps.saturating_add(3 * (count * machines) as u64);
         let (before, rest) = list.split_at(count);
         let best = best_place(
             instance,

@@ -5,7 +5,8 @@ ghost use Rattle.flow_shop.specs.Paths.{span};
 ghost use Rattle.flow_shop.specs.Sequences.{IsSequence};
 ghost use Rattle.flow_improve.specs.internal.Rooms.{IsRoundsFor};
 
-use crate::list::{numbers, shuffle, take_out};
+use crate::draws::{place_in, shuffle};
+use crate::list::{numbers, take_out};
 use crate::place::Room;
 use flow_shop::Instance;
 use flow_text::Taillard;
@@ -40,6 +41,11 @@ impl Rounds {
         })
     }
 
+    /// The steps of all rounds so far.
+    pub(crate) fn steps(&self) -> u64 {
+        self.room.steps
+    }
+
     /// Takes a few jobs out of the list, each from a place that is drawn, and places them again in the order in which
     /// they left.
     fn place_some(&mut self, instance: &Instance, list: &mut [u16]) -> u64
@@ -53,8 +59,7 @@ impl Rounds {
         let kept = jobs.saturating_sub(TAKEN_OUT);
         // The jobs that have left stand at the end of the list, in the order in which they left.
         for count in (kept + 1..jobs + 1).rev() {
-            let place = self.draws.next(1, count as u32) as usize - 1;
-            take_out(list, place);
+            take_out(list, place_in(&mut self.draws, count));
         }
         for count in kept..jobs - 1 {
             self.room.place(instance, list, count);

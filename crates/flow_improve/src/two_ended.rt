@@ -6,61 +6,19 @@ ghost use Rattle.flow_shop.specs.Sequences.{IsSequence};
 ghost use Rattle.flow_improve.specs.internal.Reaches.{IsReached};
 
 mod bounds;
+mod columns;
 mod kept;
-mod lanes;
+mod list;
 mod node;
 mod order;
 mod pass;
 
+use crate::reached::Reached;
 use crate::two_ended::order::Mode;
 use crate::two_ended::pass::Passes;
 use flow_bound::taillard_bound;
-use flow_shop::{Instance, Sequence, SequenceFault, makespan};
+use flow_shop::{Instance, Sequence};
 use std::alloc::{AllocError, Global};
-
-/// The best sequence of a search.
-#[derive(Drop)]
-pub struct Reached {
-    /// The sequence.
-    pub sequence: Sequence,
-    /// Its makespan.
-    pub value: u64,
-    /// Whether the search ended because the makespan has Taillard's bound, or because a pass dropped nothing. No
-    /// contract says that no sequence has a smaller makespan then.
-    pub whole: bool,
-}
-
-/// The same jobs again, as a sequence of the instance.
-fn copied(alloc: Global, instance: &Instance, sequence: &Sequence) -> Result<Sequence, AllocError>
-    requires { length sequence.now ≡ instance.now.jobs }
-    ensures { IfOk result (λ copy. copy ≡ sequence.now) }
-{
-    // The jobs are a sequence, so an error is that memory ran out.
-    Sequence::new(alloc, instance, sequence.jobs()).map_err(|_| AllocError)
-}
-
-impl Reached {
-    /// Takes these jobs, where they are a sequence of a smaller makespan.
-    fn take(&mut self, alloc: Global, instance: &Instance, jobs: &[u16]) -> Result<(), AllocError>
-        requires { IsReached instance.now self.old }
-        ensures reached { IsReached instance.now self.new }
-        ensures least { self.new.value ≤ self.old.value }
-    {
-        match Sequence::new(alloc, instance, jobs) {
-            Ok(sequence) => {
-                let value = makespan(instance, &sequence);
-                if value < self.value {
-                    self.sequence = sequence;
-                    self.value = value;
-                }
-                Ok(())
-            }
-            Err(SequenceFault::Memory) => Err(AllocError),
-            // No pass gives such jobs.
-            Err(_) => Ok(()),
-        }
-    }
-}
 
 /// When a search ends.
 #[derive(Drop)]
@@ -121,8 +79,8 @@ fn ends_with(
         return Ok(true);
     }
     let is_whole = passes.pass(instance, width as usize, mode, reached.value)?;
-    if let Some(node) = passes.least() {
-        reached.take(alloc, instance, node.jobs(instance))?;
+    if let Some(jobs) = passes.least() {
+        reached.take(alloc, instance, jobs)?;
     }
     reached.whole = is_whole;
     Ok(is_whole)
@@ -171,12 +129,9 @@ pub fn beam(
     ensures least { IfOk result (λ reached. reached.value ≤ span instance.now start.now) }
 {
     let limits = Limits::of(instance, work);
-    let mut reached = Reached {
-        sequence: copied(alloc, instance, start)?,
-        value: makespan(instance, start),
-        whole: false,
-    };
+    let mut reached = Reached::new(alloc, instance, start, false)?;
     let mut passes = Passes::new(alloc, instance, limits.widest(width))?;
     search(alloc, instance, &limits, &mut passes, &mut reached, width)?;
+    reached.whole = reached.whole || reached.value <= limits.least;
     Ok(reached)
 }

@@ -3,7 +3,8 @@ use Rattle.std.specs.Prelude.{ℕ, List}
 use denote.RawPtr.{Ptr}
 use Rattle.rtrb.specs.Shared.{Names}
 
--- the most slots of a lane: one for each prefix that a plan may have, and one for the end of its tasks
+-- the most slots that a lane may be made with: enough for a task for each prefix that a plan may have, and one end; the
+-- lanes of a run have 4
 abbrev pub most_slots : ℕ
 most_slots = 100001
 

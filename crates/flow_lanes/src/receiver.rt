@@ -21,7 +21,8 @@ impl<T> Model for Receiver<T> {
 }
 
 impl<T> Receiver<T> {
-    /// How many items are known to be in the lane. The next receives, as many as these, succeed.
+    /// How many items are known to be in the lane. The next receives, as many as these, succeed. For callers alone: a
+    /// run only tries to receive.
     pub fn ready(&mut self) -> usize
         ensures known { result ≡ length self.new.known_items }
         ensures same_lane { self.new.lane ≡ self.old.lane }

@@ -20,7 +20,8 @@ impl<T> Model for Sender<T> {
 }
 
 impl<T> Sender<T> {
-    /// How many slots are known to be free. The next sends, as many as these, succeed.
+    /// How many slots are known to be free. The next sends, as many as these, succeed. For callers alone: a run only
+    /// tries to send.
     pub fn room(&mut self) -> usize
         ensures known { self.new ≡ record self.old { known_free = result } }
         ensures forgets_none { self.old.known_free ≤ result }

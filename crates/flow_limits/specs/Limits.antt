@@ -62,6 +62,14 @@ most_certificate = 1000000000
 abbrev pub most_rounds : ℕ
 most_rounds = 100000000
 
+-- the greatest width of a beam
+abbrev pub most_width : ℕ
+most_width = 65536
+
+-- the most steps of an improvement, in millions
+abbrev pub most_work : ℕ
+most_work = 1000000
+
 -- the budgets of `certify`, in the order in which they are tried
 abbrev pub budgets : List ℕ
 budgets = 10000 ∷ 100000 ∷ 1000000 ∷ 10000000 ∷ 100000000 ∷ []

@@ -7,7 +7,7 @@ ghost use Rattle.flow_limits.specs.Limits.{most_jobs, most_machines, greatest_ti
 ghost use Rattle.flow_limits.specs.Limits.{greatest_number, greatest_seed};
 ghost use Rattle.flow_limits.specs.Limits.{greatest_depth, least_version, greatest_version};
 ghost use Rattle.flow_limits.specs.Limits.{most_workers, most_prefixes, greatest_budget};
-ghost use Rattle.flow_limits.specs.Limits.{most_text, most_certificate, most_rounds, budgets};
+ghost use Rattle.flow_limits.specs.Limits.{most_text, most_certificate, most_rounds, most_width, most_work, budgets};
 
 /// The most jobs of an instance.
 pub const MAX_JOBS: usize = 800;
@@ -51,6 +51,12 @@ pub const MAX_CERTIFICATE: usize = 1_000_000_000;
 /// The most rounds of an improvement.
 pub const MAX_ROUNDS: u32 = 100_000_000;
 
+/// The greatest width of a beam.
+pub const MAX_WIDTH: u32 = 65_536;
+
+/// The most steps of an improvement, in millions.
+pub const MAX_WORK: u32 = 1_000_000;
+
 /// The budgets of `certify`, in the order in which they are tried.
 pub const BUDGETS: [u32; 5] = [10_000, 100_000, 1_000_000, 10_000_000, 100_000_000];
 
@@ -70,5 +76,7 @@ pub fn limits_are_those_stated()
     ensures text { MAX_TEXT ≡ most_text }
     ensures certificate { MAX_CERTIFICATE ≡ most_certificate }
     ensures rounds { MAX_ROUNDS ≡ most_rounds }
+    ensures width { MAX_WIDTH ≡ most_width }
+    ensures work { MAX_WORK ≡ most_work }
     ensures budgets { BUDGETS ≡ budgets }
 {}

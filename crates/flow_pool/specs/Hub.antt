@@ -6,7 +6,7 @@ use Rattle.flow_lanes.specs.Lane.{Lane}
 use Rattle.flow_pool.specs.declared.ends.Task.{Task}
 use Rattle.flow_pool.specs.declared.ends.Answer.{Answer}
 use Rattle.flow_pool.specs.declared.ends.HubEnds.{HubEnds}
-use Rattle.flow_pool.specs.Deal.{dealt, by_lane}
+use Rattle.flow_pool.specs.Deal.{dealt, by_worker}
 use Rattle.flow_pool.specs.Work.{prefix_count, tasks_of}
 
 -- nothing was sent or received through the hub's ends
@@ -27,7 +27,7 @@ received_lists hubs = map (λ hub. hub.answers.received) hubs
 
 -- the answers in turn of k workers: for each worker its answers
 abbrev pub all_dealt : ℕ → List Answer → List (List Answer)
-all_dealt k answers = by_lane k (λ lane. dealt k lane answers)
+all_dealt k answers = by_worker k (λ worker. dealt k worker answers)
 
 -- the hub may collect: it has fresh ends for each worker, no answer yet, and memory for all answers
 pub record CanCollect (plan : Planned) (hubs : List HubEnds) (answers : Vec Answer) : Type 0 where
@@ -39,6 +39,6 @@ pub record CanCollect (plan : Planned) (hubs : List HubEnds) (answers : Vec Answ
 -- the hub has collected: through the same lanes it sent each worker its tasks, and received all answers in turn
 pub record HasCollected (plan : Planned) (before after : List HubEnds) (answers : List Answer) : Type 0 where
   pub lanes : map hub_lanes after ≡ map hub_lanes before
-  pub sent : sent_lists after ≡ by_lane plan.options.workers (tasks_of plan.options.workers (prefix_count plan))
+  pub sent : sent_lists after ≡ by_worker plan.options.workers (tasks_of plan.options.workers (prefix_count plan))
   pub received : received_lists after ≡ all_dealt plan.options.workers answers
   pub count : length answers ≡ prefix_count plan

@@ -1,14 +1,18 @@
 -- What the settled lanes of a run have carried, and why a run has no report.
-use Rattle.std.specs.Prelude.{◌≡◌, ℕ, ◌<◌, List, Some, length, All, HoldsAt}
+use Rattle.std.specs.Prelude.{◌≡◌, ℕ, ◌<◌, List, None, Some, length, All, HoldsAt}
+use Rattle.flow_shop.specs.Paths.{span}
+use Rattle.flow_shop.specs.Sequences.{IsSequence, IsLeastMakespan}
 use Rattle.flow_search.specs.Plans.{Planned}
 use Rattle.flow_search.specs.Outcomes.{IsLawful, IsDone, first_over_budget}
+use Rattle.flow_search.specs.Verdicts.{IsVerdict}
 use Rattle.flow_search.specs.declared.verdict.RunFault.{RunFault}
 use Rattle.flow_search.specs.declared.verdict.RunFault.TheVariants as run_fault
 use Rattle.flow_lanes.specs.declared.settled.Settled.{Settled}
 use Rattle.flow_pool.specs.declared.ends.Task.{Task}
 use Rattle.flow_pool.specs.declared.ends.Answer.{Answer}
-use Rattle.flow_pool.specs.declared.whole_run.SolveFault.{SolveFault}
-use Rattle.flow_pool.specs.declared.whole_run.SolveFault.TheVariants.{Memory, Threads, OverBudget}
+use Rattle.flow_pool.specs.declared.run.solve.Report.{Report}
+use Rattle.flow_pool.specs.declared.run.solve.SolveFault.{SolveFault}
+use Rattle.flow_pool.specs.declared.run.solve.SolveFault.TheVariants.{Memory, Threads, OverBudget}
 use Rattle.flow_pool.specs.Work.{prefix_count, share, tasks_of, answered}
 
 -- how many slots each lane of a run has
@@ -33,6 +37,16 @@ pub record IsWholeWork (plan : Planned) (worker : ℕ) (lanes : Settled Task × 
 pub record AreWholeWork (plan : Planned) (lanes : List (Settled Task × Settled Answer)) : Type 0 where
   pub count : length lanes ≡ plan.options.workers
   pub each : (worker : ℕ) → worker < plan.options.workers → HoldsAt (IsWholeWork plan worker) lanes worker
+
+-- the report of a whole run: its lanes carried the whole work; no tree is longer than the budget; the verdict is that
+-- of the plan, its value is the least makespan, and its sequence is one of the instance and has this makespan
+pub record IsReport (plan : Planned) (report : Report) : Type 0 where
+  pub lanes : AreWholeWork plan report.lanes.items
+  pub within : first_over_budget plan ≡ None
+  pub verdict : IsVerdict plan report.verdict
+  pub least : IsLeastMakespan plan.shop report.verdict.value
+  pub attained : span plan.shop report.verdict.sequence ≡ report.verdict.value
+  pub sequence : IsSequence plan.shop.jobs report.verdict.sequence
 
 -- `OverBudget` names the first prefix whose tree is longer than the budget; nothing is said of `Memory` and `Threads`
 abbrev pub IsSolveFault : Planned → SolveFault → Type 0

@@ -1,5 +1,5 @@
 -- The tasks of a worker, and which answers fit them.
-use Rattle.std.specs.Prelude.{◌≡◌, ℕ, ◌+◌, ◌%◌, ◌<◌, ◌≤◌, cond, nat_eq, List, [], ◌∷◌, ◌++◌, length, map, filter, All}
+use Rattle.std.specs.Prelude.{◌≡◌, ℕ, ◌+◌, ◌<◌, ◌≤◌, cond, nat_eq, List, [], ◌∷◌, ◌++◌, length, map, All}
 use Rattle.std.specs.List.{range_with_len}
 use Rattle.flow_search.specs.declared.outcome.Outcome.TheVariants.{NoPrefix}
 use Rattle.flow_search.specs.Plans.{Planned, prefixes_of}
@@ -9,10 +9,11 @@ use Rattle.flow_pool.specs.declared.ends.Task.TheVariants.{Prefix, End}
 use Rattle.flow_pool.specs.declared.ends.Answer.{Answer}
 use Rattle.flow_pool.specs.declared.ends.WorkerEnds.{WorkerEnds}
 use Rattle.flow_lanes.specs.Lane.{Lane}
+use Rattle.flow_pool.specs.Deal.{dealt}
 
 -- the prefixes, of n, that one worker of k has to answer: worker, worker + k, and so on
 abbrev pub share : ℕ → ℕ → ℕ → List ℕ
-share k n worker = filter (λ number. nat_eq (number % k) worker) (range_with_len 0 n)
+share k n worker = dealt k worker (range_with_len 0 n)
 
 -- a task for each prefix
 abbrev pub asking : List ℕ → List Task

@@ -4,7 +4,7 @@ use crate::trouble::{Trouble, confirm};
 use flow_bound::{insertion_spans, neh};
 use flow_core::generate;
 use flow_examples::three_machines;
-use flow_improve::{beam, improve};
+use flow_improve::{Effort, beam, improve, rounds_of_both};
 use std::alloc::Global;
 
 /// `neh`.
@@ -25,20 +25,38 @@ pub(crate) fn insertions_are_tried(alloc: Global) -> Result<(), Trouble> {
     )
 }
 
-/// `improve`. The values are those of the plain program bench/improve.rs.
-pub(crate) fn start_is_improved(alloc: Global) -> Result<(), Trouble> {
-    let instance = generate(alloc, 3, 4, 1)?;
-    let (start, _) = neh(alloc, &instance)?;
-    let (sequence, makespan) = improve(alloc, &instance, &start, 6, 5)?;
-    let right = makespan == 272 && sequence.jobs() == [1, 3, 2].as_slice();
-    confirm(right, "improve")
-}
-
-/// `beam`. The values are those of the plain program bench/beam.rs.
+/// `beam`. The values are those of the plain program bench/improve.rs.
 pub(crate) fn beam_is_searched(alloc: Global) -> Result<(), Trouble> {
     let instance = generate(alloc, 3, 4, 1)?;
     let (start, _) = neh(alloc, &instance)?;
     let best = beam(alloc, &instance, &start, 4, 1_000)?;
     let right = best.value == 272 && best.sequence.jobs() == [1, 3, 2].as_slice() && best.whole;
     confirm(right, "beam")
+}
+
+/// A little of a beam, and a few rounds.
+const EFFORT: Effort = Effort {
+    width: 1,
+    rounds: 6,
+    seed: 5,
+    work: 1,
+};
+
+/// `rounds_of_both`. The values are those of the plain program bench/improve.rs.
+pub(crate) fn rounds_of_both_are_made(alloc: Global) -> Result<(), Trouble> {
+    let instance = generate(alloc, 3, 4, 1)?;
+    let (start, _) = neh(alloc, &instance)?;
+    let beamed = beam(alloc, &instance, &start, 0, 0)?;
+    let best = rounds_of_both(alloc, &instance, &start, &beamed, &EFFORT)?;
+    let right = best.value == 272 && best.sequence.jobs() == [1, 3, 2].as_slice();
+    confirm(right, "rounds_of_both")
+}
+
+/// `improve`. The values are those of the plain program bench/improve.rs.
+pub(crate) fn start_is_improved(alloc: Global) -> Result<(), Trouble> {
+    let instance = generate(alloc, 3, 4, 1)?;
+    let (start, _) = neh(alloc, &instance)?;
+    let best = improve(alloc, &instance, &start, &EFFORT)?;
+    let right = best.value == 272 && best.sequence.jobs() == [1, 3, 2].as_slice();
+    confirm(right, "improve")
 }

@@ -2,7 +2,7 @@
 
 use crate::trouble::{Trouble, confirm};
 use flow_cert::write_certificate;
-use flow_check::{CheckFault, check};
+use flow_check::{CheckFault, check, check_sequence};
 use flow_core::MemorySink;
 use flow_examples::{AMPLE, CERTIFICATE_AT_DEPTH_0, WEAK_CERTIFICATE, three_machines};
 use flow_search::{Options, prepare, solve_plain};
@@ -35,4 +35,14 @@ pub(crate) fn certificates_are_checked(alloc: Global) -> Result<(), Trouble> {
         Err(CheckFault::Memory) => Err(Trouble::Refused),
         _ => Err(Trouble::Wrong("check of a text with a weak letter")),
     }
+}
+
+/// `check_sequence` of a lawful certificate.
+pub(crate) fn certified_sequence_is_given(alloc: Global) -> Result<(), Trouble> {
+    let instance = three_machines(alloc)?;
+    let sequence = check_sequence(alloc, &instance, &CERTIFICATE_AT_DEPTH_0)?;
+    confirm(
+        sequence.jobs() == [3, 1, 2].as_slice(),
+        "check_sequence of a certificate",
+    )
 }

@@ -1,12 +1,14 @@
 //! The commands, over sources and sinks in memory.
 
-ghost use Rattle.std.specs.Prelude.{◌≡◌, false};
+ghost use Rattle.std.specs.Prelude.{◌≡◌, false, None};
 
+use crate::schedules::{LAST_BAR, TABLE};
 use crate::trouble::{Trouble, confirm};
 use flow_check::CheckFault;
 use flow_commands::{
-    ToolFault, run_certify, run_certify_from, run_check, run_gen, run_improve, run_improve_from,
-    run_mirror, run_neh, run_solve, run_solve_from, run_span,
+    CertifyRequest, CheckRequest, CommandFault, ImproveRequest, ScheduleForm, SolveRequest,
+    run_certify, run_check, run_check_as, run_gen, run_improve, run_mirror, run_neh, run_schedule,
+    run_solve, run_solve_as, run_span,
 };
 use flow_core::{MemorySink, MemorySource, StartFault};
 use flow_examples::{
@@ -64,18 +66,18 @@ fn room(alloc: Global) -> MemorySink
 
 /// `Ok` where a command wrote this text. Where memory ran out it wrote nothing, or in its sink a proper prefix.
 fn confirm_written(
-    ran: Result<(), ToolFault>,
+    ran: Result<(), CommandFault>,
     out: &MemorySink,
     text: &[u8],
     command: &'static str,
 ) -> Result<(), Trouble> {
     match ran {
         Ok(()) => confirm(out.bytes() == text, command),
-        Err(ToolFault::Memory | ToolFault::Run(SolveFault::Threads)) => {
+        Err(CommandFault::Memory | CommandFault::Run(SolveFault::Threads)) => {
             confirm(out.bytes().is_empty(), command)?;
             Err(Trouble::Refused)
         }
-        Err(ToolFault::Write(_)) => {
+        Err(CommandFault::Write(_)) => {
             let is_part = text.starts_with(out.bytes()) && out.bytes().len() < text.len();
             confirm(is_part, command)?;
             Err(Trouble::Refused)
@@ -86,14 +88,14 @@ fn confirm_written(
 
 /// `Ok` where a command refused by this fault. It never writes anything.
 fn confirm_refused(
-    ran: Result<(), ToolFault>,
+    ran: Result<(), CommandFault>,
     out: &MemorySink,
-    fault: ToolFault,
+    fault: CommandFault,
     command: &'static str,
 ) -> Result<(), Trouble> {
     confirm(out.bytes().is_empty(), command)?;
     match ran {
-        Err(ToolFault::Memory | ToolFault::Run(SolveFault::Threads)) => Err(Trouble::Refused),
+        Err(CommandFault::Memory | CommandFault::Run(SolveFault::Threads)) => Err(Trouble::Refused),
         Err(found) => confirm(found == fault, command),
         Ok(()) => Err(Trouble::Wrong(command)),
     }
@@ -126,38 +128,64 @@ pub(crate) fn neh_is_run(alloc: Global) -> Result<(), Trouble> {
     confirm_written(ran, &out, b"sequence 2 3 1\nmakespan 9\n", "run_neh")
 }
 
+/// No start text.
+fn no_start() -> Option<MemorySource<'static>>
+    ensures { result ≡ None }
+{
+    None
+}
+
+/// No beam, and no round of an improvement.
+const NO_ROUND: ImproveRequest = ImproveRequest {
+    width: 0,
+    rounds: 0,
+    seed: 1,
+    work: 0,
+};
+
+/// A certificate from the starting sequence.
+const CERTIFY: CertifyRequest = CertifyRequest {
+    improve: NO_ROUND,
+    version: None,
+};
+
 /// `run_improve` of no round.
 pub(crate) fn improve_is_run(alloc: Global) -> Result<(), Trouble> {
     let mut out = room(alloc);
     let mut file = all_of(THREE_MACHINES_TEXT);
-    let ran = run_improve(alloc, &mut file, 1, 0, 1, &mut out);
+    let ran = run_improve(alloc, &mut file, 1, &mut no_start(), NO_ROUND, &mut out);
     confirm_written(ran, &out, b"sequence 2 1 3\nmakespan 13\n", "run_improve")
 }
 
-/// `run_improve_from` of no round, which gives the start back.
+/// `run_improve` of no round from a start text, which gives the start back.
 pub(crate) fn improve_is_run_from(alloc: Global) -> Result<(), Trouble> {
     let mut out = room(alloc);
     let mut file = all_of(THREE_MACHINES_TEXT);
-    let mut start = all_of(START);
-    let ran = run_improve_from(alloc, &mut file, 1, &mut start, 0, 1, &mut out);
-    confirm_written(ran, &out, START, "run_improve_from")
+    let mut start = Some(all_of(START));
+    let ran = run_improve(alloc, &mut file, 1, &mut start, NO_ROUND, &mut out);
+    confirm_written(ran, &out, START, "run_improve from a start")
 }
 
 /// `run_certify`, where the certificate is that of the instance.
 pub(crate) fn certify_is_run(alloc: Global) -> Result<(), Trouble> {
     let mut out = room(alloc);
     let mut file = all_of(THREE_MACHINES_TEXT);
-    let ran = run_certify(alloc, &mut file, 1, 0, 1, 1, &mut out);
+    let ran = run_certify(alloc, &mut file, 1, &mut no_start(), CERTIFY, &mut out);
     confirm_written(ran, &out, &CERTIFICATE_AT_DEPTH_0, "run_certify")
 }
 
-/// `run_certify_from`, where the certificate is that of the mirrored instance.
+/// `run_certify` from a start text, where the certificate is that of the mirrored instance.
 pub(crate) fn certify_is_run_from(alloc: Global) -> Result<(), Trouble> {
     let mut out = room(alloc);
     let mut file = all_of(FOUR_MACHINES_TEXT);
-    let mut start = all_of(FOUR_MACHINES_START);
-    let ran = run_certify_from(alloc, &mut file, 1, &mut start, 0, 1, 1, &mut out);
-    confirm_written(ran, &out, FOUR_MACHINES_CERTIFICATE, "run_certify_from")
+    let mut start = Some(all_of(FOUR_MACHINES_START));
+    let ran = run_certify(alloc, &mut file, 1, &mut start, CERTIFY, &mut out);
+    confirm_written(
+        ran,
+        &out,
+        FOUR_MACHINES_CERTIFICATE,
+        "run_certify from a start",
+    )
 }
 
 /// `run_mirror`.
@@ -175,7 +203,7 @@ pub(crate) fn solve_is_run<T: Threads + Wait + Sync>(
     let mut out = room(alloc);
     let mut file = all_of(THREE_MACHINES_TEXT);
     let ran = run_solve(
-        threads, alloc, &mut file, 1, 2, 0, AMPLE, 1, false, &Open, &mut out,
+        threads, alloc, &mut file, 1, 2, 0, AMPLE, 1, &Open, &mut out,
     );
     confirm_written(ran, &out, &CERTIFICATE_AT_DEPTH_0, "run_solve")
 }
@@ -188,57 +216,94 @@ pub(crate) fn solve_is_refused<T: Threads + Wait + Sync>(
     let mut out = room(alloc);
     let mut file = all_of(THREE_MACHINES_TEXT);
     let ran = run_solve(
-        threads, alloc, &mut file, 1, 2, 1, TIGHT, 1, false, &Open, &mut out,
+        threads, alloc, &mut file, 1, 2, 1, TIGHT, 1, &Open, &mut out,
     );
-    let fault = ToolFault::Run(SolveFault::OverBudget(2));
+    let fault = CommandFault::Run(SolveFault::OverBudget(2));
     confirm_refused(ran, &out, fault, "run_solve beyond the budget")
 }
 
-/// `run_solve` of the mirrored instance, in version 2.
+/// `solve` of the mirrored instance with two workers at depth 0, in a version.
+fn mirrored(version: u32) -> SolveRequest {
+    SolveRequest {
+        workers: 2,
+        depth: 0,
+        budget: AMPLE,
+        version,
+        mirrored: true,
+    }
+}
+
+/// `run_solve_as` of the mirrored instance, in version 2.
 pub(crate) fn mirrored_is_solved<T: Threads + Wait + Sync>(
     threads: &T,
     alloc: Global,
 ) -> Result<(), Trouble> {
     let mut out = room(alloc);
     let mut file = all_of(THREE_MACHINES_TEXT);
-    let ran = run_solve(
-        threads, alloc, &mut file, 1, 2, 0, AMPLE, 2, true, &Open, &mut out,
+    let ran = run_solve_as(
+        threads,
+        alloc,
+        &mut file,
+        1,
+        &mut no_start(),
+        mirrored(2),
+        &Open,
+        &mut out,
     );
     confirm_written(
         ran,
         &out,
         MIRRORED_CERTIFICATE,
-        "run_solve of the mirrored instance",
+        "run_solve_as of the mirrored instance",
     )
 }
 
-/// `run_solve_from` of the mirrored instance.
+/// `run_solve_as` of the mirrored instance from a start.
 pub(crate) fn start_is_solved<T: Threads + Wait + Sync>(
     threads: &T,
     alloc: Global,
 ) -> Result<(), Trouble> {
     let mut out = room(alloc);
     let mut file = all_of(THREE_MACHINES_TEXT);
-    let mut start = all_of(START);
-    let ran = run_solve_from(
-        threads, alloc, &mut file, 1, &mut start, 2, 0, AMPLE, 1, true, &Open, &mut out,
+    let mut start = Some(all_of(START));
+    let ran = run_solve_as(
+        threads,
+        alloc,
+        &mut file,
+        1,
+        &mut start,
+        mirrored(1),
+        &Open,
+        &mut out,
     );
-    confirm_written(ran, &out, STARTED_CERTIFICATE, "run_solve_from")
+    confirm_written(ran, &out, STARTED_CERTIFICATE, "run_solve_as from a start")
 }
 
-/// `run_solve_from` of a start with another makespan.
+/// `run_solve_as` from a start with another makespan.
 pub(crate) fn start_is_refused<T: Threads + Wait + Sync>(
     threads: &T,
     alloc: Global,
 ) -> Result<(), Trouble> {
     let mut out = room(alloc);
     let mut file = all_of(THREE_MACHINES_TEXT);
-    let mut start = all_of(b"sequence 1 2 3\nmakespan 14\n");
-    let ran = run_solve_from(
-        threads, alloc, &mut file, 1, &mut start, 2, 0, AMPLE, 1, false, &Open, &mut out,
+    let mut start = Some(all_of(b"sequence 1 2 3\nmakespan 14\n"));
+    let ran = run_solve_as(
+        threads,
+        alloc,
+        &mut file,
+        1,
+        &mut start,
+        mirrored(1),
+        &Open,
+        &mut out,
     );
-    let fault = ToolFault::Start(StartFault::Line(2));
-    confirm_refused(ran, &out, fault, "run_solve_from of another makespan")
+    let fault = CommandFault::Start(StartFault::Line(2));
+    confirm_refused(
+        ran,
+        &out,
+        fault,
+        "run_solve_as from a start with another makespan",
+    )
 }
 
 /// `run_check` of a certificate.
@@ -250,7 +315,6 @@ pub(crate) fn check_is_run(alloc: Global) -> Result<(), Trouble> {
         &mut all_of(THREE_MACHINES_TEXT),
         1,
         &mut cert,
-        false,
         &mut out,
     );
     confirm_written(ran, &out, b"optimal 12\n", "run_check")
@@ -265,18 +329,93 @@ pub(crate) fn check_is_refused(alloc: Global) -> Result<(), Trouble> {
         &mut all_of(THREE_MACHINES_TEXT),
         1,
         &mut cert,
-        false,
         &mut out,
     );
-    let fault = ToolFault::Certificate(CheckFault::Weak(7));
+    let fault = CommandFault::Certificate(CheckFault::Weak(7));
     confirm_refused(ran, &out, fault, "run_check of a text with a weak letter")
 }
 
-/// `run_check` of a certificate of the mirrored instance, where that is accepted too.
-pub(crate) fn mirrored_is_checked(alloc: Global) -> Result<(), Trouble> {
+/// `run_check_as` of a certificate, where one of the mirrored instance is accepted too.
+fn confirm_checked(
+    alloc: Global,
+    certificate: &[u8],
+    sequence: bool,
+    text: &[u8],
+    command: &'static str,
+) -> Result<(), Trouble> {
     let mut out = room(alloc);
-    let mut cert = all_of(MIRRORED_CERTIFICATE);
+    let mut cert = all_of(certificate);
     let mut file = all_of(THREE_MACHINES_TEXT);
-    let ran = run_check(alloc, &mut file, 1, &mut cert, true, &mut out);
-    confirm_written(ran, &out, b"optimal 12\n", "run_check of either")
+    let request = CheckRequest {
+        either: true,
+        sequence,
+    };
+    let ran = run_check_as(alloc, &mut file, 1, &mut cert, request, &mut out);
+    confirm_written(ran, &out, text, command)
+}
+
+/// `run_check_as` of a certificate of the mirrored instance, which is accepted too.
+pub(crate) fn mirrored_is_checked(alloc: Global) -> Result<(), Trouble> {
+    let line = b"optimal 12\n";
+    confirm_checked(
+        alloc,
+        MIRRORED_CERTIFICATE,
+        false,
+        line,
+        "run_check_as of either",
+    )
+}
+
+/// What is printed for a certificate whose sequence is asked for.
+const CHECKED_LINES: &[u8] = b"sequence 3 1 2\nmakespan 12\n";
+
+/// `run_check_as`, where the sequence is asked for.
+pub(crate) fn sequence_is_checked(alloc: Global) -> Result<(), Trouble> {
+    confirm_checked(
+        alloc,
+        &CERTIFICATE_AT_DEPTH_0,
+        true,
+        CHECKED_LINES,
+        "run_check_as of a sequence",
+    )
+}
+
+/// `run_check_as`, where the sequence of a certificate of the mirrored instance is asked for.
+pub(crate) fn mirrored_sequence_is_checked(alloc: Global) -> Result<(), Trouble> {
+    confirm_checked(
+        alloc,
+        MIRRORED_CERTIFICATE,
+        true,
+        CHECKED_LINES,
+        "run_check_as of a mirrored sequence",
+    )
+}
+
+/// `run_schedule` of a table.
+pub(crate) fn table_is_run(alloc: Global) -> Result<(), Trouble> {
+    let mut out = room(alloc);
+    let mut file = all_of(TWO_MACHINES_TEXT);
+    let mut start = all_of(b"sequence 2 3 1\n");
+    let ran = run_schedule(alloc, &mut file, 1, &mut start, ScheduleForm::Csv, &mut out);
+    confirm_written(ran, &out, TABLE, "run_schedule of a table")
+}
+
+/// `run_schedule` of a picture, which is written whole or not at all.
+pub(crate) fn picture_is_run(alloc: Global) -> Result<(), Trouble> {
+    let mut out = MemorySink::new(alloc, 10_000);
+    let mut file = all_of(THREE_MACHINES_TEXT);
+    let mut start = all_of(b"sequence 3 1 2\n");
+    let ran = run_schedule(alloc, &mut file, 1, &mut start, ScheduleForm::Svg, &mut out);
+    let command = "run_schedule of a picture";
+    match ran {
+        Ok(()) => {
+            let right = out.bytes().starts_with(b"<svg ") && out.bytes().ends_with(LAST_BAR);
+            confirm(right, command)
+        }
+        Err(CommandFault::Memory | CommandFault::Write(_)) => {
+            confirm(out.bytes().is_empty(), command)?;
+            Err(Trouble::Refused)
+        }
+        Err(_) => Err(Trouble::Wrong(command)),
+    }
 }

@@ -15,6 +15,7 @@ mod commands;
 mod growths;
 mod instances;
 mod lanes;
+mod schedules;
 mod search;
 mod texts;
 mod trouble;
@@ -34,7 +35,7 @@ const REFUSED: u8 = 1;
 const WRONG: u8 = 2;
 
 /// How many groups of calls there are.
-const GROUPS: usize = 36;
+const GROUPS: usize = 44;
 
 /// Makes all calls: each group, also where one before it did not return what it should.
 fn found<T: Threads + Wait + Sync>(threads: &T, alloc: Global) -> [Result<(), Trouble>; GROUPS] {
@@ -49,14 +50,18 @@ fn found<T: Threads + Wait + Sync>(threads: &T, alloc: Global) -> [Result<(), Tr
         texts::sink_takes_all(alloc),
         bounds::starting_sequence_is_found(alloc),
         bounds::insertions_are_tried(alloc),
-        bounds::start_is_improved(alloc),
         bounds::beam_is_searched(alloc),
+        bounds::rounds_of_both_are_made(alloc),
+        bounds::start_is_improved(alloc),
         search::prefixes_are_answered(alloc),
         search::plan_starts_as_given(alloc),
         search::outcomes_are_concluded(alloc),
         search::plan_is_solved(alloc),
+        schedules::table_is_made(alloc),
+        schedules::picture_is_made(alloc),
         certificates::certificate_is_written(alloc),
         certificates::certificates_are_checked(alloc),
+        certificates::certified_sequence_is_given(alloc),
         lanes::lane_is_used(alloc),
         workers::workers_solve(threads, alloc),
         commands::span_is_run(alloc),
@@ -75,6 +80,10 @@ fn found<T: Threads + Wait + Sync>(threads: &T, alloc: Global) -> [Result<(), Tr
         commands::check_is_run(alloc),
         commands::check_is_refused(alloc),
         commands::mirrored_is_checked(alloc),
+        commands::sequence_is_checked(alloc),
+        commands::mirrored_sequence_is_checked(alloc),
+        commands::table_is_run(alloc),
+        commands::picture_is_run(alloc),
     ]
 }
 

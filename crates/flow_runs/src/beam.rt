@@ -76,6 +76,32 @@ fn too_few_steps_leave_the_start(rt: HostRuntime) -> Result<(), Fail> {
     Ok(())
 }
 
+/// Steps, and the makespan that the plain program bench/improve.rs comes to where no more are allowed: each is the
+/// least number with which one more pass is made, or one less.
+const BY_STEPS: [(u64, u64); 10] = [
+    (34_579, 1680),
+    (34_580, 1657),
+    (82_199, 1657),
+    (82_200, 1642),
+    (175_559, 1642),
+    (175_560, 1636),
+    (364_359, 1636),
+    (364_360, 1608),
+    (480_039, 1608),
+    (480_040, 1601),
+];
+
+#[test]
+fn steps_end_the_search(rt: HostRuntime) -> Result<(), Fail> {
+    let instance = generate(rt.alloc(), 20, 10, 587_595_453)?;
+    for (work, value) in BY_STEPS {
+        let best = reached(rt.alloc(), &instance, 4096, work)?;
+        assert_eq!(rt; best.value, value);
+        assert!(rt; !best.whole);
+    }
+    Ok(())
+}
+
 // One job has one sequence, whose makespan is the bound: the search ends before its first pass.
 #[test]
 fn one_job_has_the_bound(rt: HostRuntime) -> Result<(), Fail> {
@@ -87,7 +113,19 @@ fn one_job_has_the_bound(rt: HostRuntime) -> Result<(), Fail> {
     Ok(())
 }
 
-// With no pass, with no steps; and on one machine, where the start has the bound, since all sequences have one makespan.
+// Worked out by the plain program bench/improve.rs: the second pass of width 1, which is the last one, has the bound.
+#[test]
+fn a_bound_in_the_last_pass_ends_the_search_as_whole(rt: HostRuntime) -> Result<(), Fail> {
+    let instance = generate(rt.alloc(), 30, 5, 129)?;
+    let best = reached(rt.alloc(), &instance, 1, WORK)?;
+    assert_eq!(rt; best.value, taillard_bound(&instance));
+    assert_eq!(rt; best.value, 1623);
+    assert!(rt; best.whole);
+    Ok(())
+}
+
+// With no pass, with no steps; and on one machine, where the start has the bound, since all sequences have one
+// makespan.
 #[test]
 fn start_stays_without_passes(rt: HostRuntime) -> Result<(), Fail> {
     for (machines, width, work, is_whole) in [
@@ -130,8 +168,8 @@ fn scaled(alloc: Global, instance: &Instance, factor: u32) -> Result<Instance, F
     Ok(Instance::new(alloc, jobs, machines, times.as_slice())?)
 }
 
-// Bounds grow with the times, and deficits and their sums with bounds by the square, so the order of children stays, and
-// the search comes to the same sequence. The greatest time of these instances is 99, and 999,999 then.
+// Bounds grow with the times, and deficits and their sums with bounds by the square, so the order of children stays,
+// and the search comes to the same sequence. The greatest time of these instances is 99, and 999,999 then.
 #[test]
 fn greater_times_have_the_same_sequence(rt: HostRuntime) -> Result<(), Fail> {
     for (jobs, machines, width) in [(20, 10, 8), (60, 26, 4), (800, 26, 1)] {

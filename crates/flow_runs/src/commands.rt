@@ -4,7 +4,8 @@ ghost use Rattle.std.specs.Prelude.{◌≡◌, ◌<◌, None, false};
 
 use flow_check::CheckFault;
 use flow_commands::{
-    ImproveFault, ToolFault, run_check, run_gen, run_neh, run_solve, run_solve_from, run_span,
+    CheckRequest, CommandFault, ImproveFault, SolveRequest, ToolFault, run_check, run_check_as,
+    run_gen, run_neh, run_solve, run_solve_as, run_span,
 };
 use flow_core::{
     InstanceFault, MemorySink, MemorySource, ReadFault, Refused, SequenceFault, Source, StartFault,
@@ -19,6 +20,8 @@ use std::test::Fail;
 use std::thread::Threads;
 
 mod better;
+mod schedule;
+mod sequence;
 
 /// The budget of a tree where none is to be refused.
 const AMPLE: u32 = 1_000_000;
@@ -81,34 +84,25 @@ fn solved<T: Threads + Wait + Sync>(
     depth: u32,
     budget: u32,
 ) -> Ran {
-    solved_as(rt, alloc, text, workers, depth, budget, 1, false)
+    let mut out = MemorySink::new(alloc, ROOM);
+    let mut file = all_of(text);
+    run_solve(
+        rt, alloc, &mut file, 1, workers, depth, budget, 1, &Open, &mut out,
+    )?;
+    Ok(out)
 }
 
-/// A run of `solve` in a version, for the instance or the mirrored one.
+/// A run of `solve` as a request says.
 fn solved_as<T: Threads + Wait + Sync>(
     rt: &T,
     alloc: Global,
     text: &[u8],
-    workers: u32,
-    depth: u32,
-    budget: u32,
-    version: u32,
-    mirror: bool,
+    request: SolveRequest,
 ) -> Ran {
     let mut out = MemorySink::new(alloc, ROOM);
-    run_solve(
-        rt,
-        alloc,
-        &mut all_of(text),
-        1,
-        workers,
-        depth,
-        budget,
-        version,
-        mirror,
-        &Open,
-        &mut out,
-    )?;
+    let mut none: Option<MemorySource> = None;
+    let mut file = all_of(text);
+    run_solve_as(rt, alloc, &mut file, 1, &mut none, request, &Open, &mut out)?;
     Ok(out)
 }
 
@@ -122,33 +116,37 @@ fn solved_from<T: Threads + Wait + Sync>(
     mirror: bool,
 ) -> Ran {
     let mut out = MemorySink::new(alloc, ROOM);
-    let mut start = MemorySource::new(start, 5, None);
-    run_solve_from(
-        rt,
-        alloc,
-        &mut all_of(text),
-        1,
-        &mut start,
-        1,
-        0,
+    let mut start = Some(MemorySource::new(start, 5, None));
+    let request = SolveRequest {
+        workers: 1,
+        depth: 0,
         budget,
-        1,
-        mirror,
-        &Open,
-        &mut out,
+        version: 1,
+        mirrored: mirror,
+    };
+    let mut file = all_of(text);
+    run_solve_as(
+        rt, alloc, &mut file, 1, &mut start, request, &Open, &mut out,
     )?;
     Ok(out)
 }
 
 fn checked(alloc: Global, text: &[u8], certificate: &[u8]) -> Ran {
-    checked_as(alloc, text, certificate, false)
+    let mut out = MemorySink::new(alloc, ROOM);
+    let mut cert = MemorySource::new(certificate, 9, None);
+    run_check(alloc, &mut all_of(text), 1, &mut cert, &mut out)?;
+    Ok(out)
 }
 
 /// A run of `check`, which may take a certificate of the mirrored instance too.
 fn checked_as(alloc: Global, text: &[u8], certificate: &[u8], either: bool) -> Ran {
     let mut out = MemorySink::new(alloc, ROOM);
     let mut cert = MemorySource::new(certificate, 9, None);
-    run_check(alloc, &mut all_of(text), 1, &mut cert, either, &mut out)?;
+    let request = CheckRequest {
+        either,
+        sequence: false,
+    };
+    run_check_as(alloc, &mut all_of(text), 1, &mut cert, request, &mut out)?;
     Ok(out)
 }
 
@@ -161,7 +159,7 @@ fn wrote(ran: &Ran, bytes: &[u8]) -> bool {
 }
 
 /// Whether a run was refused so.
-fn refused(ran: &Ran, fault: ToolFault) -> bool {
+fn refused(ran: &Ran, fault: CommandFault) -> bool {
     match ran {
         Ok(_) => false,
         Err(found) => *found == fault,
@@ -174,16 +172,21 @@ fn span_prints_makespan(rt: HostRuntime) -> Result<(), Fail> {
     let ran = span(alloc, TWO_MACHINES, 1, &[2, 3, 1]);
     assert!(rt; wrote(&ran, b"makespan 9\n"));
     let ran = span(alloc, TWO_MACHINES, 1, &[2, 2, 1]);
-    assert!(rt; refused(&ran, ToolFault::Sequence(SequenceFault::Twice(2))));
+    assert!(rt; refused(&ran, CommandFault::Sequence(SequenceFault::Twice(2))));
     let ran = span(alloc, TWO_MACHINES, 1, &[2, 3]);
-    assert!(rt; refused(&ran, ToolFault::Sequence(SequenceFault::Length)));
+    assert!(rt; refused(&ran, CommandFault::Sequence(SequenceFault::Length)));
     let ran = span(alloc, TWO_MACHINES, 1, &[0, 1, 2]);
-    assert!(rt; refused(&ran, ToolFault::Sequence(SequenceFault::Job(1))));
-    assert!(rt; refused(&span(alloc, TWO_MACHINES, 2, &[2, 3, 1]), ToolFault::Index));
+    assert!(rt; refused(&ran, CommandFault::Sequence(SequenceFault::Job(1))));
+    assert!(rt;
+        refused(
+            &span(alloc, TWO_MACHINES, 2, &[2, 3, 1]),
+            CommandFault::Index
+        )
+    );
     assert!(rt;
         refused(
             &span(alloc, b"", 1, &[1]),
-            ToolFault::Text(TextFault::NoBlock)
+            CommandFault::Text(TextFault::NoBlock)
         )
     );
     Ok(())
@@ -201,8 +204,8 @@ fn span_finds_last_of_ten_blocks(rt: HostRuntime) -> Result<(), Fail> {
     assert!(rt; wrote(&span(alloc, text, 1, &[2, 3, 1]), b"makespan 15\n"));
     assert!(rt; wrote(&span(alloc, text, 9, &[1]), b"makespan 0\n"));
     assert!(rt; wrote(&span(alloc, text, 10, &[2, 3, 1]), b"makespan 9\n"));
-    assert!(rt; refused(&span(alloc, text, 11, &[2, 3, 1]), ToolFault::Index));
-    assert!(rt; refused(&span(alloc, text, 0, &[2, 3, 1]), ToolFault::Index));
+    assert!(rt; refused(&span(alloc, text, 11, &[2, 3, 1]), CommandFault::Index));
+    assert!(rt; refused(&span(alloc, text, 0, &[2, 3, 1]), CommandFault::Index));
     Ok(())
 }
 
@@ -219,9 +222,9 @@ fn gen_writes_block_with_bounds(rt: HostRuntime) -> Result<(), Fail> {
     assert!(rt; out.bytes() == text.as_slice());
     let mut out = MemorySink::new(alloc, ROOM);
     let ran = run_gen(alloc, 0, 1, 1, &mut out);
-    assert_eq!(rt; ran, Err(ToolFault::Instance(InstanceFault::Jobs)));
+    assert_eq!(rt; ran, Err(CommandFault::Instance(InstanceFault::Jobs)));
     let ran = run_gen(alloc, 2, 2, 2_147_483_647, &mut out);
-    assert_eq!(rt; ran, Err(ToolFault::Instance(InstanceFault::Seed)));
+    assert_eq!(rt; ran, Err(CommandFault::Instance(InstanceFault::Seed)));
     assert!(rt; out.bytes().is_empty());
     Ok(())
 }
@@ -255,7 +258,7 @@ fn neh_prints_starting_sequence(rt: HostRuntime) -> Result<(), Fail> {
     assert!(rt; out.bytes() == b"sequence 2 1 3\nmakespan 13\n".as_slice());
     let mut out = MemorySink::new(alloc, ROOM);
     let ran = run_neh(alloc, &mut all_of(THREE_MACHINES), 2, &mut out);
-    assert_eq!(rt; ran, Err(ToolFault::Index));
+    assert_eq!(rt; ran, Err(CommandFault::Index));
     Ok(())
 }
 
@@ -286,17 +289,17 @@ fn solve_names_options_plan_and_budget(rt: HostRuntime) -> Result<(), Fail> {
     let alloc = rt.alloc();
     for workers in [1, 2, 3, 64] {
         let ran = solved(&rt, alloc, THREE_MACHINES, workers, 1, 3);
-        assert!(rt; refused(&ran, ToolFault::Run(SolveFault::OverBudget(2))));
+        assert!(rt; refused(&ran, CommandFault::Run(SolveFault::OverBudget(2))));
         assert!(rt; wrote(&solved(&rt, alloc, THREE_MACHINES, workers, 1, 4), DEPTH_1));
     }
     let ran = solved(&rt, alloc, THREE_MACHINES, 65, 4, 0);
-    assert!(rt; refused(&ran, ToolFault::Choice(OptionFault::Workers)));
+    assert!(rt; refused(&ran, CommandFault::Choice(OptionFault::Workers)));
     let ran = solved(&rt, alloc, THREE_MACHINES, 1, 4, 0);
-    assert!(rt; refused(&ran, ToolFault::Choice(OptionFault::Depth)));
+    assert!(rt; refused(&ran, CommandFault::Choice(OptionFault::Depth)));
     let ran = solved(&rt, alloc, THREE_MACHINES, 1, 1, 0);
-    assert!(rt; refused(&ran, ToolFault::Choice(OptionFault::Budget)));
+    assert!(rt; refused(&ran, CommandFault::Choice(OptionFault::Budget)));
     let ran = solved(&rt, alloc, ONE_JOB, 1, 2, AMPLE);
-    assert!(rt; refused(&ran, ToolFault::Plan(PlanFault::Depth)));
+    assert!(rt; refused(&ran, CommandFault::Plan(PlanFault::Depth)));
     Ok(())
 }
 
@@ -332,8 +335,8 @@ fn solve_searches_from_the_given_start(rt: HostRuntime) -> Result<(), Fail> {
                 b"optimal 12\n"
             )
         );
-        let turned = solved_from(&rt, alloc, THREE_MACHINES, start, AMPLE, true);
-        assert!(rt; wrote(&turned, mirrored));
+        let mirrored_run = solved_from(&rt, alloc, THREE_MACHINES, start, AMPLE, true);
+        assert!(rt; wrote(&mirrored_run, mirrored));
     }
     let ran = solved_from(
         &rt,
@@ -357,45 +360,45 @@ fn solve_searches_from_the_given_start(rt: HostRuntime) -> Result<(), Fail> {
 }
 
 /// Start texts for three jobs, and their faults.
-const OTHER_STARTS: [(&[u8], ToolFault); 12] = [
-    (b"", ToolFault::Start(StartFault::Line(1))),
-    (b"2 1 3\n", ToolFault::Start(StartFault::Line(1))),
+const OTHER_STARTS: [(&[u8], CommandFault); 12] = [
+    (b"", CommandFault::Start(StartFault::Line(1))),
+    (b"2 1 3\n", CommandFault::Start(StartFault::Line(1))),
     (
         b"sequence 2 1 3\nmakespan x\n",
-        ToolFault::Start(StartFault::Line(2)),
+        CommandFault::Start(StartFault::Line(2)),
     ),
     (
         b"sequence 9 9\nmakespan x\n",
-        ToolFault::Start(StartFault::Line(2)),
+        CommandFault::Start(StartFault::Line(2)),
     ),
     (
         b"\nsequence 2 1 3\n\nmakespan 14\n",
-        ToolFault::Start(StartFault::Line(4)),
+        CommandFault::Start(StartFault::Line(4)),
     ),
     (
         b"sequence 2 1 3\nmakespan 12\n",
-        ToolFault::Start(StartFault::Line(2)),
+        CommandFault::Start(StartFault::Line(2)),
     ),
     (
         b"sequence 2 1 3\nmakespan 13\nend\n",
-        ToolFault::Start(StartFault::Line(3)),
+        CommandFault::Start(StartFault::Line(3)),
     ),
-    (b"sequence\n", ToolFault::Start(StartFault::Line(1))),
+    (b"sequence\n", CommandFault::Start(StartFault::Line(1))),
     (
         b"sequence 2 1\nmakespan 14\n",
-        ToolFault::Sequence(SequenceFault::Length),
+        CommandFault::Sequence(SequenceFault::Length),
     ),
     (
         b"sequence 2 4 2\n",
-        ToolFault::Sequence(SequenceFault::Job(2)),
+        CommandFault::Sequence(SequenceFault::Job(2)),
     ),
     (
         b"sequence 2 1 65535\n",
-        ToolFault::Sequence(SequenceFault::Job(3)),
+        CommandFault::Sequence(SequenceFault::Job(3)),
     ),
     (
         b"sequence 2 2 4\nmakespan 13\n",
-        ToolFault::Sequence(SequenceFault::Twice(2)),
+        CommandFault::Sequence(SequenceFault::Twice(2)),
     ),
 ];
 
@@ -409,7 +412,7 @@ fn solve_names_the_fault_of_a_start(rt: HostRuntime) -> Result<(), Fail> {
         }
     }
     let ran = solved_from(&rt, alloc, b"", b"", AMPLE, false);
-    assert!(rt; refused(&ran, ToolFault::Text(TextFault::NoBlock)));
+    assert!(rt; refused(&ran, CommandFault::Text(TextFault::NoBlock)));
     Ok(())
 }
 
@@ -425,20 +428,17 @@ fn fault_from<T: Threads + Wait + Sync>(
     budget: u32,
 ) -> Ran {
     let mut out = MemorySink::new(alloc, ROOM);
-    let mut start = MemorySource::new(start, 5, most);
-    run_solve_from(
-        rt,
-        alloc,
-        &mut all_of(THREE_MACHINES),
-        index,
-        &mut start,
+    let mut start = Some(MemorySource::new(start, 5, most));
+    let request = SolveRequest {
         workers,
-        0,
+        depth: 0,
         budget,
-        1,
-        false,
-        &Open,
-        &mut out,
+        version: 1,
+        mirrored: false,
+    };
+    let mut file = all_of(THREE_MACHINES);
+    run_solve_as(
+        rt, alloc, &mut file, index, &mut start, request, &Open, &mut out,
     )?;
     Ok(out)
 }
@@ -449,15 +449,15 @@ fn solve_tests_the_start_in_its_place(rt: HostRuntime) -> Result<(), Fail> {
     let start: &[u8] = b"sequence 2 1 3\nmakespan 13\n";
     let wrong: &[u8] = b"sequence 2 1 3\nmakespan 14\n";
     let ran = fault_from(&rt, alloc, 2, start, Some(0), 65, 1);
-    assert!(rt; refused(&ran, ToolFault::Index));
+    assert!(rt; refused(&ran, CommandFault::Index));
     let ran = fault_from(&rt, alloc, 1, start, Some(20), 65, 1);
-    assert!(rt; refused(&ran, ToolFault::Read(ReadFault::Device)));
+    assert!(rt; refused(&ran, CommandFault::Read(ReadFault::Device)));
     let ran = fault_from(&rt, alloc, 1, wrong, None, 65, 1);
-    assert!(rt; refused(&ran, ToolFault::Start(StartFault::Line(2))));
+    assert!(rt; refused(&ran, CommandFault::Start(StartFault::Line(2))));
     let ran = fault_from(&rt, alloc, 1, start, None, 65, 1);
-    assert!(rt; refused(&ran, ToolFault::Choice(OptionFault::Workers)));
+    assert!(rt; refused(&ran, CommandFault::Choice(OptionFault::Workers)));
     let ran = fault_from(&rt, alloc, 1, start, None, 1, 6);
-    assert!(rt; refused(&ran, ToolFault::Run(SolveFault::OverBudget(0))));
+    assert!(rt; refused(&ran, CommandFault::Run(SolveFault::OverBudget(0))));
     assert!(rt; wrote(&fault_from(&rt, alloc, 1, start, None, 64, 7), DEPTH_0));
     Ok(())
 }
@@ -465,26 +465,29 @@ fn solve_tests_the_start_in_its_place(rt: HostRuntime) -> Result<(), Fail> {
 #[test]
 fn solve_stops_an_endless_start(rt: HostRuntime) -> Result<(), Fail> {
     let mut out = MemorySink::new(rt.alloc(), ROOM);
-    let mut start = Endless {
+    let mut start = Some(Endless {
         given: 0,
         failed: false,
-    };
+    });
     let mut file = all_of(THREE_MACHINES);
-    let ran = run_solve_from(
+    let request = SolveRequest {
+        workers: 1,
+        depth: 0,
+        budget: AMPLE,
+        version: 1,
+        mirrored: false,
+    };
+    let ran = run_solve_as(
         &rt,
         rt.alloc(),
         &mut file,
         1,
         &mut start,
-        1,
-        0,
-        AMPLE,
-        1,
-        false,
+        request,
         &Open,
         &mut out,
     );
-    assert_eq!(rt; ran, Err(ToolFault::Read(ReadFault::TooLong)));
+    assert_eq!(rt; ran, Err(CommandFault::Read(ReadFault::TooLong)));
     assert!(rt; out.bytes().is_empty());
     Ok(())
 }
@@ -502,10 +505,17 @@ fn check_accepts_what_solve_wrote(rt: HostRuntime) -> Result<(), Fail> {
     for (text, deepest, line) in texts {
         for depth in 0..deepest + 1 {
             for version in 1..3u32 {
-                let own = solved_as(&rt, alloc, text, 2, depth, AMPLE, version, false)?;
-                assert!(rt; wrote(&checked(alloc, text, own.bytes()), line));
-                let mirrored = solved_as(&rt, alloc, text, 2, depth, AMPLE, version, true)?;
-                assert!(rt; wrote(&checked_as(alloc, text, mirrored.bytes(), true), line));
+                for mirrored in [false, true] {
+                    let request = SolveRequest {
+                        workers: 2,
+                        depth,
+                        budget: AMPLE,
+                        version,
+                        mirrored,
+                    };
+                    let ran = solved_as(&rt, alloc, text, request)?;
+                    assert!(rt; wrote(&checked_as(alloc, text, ran.bytes(), mirrored), line));
+                }
             }
         }
     }
@@ -530,10 +540,10 @@ fn check_names_first_fault(rt: HostRuntime) -> Result<(), Fail> {
     ];
     for (certificate, fault) in rows {
         let ran = checked(alloc, THREE_MACHINES, certificate);
-        assert!(rt; refused(&ran, ToolFault::Certificate(fault)));
+        assert!(rt; refused(&ran, CommandFault::Certificate(fault)));
     }
     let ran = checked(alloc, b"", DEPTH_0);
-    assert!(rt; refused(&ran, ToolFault::Text(TextFault::NoBlock)));
+    assert!(rt; refused(&ran, CommandFault::Text(TextFault::NoBlock)));
     Ok(())
 }
 
@@ -551,12 +561,11 @@ fn solve_fills_a_sink_up_to_its_limit(rt: HostRuntime) -> Result<(), Fail> {
             0,
             AMPLE,
             1,
-            false,
             &Open,
             &mut out,
         );
         if limit < 50 {
-            assert_eq!(rt; ran, Err(ToolFault::Write(WriteFault::Device)));
+            assert_eq!(rt; ran, Err(CommandFault::Write(WriteFault::Device)));
         } else {
             assert_eq!(rt; ran, Ok(()));
         }
@@ -571,33 +580,24 @@ fn solve_and_check_write_nothing_after_a_failed_read(rt: HostRuntime) -> Result<
     for most in 0..THREE_MACHINES.len() + 2 {
         let mut out = MemorySink::new(alloc, ROOM);
         let mut file = MemorySource::new(THREE_MACHINES, 7, Some(most));
-        let ran = run_solve(
-            &rt, alloc, &mut file, 1, 1, 0, AMPLE, 1, false, &Open, &mut out,
-        );
+        let ran = run_solve(&rt, alloc, &mut file, 1, 1, 0, AMPLE, 1, &Open, &mut out);
         if most > THREE_MACHINES.len() {
             assert_eq!(rt; ran, Ok(()));
             assert!(rt; out.bytes() == DEPTH_0);
         } else {
-            assert_eq!(rt; ran, Err(ToolFault::Read(ReadFault::Device)));
+            assert_eq!(rt; ran, Err(CommandFault::Read(ReadFault::Device)));
             assert!(rt; out.bytes().is_empty());
         }
     }
     for most in 0..DEPTH_0.len() + 2 {
         let mut out = MemorySink::new(alloc, ROOM);
         let mut cert = MemorySource::new(DEPTH_0, 7, Some(most));
-        let ran = run_check(
-            alloc,
-            &mut all_of(THREE_MACHINES),
-            1,
-            &mut cert,
-            false,
-            &mut out,
-        );
+        let ran = run_check(alloc, &mut all_of(THREE_MACHINES), 1, &mut cert, &mut out);
         if most > DEPTH_0.len() {
             assert_eq!(rt; ran, Ok(()));
             assert!(rt; out.bytes() == b"optimal 12\n".as_slice());
         } else {
-            assert_eq!(rt; ran, Err(ToolFault::Read(ReadFault::Device)));
+            assert_eq!(rt; ran, Err(CommandFault::Read(ReadFault::Device)));
             assert!(rt; out.bytes().is_empty());
         }
     }
@@ -644,15 +644,15 @@ fn span_stops_an_endless_source(rt: HostRuntime) -> Result<(), Fail> {
         failed: false,
     };
     let ran = run_span(rt.alloc(), &mut file, 1, &[1], &mut out);
-    assert_eq!(rt; ran, Err(ToolFault::Read(ReadFault::TooLong)));
+    assert_eq!(rt; ran, Err(CommandFault::Read(ReadFault::TooLong)));
     assert!(rt; out.bytes().is_empty());
     // One piece more than 256 make the limit of 16,777,216 bytes.
     assert_eq!(rt; file.given, 257 * 65_536);
     Ok(())
 }
 
-/// Holds each of the first `count` prefixes until all of them were reached. (flow_threads tests `solve` with a gate of the
-/// same form: a crate does not see the tests of another.)
+/// Holds each of the first `count` prefixes until all of them were reached. (flow_threads tests `solve` with a gate of
+/// the same form: a crate does not see the tests of another.)
 #[derive(Drop)]
 struct Meeting {
     count: u32,
@@ -700,7 +700,7 @@ fn run_solve_starts_workers(rt: HostRuntime) -> Result<(), Fail> {
         let mut out = MemorySink::new(alloc, ROOM);
         let mut file = all_of(THREE_MACHINES);
         run_solve(
-            &rt, alloc, &mut file, 1, workers, 1, AMPLE, 1, false, &gate, &mut out,
+            &rt, alloc, &mut file, 1, workers, 1, AMPLE, 1, &gate, &mut out,
         )?;
         assert!(rt; gate.is_complete());
         assert!(rt; !gate.late.load(Ordering::SeqCst));
@@ -710,116 +710,148 @@ fn run_solve_starts_workers(rt: HostRuntime) -> Result<(), Fail> {
 }
 
 /// The line on standard error for each fault.
-const FAULT_LINES: [(ToolFault, &str); 37] = [
-    (ToolFault::Memory, "refused memory"),
-    (ToolFault::Read(ReadFault::Device), "failed read Device"),
-    (ToolFault::Read(ReadFault::TooLong), "failed read TooLong"),
-    (ToolFault::Text(TextFault::NoBlock), "refused text NoBlock"),
-    (ToolFault::Text(TextFault::Label(1)), "refused text Label 1"),
-    (ToolFault::Text(TextFault::Byte(2)), "refused text Byte 2"),
+const FAULT_LINES: [(CommandFault, &str); 39] = [
+    (CommandFault::Memory, "refused memory"),
+    (CommandFault::Read(ReadFault::Device), "failed read Device"),
     (
-        ToolFault::Text(TextFault::Number(3)),
+        CommandFault::Read(ReadFault::TooLong),
+        "failed read TooLong",
+    ),
+    (
+        CommandFault::Text(TextFault::NoBlock),
+        "refused text NoBlock",
+    ),
+    (
+        CommandFault::Text(TextFault::Label(1)),
+        "refused text Label 1",
+    ),
+    (
+        CommandFault::Text(TextFault::Byte(2)),
+        "refused text Byte 2",
+    ),
+    (
+        CommandFault::Text(TextFault::Number(3)),
         "refused text Number 3",
     ),
-    (ToolFault::Text(TextFault::Head(6)), "refused text Head 6"),
     (
-        ToolFault::Text(TextFault::Limits(4)),
+        CommandFault::Text(TextFault::Head(6)),
+        "refused text Head 6",
+    ),
+    (
+        CommandFault::Text(TextFault::Limits(4)),
         "refused text Limits 4",
     ),
-    (ToolFault::Text(TextFault::Times(9)), "refused text Times 9"),
-    (ToolFault::Index, "refused index"),
-    (ToolFault::Start(StartFault::Line(2)), "refused start 2"),
     (
-        ToolFault::Sequence(SequenceFault::Length),
+        CommandFault::Text(TextFault::Times(9)),
+        "refused text Times 9",
+    ),
+    (CommandFault::Index, "refused index"),
+    (CommandFault::Start(StartFault::Line(2)), "refused start 2"),
+    (
+        CommandFault::Sequence(SequenceFault::Length),
         "refused sequence Length",
     ),
     (
-        ToolFault::Sequence(SequenceFault::Job(3)),
+        CommandFault::Sequence(SequenceFault::Job(3)),
         "refused sequence Job 3",
     ),
     (
-        ToolFault::Sequence(SequenceFault::Twice(2)),
+        CommandFault::Sequence(SequenceFault::Twice(2)),
         "refused sequence Twice 2",
     ),
     (
-        ToolFault::Instance(InstanceFault::Seed),
+        CommandFault::Instance(InstanceFault::Seed),
         "refused instance Seed",
     ),
     (
-        ToolFault::Instance(InstanceFault::Jobs),
+        CommandFault::Instance(InstanceFault::Jobs),
         "refused instance Jobs",
     ),
     (
-        ToolFault::Instance(InstanceFault::Machines),
+        CommandFault::Instance(InstanceFault::Machines),
         "refused instance Machines",
     ),
     (
-        ToolFault::Improve(ImproveFault::Rounds),
+        CommandFault::Improve(ImproveFault::Width),
+        "refused option Width",
+    ),
+    (
+        CommandFault::Improve(ImproveFault::Work),
+        "refused option Work",
+    ),
+    (
+        CommandFault::Improve(ImproveFault::Rounds),
         "refused option Rounds",
     ),
     (
-        ToolFault::Improve(ImproveFault::Seed),
+        CommandFault::Improve(ImproveFault::Seed),
         "refused option Seed",
     ),
     (
-        ToolFault::Choice(OptionFault::Workers),
+        CommandFault::Choice(OptionFault::Workers),
         "refused option Workers",
     ),
     (
-        ToolFault::Choice(OptionFault::Depth),
+        CommandFault::Choice(OptionFault::Depth),
         "refused option Depth",
     ),
     (
-        ToolFault::Choice(OptionFault::Budget),
+        CommandFault::Choice(OptionFault::Budget),
         "refused option Budget",
     ),
-    (ToolFault::Plan(PlanFault::Depth), "refused plan Depth"),
+    (CommandFault::Plan(PlanFault::Depth), "refused plan Depth"),
     (
-        ToolFault::Plan(PlanFault::Prefixes),
+        CommandFault::Plan(PlanFault::Prefixes),
         "refused plan Prefixes",
     ),
-    (ToolFault::Run(SolveFault::Threads), "refused run Threads"),
     (
-        ToolFault::Run(SolveFault::OverBudget(2)),
+        CommandFault::Run(SolveFault::Threads),
+        "refused run Threads",
+    ),
+    (
+        CommandFault::Run(SolveFault::OverBudget(2)),
         "refused run OverBudget 2",
     ),
     (
-        ToolFault::Certificate(CheckFault::Header),
+        CommandFault::Certificate(CheckFault::Header),
         "refused certificate Header",
     ),
     (
-        ToolFault::Certificate(CheckFault::Size),
+        CommandFault::Certificate(CheckFault::Size),
         "refused certificate Size",
     ),
     (
-        ToolFault::Certificate(CheckFault::Value),
+        CommandFault::Certificate(CheckFault::Value),
         "refused certificate Value",
     ),
     (
-        ToolFault::Certificate(CheckFault::Sequence),
+        CommandFault::Certificate(CheckFault::Sequence),
         "refused certificate Sequence",
     ),
     (
-        ToolFault::Certificate(CheckFault::NotAttained),
+        CommandFault::Certificate(CheckFault::NotAttained),
         "refused certificate NotAttained",
     ),
     (
-        ToolFault::Certificate(CheckFault::Tree(5)),
+        CommandFault::Certificate(CheckFault::Tree(5)),
         "refused certificate Tree 5",
     ),
     (
-        ToolFault::Certificate(CheckFault::Weak(7)),
+        CommandFault::Certificate(CheckFault::Weak(7)),
         "refused certificate Weak 7",
     ),
     (
-        ToolFault::Certificate(CheckFault::Low(5)),
+        CommandFault::Certificate(CheckFault::Low(5)),
         "refused certificate Low 5",
     ),
     (
-        ToolFault::Certificate(CheckFault::End),
+        CommandFault::Certificate(CheckFault::End),
         "refused certificate End",
     ),
-    (ToolFault::Write(WriteFault::Device), "failed write Device"),
+    (
+        CommandFault::Write(WriteFault::Device),
+        "failed write Device",
+    ),
 ];
 
 #[test]

@@ -1,9 +1,11 @@
-//! Tests of the rounds of `improve`, of the search of `beam`, and of what the commands write and refuse.
+//! Tests of `improve`, of its beam and its rounds, and of what the commands write and refuse.
 #![tactic(auto)]
 
 #[cfg(test)]
 mod beam;
 #[cfg(test)]
 mod commands;
+#[cfg(test)]
+mod improve;
 #[cfg(test)]
 mod rounds;

@@ -1,13 +1,25 @@
-//! How the rounds go, which no contract says.
+//! How the rounds of `improve` go, which no contract says.
 
-ghost use Rattle.std.specs.Prelude.{◌<◌, ◌≤◌};
+ghost use Rattle.std.specs.Prelude.{◌≡◌, ◌<◌, ◌≤◌};
 ghost use Rattle.flow_core.specs.Generator.{modulus};
 
 use flow_bound::{neh, taillard_bound};
 use flow_core::{Instance, Sequence, generate, makespan};
-use flow_improve::improve;
+use flow_improve::{Effort, improve};
 use std::alloc::Global;
 use std::test::Fail;
+
+/// Rounds without a beam, of which both runs are the same.
+fn rounds_alone(rounds: u32, seed: u32) -> Effort
+    ensures { result.seed ≡ seed }
+{
+    Effort {
+        width: 0,
+        rounds,
+        seed,
+        work: 8_500,
+    }
+}
 
 /// The sequence after so many rounds from the starting sequence of an instance, and its makespan.
 fn improved(
@@ -20,7 +32,8 @@ fn improved(
     requires seed_to { seed < modulus }
 {
     let (start, _) = neh(alloc, instance)?;
-    Ok(improve(alloc, instance, &start, rounds, seed)?)
+    let reached = improve(alloc, instance, &start, &rounds_alone(rounds, seed))?;
+    Ok((reached.sequence, reached.value))
 }
 
 // Worked out apart from the program.
@@ -57,6 +70,19 @@ const LATER_ROUNDS: [([u32; 5], u64); 5] = [
     ([21, 26, 8, 40, 1], 2638),
 ];
 
+// The sequence after 1,000 rounds is that of the plain program too.
+#[test]
+fn a_thousand_rounds_improve_the_start(rt: HostRuntime) -> Result<(), Fail> {
+    let instance = generate(rt.alloc(), 20, 10, 587_595_453)?;
+    let (sequence, makespan) = improved(rt.alloc(), &instance, 1_000, 3)?;
+    assert_eq!(rt; makespan, 1582);
+    let jobs = [
+        18, 5, 2, 12, 9, 10, 4, 14, 13, 15, 17, 3, 6, 19, 8, 20, 11, 7, 1, 16,
+    ];
+    assert_eq!(rt; sequence.jobs(), jobs.as_slice());
+    Ok(())
+}
+
 #[test]
 fn later_rounds_improve_too(rt: HostRuntime) -> Result<(), Fail> {
     for ([jobs, machines, of_instance, rounds, seed], value) in LATER_ROUNDS {
@@ -69,8 +95,8 @@ fn later_rounds_improve_too(rt: HostRuntime) -> Result<(), Fail> {
     Ok(())
 }
 
-// The values are those of the plain program bench/improve.rs. The start has a makespan of one more than the bound, which
-// the first round has; all these rounds would take hours.
+// The values are those of the plain program bench/improve.rs. The start has a makespan of one more than the bound,
+// which the first round has; all these rounds would take hours.
 #[test]
 fn rounds_stop_at_the_bound(rt: HostRuntime) -> Result<(), Fail> {
     let instance = generate(rt.alloc(), 6, 3, 17)?;
@@ -131,9 +157,9 @@ fn start_stays_without_rounds(rt: HostRuntime) -> Result<(), Fail> {
         let instance = generate(rt.alloc(), 6, machines, 8)?;
         assert_eq!(rt; instance.jobs(), 6);
         let start = Sequence::new(rt.alloc(), &instance, &[6, 5, 4, 3, 2, 1])?;
-        let (sequence, value) = improve(rt.alloc(), &instance, &start, rounds, 3)?;
-        assert_eq!(rt; sequence.jobs(), start.jobs());
-        assert_eq!(rt; value, makespan(&instance, &start));
+        let reached = improve(rt.alloc(), &instance, &start, &rounds_alone(rounds, 3))?;
+        assert_eq!(rt; reached.sequence.jobs(), start.jobs());
+        assert_eq!(rt; reached.value, makespan(&instance, &start));
     }
     Ok(())
 }

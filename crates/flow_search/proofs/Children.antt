@@ -15,7 +15,7 @@ use Rattle.flow_shop.proofs.Fronts.{free_at, front-within}
 use Rattle.flow_shop.proofs.JobsLeft.{filter-more}
 use Rattle.flow_shop.proofs.Admissible.{front_of-is}
 use Rattle.flow_shop.specs.TwoLeast.{tails, least_below, second_below}
-use Rattle.flow_search.specs.internal.Lows.{unknown}
+use Rattle.flow_search.specs.internal.TwoLeast.{least_of_none}
 use Rattle.flow_search.specs.internal.Frames.{IsFrame, IsChild, left_from}
 use Rattle.flow_search.specs.declared.frame.Frame.{Frame}
 use Rattle.flow_shop.proofs.Extremes.{map-map-append}
@@ -40,9 +40,9 @@ child-completion shop node front job machine to is =
 
 -- the least number of the jobs that a child leaves: the second least where its job has the least, else the least
 pub child-least : (f : ℕ → ℕ) (n : ℕ) (node : List ℕ) (job own least second value : ℕ) → IsChild n node job →
-    own ≡ f job → least ≡ least_below unknown (map f (jobs_left n node)) →
-    second ≡ second_below unknown unknown (map f (jobs_left n node)) → Without own least second value →
-    value ≡ least_below unknown (map f (jobs_left n (node ++ job ∷ [])))
+    own ≡ f job → least ≡ least_below least_of_none (map f (jobs_left n node)) →
+    second ≡ second_below least_of_none least_of_none (map f (jobs_left n node)) → Without own least second value →
+    value ≡ least_below least_of_none (map f (jobs_left n (node ++ job ∷ [])))
 child-least f n node job own least second value kid own_is least_is second_is picked =
     let us : List ℕ = left_under node job in
     let vs : List ℕ = left_from n node (job + 1) in
@@ -50,14 +50,15 @@ child-least f n node job own least second value kid own_is least_is second_is pi
     ap (map f) (left-split n node job kid.from kid.to kid.fresh) ∙ map-map-append f us (job ∷ vs) in
     let rest : map f (jobs_left n (node ++ job ∷ [])) ≡ map f us ++ map f vs =
     ap (map f) (left-without n node job kid.from kid.to) ∙ map-map-append f us vs in
-    let one : Without (f job) (least_below unknown (map f us ++ f job ∷ map f vs))
-    (second_below unknown unknown (map f us ++ f job ∷ map f vs)) (least_below unknown (map f us ++ map f vs)) =
-    without-one (f job) unknown unknown (map f us) (map f vs) (omega arith) in
-    same-without own (f job) least (least_below unknown (map f us ++ f job ∷ map f vs)) second
-    (second_below unknown unknown (map f us ++ f job ∷ map f vs)) value
-    (least_below unknown (map f us ++ map f vs)) own_is (least_is ∙ ap (least_below unknown) whole)
-    (second_is ∙ ap (second_below unknown unknown) whole) picked one
-    ∙ sym (ap (least_below unknown) rest)
+    let one : Without (f job) (least_below least_of_none (map f us ++ f job ∷ map f vs))
+    (second_below least_of_none least_of_none (map f us ++ f job ∷ map f vs))
+    (least_below least_of_none (map f us ++ map f vs)) =
+    without-one (f job) least_of_none least_of_none (map f us) (map f vs) (omega arith) in
+    same-without own (f job) least (least_below least_of_none (map f us ++ f job ∷ map f vs)) second
+    (second_below least_of_none least_of_none (map f us ++ f job ∷ map f vs)) value
+    (least_below least_of_none (map f us ++ map f vs)) own_is (least_is ∙ ap (least_below least_of_none) whole)
+    (second_is ∙ ap (second_below least_of_none least_of_none) whole) picked one
+    ∙ sym (ap (least_below least_of_none) rest)
   where
     same-without : (y z p q r s m n : ℕ) → y ≡ z → p ≡ q → r ≡ s → Without y p r m → Without z q s n → m ≡ n
     same-without y z p q r s m n yz pq rs a b = elim (eqb_tells y p) [
@@ -70,17 +71,17 @@ pub child-tail : (shop : Shop) (node : List ℕ) (left job machine tail behind :
     IsWithinLimits shop →
     IsFrame shop node (suc (suc left)) frame → IsChild shop.jobs node job → 1 ≤ machine → machine ≤ shop.machines →
     tail ≡ time_between shop job (machine + 1) shop.machines →
-    Without tail (slice_index frame.rest.tails (machine - 1)) (slice_index frame.second (machine - 1)) behind →
-    behind ≡ least_below unknown (tails shop machine (jobs_left shop.jobs (node ++ job ∷ [])))
+    Without tail (slice_index frame.loads.tails (machine - 1)) (slice_index frame.second (machine - 1)) behind →
+    behind ≡ least_below least_of_none (tails shop machine (jobs_left shop.jobs (node ++ job ∷ [])))
 child-tail shop node left job machine tail behind frame limits is kid from to is_tail picked =
     let most : shop.machines ≤ most_machines = limits.machines in
     let f : ℕ → ℕ = λ j. time_between shop j (machine + 1) shop.machines in
-    let cap = least-below-cap unknown (most_machines * greatest_time) f (jobs_left shop.jobs node) (omega
+    let cap = least-below-cap least_of_none (most_machines * greatest_time) f (jobs_left shop.jobs node) (omega
     (arith, is.some))
     (λ j. omega (arith, tail-small shop j (shop.machines - machine) machine limits (omega (arith, to)), most))
     (omega arith) in
-    child-least f shop.jobs node job tail (slice_index frame.rest.tails (machine - 1))
-    (slice_index frame.second (machine - 1)) behind kid is_tail (is.rest_is.tails_are machine from to ∙ sym cap.0)
+    child-least f shop.jobs node job tail (slice_index frame.loads.tails (machine - 1))
+    (slice_index frame.second (machine - 1)) behind kid is_tail (is.loads_are.tails_are machine from to ∙ sym cap.0)
     (is.second_is machine from to) picked
 
 -- the bound of a child with jobs left: when its job starts, the time owed at the node, and what stands behind
@@ -89,15 +90,15 @@ pub child-bound : (shop : Shop) (node : List ℕ) (left job machine start t tail
     IsFrame shop node (suc (suc left)) frame → IsChild shop.jobs node job → 1 ≤ machine → machine ≤ shop.machines →
     start + t ≡ completion shop (node ++ job ∷ []) machine → t ≡ time shop job machine →
     tail ≡ time_between shop job (machine + 1) shop.machines →
-    Without tail (slice_index frame.rest.tails (machine - 1)) (slice_index frame.second (machine - 1)) behind →
-    (start + slice_index frame.rest.sums (machine - 1) + behind ≡ bound_at shop (node ++ job ∷ []) machine)
+    Without tail (slice_index frame.loads.tails (machine - 1)) (slice_index frame.second (machine - 1)) behind →
+    (start + slice_index frame.loads.sums (machine - 1) + behind ≡ bound_at shop (node ++ job ∷ []) machine)
     × (behind ≤ most_machines * greatest_time)
 child-bound shop node left job machine start t tail behind frame limits is kid from to is_free is_t is_tail picked =
     let most : shop.machines ≤ most_machines = limits.machines in
     let f : ℕ → ℕ = λ j. time_between shop j (machine + 1) shop.machines in
     let behind_is = child-tail shop node left job machine tail behind frame limits is kid from to is_tail picked in
     let count = left-count shop.jobs node job kid.from kid.to kid.fresh in
-    let cap = least-below-cap unknown (most_machines * greatest_time) f (jobs_left shop.jobs (node ++ job ∷ []))
+    let cap = least-below-cap least_of_none (most_machines * greatest_time) f (jobs_left shop.jobs (node ++ job ∷ []))
     (omega (arith, is.some, count))
     (λ j. omega (arith, tail-small shop j (shop.machines - machine) machine limits (omega (arith, to)), most))
     (omega arith) in
@@ -105,7 +106,7 @@ child-bound shop node left job machine start t tail behind frame limits is kid f
     ≡ slice_index (front_of shop (node ++ job ∷ [])) (machine - 1) =
     sym (front_of-is shop (node ++ job ∷ []) machine from to) in
     let sum = left-sum (λ j. time shop j machine) shop.jobs node job kid.from kid.to kid.fresh in (
-      omega (arith, is_free, front, is.rest_is.sums_are machine from to, sum, is_t, behind_is, cap.0),
+      omega (arith, is_free, front, is.loads_are.sums_are machine from to, sum, is_t, behind_is, cap.0),
       omega (arith, behind_is, cap.0, cap.1),
     )
 
@@ -117,20 +118,20 @@ pub child-released : (shop : Shop) (node : List ℕ) (left job machine late t ta
     late ≡ release shop (front_of shop (node ++ job ∷ [])) (jobs_left shop.jobs (node ++ job ∷ [])) machine →
     t ≤ late → t ≡ time shop job machine →
     tail ≡ time_between shop job (machine + 1) shop.machines →
-    Without tail (slice_index frame.rest.tails (machine - 1)) (slice_index frame.second (machine - 1)) behind →
-    late - t + (slice_index frame.rest.sums (machine - 1) + behind) ≡ released_bound_at shop (node ++ job ∷ []) machine
+    Without tail (slice_index frame.loads.tails (machine - 1)) (slice_index frame.second (machine - 1)) behind →
+    late - t + (slice_index frame.loads.sums (machine - 1) + behind) ≡ released_bound_at shop (node ++ job ∷ []) machine
 child-released shop node left job machine late t tail behind frame limits is kid from to is_late low is_t is_tail
     picked =
     let most : shop.machines ≤ most_machines = limits.machines in
     let f : ℕ → ℕ = λ j. time_between shop j (machine + 1) shop.machines in
     let behind_is = child-tail shop node left job machine tail behind frame limits is kid from to is_tail picked in
     let count = left-count shop.jobs node job kid.from kid.to kid.fresh in
-    let cap = least-below-cap unknown (most_machines * greatest_time) f (jobs_left shop.jobs (node ++ job ∷ []))
+    let cap = least-below-cap least_of_none (most_machines * greatest_time) f (jobs_left shop.jobs (node ++ job ∷ []))
     (omega (arith, is.some, count))
     (λ j. omega (arith, tail-small shop j (shop.machines - machine) machine limits (omega (arith, to)), most))
     (omega arith) in
     let sum = left-sum (λ j. time shop j machine) shop.jobs node job kid.from kid.to kid.fresh in
-    omega (arith, is_late, low, is.rest_is.sums_are machine from to, sum, is_t, behind_is, cap.0)
+    omega (arith, is_late, low, is.loads_are.sums_are machine from to, sum, is_t, behind_is, cap.0)
 
 pub map-push : (f : ℕ → ℕ) (jobs : List ℕ) (job : ℕ) → map f (jobs ++ job ∷ []) ≡ map f jobs ++ f job ∷ []
 map-push f [] job = refl

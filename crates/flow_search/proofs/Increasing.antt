@@ -67,57 +67,57 @@ same-filter p q from (suc n) same =
     ∙ ap (λ xs. cond (p from) (from ∷ xs) xs) (same-filter p q (from + 1) n (λ k low. same k (omega (arith, low))))
 
 -- a number that both tests refuse
-skipped : (p q : ℕ → Bool) (from n at lane : ℕ) → ((k : ℕ) → k ≢ lane → q k ≡ p k) → q lane ≡ false →
+skipped : (p q : ℕ → Bool) (from n at column : ℕ) → ((k : ℕ) → k ≢ column → q k ≡ p k) → q column ≡ false →
     p from ≡ false →
     (filter p (range_with_len from (suc n)) ≡ filter p (range_with_len (from + 1) n))
     × (filter q (range_with_len from (suc n)) ≡ filter q (range_with_len (from + 1) n))
-skipped p q from n at lane same gone fail =
+skipped p q from n at column same gone fail =
     let rest : (r : ℕ → Bool) → List ℕ = λ r. filter r (range_with_len (from + 1) n) in
     let out : q from ≡ false =
-    elim (cases_eq from lane) [ inl here ↦ ap q here ∙ gone | inr other ↦ same from other ∙ fail ] in
+    elim (cases_eq from column) [ inl here ↦ ap q here ∙ gone | inr other ↦ same from other ∙ fail ] in
     (ap (λ b. cond b (from ∷ rest p) (rest p)) fail, ap (λ b. cond b (from ∷ rest q) (rest q)) out)
 
 -- the numbers that pass one test, without that at a place, pass the other
-pub without-one : (p q : ℕ → Bool) (from n at lane : ℕ) → ((k : ℕ) → k ≢ lane → q k ≡ p k) → q lane ≡ false →
-    at < length (filter p (range_with_len from n)) → slice_index (filter p (range_with_len from n)) at ≡ lane →
+pub without-one : (p q : ℕ → Bool) (from n at column : ℕ) → ((k : ℕ) → k ≢ column → q k ≡ p k) → q column ≡ false →
+    at < length (filter p (range_with_len from n)) → slice_index (filter p (range_with_len from n)) at ≡ column →
     filter q (range_with_len from n)
     ≡ take at (filter p (range_with_len from n)) ++ drop (suc at) (filter p (range_with_len from n))
-without-one p q from zero at lane same gone low here = absurd (omega (arith, low))
-without-one p q from (suc n) zero lane same gone low here =
+without-one p q from zero at column same gone low here = absurd (omega (arith, low))
+without-one p q from (suc n) zero column same gone low here =
     let rest : (r : ℕ → Bool) → List ℕ = λ r. filter r (range_with_len (from + 1) n) in
     elim (bool_cases (p from)) [
       | inl pass ↦
           let all : filter p (range_with_len from (suc n)) ≡ from ∷ rest p =
           ap (λ b. cond b (from ∷ rest p) (rest p)) pass in
-          let first : from ≡ lane = ap (λ xs. slice_index xs 0) (sym all) ∙ here in
+          let first : from ≡ column = ap (λ xs. slice_index xs 0) (sym all) ∙ here in
           ap (λ b. cond b (from ∷ rest q) (rest q)) (ap q first ∙ gone)
           ∙ same-filter p q (from + 1) n (λ k above. same k (omega (arith, above, first)))
           ∙ ap (λ xs. take 0 xs ++ drop 1 xs) (sym all)
       | inr fail ↦
-          let skip = skipped p q from n 0 lane same gone fail in
+          let skip = skipped p q from n 0 column same gone fail in
           skip.1
-          ∙ without-one p q (from + 1) n zero lane same gone (omega (arith, low, ap length skip.0))
+          ∙ without-one p q (from + 1) n zero column same gone (omega (arith, low, ap length skip.0))
           (ap (λ xs. slice_index xs 0) (sym skip.0) ∙ here)
           ∙ ap (λ xs. take 0 xs ++ drop 1 xs) (sym skip.0)
     ]
-without-one p q from (suc n) (suc at) lane same gone low here =
+without-one p q from (suc n) (suc at) column same gone low here =
     let rest : (r : ℕ → Bool) → List ℕ = λ r. filter r (range_with_len (from + 1) n) in
     elim (bool_cases (p from)) [
       | inl pass ↦
           let all : filter p (range_with_len from (suc n)) ≡ from ∷ rest p =
           ap (λ b. cond b (from ∷ rest p) (rest p)) pass in
-          let later : slice_index (rest p) at ≡ lane = ap (λ xs. slice_index xs (suc at)) (sym all) ∙ here in
+          let later : slice_index (rest p) at ≡ column = ap (λ xs. slice_index xs (suc at)) (sym all) ∙ here in
           let within : at < length (rest p) = omega (arith, low, ap length all) in
           let above : from + 1 ≤ slice_index (rest p) at =
           increases-from (from + 1) (rest p) at (increases-filter p (from + 1) n) within in
-          let apart : from ≢ lane = λ e. omega (arith, e, above, later) in
+          let apart : from ≢ column = λ e. omega (arith, e, above, later) in
           ap (λ b. cond b (from ∷ rest q) (rest q)) (same from apart ∙ pass)
-          ∙ ap (λ xs. from ∷ xs) (without-one p q (from + 1) n at lane same gone within later)
+          ∙ ap (λ xs. from ∷ xs) (without-one p q (from + 1) n at column same gone within later)
           ∙ ap (λ xs. take (suc at) xs ++ drop (suc (suc at)) xs) (sym all)
       | inr fail ↦
-          let skip = skipped p q from n (suc at) lane same gone fail in
+          let skip = skipped p q from n (suc at) column same gone fail in
           skip.1
-          ∙ without-one p q (from + 1) n (suc at) lane same gone (omega (arith, low, ap length skip.0))
+          ∙ without-one p q (from + 1) n (suc at) column same gone (omega (arith, low, ap length skip.0))
           (ap (λ xs. slice_index xs (suc at)) (sym skip.0) ∙ here)
           ∙ ap (λ xs. take (suc at) xs ++ drop (suc (suc at)) xs) (sym skip.0)
     ]

@@ -1,4 +1,4 @@
--- The least of the other lanes.
+-- The least of the other columns.
 use Rattle.std.proofs.Common.{◌≡◌, ◌≢◌, ℕ, zero, suc, ◌<◌, ◌≤◌, min, Bool, true, false, not, ◌||◌, ◌&&◌, nat_eq, nat_lt}
 use Rattle.std.proofs.Common.{List, [], ◌∷◌, ◌++◌, slice_index, refl, ap, sym, ◌∙◌, inl, inr, arith}
 use Rattle.std.proofs.lemmas.Bool.{cases_lt, ne_eqb, false≢true}
@@ -6,36 +6,37 @@ use Rattle.std.proofs.lemmas.Bool.Decides.{eqb_tells, nat_tests}
 use Rattle.std.proofs.lemmas.List.Folds.{list_any-append}
 use Rattle.flow_shop.specs.Sequences.{has}
 use Rattle.flow_shop.proofs.JobsLeft.{bool_cases}
-use Rattle.flow_search.specs.internal.Lanes.{IsLeastOfOthers}
+use Rattle.flow_search.specs.internal.Columns.{IsLeastOfOthers}
 
--- a value is at most the number of each of some lanes, and that of a lane other than one
-record Covers (numbers : List ℕ) (lane : ℕ) (lanes : List ℕ) (value : ℕ) : Type 0 where
-  least : (k : ℕ) → has lanes k ≡ true → value ≤ slice_index numbers k
-  one : (k : ℕ) × (k < 8) × (k ≢ lane) × (value ≡ slice_index numbers k)
+-- a value is at most the number of each of some columns, and that of a column other than one
+record Covers (numbers : List ℕ) (column : ℕ) (columns : List ℕ) (value : ℕ) : Type 0 where
+  least : (k : ℕ) → has columns k ≡ true → value ≤ slice_index numbers k
+  one : (k : ℕ) × (k < 8) × (k ≢ column) × (value ≡ slice_index numbers k)
 
--- whether a lane is one of the eight and not the one
+-- whether a column is one of the eight and not the one
 abbrev is_other : ℕ → ℕ → Bool
-is_other lane k = nat_lt k 8 && not (nat_eq k lane)
+is_other column k = nat_lt k 8 && not (nat_eq k column)
 
-is-other : (lane k : ℕ) → is_other lane k ≡ true → (k < 8) × (k ≢ lane)
-is-other lane k h = (grind (arith, nat_tests), λ e. differ e)
+is-other : (column k : ℕ) → is_other column k ≡ true → (k < 8) × (k ≢ column)
+is-other column k h = (grind (arith, nat_tests), λ e. differ e)
   where
-    differ : k ≡ lane → ⊥
+    differ : k ≡ column → ⊥
     differ e = grind (arith, nat_tests)
 
-leaf : (numbers : List ℕ) (lane k : ℕ) → is_other lane k ≡ true → Covers numbers lane (k ∷ []) (slice_index numbers k)
-leaf numbers lane k h = record {
+leaf : (numbers : List ℕ) (column k : ℕ) → is_other column k ≡ true →
+    Covers numbers column (k ∷ []) (slice_index numbers k)
+leaf numbers column k h = record {
   least = λ i there. elim (eqb_tells i k) [
     | inl same ↦ let e : slice_index numbers i ≡ slice_index numbers k = ap (slice_index numbers) same.1 in omega
         (arith, e)
     | inr differ ↦ absurd (false≢true (sym (ap (λ b. b || false) differ.0) ∙ there))
   ];
-  one = (k, (is-other lane k h).0, (is-other lane k h).1, refl);
+  one = (k, (is-other column k h).0, (is-other column k h).1, refl);
 }
 
-both : (numbers : List ℕ) (lane : ℕ) (xs ys : List ℕ) (u v : ℕ) → Covers numbers lane xs u →
-    Covers numbers lane ys v → Covers numbers lane (xs ++ ys) (min u v)
-both numbers lane xs ys u v a b = record {
+both : (numbers : List ℕ) (column : ℕ) (xs ys : List ℕ) (u v : ℕ) → Covers numbers column xs u →
+    Covers numbers column ys v → Covers numbers column (xs ++ ys) (min u v)
+both numbers column xs ys u v a b = record {
   least = λ k there. elim (bool_cases (has xs k)) [
     | inl first ↦ omega (arith, a.least k first)
     | inr none ↦ omega (
@@ -62,35 +63,36 @@ eight p a b c d e f g h (suc (suc (suc (suc (suc (suc zero)))))) low = g
 eight p a b c d e f g h (suc (suc (suc (suc (suc (suc (suc zero))))))) low = h
 eight p a b c d e f g h (suc (suc (suc (suc (suc (suc (suc (suc k)))))))) low = absurd (omega (arith, low))
 
--- the partner of a lane, and three pairs
-seven : (numbers : List ℕ) (lane p a x b y c z value : ℕ) → is_other lane p ≡ true → is_other lane a ≡ true →
-    is_other lane x ≡ true → is_other lane b ≡ true → is_other lane y ≡ true → is_other lane c ≡ true → is_other lane
+-- the partner of a column, and three pairs
+seven : (numbers : List ℕ) (column p a x b y c z value : ℕ) → is_other column p ≡ true → is_other column a ≡ true →
+    is_other column x ≡ true → is_other column b ≡ true → is_other column y ≡ true → is_other column c ≡ true →
+    is_other column
     z ≡ true →
-    ((k : ℕ) → k < 8 → (nat_eq k lane || has (p ∷ a ∷ x ∷ b ∷ y ∷ c ∷ z ∷ []) k) ≡ true) →
+    ((k : ℕ) → k < 8 → (nat_eq k column || has (p ∷ a ∷ x ∷ b ∷ y ∷ c ∷ z ∷ []) k) ≡ true) →
     value ≡ min (slice_index numbers p) (min (min (slice_index numbers a) (slice_index numbers x))
     (min (min (slice_index numbers b) (slice_index numbers y)) (min (slice_index numbers c) (slice_index numbers z)))) →
-    IsLeastOfOthers numbers lane value
-seven numbers lane p a x b y c z value op oa ox ob oy oc oz all is =
-    let first = both numbers lane (a ∷ []) (x ∷ []) (slice_index numbers a) (slice_index numbers x)
-    (leaf numbers lane a oa) (leaf numbers lane x ox) in
-    let second = both numbers lane (b ∷ []) (y ∷ []) (slice_index numbers b) (slice_index numbers y)
-    (leaf numbers lane b ob) (leaf numbers lane y oy) in
-    let third = both numbers lane (c ∷ []) (z ∷ []) (slice_index numbers c) (slice_index numbers z)
-    (leaf numbers lane c oc) (leaf numbers lane z oz) in
-    let far = both numbers lane (b ∷ y ∷ []) (c ∷ z ∷ []) (min (slice_index numbers b) (slice_index numbers y))
+    IsLeastOfOthers numbers column value
+seven numbers column p a x b y c z value op oa ox ob oy oc oz all is =
+    let first = both numbers column (a ∷ []) (x ∷ []) (slice_index numbers a) (slice_index numbers x)
+    (leaf numbers column a oa) (leaf numbers column x ox) in
+    let second = both numbers column (b ∷ []) (y ∷ []) (slice_index numbers b) (slice_index numbers y)
+    (leaf numbers column b ob) (leaf numbers column y oy) in
+    let third = both numbers column (c ∷ []) (z ∷ []) (slice_index numbers c) (slice_index numbers z)
+    (leaf numbers column c oc) (leaf numbers column z oz) in
+    let far = both numbers column (b ∷ y ∷ []) (c ∷ z ∷ []) (min (slice_index numbers b) (slice_index numbers y))
     (min (slice_index numbers c) (slice_index numbers z)) second third in
-    let six = both numbers lane (a ∷ x ∷ []) (b ∷ y ∷ c ∷ z ∷ [])
+    let six = both numbers column (a ∷ x ∷ []) (b ∷ y ∷ c ∷ z ∷ [])
     (min (slice_index numbers a) (slice_index numbers x)) (min (min (slice_index numbers b) (slice_index numbers y))
     (min (slice_index numbers c) (slice_index numbers z))) first far in
-    let whole = both numbers lane (p ∷ []) (a ∷ x ∷ b ∷ y ∷ c ∷ z ∷ []) (slice_index numbers p)
+    let whole = both numbers column (p ∷ []) (a ∷ x ∷ b ∷ y ∷ c ∷ z ∷ []) (slice_index numbers p)
     (min (min (slice_index numbers a) (slice_index numbers x))
     (min (min (slice_index numbers b) (slice_index numbers y)) (min (slice_index numbers c) (slice_index numbers z))))
-    (leaf numbers lane p op) six in
+    (leaf numbers column p op) six in
     record {
       least = λ k low other. omega (
         arith,
         is,
-        whole.least k (sym (ap (λ t. t || has (p ∷ a ∷ x ∷ b ∷ y ∷ c ∷ z ∷ []) k) (ne_eqb k lane other)) ∙
+        whole.least k (sym (ap (λ t. t || has (p ∷ a ∷ x ∷ b ∷ y ∷ c ∷ z ∷ []) k) (ne_eqb k column other)) ∙
             all k low),
       );
       one = (whole.one.0, whole.one.1, whole.one.2, is ∙ whole.one.3);
@@ -105,10 +107,11 @@ pub others-are : (t : List ℕ) (p0 p1 p2 p3 low high f0 f1 f2 f3 r0 r1 r2 r3 r4
     (slice_index t 7) f3 →
     r4 ≡ min (slice_index t 0) f0 → r5 ≡ min (slice_index t 1) f1 → r6 ≡ min (slice_index t 2) f2 → r7 ≡ min
     (slice_index t 3) f3 →
-    (lane : ℕ) → lane < 8 → IsLeastOfOthers t lane (slice_index (r0 ∷ r1 ∷ r2 ∷ r3 ∷ r4 ∷ r5 ∷ r6 ∷ r7 ∷ []) lane)
+    (column : ℕ) → column < 8 → IsLeastOfOthers t column (slice_index (r0 ∷ r1 ∷ r2 ∷ r3 ∷ r4 ∷ r5 ∷ r6 ∷ r7 ∷ [])
+    column)
 others-are t p0 p1 p2 p3 low high f0 f1 f2 f3 r0 r1 r2 r3 r4 r5 r6 r7 ep0 ep1 ep2 ep3 el eh ef0 ef1 ef2 ef3 e0 e1 e2
-    e3 e4 e5 e6 e7 lane within =
-    let lanes : (k : ℕ) → k < 8 → IsLeastOfOthers t k (slice_index (r0 ∷ r1 ∷ r2 ∷ r3 ∷ r4 ∷ r5 ∷ r6 ∷ r7 ∷ []) k) =
+    e3 e4 e5 e6 e7 column within =
+    let columns : (k : ℕ) → k < 8 → IsLeastOfOthers t k (slice_index (r0 ∷ r1 ∷ r2 ∷ r3 ∷ r4 ∷ r5 ∷ r6 ∷ r7 ∷ []) k) =
     each (λ k. IsLeastOfOthers t k (slice_index (r0 ∷ r1 ∷ r2 ∷ r3 ∷ r4 ∷ r5 ∷ r6 ∷ r7 ∷ []) k))
     (seven t 0 4 1 5 2 6 3 7 r0 refl refl refl refl refl refl refl
     (eight (λ k. nat_eq k 0 || has (4 ∷ 1 ∷ 5 ∷ 2 ∷ 6 ∷ 3 ∷ 7 ∷ []) k) refl refl refl refl refl refl refl refl) cc)
@@ -126,7 +129,7 @@ others-are t p0 p1 p2 p3 low high f0 f1 f2 f3 r0 r1 r2 r3 r4 r5 r6 r7 ep0 ep1 ep
     (eight (λ k. nat_eq k 6 || has (2 ∷ 3 ∷ 7 ∷ 0 ∷ 4 ∷ 1 ∷ 5 ∷ []) k) refl refl refl refl refl refl refl refl) cc)
     (seven t 7 3 2 6 0 4 1 5 r7 refl refl refl refl refl refl refl
     (eight (λ k. nat_eq k 7 || has (3 ∷ 2 ∷ 6 ∷ 0 ∷ 4 ∷ 1 ∷ 5 ∷ []) k) refl refl refl refl refl refl refl refl) cc) in
-    lanes lane within
+    columns column within
   where
     each : (P : ℕ → Type 0) → P 0 → P 1 → P 2 → P 3 → P 4 → P 5 → P 6 → P 7 → (k : ℕ) → k < 8 → P k
     each P a b c d e f g h zero low = a

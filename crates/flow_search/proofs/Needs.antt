@@ -12,11 +12,11 @@ use Rattle.flow_shop.specs.Rows.{IsRow}
 use Rattle.flow_shop.specs.declared.row.Row.{Row}
 use Rattle.flow_shop.proofs.Recurrence.{time_between-first}
 use Rattle.flow_shop.proofs.Fronts.{tail-small}
-use Rattle.flow_search.specs.internal.Lows.{time_to, unknown}
+use Rattle.flow_search.specs.internal.TwoLeast.{time_to, least_of_none}
 use Rattle.flow_search.specs.internal.Lags.{IsLagged}
-use Rattle.flow_search.specs.declared.lows.Lows.{Lows}
+use Rattle.flow_search.specs.declared.two_least.TwoLeast.{TwoLeast}
 use Rattle.flow_search.proofs.Children.{child-least}
-use Rattle.flow_search.proofs.LanesReleased.{between-split}
+use Rattle.flow_search.proofs.ColumnsReleased.{between-split}
 
 -- from the machine at a place on
 pub row-needs : (shop : Shop) (job : ℕ) (row : Row) (place : ℕ) → IsRow shop job row → place < shop.machines →
@@ -71,13 +71,13 @@ time_to-small shop machine place job limits to low =
 -- the least of some jobs
 pub least-to : (shop : Shop) (machine place : ℕ) (jobs : List ℕ) → IsWithinLimits shop → machine ≤ shop.machines →
     place < machine - 1 → 0 < length jobs →
-    least_below unknown (map (time_to shop machine place) jobs) ≡ least (map (time_to shop machine place) jobs)
+    least_below least_of_none (map (time_to shop machine place) jobs) ≡ least (map (time_to shop machine place) jobs)
 least-to shop machine place jobs limits to low some =
-    (least-below-cap unknown (most_machines * greatest_time) (time_to shop machine place) jobs some
+    (least-below-cap least_of_none (most_machines * greatest_time) (time_to shop machine place) jobs some
     (λ job. time_to-small shop machine place job limits to low) (omega arith)).0
 
 -- the least time that the jobs which a child leaves need from a machine to before another
-pub child-need : (shop : Shop) (node : List ℕ) (left job machine place own value : ℕ) (row : Row) (lows : Lows) →
+pub child-need : (shop : Shop) (node : List ℕ) (left job machine place own value : ℕ) (row : Row) (lows : TwoLeast) →
     IsLagged shop node left job machine row lows → 1 ≤ machine → place < machine - 1 →
     own ≡ (slice_index row.times place + slice_index row.tails place)
     - (slice_index row.times (machine - 1) + slice_index row.tails (machine - 1)) →
@@ -86,11 +86,11 @@ pub child-need : (shop : Shop) (node : List ℕ) (left job machine place own val
     × (value ≤ most_machines * greatest_time)
 child-need shop node left job machine place own value row lows is from low own_is picked =
     let f : ℕ → ℕ = time_to shop machine place in
-    let two = is.lows_are place low in
+    let two = is.lags_are place low in
     let count = left-count shop.jobs node job is.kid.from is.kid.to is.kid.fresh in
     let value_is = child-least f shop.jobs node job own (slice_index lows.least place)
     (slice_index lows.second place) value is.kid
     (own_is ∙ row-time-to shop job machine place row is.row_is from is.to low) two.0 two.1 picked in
-    let cap = least-below-cap unknown (most_machines * greatest_time) f (jobs_left shop.jobs (node ++ job ∷ []))
+    let cap = least-below-cap least_of_none (most_machines * greatest_time) f (jobs_left shop.jobs (node ++ job ∷ []))
     (omega (arith, is.some, count)) (λ j. time_to-small shop machine place j is.limits is.to low) (omega arith) in
     (value_is ∙ cap.0, omega (arith, value_is, cap.0, cap.1))

@@ -22,7 +22,7 @@ use Rattle.flow_shop.proofs.JobSetLemmas.{members-is}
 use Rattle.flow_shop.proofs.Admissible.{front_of-is}
 use Rattle.flow_search.specs.Search.{Bound}
 use Rattle.flow_search.specs.internal.Nodes.{IsAt, Wrote, Walked, walked, children_walked, incumbent_of}
-use Rattle.flow_search.specs.declared.subtree.Search.{Search}
+use Rattle.flow_search.specs.declared.state.SearchState.{SearchState}
 use Rattle.flow_search.proofs.Walk.{Fresh, fresh-push, range-all, answer_of, has-at}
 use Rattle.flow_shop.proofs.Lists.{find-some}
 
@@ -240,7 +240,8 @@ put-back (flag ∷ flags) (suc place) e = ap (λ ys. flag ∷ ys) (put-back flag
 
 -- What the code does at a node is what the walk does.
 
-pub cut-here : (shop : Shop) (bound : Bound) (budget count left machine : ℕ) (old new : Search) → count ≡ suc left →
+pub cut-here : (shop : Shop) (bound : Bound) (budget count left machine : ℕ) (old new : SearchState) →
+    count ≡ suc left →
     Some machine ≡ find (λ k. nat_le old.value (bound shop old.node.items k)) (numbers 1 shop.machines) →
     Wrote budget (64 + machine) old new → Walked shop bound budget count old new
 cut-here shop bound budget count left machine old new e finds wrote =

@@ -14,11 +14,11 @@ use Rattle.flow_shop.specs.Sequences.{has, AreJobs, AreDistinct, IsSequence, cut
 use Rattle.flow_shop.specs.Bound.{bound_of}
 use Rattle.flow_shop.proofs.Admissible.{bound_is_admissible, released_bound_is_admissible}
 use Rattle.flow_search.specs.Search.{Bound, Found, tree, best}
-use Rattle.flow_search.specs.Walk.{walk, IsAdmissible}
-use Rattle.flow_search.specs.Plans.{Planned, IsPlan, prefixes_of, prefix_of, best_of, tree_of}
+use Rattle.flow_search.specs.internal.Walk.{walk, IsAdmissible}
+use Rattle.flow_search.specs.Plans.{Planned, prefixes_of, prefix_of, best_of, tree_of}
 use Rattle.flow_search.specs.internal.Stored.{IsStored}
 use Rattle.flow_search.specs.internal.Nodes.{IsAt, Entered, Walked, walked, found_if, incumbent_of}
-use Rattle.flow_search.specs.declared.subtree.Search.{Search}
+use Rattle.flow_search.specs.declared.state.SearchState.{SearchState}
 use Rattle.flow_search.proofs.Walk.{Fresh, walk_is_tree}
 use Rattle.flow_search.proofs.LeastVerdict.{cut-fresh, best-is}
 use Rattle.flow_search.proofs.Lists.{all-weaken}
@@ -67,14 +67,14 @@ fresh-at (x ∷ xs) (suc i) d h =
     ]
 
 -- a search that stands at the first jobs of a prefix, with nothing seen or written
-pub record IsOnTheWay (plan : Planned) (prefix : List ℕ) (i : ℕ) (front : List ℕ) (search : Search) : Type 0 where
+pub record IsOnTheWay (plan : Planned) (prefix : List ℕ) (i : ℕ) (front : List ℕ) (search : SearchState) : Type 0 where
   pub at : IsAt plan.shop search.node.items front search.unscheduled (plan.shop.jobs - i)
   pub node : search.node.items ≡ take i prefix
   pub incumbent : incumbent_of search ≡ (plan.start.value, None)
   pub tree : search.tree.items ≡ []
 
 -- one more job of the prefix
-pub way-goes-on : (plan : Planned) (prefix front next_front : List ℕ) (i : ℕ) (now next : Search) →
+pub way-goes-on : (plan : Planned) (prefix front next_front : List ℕ) (i : ℕ) (now next : SearchState) →
     AreJobs plan.shop.jobs prefix → length prefix ≤ plan.shop.jobs → i < length prefix →
     IsOnTheWay plan prefix i front now → Entered (get_or prefix i 0) now next →
     IsFrontOf plan.shop (now.node.items ++ get_or prefix i 0 ∷ []) next_front →
@@ -105,7 +105,7 @@ arrived : (prefix node : List ℕ) (i : ℕ) → i ≤ length prefix → length 
 arrived prefix node i low high e = let same : i ≡ length prefix = omega arith in e ∙ ap (λ k. take k prefix) same
     ∙ take-all prefix
 
-prefix-walk : (plan : Planned) (bound : Bound) (prefix front : List ℕ) (i count : ℕ) (search : Search) →
+prefix-walk : (plan : Planned) (bound : Bound) (prefix front : List ℕ) (i count : ℕ) (search : SearchState) →
     count ≡ plan.shop.jobs - length prefix → i ≤ length prefix → length prefix ≤ i →
     IsOnTheWay plan prefix i front search →
     walked plan.shop bound count search
@@ -117,7 +117,7 @@ prefix-walk plan bound prefix front i count search left low high way =
     ∙ ap (walk plan.shop bound (plan.shop.jobs - length prefix) prefix) way.incumbent
 
 prefix-done : (plan : Planned) (bound : Bound) → IsAdmissible bound →
-    (prefix front : List ℕ) (i budget count : ℕ) (old new : Search) →
+    (prefix front : List ℕ) (i budget count : ℕ) (old new : SearchState) →
     AreJobs plan.shop.jobs prefix → length prefix ≤ plan.shop.jobs →
     count ≡ plan.shop.jobs - length prefix → i ≤ length prefix → length prefix ≤ i →
     IsOnTheWay plan prefix i front old → Walked plan.shop bound budget count old new →
@@ -139,7 +139,7 @@ admissible-of version = elim (eqb_tells version 2) [
 
 -- the best and the tree of a prefix of the plan, once its walk is done; the code knows the instance as `shop`
 pub prefix-answered : (plan : Planned) (bound : Bound) (shop : Shop) (prefix front : List ℕ)
-    (number i budget jobs : ℕ) (old new : Search) → bound ≡ bound_of plan.options.version → IsAdmissible bound →
+    (number i budget jobs : ℕ) (old new : SearchState) → bound ≡ bound_of plan.options.version → IsAdmissible bound →
     shop ≡ plan.shop → jobs ≡ shop.jobs → prefix ≡ prefix_of plan number →
     AreJobs plan.shop.jobs prefix → length prefix ≤ plan.shop.jobs → i ≤ length prefix → length prefix ≤ i →
     IsOnTheWay plan prefix i front old → Walked shop bound budget (jobs - length prefix) old new →
@@ -159,7 +159,7 @@ prefix-answered plan bound shop prefix front number i budget jobs old new bound_
     )
 
 pub prefix-over : (plan : Planned) (bound : Bound) → IsAdmissible bound →
-    (prefix front : List ℕ) (i budget count : ℕ) (old : Search) →
+    (prefix front : List ℕ) (i budget count : ℕ) (old : SearchState) →
     AreJobs plan.shop.jobs prefix → length prefix ≤ plan.shop.jobs →
     count ≡ plan.shop.jobs - length prefix → i ≤ length prefix → length prefix ≤ i →
     IsOnTheWay plan prefix i front old →
@@ -200,14 +200,14 @@ stored-prefix plan count lists rows number s h =
     h
 
 -- the best of a prefix is a sequence
-pub best-sequence : (plan : Planned) (number : ℕ) (search : Search) → IsPlan plan → number < length (prefixes_of plan) →
+pub best-sequence : (plan : Planned) (number : ℕ) (search : SearchState) → plan.options.depth ≤ plan.shop.jobs →
+    number < length (prefixes_of plan) →
     found_if search ≡ best_of plan number →
     search.improved ≡ true → IsSequence plan.shop.jobs search.best.items
-best-sequence plan number search is h e improved =
+best-sequence plan number search deep h e improved =
     let prefix : IsPrefix plan.shop.jobs plan.options.depth (prefix_of plan number) = prefix-is plan number h in
     let range = recursion_from_All (λ job. (1 ≤ job)
     × (job ≤ plan.shop.jobs)) (prefix_of plan number) prefix.jobs.range in
-    let deep : plan.options.depth ≤ plan.shop.jobs = is.deep in
     let short : length (prefix_of plan number) ≤ plan.shop.jobs = omega (arith, prefix.size, deep) in
     let found : Found = record { value = search.value; sequence = search.best.items } in
     let some : best_of plan number ≡ Some found = sym e ∙ cond-true search.improved (Some found) None improved in

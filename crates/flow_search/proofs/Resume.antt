@@ -16,8 +16,8 @@ use Rattle.flow_search.specs.Search.{Bound}
 use Rattle.flow_shop.proofs.JobsLeft.{bool_cases}
 use Rattle.flow_shop.proofs.Admissible.{front_of-is}
 use Rattle.flow_bound.specs.Loads.{AreLoadsOf}
-use Rattle.flow_search.specs.Walk.{walk, walk_each}
-use Rattle.flow_search.specs.internal.Lows.{second_tail}
+use Rattle.flow_search.specs.internal.Walk.{Walk, Incumbent, walk, walk_each}
+use Rattle.flow_search.specs.internal.TwoLeast.{second_tail}
 use Rattle.flow_search.specs.internal.Nodes.{IsAt, Wrote, Entered, Left, Gave, Walked, Opens, walked, incumbent_of}
 use Rattle.flow_search.specs.internal.Nodes.{then_walk}
 use Rattle.flow_search.specs.internal.Frames.{
@@ -31,8 +31,8 @@ use Rattle.flow_search.specs.internal.Frames.{
   resume,
 }
 use Rattle.flow_search.specs.declared.frame.Frame.{Frame}
-use Rattle.flow_search.specs.declared.subtree.Search.{Search}
-use Rattle.flow_search.proofs.Walk.{Incumbent, answer_of}
+use Rattle.flow_search.specs.declared.state.SearchState.{SearchState}
+use Rattle.flow_search.proofs.Walk.{answer_of}
 use Rattle.flow_search.proofs.Nodes.{at-child, size-set, members-are, left-count, put-back}
 use Rattle.flow_shop.proofs.Taken.{has-other}
 
@@ -138,9 +138,6 @@ longer-part budget now first rest old whole over same =
 
 -- walks one after another
 
-abbrev Walk : Type 0
-Walk = List ℕ × Incumbent
-
 pub then-assoc : (a : Walk) (f g : Incumbent → Walk) → then_walk (then_walk a f) g ≡ then_walk a
     (λ st. then_walk (f st) g)
 then-assoc a f g = ap (λ t. (t, (g (f a.1).1).1)) (append_assoc a.0 (f a.1).0 (g (f a.1).1).0)
@@ -168,12 +165,12 @@ resume-none shop bound root left here fs st e =
 
 -- a frame whose next child is another
 abbrev pub moved : Frame → ℕ → Frame
-moved here next = record { front = here.front; rest = here.rest; second = here.second; next = next }
+moved here next = record { front = here.front; loads = here.loads; second = here.second; next = next }
 
 moved-frame : (shop : Shop) (node : List ℕ) (left : ℕ) (here : Frame) (next : ℕ) → IsFrame shop node left here →
     IsFrame shop node left (moved here next)
 moved-frame shop node left here next is =
-    record { times = is.times; rest_is = is.rest_is; second_is = is.second_is; count = is.count; some = is.some }
+    record { times = is.times; loads_are = is.loads_are; second_is = is.second_is; count = is.count; some = is.some }
 
 -- a walk writes something
 pub walk-some : (shop : Shop) (bound : Bound) (left : ℕ) (node : List ℕ) (st : Incumbent) →
@@ -197,7 +194,7 @@ kid-of shop node front set count job at low high there =
 -- the frame of a node, from its rest
 pub frame-of : (shop : Shop) (node front : List ℕ) (set : List Bool) (left : ℕ) (frame : Frame) →
     IsAt shop node front set left →
-    IsFrontOf shop node frame.front → AreLoadsOf shop (members set) frame.rest →
+    IsFrontOf shop node frame.front → AreLoadsOf shop (members set) frame.loads →
     ((machine : ℕ) → 1 ≤ machine → machine ≤ shop.machines →
     slice_index_or frame.second (machine - 1) 0 ≡ second_tail shop (members set) machine) →
     IsFrame shop node left frame
@@ -205,20 +202,21 @@ frame-of shop node front set left frame at times rest second =
     let left_is : members set ≡ jobs_left shop.jobs node = members-are shop node front set left at in
     record {
       times = times;
-      rest_is = subst (λ js. AreLoadsOf shop js frame.rest) left_is rest;
+      loads_are = subst (λ js. AreLoadsOf shop js frame.loads) left_is rest;
       second_is = λ machine from to. second machine from to ∙ ap (λ js. second_tail shop js machine) left_is;
       count = at.whole;
       some = ap length (sym left_is) ∙ left-count shop node front set left at;
     }
 
 -- a child whose subtree was walked
-child-walk : (shop : Shop) (bound : Bound) (below job : ℕ) (old in_child : Search) → Entered job old in_child →
+child-walk : (shop : Shop) (bound : Bound) (below job : ℕ) (old in_child : SearchState) → Entered job old in_child →
     walked shop bound below in_child ≡ walk shop bound below (old.node.items ++ job ∷ []) (incumbent_of old)
 child-walk shop bound below job old in_child entered =
     ap (λ q. walk shop bound below q (incumbent_of in_child)) entered.node
     ∙ ap (walk shop bound below (old.node.items ++ job ∷ [])) entered.incumbent
 
-pub child-done : (shop : Shop) (bound : Bound) (budget below job : ℕ) (old in_child after new : Search) → Entered job
+pub child-done : (shop : Shop) (bound : Bound) (budget below job : ℕ) (old in_child after new : SearchState) →
+    Entered job
     old in_child →
     Walked shop bound budget below in_child after → Left job old.node.items after new → contains old.unscheduled job ≡
     true →
@@ -237,7 +235,7 @@ child-done shop bound budget below job old in_child after new entered w left the
       within = subst (λ t. length t ≤ budget) (sym left.tree) w.within;
     }
 
-pub child-over : (shop : Shop) (bound : Bound) (budget below job : ℕ) (old in_child : Search) → Entered job old
+pub child-over : (shop : Shop) (bound : Bound) (budget below job : ℕ) (old in_child : SearchState) → Entered job old
     in_child →
     budget < length in_child.tree.items + length (walked shop bound below in_child).0 →
     budget < length old.tree.items + length (walk shop bound below (old.node.items ++ job ∷ [])
@@ -252,7 +250,7 @@ child-over shop bound budget below job old in_child entered over =
     )
 
 -- a child that a bound cuts
-pub cut-done : (shop : Shop) (bound : Bound) (budget below job machine : ℕ) (old new : Search) → below ≢ 0 →
+pub cut-done : (shop : Shop) (bound : Bound) (budget below job machine : ℕ) (old new : SearchState) → below ≢ 0 →
     Some machine ≡ find (λ m. nat_le old.value (bound shop (old.node.items ++ job
     ∷ []) m)) (numbers 1 shop.machines) →
     Wrote budget (64 + machine) old new →
@@ -321,7 +319,7 @@ same-set shop node front other_front set other count other_count a b =
     ]
 
 module _ {shop : Shop} {bound : Bound} {budget : ℕ} {root : List ℕ} {whole : List ℕ
-    × Incumbent} {old : Search} {here : Frame} {below : ℕ} {fs : List Frame} {now : Search}
+    × Incumbent} {old : SearchState} {here : Frame} {below : ℕ} {fs : List Frame} {now : SearchState}
     (i : IsWalking shop bound budget root whole old here below fs now) where
   -- the next child
   pub walking-child : (job : ℕ) → Some job ≡ find (contains now.unscheduled) (numbers here.next shop.jobs) →
@@ -337,7 +335,7 @@ module _ {shop : Shop} {bound : Bound} {budget : ℕ} {root : List ℕ} {whole :
       )
 
   -- a child's subtree was walked
-  pub walking-whole : (job : ℕ) (new : Search) →
+  pub walking-whole : (job : ℕ) (new : SearchState) →
       Some job ≡ find (contains now.unscheduled) (numbers here.next shop.jobs) →
       Gave budget (walk shop bound below (now.node.items ++ job ∷ []) (incumbent_of now)) now new →
       IsWalking shop bound budget root whole old (moved here (job + 1)) below fs new
@@ -392,11 +390,11 @@ module _ {shop : Shop} {bound : Bound} {budget : ℕ} {root : List ℕ} {whole :
       (subst (λ w. budget < length now.tree.items + length w.0) first_is over) all
 
   -- the plus of a child is written, and its node entered
-  pub walking-down : (job : ℕ) (mid new : Search) (child : Frame) →
+  pub walking-down : (job : ℕ) (mid new : SearchState) (child : Frame) →
       Some job ≡ find (contains now.unscheduled) (numbers here.next shop.jobs) → 9 ≤ below →
       Opens shop bound budget job now mid → Entered job mid new →
       IsFrontOf shop (now.node.items ++ job ∷ []) child.front →
-      AreLoadsOf shop (members new.unscheduled) child.rest →
+      AreLoadsOf shop (members new.unscheduled) child.loads →
       ((machine : ℕ) → 1 ≤ machine → machine ≤ shop.machines →
       slice_index_or child.second (machine - 1) 0 ≡ second_tail shop (members new.unscheduled) machine) →
       child.next ≡ 1 →
@@ -456,7 +454,7 @@ module _ {shop : Shop} {bound : Bound} {budget : ℕ} {root : List ℕ} {whole :
         node = node ∙ sym here_at;
         frame = record {
           times = subst (λ q. IsFrontOf shop q child.front) (sym here_at) front;
-          rest_is = subst (λ js. AreLoadsOf shop js child.rest) left_is rest_given;
+          loads_are = subst (λ js. AreLoadsOf shop js child.loads) left_is rest_given;
           second_is = λ machine from to. second machine from to ∙ ap (λ js. second_tail shop js machine) left_is;
           count = ap (λ q. length q + suc left) (sym (node ∙ sym here_at)) ∙ at_new.whole;
           some = ap length (sym left_is)
@@ -483,11 +481,11 @@ module _ {shop : Shop} {bound : Bound} {budget : ℕ} {root : List ℕ} {whole :
       }
 
   -- the node of a child whose plus is written
-  pub walking-entered : (job : ℕ) (mid new : Search) → Some job
+  pub walking-entered : (job : ℕ) (mid new : SearchState) → Some job
       ≡ find (contains now.unscheduled) (numbers here.next shop.jobs) →
       Opens shop bound budget job now mid → Entered job mid new →
       IsAt shop new.node.items (front_of shop (now.node.items ++ job ∷ [])) new.unscheduled below
-      × AreLoadsOf shop (members (slice_set new.unscheduled (job - 1) true)) here.rest
+      × AreLoadsOf shop (members (slice_set new.unscheduled (job - 1) true)) here.loads
   walking-entered job mid new found opens entered =
       let kid = walking-child job found in
       let node : new.node.items ≡ now.node.items ++ job ∷ [] = entered.node
@@ -506,11 +504,11 @@ module _ {shop : Shop} {bound : Bound} {budget : ℕ} {root : List ℕ} {whole :
       ∙ ap members (sym whole) in (
         subst (λ q. IsAt shop q front new.unscheduled below) (sym node)
             (subst (λ u. IsAt shop (now.node.items ++ job ∷ []) front u below) (sym set) at_kid),
-        subst (λ js. AreLoadsOf shop js here.rest) jobs i.frame.rest_is,
+        subst (λ js. AreLoadsOf shop js here.loads) jobs i.frame.loads_are,
       )
 
   -- no child is left: back at the node above
-  pub walking-up : (f : Frame) (gs : List Frame) (new : Search) →
+  pub walking-up : (f : Frame) (gs : List Frame) (new : SearchState) →
       None ≡ find (contains now.unscheduled) (numbers here.next shop.jobs) →
       fs ≡ f ∷ gs → Left (f.next - 1) (path root gs) now new →
       IsWalking shop bound budget root whole old f (suc below) gs new

@@ -10,12 +10,9 @@ use Rattle.std.proofs.lemmas.List.Folds.{list_all-append}
 use Rattle.std.proofs.lemmas.Bool.{cond-true, cond-false, cases_Bool, cases_lt, and_parts, leb-true, le-leb, lt-leb}
 use Rattle.std.proofs.lemmas.Bool.{lt-ltb, le-ltb}
 use Rattle.flow_shop.specs.Least.{first_least}
-use Rattle.flow_shop.specs.Shop.{Shop}
-use Rattle.flow_shop.specs.Paths.{span}
-use Rattle.flow_shop.specs.Sequences.{IsSequence, IsLeastMakespan}
 use Rattle.flow_shop.specs.Bound.{bound_of}
 use Rattle.flow_search.specs.Search.{Found, tree, best}
-use Rattle.flow_search.specs.Plans.{Planned, IsPlan, prefixes_of, prefix_of, tree_of, best_of, trees_of, verdict_of}
+use Rattle.flow_search.specs.Plans.{Planned, prefixes_of, prefix_of, tree_of, best_of, trees_of, verdict_of}
 use Rattle.flow_search.specs.Outcomes.{IsLawful, AreLawful, IsDone, found_of, first_over_budget}
 use Rattle.flow_search.specs.Verdicts.{first_refusal}
 use Rattle.flow_search.specs.internal.Tally.{IsTally, undercuts}
@@ -27,7 +24,8 @@ use Rattle.flow_search.specs.declared.tally.Tally.{Tally}
 use Rattle.flow_search.specs.declared.verdict.RunFault.{RunFault}
 use Rattle.flow_search.specs.declared.verdict.RunFault.TheVariants.{OverBudget}
 use Rattle.flow_search.proofs.Lists.{all-append}
-use Rattle.flow_search.proofs.LeastVerdict.{verdict_is_least}
+use Rattle.flow_search.specs.Targets.{IsLowerBound}
+use Rattle.flow_search.proofs.LeastVerdict.{IsLeastFound, none-below, least-below}
 
 abbrev first : List Found → Option Found
 first = first_least (λ f. f.value)
@@ -310,6 +308,12 @@ done-at number (o ∷ os) (suc i) other e h = done-at (number + 1) os i other (g
     go NoMemory e = absurd (cc)
     go NoPrefix e = absurd (cc)
 
+-- the trees of a tally of all prefixes
+pub all-trees : (plan : Planned) (tally : Tally) → IsTally plan (length (prefixes_of plan)) tally →
+    map (λ tree. tree.items) tally.trees.items ≡ trees_of plan
+all-trees plan tally is =
+    is.trees ∙ ap (λ count. take count (trees_of plan)) (sym (trees-count plan)) ∙ take-all (trees_of plan)
+
 -- the verdict of a tally of all prefixes
 pub best-verdict : (plan : Planned) (tally : Tally) (b : Best) → IsTally plan (length (prefixes_of plan)) tally →
     tally.best ≡ Some b → found_of b ≡ verdict_of plan
@@ -324,16 +328,21 @@ start-verdict plan tally is e =
     let none : None ≡ first (bests plan (length (prefixes_of plan))) = sym (ap (option_map found_of) e) ∙ is.best in
     ap (λ o. unwrap_or o plan.start) (none ∙ ap first (bests-all plan))
 
--- what holds of the verdict of a plan
-pub record IsAnswer (shop : Shop) (f : Found) : Type 0 where
-  pub least : IsLeastMakespan shop f.value
-  pub attained : span shop f.sequence ≡ f.value
-  pub sequence : IsSequence shop.jobs f.sequence
+-- the best of a tally of all prefixes is a sequence of least makespan, below the makespan of the start
+pub best-least : (plan : Planned) (tally : Tally) (b : Best) → plan.options.depth ≤ plan.shop.jobs →
+    IsTally plan (length (prefixes_of plan)) tally → tally.best ≡ Some b →
+    IsLeastFound plan.shop (found_of b) × (b.value < plan.start.value)
+best-least plan tally b deep is e =
+    let some : Some (found_of b) ≡ first (bests plan (length (prefixes_of plan))) = sym (ap (option_map found_of) e)
+    ∙ is.best in
+    least-below plan.shop plan.start.value plan.options.depth (found_of b) deep (sym (some ∙ ap first (bests-all plan)))
 
-pub verdict-answers : (plan : Planned) (f : Found) → IsPlan plan → f ≡ verdict_of plan → IsAnswer plan.shop f
-verdict-answers plan f is e =
-    let law = verdict_is_least plan.shop plan.start plan.options.depth is.deep (is.is_sequence, sym is.is_span) in
-    subst (IsAnswer plan.shop) (sym e) (record { least = law.1; attained = law.0.1; sequence = law.0.0 })
+-- where a tally of all prefixes has no best, no sequence is below the makespan of the start
+pub start-bound : (plan : Planned) (tally : Tally) → plan.options.depth ≤ plan.shop.jobs →
+    IsTally plan (length (prefixes_of plan)) tally → tally.best ≡ None → IsLowerBound plan.shop plan.start.value
+start-bound plan tally deep is e =
+    let none : None ≡ first (bests plan (length (prefixes_of plan))) = sym (ap (option_map found_of) e) ∙ is.best in
+    none-below plan.shop plan.start.value plan.options.depth deep (sym (none ∙ ap first (bests-all plan)))
 
 -- an outcome that is done
 pub done-is : (o : Outcome) → IsDone o → (best : Option Best) × (text : Vec ℕ Global) × (o ≡ Done best text)

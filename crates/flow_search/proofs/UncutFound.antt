@@ -5,7 +5,7 @@ use Rattle.std.specs.List.{range_with_len}
 use Rattle.std.proofs.lemmas.Bool.{cases_lt, le-leb, lt-leb, lt-ltb, le-ltb}
 use Rattle.flow_shop.specs.Shop.{Shop, numbers}
 use Rattle.flow_search.specs.Search.{Bound}
-use Rattle.flow_search.specs.internal.Lanes.{IsUncutCount}
+use Rattle.flow_search.specs.internal.Columns.{IsUncutCount}
 
 -- the first number of a range that passes
 found-at : (p : ℕ → Bool) (from n k : ℕ) → k < n → ((i : ℕ) → from ≤ i → i < from + k → p i ≡ false) →

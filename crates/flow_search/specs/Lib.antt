@@ -1,9 +1,10 @@
 pub mod Choices
 pub mod Search
-pub mod Walk
 pub mod Plans
 pub mod Outcomes
 pub mod Verdicts
+pub mod Targets
+pub mod Findings
 pub mod Versions
 pub mod Cuts
 pub mod internal

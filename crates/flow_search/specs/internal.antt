@@ -1,7 +1,11 @@
+pub mod Jobs
+pub mod Walk
 pub mod Nodes
 pub mod Tally
 pub mod Stored
 pub mod Lags
-pub mod Lanes
-pub mod Lows
+pub mod Columns
+pub mod ColumnWalks
+pub mod TwoLeast
 pub mod Frames
+pub mod Settings

@@ -1,11 +1,11 @@
-//! A node with at most eight jobs left: its children side by side, one in each lane.
+//! Subtrees with at most eight jobs left: the children of a node side by side, one in each column.
 
 mod children;
 mod entry;
 mod group;
 mod numbers;
 mod releases;
+mod walk;
 
-pub(crate) use children::{open_child, retest_children, test_children};
-pub(crate) use entry::enter_few;
-pub(crate) use group::{Group, LaneFrame, LaneRow, Lanes};
+pub(crate) use group::{ColumnMemory, FEW};
+pub(crate) use walk::walk_few;

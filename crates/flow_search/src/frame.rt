@@ -1,18 +1,19 @@
 //! What is kept of a node while its children are walked.
 
-ghost use Rattle.std.specs.Prelude.{◌≡◌, ℕ, suc, ◌-◌, ◌<◌, ◌≤◌, false, nat_le, List, [], ◌∷◌, ◌++◌, slice_index, find};
-ghost use Rattle.flow_shop.specs.Shop.{Shop, IsWithinLimits, numbers};
-ghost use Rattle.flow_shop.specs.JobSet.{contains, members};
+ghost use Rattle.std.specs.Prelude.{◌≡◌, ℕ, suc, List, [], ◌∷◌, ◌++◌};
+ghost use Rattle.flow_shop.specs.JobSet.{members};
 ghost use Rattle.flow_shop.specs.Bound.{bound_at, released_bound_at};
 ghost use Rattle.flow_shop.specs.Sequences.{jobs_left};
-ghost use Rattle.flow_shop.specs.Rows.{AreRows, IsRow};
-ghost use Rattle.flow_search.specs.internal.Lows.{AreLows, second_tail};
-ghost use Rattle.flow_search.specs.internal.Lags.{AreTwoLeastLags};
+ghost use Rattle.flow_search.specs.internal.Walk.{first_reaching};
+ghost use Rattle.flow_search.specs.internal.Jobs.{IsSetOf};
+ghost use Rattle.flow_search.specs.internal.TwoLeast.{AreSecondTails};
+ghost use Rattle.flow_search.specs.internal.Lags.{AreLeastLags};
 ghost use Rattle.flow_search.specs.internal.Frames.{IsFrame, IsChild};
+ghost use Rattle.flow_search.specs.internal.Settings.{shop_of};
 
-use crate::lows::{Lags, lows_of, without};
 use crate::release::release_at_child;
 use crate::setting::Setting;
+use crate::two_least::{LeastLags, least_tails, without};
 use flow_bound::Loads;
 use flow_limits::MAX_MACHINES;
 use flow_shop::{Front, JobSet};
@@ -22,8 +23,8 @@ use flow_shop::{Front, JobSet};
 pub struct Frame {
     /// When each machine is free after the node's jobs.
     pub front: Front,
-    /// For each machine the sum of the times of the jobs left, and their least tail behind it.
-    pub rest: Loads,
+    /// For each machine the sum of the times of the jobs left, and their least tail after it.
+    pub loads: Loads,
     /// For each machine the second least tail of the jobs left: the least tail without a job that has the least.
     pub second: [u32; MAX_MACHINES],
     /// No job below this one begins a child that is still to be walked.
@@ -31,49 +32,44 @@ pub struct Frame {
 }
 
 impl Frame {
-    /// A node before its first child, with its front and the rest of the jobs left.
-    pub fn new(setting: &Setting, front: Front, rest: Loads, left: &JobSet) -> Frame
-        requires rows { AreRows setting.now.instance.now setting.now.rows.now }
-        requires jobs { (job : ℕ) → setting.now.instance.now.jobs < job → contains left.now job ≡ false }
+    /// A node before its first child, with its front and the loads of the jobs left.
+    pub fn new(setting: &Setting, front: Front, loads: Loads, set: &JobSet) -> Frame
+        requires jobs { IsSetOf (shop_of setting.now) set.now }
         ensures front { result.front ≡ front }
-        ensures rest { result.rest ≡ rest }
-        ensures second { (machine : ℕ) → 1 ≤ machine → machine ≤ setting.now.instance.now.machines →
-            slice_index result.second (machine - 1)
-            ≡ second_tail setting.now.instance.now (members left.now) machine }
+        ensures loads { result.loads ≡ loads }
+        ensures second { AreSecondTails (shop_of setting.now) (members set.now) result.second }
         ensures next { result.next ≡ 1 }
     {
-        let lows = lows_of(setting, left);
-        let second = lows.second;
+        let tails = least_tails(setting, set);
+        let second = tails.second;
         Frame {
             front,
-            rest,
+            loads,
             second,
             next: 1,
         }
     }
 
-    /// The first machine whose bound at a child reaches a value.
-    pub fn cutting_machine(&self, setting: &Setting, job: u16, value: u64) -> Option<u16>
-        requires rows { AreRows setting.now.instance.now setting.now.rows.now }
-        requires at { (node : List ℕ) × (left : ℕ) × IsFrame setting.now.instance.now node (suc (suc left)) self.now
-            × IsChild setting.now.instance.now.jobs node job }
-        ensures { (node : List ℕ) (left : ℕ) → IsFrame setting.now.instance.now node (suc (suc left)) self.now →
-            IsChild setting.now.instance.now.jobs node job →
-            result ≡ find (λ machine. nat_le value (bound_at setting.now.instance.now (node ++ job ∷ []) machine))
-            (numbers 1 setting.now.instance.now.machines) }
+    /// The first machine that cuts a child by the machine bound: whose machine bound there reaches a value.
+    pub fn cutting_child_plain(&self, setting: &Setting, job: u16, value: u64) -> Option<u16>
+        requires at { (node : List ℕ) × (left : ℕ) × IsFrame (shop_of setting.now) node (suc (suc left)) self.now
+            × IsChild (shop_of setting.now).jobs node job }
+        ensures { (node : List ℕ) (left : ℕ) → IsFrame (shop_of setting.now) node (suc (suc left)) self.now →
+            IsChild (shop_of setting.now).jobs node job →
+            result ≡ first_reaching (shop_of setting.now) value (bound_at (shop_of setting.now) (node ++ job ∷ [])) }
     {
         let row = &setting.rows[job as usize - 1];
         let mut free = 0;
         for machine in 1..setting.instance.machines() + 1 {
             let place = machine as usize - 1;
             let start = self.front.at(machine).max(free);
-            let least = self.rest.tail(machine);
+            let least = self.loads.tail(machine);
             let tail = if row.tails[place] == least {
                 self.second[place]
             } else {
                 least
             };
-            if value <= start + u64::from(self.rest.sum(machine)) + u64::from(tail) {
+            if value <= start + u64::from(self.loads.sum(machine)) + u64::from(tail) {
                 return Some(machine);
             }
             free = start + u64::from(row.times[place]);
@@ -81,25 +77,24 @@ impl Frame {
         None
     }
 
-    /// The first machine whose released bound at a child reaches a value, by the lags of the jobs left.
+    /// The first machine that cuts a child by the released bound: whose released bound there reaches a value. It goes
+    /// by the lags of the jobs left.
     #[inline(never)]
-    pub fn releasing_machine(
+    pub fn cutting_child_released(
         &self,
         setting: &Setting,
-        lags: &Lags,
+        lags: &LeastLags,
         job: u16,
         value: u64,
     ) -> Option<u16>
-        requires rows { AreRows setting.now.instance.now setting.now.rows.now }
-        requires at { (node : List ℕ) × (left : ℕ) × IsFrame setting.now.instance.now node (suc (suc left)) self.now
-            × IsChild setting.now.instance.now.jobs node job
-            × AreTwoLeastLags setting.now.instance.now (jobs_left setting.now.instance.now.jobs node) lags.now }
-        ensures { (node : List ℕ) (left : ℕ) → IsFrame setting.now.instance.now node (suc (suc left)) self.now →
-            IsChild setting.now.instance.now.jobs node job →
-            AreTwoLeastLags setting.now.instance.now (jobs_left setting.now.instance.now.jobs node) lags.now →
-            result ≡ find (λ machine. nat_le value
-            (released_bound_at setting.now.instance.now (node ++ job ∷ []) machine))
-            (numbers 1 setting.now.instance.now.machines) }
+        requires at { (node : List ℕ) × (left : ℕ) × IsFrame (shop_of setting.now) node (suc (suc left)) self.now
+            × IsChild (shop_of setting.now).jobs node job
+            × AreLeastLags (shop_of setting.now) (jobs_left (shop_of setting.now).jobs node) lags.now }
+        ensures { (node : List ℕ) (left : ℕ) → IsFrame (shop_of setting.now) node (suc (suc left)) self.now →
+            IsChild (shop_of setting.now).jobs node job →
+            AreLeastLags (shop_of setting.now) (jobs_left (shop_of setting.now).jobs node) lags.now →
+            result ≡ first_reaching (shop_of setting.now) value
+            (released_bound_at (shop_of setting.now) (node ++ job ∷ [])) }
     {
         let row = &setting.rows[job as usize - 1];
         let mut free = [0u32; MAX_MACHINES];
@@ -110,10 +105,10 @@ impl Frame {
             let time = u64::from(row.times[place]);
             let tail = without(
                 row.tails[place],
-                self.rest.tail(machine),
+                self.loads.tail(machine),
                 self.second[place],
             );
-            let work = u64::from(self.rest.sum(machine)) + u64::from(tail);
+            let work = u64::from(self.loads.sum(machine)) + u64::from(tail);
             // The released bound is at least the machine bound.
             if value <= start + work {
                 return Some(machine);

@@ -1,34 +1,36 @@
 //! Releases at a node with more than eight jobs left, and at its children.
 
-ghost use Rattle.std.specs.Prelude.{◌≡◌, ℕ, ◌+◌, ◌-◌, ◌*◌, ◌<◌, ◌≤◌, false, nat_le, List, [], ◌∷◌, ◌++◌, length};
-ghost use Rattle.std.specs.Prelude.{map, slice_index, find};
+ghost use Rattle.std.specs.Prelude.{◌≡◌, ℕ, ◌+◌, ◌-◌, ◌*◌, ◌<◌, ◌≤◌, List, [], ◌∷◌, ◌++◌, length};
+ghost use Rattle.std.specs.Prelude.{map, slice_index};
 ghost use Rattle.flow_limits.specs.Limits.{most_machines, greatest_time, greatest_completion};
-ghost use Rattle.flow_shop.specs.Shop.{Shop, numbers};
+ghost use Rattle.flow_shop.specs.Shop.{Shop};
 ghost use Rattle.flow_shop.specs.Least.{least};
 ghost use Rattle.flow_shop.specs.Front.{IsWithinFront};
-ghost use Rattle.flow_shop.specs.JobSet.{contains, members};
+ghost use Rattle.flow_shop.specs.JobSet.{members};
 ghost use Rattle.flow_shop.specs.Bound.{release, released_bound};
-ghost use Rattle.flow_shop.specs.Rows.{AreRows};
 ghost use Rattle.flow_shop.specs.Sequences.{jobs_left};
 ghost use Rattle.flow_bound.specs.Loads.{AreLoadsOf};
-ghost use Rattle.flow_search.specs.internal.Lows.{time_to, unknown};
+ghost use Rattle.flow_search.specs.internal.Walk.{first_reaching};
+ghost use Rattle.flow_search.specs.internal.Jobs.{IsSetOf};
+ghost use Rattle.flow_search.specs.internal.TwoLeast.{time_to, least_of_none};
 ghost use Rattle.flow_search.specs.internal.Lags.{IsLagged};
+ghost use Rattle.flow_search.specs.internal.Settings.{shop_of};
 
-use crate::lows::{Lows, lows_to, without};
 use crate::setting::Setting;
+use crate::two_least::{TwoLeast, least_lags, without};
 use flow_bound::Loads;
 use flow_limits::MAX_MACHINES;
 use flow_shop::{Front, JobSet, Row};
 
 /// The release of a machine, by the least lag of the jobs left from each earlier machine to it.
-fn release_by(front: &Front, times: &[u32; MAX_MACHINES], machine: u16) -> u64
+fn release_at_node(front: &Front, times: &[u32; MAX_MACHINES], machine: u16) -> u64
     requires from { 1 ≤ machine }
     requires to { machine ≤ most_machines }
     requires within { (place : ℕ) → place < machine → slice_index front.now place ≤ greatest_completion }
     ensures value { (shop : Shop) (jobs : List ℕ) → ((place : ℕ) → place < machine - 1 →
         slice_index times.now place ≡ least (map (time_to shop machine place) jobs)) →
         result ≡ release shop front.now jobs machine }
-    ensures limit { result ≤ greatest_completion + unknown }
+    ensures limit { result ≤ greatest_completion + least_of_none }
 {
     let mut made = front.at(machine);
     for earlier in 1..machine {
@@ -37,27 +39,25 @@ fn release_by(front: &Front, times: &[u32; MAX_MACHINES], machine: u16) -> u64
     made
 }
 
-/// The first machine whose released bound at a node reaches a value.
-pub fn releasing_machine(
+/// The first machine that cuts a node by the released bound: whose released bound there reaches a value.
+pub fn cutting_node_released(
     setting: &Setting,
-    rest: &Loads,
+    loads: &Loads,
     front: &Front,
     set: &JobSet,
     value: u64,
 ) -> Option<u16>
-    requires rows { AreRows setting.now.instance.now setting.now.rows.now }
-    requires jobs { (job : ℕ) → setting.now.instance.now.jobs < job → contains set.now job ≡ false }
+    requires jobs { IsSetOf (shop_of setting.now) set.now }
     requires some { 0 < length (members set.now) }
-    requires rest { AreLoadsOf setting.now.instance.now (members set.now) rest.now }
-    requires within { IsWithinFront setting.now.instance.now front.now }
-    ensures { result ≡ find (λ machine.
-        nat_le value (released_bound setting.now.instance.now front.now (members set.now) machine))
-        (numbers 1 setting.now.instance.now.machines) }
+    requires loads { AreLoadsOf (shop_of setting.now) (members set.now) loads.now }
+    requires within { IsWithinFront (shop_of setting.now) front.now }
+    ensures { result ≡ first_reaching (shop_of setting.now) value
+        (released_bound (shop_of setting.now) front.now (members set.now)) }
 {
     for machine in 1..setting.instance.machines() + 1 {
-        let lows = lows_to(setting, set, machine);
-        let release = release_by(front, &lows.least, machine);
-        if value <= release + u64::from(rest.sum(machine)) + u64::from(rest.tail(machine)) {
+        let lags = least_lags(setting, set, machine);
+        let release = release_at_node(front, &lags.least, machine);
+        if value <= release + u64::from(loads.sum(machine)) + u64::from(loads.tail(machine)) {
             return Some(machine);
         }
     }
@@ -67,16 +67,16 @@ pub fn releasing_machine(
 /// The release of a machine at a child, by when its job leaves the machines up to this one, its row, and the two least
 /// lags of the node's jobs to the machine.
 #[inline(always)]
-pub fn release_at_child(row: &Row, lows: &Lows, free: &[u32; MAX_MACHINES], machine: u16) -> u32
+pub fn release_at_child(row: &Row, lags: &TwoLeast, free: &[u32; MAX_MACHINES], machine: u16) -> u32
     requires from { 1 ≤ machine }
     requires child { (shop : Shop) × (node : List ℕ) × (left : ℕ) × (job : ℕ) ×
-        IsLagged shop node left job machine row.now lows.now }
+        IsLagged shop node left job machine row.now lags.now }
     requires small { (place : ℕ) → place < machine →
         slice_index free.now place ≤ greatest_completion + most_machines * greatest_time }
     ensures least { slice_index free.now (machine - 1) ≤ result }
     ensures limit { result ≤ greatest_completion + 2 * most_machines * greatest_time }
     ensures value { (shop : Shop) (node front : List ℕ) (left job : ℕ) →
-        IsLagged shop node left job machine row.now lows.now →
+        IsLagged shop node left job machine row.now lags.now →
         ((place : ℕ) → place < machine → slice_index free.now place ≡ slice_index front place) →
         result ≡ release shop front (jobs_left shop.jobs (node ++ job ∷ [])) machine }
 {
@@ -85,7 +85,7 @@ pub fn release_at_child(row: &Row, lows: &Lows, free: &[u32; MAX_MACHINES], mach
     let mut made = free[last];
     for place in 0..last {
         let own = (row.times[place] + row.tails[place]).saturating_sub(needs);
-        let least = without(own, lows.least[place], lows.second[place]);
+        let least = without(own, lags.least[place], lags.second[place]);
         made = made.max(free[place] + least);
     }
     made

@@ -1,5 +1,7 @@
 //! What stays the same while a tree is walked.
 
+ghost use Rattle.flow_shop.specs.Rows.{AreRows};
+
 use flow_shop::{Instance, Row};
 
 /// What stays the same while a tree is walked.
@@ -13,4 +15,5 @@ pub struct Setting<'a> {
     pub budget: usize,
     /// The version of the certificate, which says by which bound nodes are cut.
     pub version: u32,
+    ghost are_rows: { AreRows instance.now rows.now },
 }

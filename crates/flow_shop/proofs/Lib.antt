@@ -6,7 +6,7 @@ pub mod Admissible
 pub mod InstanceLemmas
 pub mod SequenceLemmas
 pub mod JobSetLemmas
-pub mod Turns
+pub mod Transposes
 pub mod Taken
 pub mod TwoLeast
 pub mod RowSteps

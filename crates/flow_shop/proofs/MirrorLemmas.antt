@@ -12,10 +12,10 @@ use Rattle.flow_shop.specs.Paths.{span}
 use Rattle.flow_shop.specs.Sequences.{IsLeastMakespan}
 use Rattle.flow_limits.specs.Limits.{greatest_time}
 use Rattle.flow_shop.specs.Mirror.{mirrored}
-use Rattle.flow_shop.specs.internal.Turned.{turned, reversed}
+use Rattle.flow_shop.specs.internal.Transposed.{transposed, each_reversed}
 use Rattle.flow_shop.proofs.Fronts.{time-small}
 use Rattle.flow_shop.proofs.ReversedSequence.{sequence-reverse}
-use Rattle.flow_shop.proofs.Turns.{taken_from, taken-within, turned-at, turned-length, row-time}
+use Rattle.flow_shop.proofs.Transposes.{taken_from, taken-within, transposed-at, transposed-length, row-time}
 use Rattle.flow_shop.proofs.Mirrors.{Mirrors, completion-backwards, all-reverse}
 
 -- the element of a table, row by row
@@ -189,25 +189,26 @@ abbrev pub reversed_from : ℕ → ℕ → ℕ
 reversed_from m place = place / m * m + (m - 1 - place % m)
 
 pub reversed-at : (m place : ℕ) (xs : List ℕ) → place < length xs →
-    slice_index (reversed m xs) place ≡ slice_index xs (reversed_from m place)
+    slice_index (each_reversed m xs) place ≡ slice_index xs (reversed_from m place)
 reversed-at m place xs below =
     get_or-map-range_with_len (λ place. slice_index xs (reversed_from m place)) 0 (length xs) place place 0 below
     (omega arith)
 
 -- reversed rows are those of the mirrored shop
 pub reversed-rows : (shop : Shop) (rows : List ℕ) → IsWithinLimits shop → length rows ≡ shop.jobs * shop.machines →
-    shop.times ≡ turned shop.jobs shop.machines rows →
-    turned shop.jobs shop.machines (reversed shop.machines rows) ≡ (mirrored shop).times
+    shop.times ≡ transposed shop.jobs shop.machines rows →
+    transposed shop.jobs shop.machines (each_reversed shop.machines rows) ≡ (mirrored shop).times
 reversed-rows shop rows limits count is =
     let n : ℕ = shop.jobs in
     let m : ℕ = shop.machines in
-    let size = turned-length n m (reversed m rows) in
-    ext_get_or 0 (turned n m (reversed m rows)) (mirrored shop).times (size
+    let size = transposed-length n m (each_reversed m rows) in
+    ext_get_or 0 (transposed n m (each_reversed m rows)) (mirrored shop).times (size
     ∙ sym (length-mirrored shop ∙ mul_comm m n))
     (λ p low. at p (subst (λ k. p < k) size low))
   where
     at : (p : ℕ) → p < shop.jobs * shop.machines →
-        get_or (turned shop.jobs shop.machines (reversed shop.machines rows)) p 0 ≡ get_or (mirrored shop).times p 0
+        get_or (transposed shop.jobs shop.machines (each_reversed shop.machines rows)) p 0
+        ≡ get_or (mirrored shop).times p 0
     at p below =
         let n : ℕ = shop.jobs in
         let m : ℕ = shop.machines in
@@ -228,7 +229,7 @@ reversed-rows shop rows limits count is =
         let here : p ≡ (machine - 1) * n + (job - 1) =
         sym (ap (λ i. i * n + (job - 1)) (let e : machine - 1 ≡ p / n = omega arith in e)
         ∙ ap (λ j. p / n * n + j) (let e : job - 1 ≡ p % n = omega arith in e) ∙ div-add-mod' p n) in
-        turned-at n m p (reversed m rows) below
+        transposed-at n m p (each_reversed m rows) below
         ∙ reversed-at m place rows (subst (λ k. place < k) (sym count) within)
         ∙ ap (slice_index rows) from
         ∙ row-time shop rows job other is (omega arith) (omega (arith, width)) (omega (arith, height)) (omega arith)

@@ -12,5 +12,6 @@ pub mod JobSet
 pub mod Refusals
 pub mod InstanceFaults
 pub mod SequenceFaults
+pub mod Characters
 pub mod Digits
 pub mod internal

@@ -8,7 +8,7 @@ ghost use Rattle.flow_shop.specs.internal.Same.{is_same_shop-equiv};
 ghost use Rattle.flow_shop.specs.InstanceFaults.{instance_fault, but_memory};
 ghost use Rattle.flow_shop.specs.declared.instance.InstanceFault.TheVariants.{Memory};
 ghost use Rattle.flow_limits.specs.Limits.{greatest_time};
-ghost use Rattle.flow_shop.specs.internal.Turned.{turned, reversed};
+ghost use Rattle.flow_shop.specs.internal.Transposed.{transposed, each_reversed};
 ghost use Rattle.flow_shop.specs.Mirror.{mirrored};
 
 use flow_limits::{MAX_JOBS, MAX_MACHINES, MAX_TIME};
@@ -59,15 +59,15 @@ pub struct Instance {
 impl Model for Instance {
     ghost use Rattle.std.specs.Prelude.{◌≡◌, ◌*◌, length};
     ghost use Rattle.flow_shop.specs.Shop.{Shop, IsWithinLimits};
-    ghost use Rattle.flow_shop.specs.internal.Turned.{turned};
+    ghost use Rattle.flow_shop.specs.internal.Transposed.{transposed};
 
     ghost Value = { Shop };
 
     ghost view = { λ i.
-        record { jobs = i.jobs; machines = i.machines; times = turned i.jobs i.machines i.rows.items } };
+        record { jobs = i.jobs; machines = i.machines; times = transposed i.jobs i.machines i.rows.items } };
 
     ghost invariant = { λ i. IsWithinLimits
-        (record { jobs = i.jobs; machines = i.machines; times = turned i.jobs i.machines i.rows.items })
+        (record { jobs = i.jobs; machines = i.machines; times = transposed i.jobs i.machines i.rows.items })
         × (length i.rows.items ≡ i.jobs * i.machines) };
 }
 
@@ -80,7 +80,7 @@ fn by_columns(
 ) -> Result<Vec<u32>, AllocError>
     requires some { 0 < lists }
     requires count { length numbers.now ≡ lists * each }
-    ensures { IfOk result (λ taken. taken.items ≡ turned lists each numbers.now) }
+    ensures { IfOk result (λ taken. taken.items ≡ transposed lists each numbers.now) }
 {
     let count = numbers.len();
     let mut taken = Vec::with_capacity(alloc, count)?;
@@ -94,7 +94,7 @@ fn by_columns(
 fn rows_reversed(alloc: Global, each: usize, numbers: &[u32]) -> Result<Vec<u32>, AllocError>
     requires some { 0 < each }
     requires whole { length numbers.now % each ≡ 0 }
-    ensures { IfOk result (λ taken. taken.items ≡ reversed each numbers.now) }
+    ensures { IfOk result (λ taken. taken.items ≡ each_reversed each numbers.now) }
 {
     let count = numbers.len();
     let mut taken = Vec::with_capacity(alloc, count)?;

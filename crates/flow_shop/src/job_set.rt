@@ -1,8 +1,8 @@
 //! A set of jobs.
 
-ghost use Rattle.std.specs.Prelude.{◌≡◌, ℕ, ◌-◌, ◌<◌, ◌≤◌, List, [], length, count_by, slice_set, true, false};
+ghost use Rattle.std.specs.Prelude.{◌≡◌, ℕ, ◌-◌, ◌≤◌, [], length, count_by, slice_set, true, false};
 ghost use Rattle.flow_shop.specs.Shop.{numbers};
-ghost use Rattle.flow_shop.specs.JobSet.{contains, members};
+ghost use Rattle.flow_shop.specs.JobSet.{contains, members, IsSetOf};
 ghost use Rattle.flow_limits.specs.Limits.{most_jobs};
 
 use crate::instance::Instance;
@@ -41,7 +41,7 @@ impl JobSet {
     pub fn all(instance: &Instance) -> Self
         ensures members { members result ≡ numbers 1 instance.now.jobs }
         ensures each { (job : ℕ) → 1 ≤ job → job ≤ instance.now.jobs → contains result job ≡ true }
-        ensures others { (job : ℕ) → instance.now.jobs < job → contains result job ≡ false }
+        ensures others { IsSetOf instance.now result }
         ensures size { length result ≡ most_jobs }
     {
         let mut set = JobSet::none();

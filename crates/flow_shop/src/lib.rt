@@ -5,6 +5,7 @@ mod front;
 mod instance;
 mod job_set;
 mod laws;
+mod mirror;
 mod row;
 mod sequence;
 
@@ -13,8 +14,9 @@ pub use instance::{Instance, InstanceFault};
 pub use job_set::JobSet;
 pub use laws::{
     bound_is_admissible, completion_by_recurrence, completion_is_greatest, instances_have_no_fault,
-    least_makespan_is_one, mirror_keeps_makespans, mirror_turns_back, released_bound_is_admissible,
-    released_bound_is_stronger, sequences_have_no_fault,
+    least_makespan_is_one, released_bound_is_admissible, released_bound_is_stronger,
+    sequences_have_no_fault,
 };
+pub use mirror::{mirror_keeps_makespans, mirror_turns_back};
 pub use row::{Row, rows};
 pub use sequence::{Sequence, SequenceFault};

@@ -108,6 +108,15 @@ impl Sequence {
         }
     }
 
+    /// The sequence of jobs that are known to be one. `AllocError` where memory ran out.
+    pub fn of_known(alloc: Global, jobs: &[u16]) -> Result<Sequence, AllocError>
+        requires { IsSequence (length jobs.now) jobs.now }
+        ensures { IfOk result (λ sequence. sequence ≡ jobs.now) }
+    {
+        let jobs = Vec::from_slice(alloc, jobs)?;
+        Ok(Sequence { jobs })
+    }
+
     /// The jobs in reverse order.
     pub fn reversed(mut self) -> Sequence
         ensures value { result ≡ reverse self }

@@ -1,19 +1,20 @@
 -- The lines of a text, their kinds, and the numbers on them.
-use Rattle.std.specs.Prelude.{ℕ, Bool, true, false, not, ◌||◌, ◌&&◌, ◌==◌, nat_lt, nat_le, if◌then◌else◌, List, [], ◌∷◌}
+use Rattle.std.specs.Prelude.{ℕ, Bool, true, false, not, ◌||◌, ◌==◌, nat_lt, nat_le, if◌then◌else◌, List, [], ◌∷◌}
 use Rattle.std.specs.Prelude.{length, map, filter}
 use Rattle.std.specs.List.{list_all, onto_first, slice_split}
 use Rattle.std.specs.Str.Parse.{digits_value}
 use Rattle.flow_limits.specs.Limits.{greatest_number}
+use Rattle.flow_shop.specs.Characters.{tab, line_feed, carriage_return, space}
 pub use Rattle.flow_shop.specs.Digits.{is_digit}
 
 -- the lines of a text, without their ends: a line ends with LF or with the text
 abbrev pub lines_of : List ℕ → List (List ℕ)
 lines_of [] = []
-lines_of (b ∷ bs) = if b == 10 then [] ∷ lines_of bs else onto_first b (lines_of bs)
+lines_of (b ∷ bs) = if b == line_feed then [] ∷ lines_of bs else onto_first b (lines_of bs)
 
 -- whether a byte is a space, a tab or a CR
 abbrev pub is_blank : ℕ → Bool
-is_blank b = b == 32 || b == 9 || b == 13
+is_blank b = b == space || b == tab || b == carriage_return
 
 -- a line without the blanks at its front
 abbrev pub after_blanks : List ℕ → List ℕ

@@ -1,13 +1,14 @@
 -- The one text that is written for a block.
 use Rattle.std.specs.Prelude.{ℕ, List, [], ◌∷◌, ◌++◌, flat_map, decimal, codes}
+use Rattle.flow_shop.specs.Characters.{line_feed, space}
 use Rattle.flow_shop.specs.Shop.{Shop, numbers, times_on}
 use Rattle.flow_text.specs.Text.{head_of}
 use Rattle.flow_text.specs.declared.text.block.Block.{Block}
 
 -- a line of numbers: a space between each two, and LF at its end
 abbrev pub row_text : List ℕ → List ℕ
-row_text [] = 10 ∷ []
-row_text (n ∷ ns) = decimal n ++ flat_map (λ m. 32 ∷ decimal m) ns ++ 10 ∷ []
+row_text [] = line_feed ∷ []
+row_text (n ∷ ns) = decimal n ++ flat_map (λ m. space ∷ decimal m) ns ++ line_feed ∷ []
 
 -- the label line of a head
 unfoldable pub head_label : List ℕ

@@ -1,2 +1,4 @@
+pub mod Asked
+pub mod Failed
+pub mod Inputs
 pub mod Status
-pub mod internal

@@ -1,8 +1,10 @@
-//! The inputs that a command line names.
+//! The inputs that a command line names: standard input, and files.
 
-ghost use Rattle.std.specs.Prelude.{◌≡◌, ℕ, List, false, IfNone, IfSome};
+ghost use Rattle.std.specs.Prelude.{◌≡◌, ℕ, List, false, IfNone, IfSome, IfOk, IfErr};
+ghost use Rattle.flow_tool.specs.Inputs.{IsText, RefusedText, shown};
 
-use flow_core::{Source, StdSource};
+use crate::stop::Stop;
+use flow_core::{Refused, Source, StdSource};
 use std::fs::File;
 use std::io::Input;
 use std::rt::Files;
@@ -34,6 +36,55 @@ pub(crate) trait Inputs {
         ensures works { IfSome result (λ file. Self.File.has_failed file ≡ false) }
         ensures opened { IfSome result (λ file. opened self.now name.now file) }
         ensures refused { IfNone result (refused self.now name.now) };
+}
+
+/// The word that stands for standard input in the place of a text's file.
+const STANDARD: &str = "stdin";
+
+/// What the name of a text stands for.
+#[derive(Drop)]
+pub(crate) enum Text<A: Drop, B: Drop> {
+    /// Standard input.
+    Standard(A),
+    /// A file.
+    File(B),
+}
+
+impl<A: Source + Drop, B: Source + Drop> Source for Text<A, B> {
+    ghost given = { shown A.given B.given };
+
+    ghost has_ended = { shown A.has_ended B.has_ended };
+
+    ghost has_failed = { shown A.has_failed B.has_failed };
+
+    fn get(&mut self, buffer: &mut [u8]) -> Result<usize, Refused> {
+        match self {
+            Text::Standard(source) => source.get(buffer),
+            Text::File(source) => source.get(buffer),
+        }
+    }
+
+    fn failed(&self) -> bool {
+        match self {
+            Text::Standard(source) => source.failed(),
+            Text::File(source) => source.failed(),
+        }
+    }
+}
+
+/// The text that a name stands for: standard input for its word, else the file of this name.
+pub(crate) fn open_text<I: Inputs>(
+    inputs: &I,
+    name: &str,
+) -> Result<Text<I::Standard, I::File>, Stop>
+    ensures works { IfOk result (λ text. shown I.Standard.has_failed I.File.has_failed text ≡ false) }
+    ensures opened { IfOk result (IsText (I.is_standard inputs.now) (I.opened inputs.now) name.now) }
+    ensures refused { IfErr result (RefusedText (I.refused inputs.now) name.now) }
+{
+    if name == STANDARD {
+        return Ok(Text::Standard(inputs.standard()));
+    }
+    Ok(Text::File(inputs.open(name).ok_or(Stop::Open)?))
 }
 
 /// Standard input and the files of the system.

@@ -3,6 +3,7 @@
 
 mod dispatch;
 mod inputs;
+mod orders;
 mod status;
 mod stop;
 #[cfg(test)]

@@ -4,7 +4,7 @@ ghost use Rattle.std.specs.Prelude.{◌≡◌};
 ghost use Rattle.flow_tool.specs.Status.{exit_status};
 
 use crate::stop::Stop;
-use flow_commands::ToolFault;
+use flow_commands::CommandFault;
 
 /// Memory ran out, or what was given is refused.
 const REFUSED: u8 = 1;
@@ -22,7 +22,7 @@ impl Stop {
     {
         match self {
             Stop::CommandLine => NO_COMMAND,
-            Stop::Open | Stop::Fault(ToolFault::Read(_) | ToolFault::Write(_)) => NO_FILE,
+            Stop::Open | Stop::Fault(CommandFault::Read(_) | CommandFault::Write(_)) => NO_FILE,
             Stop::Memory | Stop::Fault(_) => REFUSED,
         }
     }

@@ -3,7 +3,7 @@
 ghost use Rattle.std.specs.Prelude.{◌≡◌};
 ghost use Rattle.flow_tool.specs.declared.stop.Stop.TheVariants.{Fault, Memory};
 
-use flow_commands::ToolFault;
+use flow_commands::CommandFault;
 use std::alloc::AllocError;
 use thiserror::Error;
 
@@ -12,7 +12,7 @@ use thiserror::Error;
 pub(crate) enum Stop {
     /// A command refused.
     #[error("{0}")]
-    Fault(ToolFault),
+    Fault(CommandFault),
     /// The words are no command line.
     #[error("refused command line")]
     CommandLine,
@@ -32,10 +32,10 @@ impl From<AllocError> for Stop {
     }
 }
 
-impl From<ToolFault> for Stop {
+impl From<CommandFault> for Stop {
     ghost from_gives = { λ fault stop. stop ≡ Fault fault };
 
-    fn from(fault: ToolFault) -> Stop {
+    fn from(fault: CommandFault) -> Stop {
         Stop::Fault(fault)
     }
 }

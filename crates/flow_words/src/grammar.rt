@@ -1,4 +1,4 @@
-//! The grammar of the command line.
+//! The grammar of the command line: each command with its words.
 
 use clap::{Arg, ArgAction, Command, value_parser};
 use std::alloc::{AllocError, Global};
@@ -6,7 +6,227 @@ use std::alloc::{AllocError, Global};
 /// The version of the program, and those of the certificates that it writes and reads.
 const VERSION: &str = "1.0, certificate versions 1 and 2";
 
-/// The grammar of the command line.
+/// A word of a command: its name, how it is read, and what the help says of it.
+struct Word {
+    name: &'static str,
+    kind: Kind,
+    help: &'static str,
+}
+
+/// How a word of a command is read.
+enum Kind {
+    /// A word that has to be there.
+    Word,
+    /// A number that has to be there.
+    Number,
+    /// The jobs of a sequence, one at least.
+    Jobs,
+    /// A number after a long name; left out, it is the default.
+    Option {
+        value: &'static str,
+        default: &'static str,
+    },
+    /// A number after a long name, which may be left out.
+    Choice {
+        value: &'static str,
+    },
+    /// The name of a file after a long name, which may be left out.
+    File {
+        value: &'static str,
+    },
+    /// The name of a form after a long name; left out, it is the default.
+    Form {
+        value: &'static str,
+        default: &'static str,
+    },
+    /// A long name, which may be left out.
+    Flag,
+}
+
+const FILE: Word = Word {
+    name: "FILE",
+    kind: Kind::Word,
+    help: "The file of a benchmark text, or stdin for standard input",
+};
+
+const INDEX: Word = Word {
+    name: "INDEX",
+    kind: Kind::Number,
+    help: "The block of the text, from 1",
+};
+
+const START: Word = Word {
+    name: "start",
+    kind: Kind::File { value: "SEQUENCE" },
+    help: "A file with a starting sequence, in the form that neh prints; left out, it is that of neh",
+};
+
+const WIDTH: Word = Word {
+    name: "width",
+    kind: Kind::Option {
+        value: "W",
+        default: "4096",
+    },
+    help: "How wide the beam is at most, 0 to 65536; 0 is for no beam",
+};
+
+const ROUNDS: Word = Word {
+    name: "rounds",
+    kind: Kind::Option {
+        value: "R",
+        default: "10000",
+    },
+    help: "How many rounds of improvement there are at most, 0 to 100000000",
+};
+
+const SEED: Word = Word {
+    name: "seed",
+    kind: Kind::Option {
+        value: "S",
+        default: "1",
+    },
+    help: "The seed of the random choices, 1 to 2147483646",
+};
+
+const WORK: Word = Word {
+    name: "work",
+    kind: Kind::Option {
+        value: "N",
+        default: "8500",
+    },
+    help: "How many millions of steps of improvement there are at most, 0 to 1000000",
+};
+
+static BLOCK: [Word; 2] = [FILE, INDEX];
+
+static CERTIFY: [Word; 8] = [
+    FILE,
+    INDEX,
+    WIDTH,
+    ROUNDS,
+    SEED,
+    WORK,
+    START,
+    Word {
+        name: "certificate",
+        kind: Kind::Choice { value: "V" },
+        help: "The version of the certificate, 1 or 2; left out, it is 2 where in version 1 all trees are too long",
+    },
+];
+
+static IMPROVE: [Word; 7] = [FILE, INDEX, WIDTH, ROUNDS, SEED, WORK, START];
+
+static SPAN: [Word; 3] = [
+    FILE,
+    INDEX,
+    Word {
+        name: "JOB",
+        kind: Kind::Jobs,
+        help: "The jobs in their order, from 1, each once",
+    },
+];
+
+static GEN: [Word; 3] = [
+    Word {
+        name: "JOBS",
+        kind: Kind::Number,
+        help: "How many jobs there are, 1 to 800",
+    },
+    Word {
+        name: "MACHINES",
+        kind: Kind::Number,
+        help: "How many machines there are, 1 to 26",
+    },
+    Word {
+        name: "SEED",
+        kind: Kind::Number,
+        help: "The first state of Taillard's generator, 1 to 2147483646",
+    },
+];
+
+static SOLVE: [Word; 8] = [
+    FILE,
+    INDEX,
+    Word {
+        name: "workers",
+        kind: Kind::Option {
+            value: "K",
+            default: "1",
+        },
+        help: "How many workers there are, 1 to 64",
+    },
+    Word {
+        name: "depth",
+        kind: Kind::Option {
+            value: "D",
+            default: "1",
+        },
+        help: "How many jobs each prefix has, 0 to 3: there is a tree for each list of so many jobs, 100000 at most",
+    },
+    Word {
+        name: "budget",
+        kind: Kind::Option {
+            value: "B",
+            default: "1000000",
+        },
+        help: "The most bytes that a tree may have, 1 to 100000000",
+    },
+    Word {
+        name: "certificate",
+        kind: Kind::Option {
+            value: "V",
+            default: "1",
+        },
+        help: "The version of the certificate, 1 or 2",
+    },
+    START,
+    Word {
+        name: "mirrored",
+        kind: Kind::Flag,
+        help: "Solves the instance with its machines in reverse order, from the reversed start if one is given",
+    },
+];
+
+static CHECK: [Word; 5] = [
+    FILE,
+    INDEX,
+    Word {
+        name: "CERT",
+        kind: Kind::Word,
+        help: "The file of the certificate",
+    },
+    Word {
+        name: "either",
+        kind: Kind::Flag,
+        help: "Accepts a certificate of the mirrored instance too",
+    },
+    Word {
+        name: "sequence",
+        kind: Kind::Flag,
+        help: "Prints a sequence of the instance with that makespan, in the form that neh prints",
+    },
+];
+
+static SCHEDULE: [Word; 4] = [
+    FILE,
+    INDEX,
+    Word {
+        name: "SEQUENCE",
+        kind: Kind::Word,
+        help: "The file of a sequence, in the form that neh prints",
+    },
+    Word {
+        name: "form",
+        kind: Kind::Form {
+            value: "FORM",
+            default: "csv",
+        },
+        help: "csv for a table of when each job starts and ends on each machine, svg for a picture of it",
+    },
+];
+
+/// The grammar of the command line. It keeps a frame of its own: a caller's would hold all commands to its end.
+#[inline(never)]
 pub fn make_command<'a>(alloc: Global) -> Result<Command<'a>, AllocError> {
     let command = Command::new(alloc, "flowshop")
         .about("Least makespans of permutation flow shops, with certificates")
@@ -20,7 +240,8 @@ pub fn make_command<'a>(alloc: Global) -> Result<Command<'a>, AllocError> {
     let command = with(command, mirror_command(alloc));
     let command = with(command, improve_command(alloc));
     let command = with(command, solve_command(alloc));
-    with(command, check_command(alloc))
+    let command = with(command, check_command(alloc));
+    with(command, schedule_command(alloc))
 }
 
 /// A command with one more below it, where both could be made.
@@ -32,218 +253,117 @@ fn with<'a>(
 }
 
 fn certify_command<'a>(alloc: Global) -> Result<Command<'a>, AllocError> {
-    Command::new(alloc, "certify")
-        .about(
-            "Improves a starting sequence, and writes a certificate of the least makespan of the instance or of the \
-mirrored one",
-        )
-        .after_help(
-            "The certificate may be one of the mirrored instance: check it with --either.\nExample: ./flowshop \
-certify examples/three_machines.txt 1 >certificate",
-        )
-        .args(vec![in alloc;
-            file(alloc),
-            index(alloc),
-            rounds(alloc),
-            seed(alloc),
-            start(alloc),
-            version(alloc),
-        ]?)
+    let about =
+        "Searches from a starting sequence and from better ones, and writes a certificate of the least makespan \
+of the instance or of the mirrored one";
+    let example =
+        "The certificate may be one of the mirrored instance: check it with --either.\nExample: ./flowshop \
+certify examples/three_machines.txt 1 >certificate";
+    command_of(alloc, "certify", about, example, &CERTIFY)
 }
 
 fn span_command<'a>(alloc: Global) -> Result<Command<'a>, AllocError> {
-    Command::new(alloc, "span")
-        .about("Prints the makespan of jobs in the given order")
-        .after_help("Example: ./flowshop span examples/two_machines.txt 1 2 3 1")
-        .args(vec![in alloc; file(alloc), index(alloc), jobs(alloc)]?)
+    let about = "Prints the makespan of jobs in the given order";
+    let example = "Example: ./flowshop span examples/two_machines.txt 1 2 3 1";
+    command_of(alloc, "span", about, example, &SPAN)
 }
 
 fn gen_command<'a>(alloc: Global) -> Result<Command<'a>, AllocError> {
-    Command::new(alloc, "gen")
-        .about("Writes the instance of a seed, with its bounds")
-        .after_help("Example: ./flowshop gen 20 5 873654221")
-        .args(vec![in alloc;
-            number(alloc, "JOBS", "How many jobs there are, 1 to 800"),
-            number(alloc, "MACHINES", "How many machines there are, 1 to 26"),
-            number(
-                alloc,
-                "SEED",
-                "The first state of Taillard's generator, 1 to 2147483646",
-            ),
-        ]?)
-}
-
-fn neh_command<'a>(alloc: Global) -> Result<Command<'a>, AllocError> {
-    Command::new(alloc, "neh")
-        .about("Prints the starting sequence and its makespan")
-        .after_help("Example: ./flowshop neh examples/three_machines.txt 1")
-        .args(vec![in alloc; file(alloc), index(alloc)]?)
-}
-
-fn mirror_command<'a>(alloc: Global) -> Result<Command<'a>, AllocError> {
-    Command::new(alloc, "mirror")
-        .about("Writes a block with its machines in reverse order")
-        .after_help("Example: ./flowshop mirror examples/two_machines.txt 1")
-        .args(vec![in alloc; file(alloc), index(alloc)]?)
-}
-
-fn improve_command<'a>(alloc: Global) -> Result<Command<'a>, AllocError> {
-    Command::new(alloc, "improve")
-        .about("Prints a sequence that is no worse than a starting sequence, and its makespan")
-        .after_help("Example: ./flowshop improve examples/taillard_20_5.txt 1 --rounds 100")
-        .args(vec![in alloc;
-            file(alloc),
-            index(alloc),
-            rounds(alloc),
-            seed(alloc),
-            start(alloc),
-        ]?)
-}
-
-fn solve_command<'a>(alloc: Global) -> Result<Command<'a>, AllocError> {
-    Command::new(alloc, "solve")
-        .about("Finds the least makespan, and writes a certificate of it")
-        .after_help("Example: ./flowshop solve examples/three_machines.txt 1 --depth 0")
-        .args(vec![in alloc;
-            file(alloc),
-            index(alloc),
-            workers(alloc),
-            depth(alloc),
-            budget(alloc),
-            version(alloc),
-            start(alloc),
-            flag(
-                alloc,
-                "mirrored",
-                "Solves the instance with its machines in reverse order, from the reversed start if one is given",
-            ),
-        ]?)
-}
-
-fn check_command<'a>(alloc: Global) -> Result<Command<'a>, AllocError> {
-    Command::new(alloc, "check")
-        .about("Checks a certificate, and prints the value that it proves least")
-        .after_help("Example: ./flowshop check examples/three_machines.txt 1 certificate")
-        .args(vec![in alloc;
-            file(alloc),
-            index(alloc),
-            word(alloc, "CERT", "The file of the certificate"),
-            flag(
-                alloc,
-                "either",
-                "Accepts a certificate of the mirrored instance too",
-            ),
-        ]?)
-}
-
-/// The file of a benchmark text.
-fn file<'a>(alloc: Global) -> Arg<'a> {
-    word(
+    let about = "Writes the instance of a seed, with its bounds";
+    command_of(
         alloc,
-        "FILE",
-        "The file of a benchmark text, or stdin for standard input",
+        "gen",
+        about,
+        "Example: ./flowshop gen 20 5 873654221",
+        &GEN,
     )
 }
 
-/// The number of a block of a text.
-fn index<'a>(alloc: Global) -> Arg<'a> {
-    number(alloc, "INDEX", "The block of the text, from 1")
+fn neh_command<'a>(alloc: Global) -> Result<Command<'a>, AllocError> {
+    let about = "Prints the starting sequence and its makespan";
+    let example = "Example: ./flowshop neh examples/three_machines.txt 1";
+    command_of(alloc, "neh", about, example, &BLOCK)
 }
 
-/// A required word.
-fn word<'a>(alloc: Global, id: &'a str, help: &'a str) -> Arg<'a> {
-    Arg::new(alloc, id)
-        .required(true)
-        .action(ArgAction::Set)
-        .help(help)
+fn mirror_command<'a>(alloc: Global) -> Result<Command<'a>, AllocError> {
+    let about = "Writes a block with its machines in reverse order";
+    let example = "Example: ./flowshop mirror examples/two_machines.txt 1";
+    command_of(alloc, "mirror", about, example, &BLOCK)
 }
 
-/// A required number.
-fn number<'a>(alloc: Global, id: &'a str, help: &'a str) -> Arg<'a> {
-    Arg::new(alloc, id)
-        .required(true)
-        .help(help)
-        .value_parser(value_parser!(u32))
+fn improve_command<'a>(alloc: Global) -> Result<Command<'a>, AllocError> {
+    let about = "Prints a sequence that is no worse than a starting sequence, and its makespan";
+    let example = "Example: ./flowshop improve examples/taillard_20_5.txt 1 --rounds 100";
+    command_of(alloc, "improve", about, example, &IMPROVE)
 }
 
-/// The jobs of a sequence, one at least.
-fn jobs<'a>(alloc: Global) -> Arg<'a> {
-    Arg::new(alloc, "JOB")
-        .required(true)
-        .help("The jobs in their order, from 1, each once")
-        .num_args(1..)
-        .action(ArgAction::Append)
-        .value_parser(value_parser!(u16))
+fn solve_command<'a>(alloc: Global) -> Result<Command<'a>, AllocError> {
+    let about = "Finds the least makespan, and writes a certificate of it";
+    let example = "Example: ./flowshop solve examples/three_machines.txt 1 --depth 0";
+    command_of(alloc, "solve", about, example, &SOLVE)
 }
 
-/// A number behind a long name, with a default.
-fn option<'a>(
+fn check_command<'a>(alloc: Global) -> Result<Command<'a>, AllocError> {
+    let about = "Checks a certificate, and prints the value that it proves least";
+    let example = "Example: ./flowshop check examples/three_machines.txt 1 certificate";
+    command_of(alloc, "check", about, example, &CHECK)
+}
+
+fn schedule_command<'a>(alloc: Global) -> Result<Command<'a>, AllocError> {
+    let about =
+        "Writes when each job of a sequence starts and ends on each machine, as a table or a picture";
+    let example = "Example: ./flowshop schedule examples/three_machines.txt 1 sequence --form svg";
+    command_of(alloc, "schedule", about, example, &SCHEDULE)
+}
+
+/// A command: its name, what it does, what its help ends with, and its words.
+fn command_of<'a>(
     alloc: Global,
     name: &'a str,
-    value: &'a str,
-    default: &'a str,
-    help: &'a str,
-) -> Arg<'a> {
-    Arg::new(alloc, name)
-        .long(name)
-        .value_name(value)
-        .default_value(default)
-        .help(help)
-        .value_parser(value_parser!(u32))
+    about: &'a str,
+    example: &'a str,
+    words: &[Word],
+) -> Result<Command<'a>, AllocError> {
+    let mut args = Vec::new(alloc);
+    for word in words {
+        args.push(argument_of(alloc, word))?;
+    }
+    Command::new(alloc, name)
+        .about(about)
+        .after_help(example)
+        .args(args)
 }
 
-/// The number of workers.
-fn workers<'a>(alloc: Global) -> Arg<'a> {
-    let help = "How many workers there are, 1 to 64";
-    option(alloc, "workers", "K", "1", help)
-}
-
-/// The number of jobs in a prefix.
-fn depth<'a>(alloc: Global) -> Arg<'a> {
-    let help =
-        "How many jobs each prefix has, 0 to 3: there is a tree for each list of so many jobs, 100000 at most";
-    option(alloc, "depth", "D", "1", help)
-}
-
-/// The most bytes of a tree.
-fn budget<'a>(alloc: Global) -> Arg<'a> {
-    let help = "The most bytes that a tree may have, 1 to 100000000";
-    option(alloc, "budget", "B", "1000000", help)
-}
-
-/// The version of a certificate.
-fn version<'a>(alloc: Global) -> Arg<'a> {
-    let help = "The version of the certificate, 1 or 2";
-    option(alloc, "certificate", "V", "1", help)
-}
-
-/// The number of rounds in which a sequence is improved.
-fn rounds<'a>(alloc: Global) -> Arg<'a> {
-    let help = "How many rounds of improvement there are, 0 to 100000000";
-    option(alloc, "rounds", "R", "10000", help)
-}
-
-/// The seed of the choices by which a sequence is improved.
-fn seed<'a>(alloc: Global) -> Arg<'a> {
-    let help = "The seed of the random choices, 1 to 2147483646";
-    option(alloc, "seed", "S", "1", help)
-}
-
-/// The file of a starting sequence, which may be left out.
-fn start<'a>(alloc: Global) -> Arg<'a> {
-    Arg::new(alloc, "start")
-        .long("start")
-        .value_name("SEQUENCE")
-        .action(ArgAction::Set)
-        .help(
-            "A file with a starting sequence, in the form that neh prints; left out, it is that of neh",
-        )
-}
-
-/// A choice with a long name, which is taken or left out.
-fn flag<'a>(alloc: Global, name: &'a str, help: &'a str) -> Arg<'a> {
-    Arg::new(alloc, name)
-        .long(name)
-        .action(ArgAction::SetTrue)
-        .help(help)
+/// The argument of a word.
+fn argument_of<'a>(alloc: Global, word: &Word) -> Arg<'a> {
+    let argument = Arg::new(alloc, word.name).help(word.help);
+    match word.kind {
+        Kind::Word => argument.required(true).action(ArgAction::Set),
+        Kind::Number => argument.required(true).value_parser(value_parser!(u32)),
+        Kind::Jobs => argument
+            .required(true)
+            .num_args(1..)
+            .action(ArgAction::Append)
+            .value_parser(value_parser!(u16)),
+        Kind::Option { value, default } => argument
+            .long(word.name)
+            .value_name(value)
+            .default_value(default)
+            .value_parser(value_parser!(u32)),
+        Kind::Choice { value } => argument
+            .long(word.name)
+            .value_name(value)
+            .action(ArgAction::Set)
+            .value_parser(value_parser!(u32)),
+        Kind::File { value } => argument
+            .long(word.name)
+            .value_name(value)
+            .action(ArgAction::Set),
+        Kind::Form { value, default } => argument
+            .long(word.name)
+            .value_name(value)
+            .default_value(default)
+            .action(ArgAction::Set),
+        Kind::Flag => argument.long(word.name).action(ArgAction::SetTrue),
+    }
 }

@@ -5,4 +5,4 @@ mod grammar;
 mod order;
 
 pub use grammar::make_command;
-pub use order::{Improvement, OfBlock, OfText, Order, Run, Search, order_of};
+pub use order::{Order, order_of};

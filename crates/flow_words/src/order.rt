@@ -1,9 +1,11 @@
 //! What the words of a command line ask for.
 
 use clap::ArgMatches;
+use flow_requests::{CertifyRequest, CheckRequest, ImproveRequest, ScheduleForm, SolveRequest};
 use std::alloc::{AllocError, Global};
 
-/// What the command line asks for.
+/// What the command line asks for: a command with its files, the block's number in the text, from 1, and how it is
+/// done.
 #[derive(Debug, PartialEq, Drop)]
 pub enum Order<'a> {
     /// The instance of a seed.
@@ -15,104 +17,84 @@ pub enum Order<'a> {
         /// The seed of the generator.
         seed: u32,
     },
-    /// Something of a block of a text.
-    OfText {
-        /// The name of the text's file.
-        file: &'a str,
-        /// The block's number in the text, from 1.
-        index: u32,
-        /// What is asked for of the block.
-        what: OfText<'a>,
-    },
-}
-
-/// What is asked for of a block, and of a second file where it takes one.
-#[derive(Debug, PartialEq, Drop)]
-pub enum OfText<'a> {
-    /// Something of the block alone.
-    OfBlock {
-        /// What is asked for of the block.
-        what: OfBlock,
-    },
-    /// What a search finds for the block from a starting sequence.
-    SearchFrom {
-        /// The name of the starting sequence's file.
-        start: &'a str,
-        /// How the block is searched.
-        search: Search,
-    },
-    /// The value that a certificate proves least for the block.
-    Check {
-        /// The name of the certificate's file.
-        cert: &'a str,
-        /// Whether a certificate of the mirrored instance is accepted too.
-        either: bool,
-    },
-}
-
-/// What is asked for of a block.
-#[derive(Debug, PartialEq, Drop)]
-pub enum OfBlock {
     /// The makespan of jobs in this order.
     Span {
+        /// The name of the text's file.
+        file: &'a str,
+        /// The block's number in the text.
+        index: u32,
         /// The numbers of the jobs, from 1, as they were given.
         jobs: Vec<u16>,
     },
     /// The starting sequence and its makespan.
-    Neh,
+    Neh {
+        /// The name of the text's file.
+        file: &'a str,
+        /// The block's number in the text.
+        index: u32,
+    },
     /// The block with its machines in reverse order.
-    Mirror,
-    /// What a search finds from a starting sequence of its own.
-    Search {
-        /// How the block is searched.
-        search: Search,
+    Mirror {
+        /// The name of the text's file.
+        file: &'a str,
+        /// The block's number in the text.
+        index: u32,
     },
-}
-
-/// How a block is searched.
-#[derive(Clone, Copy, Debug, PartialEq, Eq)]
-pub enum Search {
-    /// For a certificate of the least makespan.
+    /// A certificate of the least makespan.
     Solve {
+        /// The name of the text's file.
+        file: &'a str,
+        /// The block's number in the text.
+        index: u32,
+        /// The name of the starting sequence's file.
+        start: Option<&'a str>,
         /// How the block is solved.
-        run: Run,
+        request: SolveRequest,
     },
-    /// For a better sequence than the starting one.
+    /// A better sequence than the starting one.
     Improve {
-        /// How long and by which choices.
-        improvement: Improvement,
+        /// The name of the text's file.
+        file: &'a str,
+        /// The block's number in the text.
+        index: u32,
+        /// The name of the starting sequence's file.
+        start: Option<&'a str>,
+        /// How the sequence is improved.
+        request: ImproveRequest,
     },
-    /// For a better sequence, and a certificate of the least makespan from it.
+    /// A certificate of the least makespan, searched from better and better sequences.
     Certify {
-        /// How long and by which choices the sequence is improved.
-        improvement: Improvement,
-        /// The version of the certificate.
-        version: u32,
+        /// The name of the text's file.
+        file: &'a str,
+        /// The block's number in the text.
+        index: u32,
+        /// The name of the starting sequence's file.
+        start: Option<&'a str>,
+        /// How the block is certified.
+        request: CertifyRequest,
     },
-}
-
-/// How long a sequence is improved, and by which choices.
-#[derive(Clone, Copy, Debug, PartialEq, Eq)]
-pub struct Improvement {
-    /// The number of rounds.
-    pub rounds: u32,
-    /// The seed of the choices.
-    pub seed: u32,
-}
-
-/// How a block is solved.
-#[derive(Clone, Copy, Debug, PartialEq, Eq)]
-pub struct Run {
-    /// The number of workers.
-    pub workers: u32,
-    /// The number of jobs in a prefix.
-    pub depth: u32,
-    /// The most bytes of a tree.
-    pub budget: u32,
-    /// The version of the certificate.
-    pub version: u32,
-    /// Whether the mirrored instance is solved.
-    pub mirror: bool,
+    /// The value that a certificate proves least, or a sequence that has it.
+    Check {
+        /// The name of the text's file.
+        file: &'a str,
+        /// The block's number in the text.
+        index: u32,
+        /// The name of the certificate's file.
+        cert: &'a str,
+        /// Which certificates are accepted, and what is printed.
+        request: CheckRequest,
+    },
+    /// The times of a sequence, as a table or a picture.
+    Schedule {
+        /// The name of the text's file.
+        file: &'a str,
+        /// The block's number in the text.
+        index: u32,
+        /// The name of the sequence's file.
+        sequence: &'a str,
+        /// The form in which they are written.
+        form: ScheduleForm,
+    },
 }
 
 /// What the words ask for; none where a value is missing or does not read as its type.
@@ -124,16 +106,13 @@ pub fn order_of<'a>(
         return Ok(gen_order(given));
     }
     if let Some(given) = matches.subcommand_matches("span") {
-        return Ok(match jobs_of(alloc, given)? {
-            Some(jobs) => block_order(given, OfBlock::Span { jobs }),
-            None => None,
-        });
+        return span_order(alloc, given);
     }
     if let Some(given) = matches.subcommand_matches("neh") {
-        return Ok(block_order(given, OfBlock::Neh));
+        return Ok(neh_order(given));
     }
     if let Some(given) = matches.subcommand_matches("mirror") {
-        return Ok(block_order(given, OfBlock::Mirror));
+        return Ok(mirror_order(given));
     }
     if let Some(given) = matches.subcommand_matches("solve") {
         return Ok(solve_order(given));
@@ -147,6 +126,9 @@ pub fn order_of<'a>(
     if let Some(given) = matches.subcommand_matches("check") {
         return Ok(check_order(given));
     }
+    if let Some(given) = matches.subcommand_matches("schedule") {
+        return Ok(schedule_order(given));
+    }
     Ok(None)
 }
 
@@ -158,65 +140,103 @@ fn gen_order<'a>(given: &ArgMatches<'a>) -> Option<Order<'a>> {
     })
 }
 
-fn text_order<'a>(given: &ArgMatches<'a>, what: OfText<'a>) -> Option<Order<'a>> {
-    Some(Order::OfText {
-        file: given.get_str("FILE")?,
-        index: given.get_one::<u32>("INDEX")?,
-        what,
+fn span_order<'a>(alloc: Global, given: &ArgMatches<'a>) -> Result<Option<Order<'a>>, AllocError> {
+    let (Some(file), Some(index)) = (given.get_str("FILE"), given.get_one::<u32>("INDEX")) else {
+        return Ok(None);
+    };
+    Ok(match jobs_of(alloc, given)? {
+        Some(jobs) => Some(Order::Span { file, index, jobs }),
+        None => None,
     })
 }
 
-fn block_order<'a>(given: &ArgMatches<'a>, what: OfBlock) -> Option<Order<'a>> {
-    text_order(given, OfText::OfBlock { what })
+fn neh_order<'a>(given: &ArgMatches<'a>) -> Option<Order<'a>> {
+    Some(Order::Neh {
+        file: given.get_str("FILE")?,
+        index: given.get_one::<u32>("INDEX")?,
+    })
 }
 
-/// A search of a block, from the starting sequence that the words name, if they name one.
-fn search_order<'a>(given: &ArgMatches<'a>, search: Search) -> Option<Order<'a>> {
-    match given.get_str("start") {
-        Some(start) => text_order(given, OfText::SearchFrom { start, search }),
-        None => block_order(given, OfBlock::Search { search }),
-    }
+fn mirror_order<'a>(given: &ArgMatches<'a>) -> Option<Order<'a>> {
+    Some(Order::Mirror {
+        file: given.get_str("FILE")?,
+        index: given.get_one::<u32>("INDEX")?,
+    })
 }
 
 fn solve_order<'a>(given: &ArgMatches<'a>) -> Option<Order<'a>> {
-    let run = Run {
-        workers: given.get_one::<u32>("workers")?,
-        depth: given.get_one::<u32>("depth")?,
-        budget: given.get_one::<u32>("budget")?,
-        version: given.get_one::<u32>("certificate")?,
-        mirror: given.get_flag("mirrored"),
-    };
-    search_order(given, Search::Solve { run })
+    Some(Order::Solve {
+        file: given.get_str("FILE")?,
+        index: given.get_one::<u32>("INDEX")?,
+        start: given.get_str("start"),
+        request: SolveRequest {
+            workers: given.get_one::<u32>("workers")?,
+            depth: given.get_one::<u32>("depth")?,
+            budget: given.get_one::<u32>("budget")?,
+            version: given.get_one::<u32>("certificate")?,
+            mirrored: given.get_flag("mirrored"),
+        },
+    })
 }
 
 fn improve_order<'a>(given: &ArgMatches<'a>) -> Option<Order<'a>> {
-    let improvement = improvement_of(given)?;
-    search_order(given, Search::Improve { improvement })
+    Some(Order::Improve {
+        file: given.get_str("FILE")?,
+        index: given.get_one::<u32>("INDEX")?,
+        start: given.get_str("start"),
+        request: improvement_of(given)?,
+    })
 }
 
 fn certify_order<'a>(given: &ArgMatches<'a>) -> Option<Order<'a>> {
-    let improvement = improvement_of(given)?;
-    let version = given.get_one::<u32>("certificate")?;
-    search_order(
-        given,
-        Search::Certify {
-            improvement,
-            version,
+    Some(Order::Certify {
+        file: given.get_str("FILE")?,
+        index: given.get_one::<u32>("INDEX")?,
+        start: given.get_str("start"),
+        request: CertifyRequest {
+            improve: improvement_of(given)?,
+            version: given.get_one::<u32>("certificate"),
         },
-    )
-}
-
-fn improvement_of(given: &ArgMatches) -> Option<Improvement> {
-    Some(Improvement {
-        rounds: given.get_one::<u32>("rounds")?,
-        seed: given.get_one::<u32>("seed")?,
     })
 }
 
 fn check_order<'a>(given: &ArgMatches<'a>) -> Option<Order<'a>> {
-    let cert = given.get_str("CERT")?;
-    let either = given.get_flag("either");
-    text_order(given, OfText::Check { cert, either })
+    Some(Order::Check {
+        file: given.get_str("FILE")?,
+        index: given.get_one::<u32>("INDEX")?,
+        cert: given.get_str("CERT")?,
+        request: CheckRequest {
+            either: given.get_flag("either"),
+            sequence: given.get_flag("sequence"),
+        },
+    })
+}
+
+fn schedule_order<'a>(given: &ArgMatches<'a>) -> Option<Order<'a>> {
+    Some(Order::Schedule {
+        file: given.get_str("FILE")?,
+        index: given.get_one::<u32>("INDEX")?,
+        sequence: given.get_str("SEQUENCE")?,
+        form: form_of(given.get_str("form")?)?,
+    })
+}
+
+/// The form of a name; none where no form has it.
+fn form_of(name: &str) -> Option<ScheduleForm> {
+    match name {
+        "csv" => Some(ScheduleForm::Csv),
+        "svg" => Some(ScheduleForm::Svg),
+        _ => None,
+    }
+}
+
+fn improvement_of(given: &ArgMatches) -> Option<ImproveRequest> {
+    Some(ImproveRequest {
+        width: given.get_one::<u32>("width")?,
+        rounds: given.get_one::<u32>("rounds")?,
+        seed: given.get_one::<u32>("seed")?,
+        work: given.get_one::<u32>("work")?,
+    })
 }
 
 fn jobs_of(alloc: Global, given: &ArgMatches) -> Result<Option<Vec<u16>>, AllocError> {

@@ -144,7 +144,8 @@ pub(crate) fn fill_spans(
     spans[last] = span_between(instance, rows, &heads, job, &tails[last]);
 }
 
-/// The makespan of a partial sequence with a job put in at each place; entry `i`: put in behind the first `i` jobs.
+/// The makespan of a partial sequence with a job put in at each place; entry `i`: put in behind the first `i` jobs. For
+/// callers alone: `neh` calls `best_place`, which needs no memory.
 pub fn insertion_spans(
     alloc: Global,
     instance: &Instance,

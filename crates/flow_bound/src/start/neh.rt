@@ -94,9 +94,6 @@ pub fn neh(alloc: Global, instance: &Instance) -> Result<(Sequence, u64), AllocE
         jobs.insert(best.index, *job)?;
         makespan = best.makespan;
     }
-    match Sequence::new(alloc, instance, jobs.as_slice()) {
-        Ok(sequence) => Ok((sequence, makespan)),
-        // The jobs are a sequence, so memory ran out.
-        Err(_) => Err(AllocError),
-    }
+    let sequence = Sequence::of_known(alloc, jobs.as_slice())?;
+    Ok((sequence, makespan))
 }

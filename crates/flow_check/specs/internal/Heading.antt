@@ -5,13 +5,17 @@ use Rattle.std.specs.Fmt.{decimal}
 use Rattle.flow_shop.specs.Limits.{greatest_depth}
 use Rattle.flow_shop.specs.Digits.{is_digit}
 use Rattle.flow_shop.specs.Sequences.{IsSequence}
-use Rattle.flow_check.specs.Certificate.{line, spaced}
+use Rattle.flow_shop.specs.Shop.{Shop}
+use Rattle.flow_check.specs.Certificate.{line, spaced, Stated, IsStated, stated_bounds, numbers_of}
+use Rattle.flow_check.specs.internal.Reading.{text_value, stated_once, cut_value}
+use Rattle.flow_check.specs.declared.heading.Heading.{Heading}
+use Rattle.flow_check.specs.declared.kind.TextKind.{TextKind}
 
 -- a text begins with a number below 2^64 in decimal, and a byte that ends it
 abbrev pub BeginsWithNumber : List ℕ → ℕ → ℕ → List ℕ → Type 0
 BeginsWithNumber text end number rest = (number < 2 ^ 64) × (text ≡ decimal number ++ end ∷ rest)
 
--- whether a byte is a further digit of a number below 2^64 without leading zeros, behind the value of earlier digits,
+-- whether a byte is a further digit of a number below 2^64 without leading zeros, after the value of earlier digits,
 -- if any
 abbrev pub is_further : ℕ → Bool → ℕ → Bool
 is_further value started byte =
@@ -33,3 +37,15 @@ BeginsWithSequence n text jobs rest = IsSequence n jobs × (text ≡ line (space
 -- the byte that ends a number of a line where so many are still to come, with this one
 abbrev pub end_of : ℕ → ℕ
 end_of left = cond (nat_eq left 1) 10 32
+
+-- a text begins with the third line of a kind
+abbrev pub BeginsWithStated : (kind : TextKind) → List ℕ → Stated kind → List ℕ → Type 0
+BeginsWithStated kind text stated rest =
+    IsStated kind stated × (text ≡ line (spaced (numbers_of kind stated)) ++ rest)
+
+-- the lines before the trees have no fault, and the trees decide what is read of the text
+abbrev pub IsHeadingOf : TextKind → Shop → List ℕ → Heading → Type 0
+IsHeadingOf kind shop text heading =
+    (stated : Stated kind) × (heading.bounds ≡ stated_bounds kind stated)
+    × (text_value kind shop text
+    ≡ stated_once stated (cut_value shop heading.version heading.depth heading.bounds.lower heading.trees.now))

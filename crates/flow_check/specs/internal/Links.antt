@@ -7,7 +7,7 @@ use Rattle.flow_shop.specs.Sequences.{has}
 abbrev pub children : ℕ → List ℕ → ℕ → List ℕ
 children n list from = filter (λ job. not (has list job)) (numbers from n)
 
--- the next job behind one that a list does not have; 0 where there is none
+-- the next job after one that a list does not have; 0 where there is none
 abbrev pub IsNext : ℕ → List ℕ → ℕ → ℕ → Type 0
 IsNext n list job zero = (k : ℕ) → job < k → k ≤ n → has list k ≡ true
 IsNext n list job (suc next) =

@@ -1,5 +1,6 @@
 -- What is kept of a list of jobs at which trees are read.
-use Rattle.std.specs.Prelude.{ℕ, suc, ◌≡◌, ◌+◌, ◌-◌, ◌≤◌, ◌⊎◌, false, List, [], ◌∷◌, ◌++◌, length, sum_by, slice_index}
+use Rattle.std.specs.Prelude.{ℕ, suc, ◌≡◌, ◌≢◌, ◌+◌, ◌-◌, ◌≤◌, ◌⊎◌, false, List, [], ◌∷◌, ◌++◌, length, sum_by}
+use Rattle.std.specs.Prelude.{slice_index}
 use Rattle.std.specs.Prelude.{Option, Some, None}
 use Rattle.flow_shop.specs.Limits.{most_machines}
 use Rattle.flow_shop.specs.Shop.{Shop, time}
@@ -8,23 +9,35 @@ use Rattle.flow_shop.specs.Sequences.{has, jobs_left}
 use Rattle.flow_shop.specs.TwoLeast.{tails, least_below, second_below}
 use Rattle.flow_check.specs.internal.Links.{AreLinks}
 use Rattle.flow_check.specs.declared.node.Node.{Node}
-use Rattle.flow_check.specs.declared.node.Lows.{Lows}
+use Rattle.flow_check.specs.declared.node.TwoLeastTails.{TwoLeastTails}
+
+-- a machine of an instance
+abbrev pub IsMachine : Shop → ℕ → Type 0
+IsMachine shop machine = (1 ≤ machine) × (machine ≤ shop.machines)
+
+-- a job of an instance
+abbrev pub IsJob : Shop → ℕ → Type 0
+IsJob shop job = (1 ≤ job) × (job ≤ shop.jobs)
 
 -- what stands for a least that is not known, or of no numbers: the greatest number of 32 bits
-abbrev pub unknown : ℕ
-unknown = 4294967295
+abbrev pub no_least : ℕ
+no_least = 4294967295
 
--- the two least tails of the jobs left behind a machine
-abbrev pub AreLows : Shop → List ℕ → ℕ → Lows → Type 0
-AreLows shop list machine lows =
-    (lows.least ≡ least_below unknown (tails shop machine (jobs_left shop.jobs list)))
-    × (lows.second ≡ second_below unknown unknown (tails shop machine (jobs_left shop.jobs list)))
+-- the least of some numbers without one of them, of which the least and the second least are known
+abbrev pub IsLeastWithout : ℕ → ℕ → ℕ → ℕ → Type 0
+IsLeastWithout one least second value = (one ≡ least → value ≡ second) × (one ≢ least → value ≡ least)
 
--- the two least tails behind each machine, where the least is known
+-- the two least tails of the jobs left after a machine
+abbrev pub AreTwoLeastTails : Shop → List ℕ → ℕ → TwoLeastTails → Type 0
+AreTwoLeastTails shop list machine two =
+    (two.least ≡ least_below no_least (tails shop machine (jobs_left shop.jobs list)))
+    × (two.second ≡ second_below no_least no_least (tails shop machine (jobs_left shop.jobs list)))
+
+-- the two least tails after each machine, where the least is known
 pub record AreKnown (shop : Shop) (list least second : List ℕ) : Type 0 where
   pub each : (machine : ℕ) → 1 ≤ machine → machine ≤ shop.machines →
-      (slice_index least (machine - 1) ≡ unknown)
-      ⊎ AreLows shop list machine
+      (slice_index least (machine - 1) ≡ no_least)
+      ⊎ AreTwoLeastTails shop list machine
       (record { least = slice_index least (machine - 1); second = slice_index second (machine - 1) })
   pub least_size : length least ≡ most_machines
   pub second_size : length second ≡ most_machines
@@ -54,12 +67,12 @@ abbrev pub IsChild : ℕ → List ℕ → Option ℕ → Type 0
 IsChild n list None = Unit {0}
 IsChild n list (Some job) = (1 ≤ job) × (job ≤ n) × (has list job ≡ false)
 
--- the jobs left before a child is taken, from those behind it
+-- the jobs left before a child is taken, from those after it
 abbrev pub left_before : Option ℕ → ℕ → ℕ
 left_before None left = left
 left_before (Some job) left = suc left
 
 -- the jobs left at a list or at its child, where so many are left at each child
 abbrev pub left_here : Option ℕ → ℕ → ℕ
-left_here None below = suc below
-left_here (Some job) below = below
+left_here None child_left = suc child_left
+left_here (Some job) child_left = child_left

@@ -5,7 +5,7 @@ use Rattle.std.specs.List.{flat_map}
 use Rattle.flow_shop.specs.Shop.{Shop}
 use Rattle.flow_shop.specs.Bound.{bound_of}
 use Rattle.flow_shop.specs.Sequences.{has, jobs_left, extensions}
-use Rattle.flow_check.specs.CertificateFaults.{read_tree, each_tree, then_read, after_tree, trees_value}
+use Rattle.flow_check.specs.internal.Reading.{read_tree, each_tree, then_read, after_tree, trees_value}
 use Rattle.flow_check.specs.internal.Lags.{AreKept, AreUnknown}
 use Rattle.flow_check.specs.internal.Links.{children, IsPlace}
 use Rattle.flow_check.specs.internal.Nodes.{IsNode, IsAt}
@@ -23,7 +23,7 @@ frame_at frames place = slice_index_or frames place
 
 -- the node of the list at which a reader stands
 abbrev pub here : TreeReader → Node
-here reader = (frame_at reader.frames.items reader.below).node
+here reader = (frame_at reader.frames.items reader.child_left).node
 
 -- the first frames above a place, the nearest one first
 abbrev pub above : List Frame → ℕ → ℕ → List Frame
@@ -32,32 +32,32 @@ above frames place (suc count) = frame_at frames (place + 1) ∷ above frames (p
 
 -- a reader stands at a list: it has the list's node, its jobs left are linked, and the lags that it keeps are theirs
 pub record Stands (shop : Shop) (list : List ℕ) (reader : TreeReader) : Type 0 where
-  pub at : IsAt shop list (here reader) reader.links.items (suc reader.below)
+  pub at : IsAt shop list (here reader) reader.links.items (suc reader.child_left)
   pub room : length reader.frames.items ≡ shop.jobs
   pub lags : AreKept shop list reader.lags.items
 
 -- a reader is back at its list. The node may know more tails; the frames above are as they were
 pub record IsBack (shop : Shop) (old new : TreeReader) : Type 0 where
-  pub below : new.below ≡ old.below
+  pub child_left : new.child_left ≡ old.child_left
   pub links : new.links.items ≡ old.links.items
   pub size : length new.frames.items ≡ length old.frames.items
-  pub others : (place : ℕ) → old.below < place → frame_at new.frames.items place ≡ frame_at old.frames.items place
+  pub others : (place : ℕ) → old.child_left < place → frame_at new.frames.items place ≡ frame_at old.frames.items place
   pub kept : (list : List ℕ) → Stands shop list old → Stands shop list new
 
 -- a reader went to the child that has a job at its end; the list's frame keeps the job and the one before it
 pub record Opened (shop : Shop) (last job : ℕ) (old new : TreeReader) : Type 0 where
-  pub below : suc new.below ≡ old.below
+  pub child_left : suc new.child_left ≡ old.child_left
   pub links : new.links.items ≡ slice_set old.links.items last (slice_index old.links.items job)
   pub size : length new.frames.items ≡ length old.frames.items
-  pub frame : frame_at new.frames.items old.below ≡ record { node = here old; job = job; last = last }
-  pub others : (place : ℕ) → old.below < place → frame_at new.frames.items place ≡ frame_at old.frames.items place
-  pub child : (list : List ℕ) → IsNode shop list (here old) (suc old.below) → has list job ≡ false →
-      IsNode shop (list ++ job ∷ []) (here new) (suc new.below)
+  pub frame : frame_at new.frames.items old.child_left ≡ record { node = here old; job = job; last = last }
+  pub others : (place : ℕ) → old.child_left < place → frame_at new.frames.items place ≡ frame_at old.frames.items place
+  pub child : (list : List ℕ) → IsNode shop list (here old) (suc old.child_left) → has list job ≡ false →
+      IsNode shop (list ++ job ∷ []) (here new) (suc new.child_left)
   pub lags : AreUnknown new.lags.items
 
 -- a reader went back to the list above, whose frame is this one
 pub record Closed (frame : Frame) (old new : TreeReader) : Type 0 where
-  pub below : new.below ≡ suc old.below
+  pub child_left : new.child_left ≡ suc old.child_left
   pub links : new.links.items ≡ slice_set old.links.items frame.last frame.job
   pub frames : new.frames.items ≡ old.frames.items
   pub lags : AreUnknown new.lags.items
@@ -109,12 +109,12 @@ put_back links (f ∷ fs) = put_back (slice_set links f.last f.job) fs
 
 -- the text after the trees of some children of a list, with so many jobs left at each; or the first fault
 abbrev pub trees_read : Shop → ℕ → ℕ → ℕ → ℕ → List ℕ → List ℕ → List ℕ → Result (List ℕ) CheckFault
-trees_read shop version value line below list jobs bytes =
-    each_tree (λ job. read_tree shop (bound_of version) value line below (list ++ job ∷ [])) jobs bytes
+trees_read shop version value line child_left list jobs bytes =
+    each_tree (λ job. read_tree shop (bound_of version) value line child_left (list ++ job ∷ [])) jobs bytes
 
 -- the text after the trees of all children of a list, with so many jobs left at each; or the first fault
 abbrev pub children_read : Shop → ℕ → ℕ → ℕ → ℕ → List ℕ → List ℕ → Result (List ℕ) CheckFault
-children_read shop version value line below list bytes = trees_read shop version value line below list
+children_read shop version value line child_left list bytes = trees_read shop version value line child_left list
     (jobs_left shop.jobs list) bytes
 
 -- what is still to be read once the tree of a stack's list is whole
@@ -136,14 +136,14 @@ IsStack shop root links left (f ∷ fs) =
 -- the children of a list are being read, from the one after a job on
 pub record IsReading
     (shop : Shop) (version value line : ℕ) (root : List ℕ) (whole : Result (List ℕ) CheckFault)
-    (node : Node) (links : List ℕ) (below last at : ℕ) (bytes : List ℕ) (frames : List Frame) : Type 0 where
-  pub here : IsAt shop (path root frames) node links (suc below)
-  pub behind : IsPlace shop.jobs (path root frames) last
-  pub stack : IsStack shop root links (suc (suc below)) frames
+    (node : Node) (links : List ℕ) (child_left last at : ℕ) (bytes : List ℕ) (frames : List Frame) : Type 0 where
+  pub here : IsAt shop (path root frames) node links (suc child_left)
+  pub after_last : IsPlace shop.jobs (path root frames) last
+  pub stack : IsStack shop root links (suc (suc child_left)) frames
   pub answer : whole ≡ then_read
-      (trees_read shop version value line below (path root frames) (children shop.jobs (path root frames) (last + 1))
-      (drop at bytes))
-      (resume shop version value line root (suc below) frames)
+      (trees_read shop version value line child_left (path root frames) (children shop.jobs (path root frames)
+      (last + 1)) (drop at bytes))
+      (resume shop version value line root (suc child_left) frames)
 
 -- the prefixes that are still to be read below a list, from one child on
 abbrev pub awaited : ℕ → ℕ → List ℕ → ℕ → List (List ℕ)

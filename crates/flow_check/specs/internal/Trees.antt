@@ -1,11 +1,11 @@
 -- What the reading of a certificate's trees gives.
 use Rattle.std.specs.Prelude.{ℕ, ◌≡◌, ◌≤◌, List, length, drop, Result, Ok, Err}
 use Rattle.flow_shop.specs.Shop.{Shop}
-use Rattle.flow_check.specs.CertificateFaults.{cut_value, end_value}
+use Rattle.flow_check.specs.internal.Reading.{cut_value, end_value}
 use Rattle.flow_check.specs.declared.fault.CheckFault.{CheckFault}
 use Rattle.flow_check.specs.declared.fault.CheckFault.TheVariants.{Memory}
 
--- where the last line begins, behind the trees of the cut; or the first fault of the trees
+-- where the last line begins, after the trees of the cut; or the first fault of the trees
 abbrev pub TreesGive : Shop → ℕ → ℕ → ℕ → List ℕ → Result ℕ CheckFault → Type 0
 TreesGive shop version depth value bytes (Ok end) =
     (cut_value shop version depth value bytes ≡ end_value value (drop end bytes)) × (end ≤ length bytes)

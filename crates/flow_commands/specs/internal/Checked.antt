@@ -3,8 +3,9 @@ use Rattle.std.specs.Prelude.{ℕ, Bool, true, false, List, Err}
 use Rattle.flow_core.specs.Shop.{Shop}
 use Rattle.flow_check.specs.declared.fault.CheckFault.{CheckFault}
 use Rattle.flow_check.specs.declared.fault.CheckFault.TheVariants.{Memory}
-use Rattle.flow_commands.specs.declared.fault.ToolFault.TheVariants.{Certificate}
-use Rattle.flow_commands.specs.Commands.{AnswersCheck}
+use Rattle.flow_requests.specs.declared.CheckRequest.{CheckRequest}
+use Rattle.flow_commands.specs.Check.{AnswersCheck}
+use Rattle.flow_commands.specs.declared.fault.CommandFault.TheVariants.{Certificate}
 
 -- whether a check ended because memory ran out
 abbrev pub ran_out : CheckFault → Bool
@@ -12,6 +13,6 @@ ran_out Memory = true
 ran_out fault = false
 
 -- the fault that is answered for the bytes; `Memory` says nothing of them
-abbrev pub IsRefused : Bool → Shop → List ℕ → CheckFault → Type 0
-IsRefused either shop bytes Memory = Unit {0}
-IsRefused either shop bytes fault = AnswersCheck either shop bytes (Err (Certificate fault))
+abbrev pub IsRefused : CheckRequest → Shop → List ℕ → CheckFault → Type 0
+IsRefused request shop bytes Memory = Unit {0}
+IsRefused request shop bytes fault = AnswersCheck request shop bytes (Err (Certificate fault))

@@ -1,16 +1,27 @@
--- What one try of `certify` finds.
-use Rattle.std.specs.Prelude.{◌≡◌, ℕ, ◌⊎◌, Option, None, Some, Ok, Err}
+-- What the tries of `certify` find.
+use Rattle.std.specs.Prelude.{◌≡◌, ◌⊎◌, ℕ, ◌<◌, true, List, [], reverse, slice_index_or, Option, None, Some, IsSome, Ok}
+use Rattle.std.specs.Int.{is_in_range}
+use Rattle.flow_core.specs.Limits.{budgets, least_version, greatest_version}
 use Rattle.flow_core.specs.Shop.{Shop}
-use Rattle.flow_core.specs.Mirror.{mirrored}
 use Rattle.flow_search.specs.Plans.{Planned, IsPlan}
 use Rattle.flow_search.specs.Outcomes.{first_over_budget}
 use Rattle.flow_search.specs.Verdicts.{IsVerdict}
 use Rattle.flow_search.specs.declared.verdict.Verdict.{Verdict}
-use Rattle.flow_pool.specs.declared.whole_run.SolveFault.TheVariants.{OverBudget}
+use Rattle.flow_commands.specs.declared.certify.Searched.{Searched}
+use Rattle.flow_commands.specs.declared.certify.Searched.TheVariants.{Found, Over}
+use Rattle.flow_commands.specs.declared.certify.Tries.{Tries}
+use Rattle.flow_commands.specs.Answer.{Answer}
+use Rattle.flow_commands.specs.Certify.{all_over, certified, first_certificate, tried, tried_options}
 use Rattle.flow_cert.specs.PlanCertificates.{certificate_of}
-use Rattle.flow_commands.specs.Commands.{Answer, asked_options}
-use Rattle.flow_commands.specs.Better.{tried_options}
-use Rattle.flow_commands.specs.declared.fault.ToolFault.TheVariants.{Run}
+use Rattle.flow_core.specs.Mirror.{mirrored}
+use Rattle.flow_core.specs.Paths.{span}
+use Rattle.flow_commands.specs.Improve.{IsNoWorse}
+use Rattle.flow_commands.specs.Solve.{asked_options}
+
+-- a version that is given is one of both
+abbrev pub AreInRange : Option ℕ → Type 0
+AreInRange None = Unit {0}
+AreInRange (Some version) = is_in_range least_version greatest_version version ≡ true
 
 -- one worker, depth 0, the budget and the version are options
 abbrev pub AreOptions : ℕ → ℕ → Type 0
@@ -22,13 +33,84 @@ IsSolved plan None = (number : ℕ) × (first_over_budget plan ≡ Some number)
 IsSolved plan (Some (own, verdict)) =
     (own ≡ plan) × (first_over_budget plan ≡ None) × IsPlan plan × IsVerdict plan verdict
 
--- what is answered for a plan that was found, or for none
-abbrev pub found_answer : Option (Planned × Verdict) → Answer
-found_answer None = Err (Run (OverBudget 0))
-found_answer (Some (plan, verdict)) = Ok (certificate_of plan)
+-- the tree of the shop from a sequence is over the budget
+abbrev pub IsOver : ℕ → ℕ → Shop → List ℕ → Type 0
+IsOver version budget shop jobs = IsSome (first_over_budget (tried version budget shop jobs))
 
--- where a plan was found, it is one of the shop or of the mirrored one, with its verdict
-abbrev pub IsOfEither : Shop → Option (Planned × Verdict) → Type 0
-IsOfEither shop None = Unit {0}
-IsOfEither shop (Some (plan, verdict)) =
-    IsPlan plan × IsVerdict plan verdict × ((plan.shop ≡ shop) ⊎ (plan.shop ≡ mirrored shop))
+-- the plan is one of the shop from a sequence, or, where the tree of that is over the budget, one of the mirrored shop
+-- from the reversed sequence; and its own tree is within the budget
+abbrev pub IsWithin : ℕ → ℕ → Shop → List ℕ → Planned → Type 0
+IsWithin version budget shop jobs plan =
+    ((plan ≡ tried version budget shop jobs)
+    ⊎ (IsOver version budget shop jobs × (plan ≡ tried version budget (mirrored shop) (reverse jobs))))
+    × (first_over_budget plan ≡ None)
+
+-- the trees of both plans are over the budget
+abbrev pub AreOver : ℕ → ℕ → Shop → List ℕ → Type 0
+AreOver version budget shop jobs =
+    IsOver version budget shop jobs × IsOver version budget (mirrored shop) (reverse jobs)
+
+-- such a plan and its verdict, or the trees of both are over the budget
+abbrev pub IsEither : ℕ → ℕ → Shop → List ℕ → Option (Planned × Verdict) → Type 0
+IsEither version budget shop jobs (Some (plan, verdict)) =
+    IsWithin version budget shop jobs plan × IsPlan plan × IsVerdict plan verdict
+IsEither version budget shop jobs None = AreOver version budget shop jobs
+
+-- a plan of the shop or of the mirrored one, and its verdict
+abbrev pub IsOfEither : Shop → Planned → Verdict → Type 0
+IsOfEither shop plan verdict =
+    ((plan.shop ≡ shop) ⊎ (plan.shop ≡ mirrored shop)) × IsPlan plan × IsVerdict plan verdict
+
+-- such a plan, whose certificate is the first one
+abbrev pub IsFound : ℕ → Shop → List ℕ → Planned × Verdict → Type 0
+IsFound version shop jobs (plan, verdict) =
+    ((next : Answer) → first_certificate version shop jobs budgets next ≡ Ok (certificate_of plan))
+    × IsOfEither shop plan verdict
+
+-- the plan for a makespan to start from; its tree depends on nothing else of the sequence
+abbrev pub tried_from : ℕ → ℕ → Shop → ℕ → Planned
+tried_from version budget shop value = record {
+  shop = shop;
+  start = record { value = value; sequence = [] };
+  options = tried_options version budget;
+}
+
+-- from a sequence of this makespan, the trees of the shop and of the mirrored shop are over so many of the budgets
+abbrev pub AreOverFirst : ℕ → Shop → ℕ → ℕ → Type 0
+AreOverFirst version shop value many =
+    (place : ℕ) → place < many →
+    IsSome (first_over_budget (tried_from version (slice_index_or budgets place 0) shop value))
+    × IsSome (first_over_budget (tried_from version (slice_index_or budgets place 0) (mirrored shop) value))
+
+-- what the tries say is so
+abbrev pub AreTried : ℕ → Shop → Tries → Type 0
+AreTried version shop tries = AreOverFirst version shop tries.value tries.over
+
+-- what the first budgets give from a sequence: a certificate, or all are over
+abbrev pub IsTried : ℕ → Shop → List ℕ → ℕ → Option (Planned × Verdict) → Type 0
+IsTried version shop jobs many (Some found) = IsFound version shop jobs found
+IsTried version shop jobs many None = AreOverFirst version shop (span shop jobs) many
+
+-- the same, where the tries say so
+abbrev pub HaveTried : ℕ → Shop → List ℕ → Tries → Option (Planned × Verdict) → Type 0
+HaveTried version shop jobs tries (Some found) = IsFound version shop jobs found
+HaveTried version shop jobs tries None = AreTried version shop tries
+
+-- all budgets are over from a sequence
+abbrev pub AreAllOver : ℕ → Shop → List ℕ → Type 0
+AreAllOver version shop jobs = (next : Answer) → first_certificate version shop jobs budgets next ≡ next
+
+-- what was found from sequences that are no worse than the start: such a plan, or a sequence from which all budgets are
+-- over
+abbrev pub IsSearched : ℕ → Shop → List ℕ → Searched → Type 0
+IsSearched version shop start (Found plan verdict) =
+    (jobs : List ℕ) × IsNoWorse shop start jobs × IsFound version shop jobs (plan, verdict)
+IsSearched version shop start (Over jobs) = IsNoWorse shop start jobs × AreAllOver version shop jobs
+
+-- the same in the versions that are asked for
+abbrev pub IsSearchedAs : Option ℕ → Shop → List ℕ → Option (Planned × Verdict) → Type 0
+IsSearchedAs given shop start (Some (plan, verdict)) =
+    (jobs : List ℕ) × IsNoWorse shop start jobs × (certified given shop jobs ≡ Ok (certificate_of plan))
+    × IsOfEither shop plan verdict
+IsSearchedAs given shop start None =
+    (jobs : List ℕ) × IsNoWorse shop start jobs × (certified given shop jobs ≡ all_over)

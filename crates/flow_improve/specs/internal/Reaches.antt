@@ -1,9 +1,9 @@
--- What a two-ended beam search has reached.
+-- What a search has reached.
 use Rattle.std.specs.Prelude.{◌≡◌}
 use Rattle.flow_shop.specs.Shop.{Shop}
 use Rattle.flow_shop.specs.Paths.{span}
 use Rattle.flow_shop.specs.Sequences.{IsSequence}
-use Rattle.flow_improve.specs.declared.two_ended.Reached.{Reached}
+use Rattle.flow_improve.specs.declared.reached.Reached.{Reached}
 
 -- a sequence and its makespan
 pub record IsReached (shop : Shop) (reached : Reached) : Type 0 where

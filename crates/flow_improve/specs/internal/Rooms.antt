@@ -6,7 +6,8 @@ use Rattle.flow_shop.specs.Rows.{AreRows}
 use Rattle.flow_shop.specs.Sequences.{IsSequence}
 use Rattle.flow_improve.specs.declared.place.Room.{Room}
 use Rattle.flow_improve.specs.declared.round.Rounds.{Rounds}
-use Rattle.flow_improve.specs.declared.better.Known.{Known}
+use Rattle.flow_improve.specs.declared.rounds.Known.{Known}
+use Rattle.flow_improve.specs.declared.rounds.Run.{Run}
 
 -- there is room for all places of an instance's jobs
 pub record IsRoomFor (shop : Shop) (room : Room) : Type 0 where
@@ -24,3 +25,10 @@ pub record IsRoundsFor (shop : Shop) (rounds : Rounds) : Type 0 where
 pub record IsKnown (shop : Shop) (known : Known) : Type 0 where
   pub jobs : IsSequence shop.jobs known.jobs.items
   pub makespan : known.makespan ≡ span shop known.jobs.items
+
+-- a run of rounds holds three sequences, and room for the next one
+pub record IsRunOf (shop : Shop) (run : Run) : Type 0 where
+  pub search : IsRoundsFor shop run.search
+  pub best : IsKnown shop run.best
+  pub current : IsKnown shop run.current
+  pub tried : IsKnown shop run.tried

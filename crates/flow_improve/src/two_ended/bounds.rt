@@ -1,18 +1,19 @@
 //! The bounds of the children of a node, at both ends.
 
-ghost use Rattle.std.specs.Prelude.{◌<◌, ◌≤◌};
+ghost use Rattle.std.specs.Prelude.{◌<◌, ◌≤◌, length};
 ghost use Rattle.flow_limits.specs.Limits.{most_jobs, most_machines};
+ghost use Rattle.flow_improve.specs.declared.two_ended.columns.TheConstants.{COLUMNS};
 
-use crate::two_ended::lanes::{LANES, Lanes, at_least, greater, plus, sums};
+use crate::two_ended::columns::{COLUMNS, Columns, at_least, greater, plus, sums};
 use crate::two_ended::node::{End, MachineTimes, Node, add, row_of};
 use flow_limits::{MAX_JOBS, MAX_MACHINES};
 use flow_shop::Row;
 
 /// How many groups of jobs side by side there are at most.
-const GROUPS: usize = MAX_JOBS / LANES;
+const GROUPS: usize = MAX_JOBS / COLUMNS;
 
 /// The times of jobs side by side, a row for each machine.
-type GroupTimes = [Lanes; MAX_MACHINES];
+type GroupTimes = [Columns; MAX_MACHINES];
 
 /// What the bounds of a node's children are computed from.
 #[derive(Drop)]
@@ -40,14 +41,14 @@ impl Sums {
         }
     }
 
-    /// The bounds of the children of some jobs: put behind the prefix, and put before the suffix.
-    fn bounds(&self, times: &GroupTimes, machines: usize) -> (Lanes, Lanes)
+    /// The bounds of the children of some jobs: put after the prefix, and put before the suffix.
+    fn bounds(&self, times: &GroupTimes, machines: usize) -> (Columns, Columns)
         requires { machines ≤ most_machines }
     {
-        let mut head = [0; LANES];
-        let mut forward = [0; LANES];
-        let mut tail = [0; LANES];
-        let mut backward = [0; LANES];
+        let mut head = [0; COLUMNS];
+        let mut forward = [0; COLUMNS];
+        let mut tail = [0; COLUMNS];
+        let mut backward = [0; COLUMNS];
         for place in 0..machines {
             let start = at_least(&head, self.front[place]);
             forward = greater(&forward, &plus(&start, self.with_back[place]));
@@ -61,34 +62,34 @@ impl Sums {
     }
 }
 
-/// Writes the times of a job to its lane.
-fn write_lane(times: &mut GroupTimes, lane: usize, row: &Row, machines: usize)
-    requires lane { lane < 8 }
+/// Writes the times of a job to its column.
+fn write_column(times: &mut GroupTimes, column: usize, row: &Row, machines: usize)
+    requires column { column < COLUMNS }
     requires machines { machines ≤ most_machines }
 {
     for place in 0..machines {
-        times[place][lane] = row.times[place];
+        times[place][column] = row.times[place];
     }
 }
 
-/// Writes the times of some jobs side by side. Lanes behind the last job stay.
-fn write_lanes(times: &mut GroupTimes, jobs: &[u16], rows: &[Row], machines: usize)
+/// Writes the times of some jobs side by side. Columns after the last job stay.
+fn write_columns(times: &mut GroupTimes, jobs: &[u16], rows: &[Row], machines: usize)
     requires { machines ≤ most_machines }
 {
-    for (lane, &job) in jobs.iter().take(LANES).enumerate() {
+    for (column, &job) in jobs.iter().take(COLUMNS).enumerate() {
         if let Some(row) = row_of(rows, job) {
-            write_lane(times, lane, row, machines);
+            write_column(times, column, row, machines);
         }
     }
 }
 
 /// The sum of the first bounds, which are so many.
-fn total(bounds: &[Lanes; GROUPS], count: usize) -> u64
+fn total(bounds: &[Columns; GROUPS], count: usize) -> u64
     requires { count ≤ most_jobs }
 {
     let mut total: u64 = 0;
     for place in 0..count {
-        total = total.wrapping_add(u64::from(bounds[place / LANES][place % LANES]));
+        total = total.wrapping_add(u64::from(bounds[place / COLUMNS][place % COLUMNS]));
     }
     total
 }
@@ -96,8 +97,8 @@ fn total(bounds: &[Lanes; GROUPS], count: usize) -> u64
 /// The bounds of the children of a node, by the places of the free jobs.
 #[derive(Drop)]
 pub(crate) struct Bounds {
-    forward: [Lanes; GROUPS],
-    backward: [Lanes; GROUPS],
+    forward: [Columns; GROUPS],
+    backward: [Columns; GROUPS],
     /// Room for the times of a group.
     times: GroupTimes,
 }
@@ -106,21 +107,21 @@ impl Bounds {
     /// Bounds to be written over.
     pub(crate) fn new() -> Bounds {
         Bounds {
-            forward: [[0; LANES]; GROUPS],
-            backward: [[0; LANES]; GROUPS],
-            times: [[0; LANES]; MAX_MACHINES],
+            forward: [[0; COLUMNS]; GROUPS],
+            backward: [[0; COLUMNS]; GROUPS],
+            times: [[0; COLUMNS]; MAX_MACHINES],
         }
     }
 
-    /// Computes the bounds of all children of a node. Returns the end at which their sum is greater, and the prefix where
-    /// both are equal.
-    pub(crate) fn fill(&mut self, node: &Node, rows: &[Row], machines: usize) -> End
-        requires { machines ≤ most_machines }
+    /// Computes the bounds of all children of a node with these free jobs. Returns the end at which their sum is
+    /// greater, and the prefix where both are equal.
+    pub(crate) fn fill(&mut self, node: &Node, free: &[u16], rows: &[Row], machines: usize) -> End
+        requires few { length free.now ≤ most_jobs }
+        requires machines { machines ≤ most_machines }
     {
         let ends = Sums::of(node);
-        let free = node.free();
-        for (group, jobs) in free.chunks(LANES).take(GROUPS).enumerate() {
-            write_lanes(&mut self.times, jobs, rows, machines);
+        for (group, jobs) in free.chunks(COLUMNS).take(GROUPS).enumerate() {
+            write_columns(&mut self.times, jobs, rows, machines);
             let (forward, backward) = ends.bounds(&self.times, machines);
             self.forward[group] = forward;
             self.backward[group] = backward;
@@ -140,6 +141,6 @@ impl Bounds {
             End::Prefix => &self.forward,
             End::Suffix => &self.backward,
         };
-        bounds[place / LANES][place % LANES]
+        bounds[place / COLUMNS][place % COLUMNS]
     }
 }

@@ -3,7 +3,7 @@
 ghost use Rattle.std.specs.Prelude.{◌≤◌};
 ghost use Rattle.flow_limits.specs.Limits.{most_machines};
 
-use crate::two_ended::node::{End, MachineTimes, Node, push_before, push_behind};
+use crate::two_ended::node::{End, MachineTimes, Node, add_first, add_last};
 use flow_shop::Row;
 
 /// What the order of children goes by.
@@ -105,12 +105,12 @@ impl Order {
         match end {
             End::Prefix => {
                 let mut front = node.front;
-                push_behind(&mut front, &row.times, machines);
+                add_last(&mut front, &row.times, machines);
                 front_deficit(&front, machines, self.cap())
             }
             End::Suffix => {
                 let mut back = node.back;
-                push_before(&mut back, &row.times, machines);
+                add_first(&mut back, &row.times, machines);
                 back_deficit(&back, machines, self.cap())
             }
         }

@@ -1,10 +1,11 @@
 //! A pass: from the node at which all jobs are free, list by list to nodes with all jobs.
 
-ghost use Rattle.std.specs.Prelude.{◌≤◌};
-ghost use Rattle.flow_limits.specs.Limits.{most_machines};
+ghost use Rattle.std.specs.Prelude.{◌≤◌, length};
+ghost use Rattle.flow_limits.specs.Limits.{most_jobs, most_machines};
 
 use crate::two_ended::bounds::Bounds;
 use crate::two_ended::kept::{Child, Kept};
+use crate::two_ended::list::Nodes;
 use crate::two_ended::node::{Node, row_of};
 use crate::two_ended::order::{Mode, Order};
 use flow_shop::{Instance, Row, rows};
@@ -18,10 +19,10 @@ pub(crate) struct Passes {
     /// The greatest time of a job on a machine.
     greatest: u32,
     /// The list of nodes, and how many there are.
-    list: Vec<Node>,
+    list: Nodes,
     count: usize,
     /// Room for the next list.
-    next: Vec<Node>,
+    next: Nodes,
     kept: Kept,
     /// The steps of all passes: a node whose children are bounded takes two for each free job and machine.
     pub(crate) steps: u64,
@@ -39,40 +40,50 @@ fn greatest_time(rows: &[Row]) -> u32 {
     greatest
 }
 
-/// Offers the children of a node whose bound is below a makespan.
-fn offer_children(
-    kept: &mut Kept,
-    bounds: &mut Bounds,
-    order: &Order,
-    rows: &[Row],
-    node: &Node,
-    parent: usize,
+/// What the children of a list are offered by.
+#[derive(Drop)]
+struct Offers<'a> {
+    order: Order,
+    rows: &'a [Row],
     machines: usize,
+    /// Children whose bound is not below this makespan are not offered.
     below: u64,
-) -> Result<(), AllocError>
-    requires { machines ≤ most_machines }
-{
-    let end = bounds.fill(node, rows, machines);
-    let same = order.kept_deficit(node, end, machines);
-    for (place, &job) in node.free().iter().enumerate() {
-        let bound = bounds.at(end, place);
-        if u64::from(bound) >= below || kept.drops(&order.key(bound, same)) {
-            continue;
+}
+
+impl Offers<'_> {
+    /// Offers the children of the node at a place, which has these free jobs.
+    fn offer(
+        &self,
+        kept: &mut Kept,
+        bounds: &mut Bounds,
+        node: &Node,
+        free: &[u16],
+        parent: usize,
+    ) -> Result<(), AllocError>
+        requires machines { self.now.machines ≤ most_machines }
+        requires few { length free.now ≤ most_jobs }
+    {
+        let end = bounds.fill(node, free, self.rows, self.machines);
+        let same = self.order.kept_deficit(node, end, self.machines);
+        for (place, &job) in free.iter().enumerate() {
+            let bound = bounds.at(end, place);
+            if u64::from(bound) >= self.below || kept.drops(&self.order.key(bound, same)) {
+                continue;
+            }
+            if let Some(row) = row_of(self.rows, job) {
+                let changed = self.order.changed_deficit(node, end, row, self.machines);
+                kept.offer(Child {
+                    key: self.order.key(bound, same.wrapping_add(changed)),
+                    parent,
+                    job,
+                    place,
+                    end,
+                    bound,
+                })?;
+            }
         }
-        if let Some(row) = row_of(rows, job) {
-            let deficit = same.wrapping_add(order.changed_deficit(node, end, row, machines));
-            let key = order.key(bound, deficit);
-            kept.offer(Child {
-                key,
-                parent,
-                job,
-                place,
-                end,
-                bound,
-            })?;
-        }
+        Ok(())
     }
-    Ok(())
 }
 
 impl Passes {
@@ -84,13 +95,12 @@ impl Passes {
     ) -> Result<Passes, AllocError> {
         let rows = rows(alloc, instance)?;
         let greatest = greatest_time(rows.as_slice());
-        let root = Node::root(instance, rows.as_slice());
         Ok(Passes {
             rows,
             greatest,
-            list: vec![in alloc; root; width]?,
+            list: Nodes::new(alloc, instance, width)?,
             count: 0,
-            next: vec![in alloc; root; width]?,
+            next: Nodes::new(alloc, instance, width)?,
             kept: Kept::new(alloc, width)?,
             steps: 0,
         })
@@ -101,45 +111,40 @@ impl Passes {
         &mut self,
         instance: &Instance,
         order: &Order,
+        bounds: &mut Bounds,
         below: u64,
     ) -> Result<(), AllocError> {
         let machines = usize::from(instance.machines());
-        let mut bounds = Bounds::new();
-        for (parent, node) in self.list.as_slice().iter().take(self.count).enumerate() {
-            let children = (node.free().len() as u64).saturating_mul(machines as u64);
-            self.steps = self.steps.saturating_add(children.saturating_mul(2));
-            offer_children(
-                &mut self.kept,
-                &mut bounds,
-                order,
-                self.rows.as_slice(),
-                node,
-                parent,
-                machines,
-                below,
-            )?;
+        let offers = Offers {
+            order: *order,
+            rows: self.rows.as_slice(),
+            machines,
+            below,
+        };
+        for place in 0..self.count {
+            let free = self.list.free(place);
+            self.steps = self
+                .steps
+                .saturating_add(2 * (free.len() * machines) as u64);
+            let node = self.list.node(place);
+            offers.offer(&mut self.kept, bounds, &node, free, place)?;
         }
         Ok(())
     }
 
     /// Writes a child to its place in the next list.
-    fn write(&mut self, instance: &Instance, place: usize, child: &Child) {
-        if let Some(parent) = self.list.as_slice().get(child.parent)
-            && let Some(node) = self.next.as_mut_slice().get_mut(place)
-            && let Some(row) = row_of(self.rows.as_slice(), child.job)
-        {
-            node.copy_from(instance, parent);
-            node.put(instance, row, child.place, child.end);
-            node.bound = child.bound;
+    fn write(&mut self, place: usize, child: &Child) {
+        if let Some(row) = row_of(self.rows.as_slice(), child.job) {
+            self.next.write_child(place, &self.list, child, row);
         }
     }
 
     /// Makes the children that are kept the list, in their order.
-    fn turn(&mut self, instance: &Instance) {
+    fn turn(&mut self) {
         let count = self.kept.count();
         for place in (0..count).rev() {
             if let Some(child) = self.kept.take_last() {
-                self.write(instance, place, &child);
+                self.write(place, &child);
             }
         }
         mem::swap(&mut self.list, &mut self.next);
@@ -158,34 +163,28 @@ impl Passes {
             mode,
             greatest: self.greatest,
         };
-        self.begin(instance);
+        let mut bounds = Bounds::new();
+        self.list.write_root(self.rows.as_slice());
+        self.count = 1;
         let mut is_whole = true;
         for _ in 0..instance.jobs() {
             self.kept.clear(width);
-            self.bound_children(instance, &order, below)?;
+            self.bound_children(instance, &order, &mut bounds, below)?;
             is_whole = is_whole && !self.kept.has_dropped;
-            self.turn(instance);
+            self.turn();
         }
         Ok(is_whole)
     }
 
-    /// Makes the node at which all jobs are free the list.
-    fn begin(&mut self, instance: &Instance) {
-        let root = Node::root(instance, self.rows.as_slice());
-        if let Some(first) = self.list.as_mut_slice().first_mut() {
-            first.copy_from(instance, &root);
-        }
-        self.count = 1;
-    }
-
-    /// The first node of least bound in the list, if there is one.
-    pub(crate) fn least(&self) -> Option<&Node> {
-        let mut least: Option<&Node> = None;
-        for node in self.list.as_slice().iter().take(self.count) {
-            if least.is_none_or(|other| node.bound < other.bound) {
-                least = Some(node);
+    /// The jobs of the first node of least bound in the list, if there is one.
+    pub(crate) fn least(&self) -> Option<&[u16]> {
+        let mut least: Option<(u32, usize)> = None;
+        for place in 0..self.count {
+            let bound = self.list.ends(place).bound;
+            if least.is_none_or(|other| bound < other.0) {
+                least = Some((bound, place));
             }
         }
-        least
+        least.map(|(_, place)| self.list.order(place))
     }
 }

@@ -1,32 +1,19 @@
 -- What comes of a run that may start only some of its workers.
-use Rattle.std.specs.Prelude.{◌≡◌, ℕ, ◌<◌, ◌≤◌, None, Some, [], map, vec_len, vec_capacity}
-use Rattle.flow_shop.specs.Paths.{span}
-use Rattle.flow_shop.specs.Sequences.{IsSequence, IsLeastMakespan}
+use Rattle.std.specs.Prelude.{◌≡◌, ℕ, ◌<◌, ◌≤◌, Some, [], map, vec_len, vec_capacity}
+use Rattle.flow_limits.specs.Limits.{most_prefixes}
 use Rattle.flow_search.specs.Plans.{Planned}
 use Rattle.flow_search.specs.Outcomes.{first_over_budget}
-use Rattle.flow_search.specs.Verdicts.{IsVerdict}
 use Rattle.flow_search.specs.declared.verdict.RunFault.{RunFault}
 use Rattle.flow_search.specs.declared.verdict.RunFault.TheVariants.{OverBudget, Memory}
-use Rattle.flow_pool.specs.declared.whole_run.Report.{Report}
-use Rattle.flow_pool.specs.declared.whole_run.Run.{Run}
-use Rattle.flow_pool.specs.declared.whole_run.Run.TheVariants.{Whole, Fault, UsedUp, Refused}
-use Rattle.flow_pool.specs.declared.whole_run.Made.{Made}
-use Rattle.flow_pool.specs.Deal.{by_lane}
+use Rattle.flow_pool.specs.declared.run.solve.Run.{Run}
+use Rattle.flow_pool.specs.declared.run.solve.Run.TheVariants.{Whole, Fault, UsedUp, Refused}
+use Rattle.flow_pool.specs.declared.run.make.Made.{Made}
+use Rattle.flow_pool.specs.Deal.{by_worker}
 use Rattle.flow_pool.specs.Work.{prefix_count}
 use Rattle.flow_pool.specs.Hub.{CanCollect}
-use Rattle.flow_pool.specs.Report.{AreWholeWork, run_slots}
+use Rattle.flow_pool.specs.Report.{IsReport, run_slots}
 use Rattle.flow_pool.specs.internal.HubSteps.{hub_slots}
 use Rattle.flow_pool.specs.internal.Start.{CanStart}
-
--- the report of a whole run: its lanes carried the whole work, no tree is longer than the budget, and the verdict is
--- that of the plan
-pub record IsReport (plan : Planned) (report : Report) : Type 0 where
-  pub lanes : AreWholeWork plan report.lanes.items
-  pub within : first_over_budget plan ≡ None
-  pub verdict : IsVerdict plan report.verdict
-  pub least : IsLeastMakespan plan.shop report.verdict.value
-  pub attained : span plan.shop report.verdict.sequence ≡ report.verdict.value
-  pub sequence : IsSequence plan.shop.jobs report.verdict.sequence
 
 -- `OverBudget` names the first prefix whose tree is longer than the budget
 abbrev pub IsRunFault : Planned → RunFault → Type 0
@@ -41,12 +28,14 @@ IsRun plan starts (Fault fault) = IsRunFault plan fault × (plan.options.workers
 IsRun plan starts UsedUp = starts < plan.options.workers
 IsRun plan starts (Refused refusal) = 0 < starts
 
--- all lanes are new, of run_slots slots; the workers and the hub can start; there is room for all outcomes and lanes
+-- the plan has a worker, and no more prefixes than a plan may have; all lanes are new, of run_slots slots; the workers
+-- and the hub can start; there is room for all outcomes and lanes
 pub record IsMade (plan : Planned) (made : Made) : Type 0 where
   pub some : 0 < plan.options.workers
+  pub few : prefix_count plan ≤ most_prefixes
   pub workers : vec_len made.ends ≡ plan.options.workers
   pub start : CanStart made.ends.items made.desk.hubs.items
   pub collect : CanCollect plan made.desk.hubs.items made.desk.answers
-  pub slots : map hub_slots made.desk.hubs.items ≡ by_lane plan.options.workers (λ _. (run_slots, run_slots))
+  pub slots : map hub_slots made.desk.hubs.items ≡ by_worker plan.options.workers (λ _. (run_slots, run_slots))
   pub outcomes : (made.room.items ≡ []) × (prefix_count plan ≤ vec_capacity made.room)
   pub lanes : (made.lanes.items ≡ []) × (plan.options.workers ≤ vec_capacity made.lanes)

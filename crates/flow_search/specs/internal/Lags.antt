@@ -5,21 +5,21 @@ use Rattle.flow_shop.specs.Shop.{Shop, IsWithinLimits}
 use Rattle.flow_shop.specs.Sequences.{jobs_left}
 use Rattle.flow_shop.specs.Rows.{IsRow}
 use Rattle.flow_shop.specs.declared.row.Row.{Row}
-use Rattle.flow_search.specs.internal.Lows.{AreLows, time_to}
+use Rattle.flow_search.specs.internal.TwoLeast.{AreTwoLeast, time_to}
 use Rattle.flow_search.specs.internal.Frames.{IsChild}
-use Rattle.flow_search.specs.declared.lows.Lows.{Lows}
+use Rattle.flow_search.specs.declared.two_least.TwoLeast.{TwoLeast}
 
 -- for each machine the two least lags of some jobs to it, from each earlier one
-abbrev pub AreTwoLeastLags : Shop → List ℕ → List Lows → Type 0
-AreTwoLeastLags shop jobs lags =
-    (machine : ℕ) (other : Lows) → 1 ≤ machine → machine ≤ shop.machines →
-    AreLows (time_to shop machine) (machine - 1) jobs (slice_index_or lags (machine - 1) other)
+abbrev pub AreLeastLags : Shop → List ℕ → List TwoLeast → Type 0
+AreLeastLags shop jobs lags =
+    (machine : ℕ) (other : TwoLeast) → 1 ≤ machine → machine ≤ shop.machines →
+    AreTwoLeast (time_to shop machine) (machine - 1) jobs (slice_index_or lags (machine - 1) other)
 
 -- a job that a node leaves with others, its row, and the two least lags of the jobs left to a machine
-pub record IsLagged (shop : Shop) (node : List ℕ) (left job machine : ℕ) (row : Row) (lows : Lows) : Type 0 where
+pub record IsLagged (shop : Shop) (node : List ℕ) (left job machine : ℕ) (row : Row) (lags : TwoLeast) : Type 0 where
   pub limits : IsWithinLimits shop
   pub to : machine ≤ shop.machines
   pub some : length (jobs_left shop.jobs node) ≡ suc (suc left)
   pub kid : IsChild shop.jobs node job
   pub row_is : IsRow shop job row
-  pub lows_are : AreLows (time_to shop machine) (machine - 1) (jobs_left shop.jobs node) lows
+  pub lags_are : AreTwoLeast (time_to shop machine) (machine - 1) (jobs_left shop.jobs node) lags

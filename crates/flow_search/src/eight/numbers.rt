@@ -1,13 +1,16 @@
 //! Eight numbers side by side. The loops are short, so that the compiler packs them.
 
 ghost use Rattle.std.specs.Prelude.{◌≡◌, ℕ, ◌+◌, ◌-◌, ◌<◌, ◌≤◌, true, max, length, slice_index};
-ghost use Rattle.flow_search.specs.internal.Lanes.{IsLeastOfOthers};
+ghost use Rattle.flow_search.specs.internal.Columns.{IsLeastOfOthers, most_columns};
 
-/// For each lane the least number of the other lanes.
+use crate::eight::group::COLUMNS;
+
+/// For each column the least number of the other columns.
 #[inline(always)]
-pub(crate) fn others(numbers: &[u32; 8]) -> [u32; 8]
-    ensures size { length result ≡ 8 }
-    ensures each { (lane : ℕ) → lane < 8 → IsLeastOfOthers numbers.now lane (slice_index result lane) }
+pub(crate) fn others(numbers: &[u32; COLUMNS]) -> [u32; COLUMNS]
+    ensures size { length result ≡ most_columns }
+    ensures each { (column : ℕ) → column < most_columns →
+        IsLeastOfOthers numbers.now column (slice_index result column) }
 {
     let pair_0 = numbers[0].min(numbers[4]);
     let pair_1 = numbers[1].min(numbers[5]);
@@ -33,89 +36,97 @@ pub(crate) fn others(numbers: &[u32; 8]) -> [u32; 8]
 
 /// The numbers without that at a place. The last one stands twice.
 #[inline(always)]
-pub(crate) fn without(numbers: &[u8; 8], place: usize) -> [u8; 8]
-    ensures before { (k : ℕ) → k < place → k < 8 → slice_index result k ≡ slice_index numbers.now k }
-    ensures behind { (k : ℕ) → place ≤ k → k < 7 → slice_index result k ≡ slice_index numbers.now (k + 1) }
+pub(crate) fn without_place(numbers: &[u8; COLUMNS], place: usize) -> [u8; COLUMNS]
+    ensures before { (k : ℕ) → k < place → k < most_columns → slice_index result k ≡ slice_index numbers.now k }
+    ensures after { (k : ℕ) → place ≤ k → k < most_columns - 1 →
+        slice_index result k ≡ slice_index numbers.now (k + 1) }
 {
-    let mut made = [0u8; 8];
-    for k in 0..8usize {
+    let mut made = [0u8; COLUMNS];
+    for k in 0..COLUMNS {
         made[k] = if k < place {
             numbers[k]
         } else {
-            numbers[(k + 1).min(7)]
+            numbers[(k + 1).min(COLUMNS - 1)]
         };
     }
     made
 }
 
-/// In each lane the number, or one that is the same for all where that is greater.
+/// In each column the number, or one that is the same for all where that is greater.
 #[inline(always)]
-pub(crate) fn at_least(numbers: &[u32; 8], least: u32) -> [u32; 8]
-    ensures size { length result ≡ 8 }
-    ensures each { (lane : ℕ) → lane < 8 → slice_index result lane ≡ max (slice_index numbers.now lane) least }
+pub(crate) fn at_least(numbers: &[u32; COLUMNS], least: u32) -> [u32; COLUMNS]
+    ensures size { length result ≡ most_columns }
+    ensures each { (column : ℕ) → column < most_columns →
+        slice_index result column ≡ max (slice_index numbers.now column) least }
 {
-    let mut made = [0u32; 8];
-    for lane in 0..8usize {
-        made[lane] = numbers[lane].max(least);
+    let mut made = [0u32; COLUMNS];
+    for column in 0..COLUMNS {
+        made[column] = numbers[column].max(least);
     }
     made
 }
 
-/// The greater number in each lane.
+/// The greater number in each column.
 #[inline(always)]
-pub(crate) fn greater(numbers: &[u32; 8], others: &[u32; 8]) -> [u32; 8]
-    ensures size { length result ≡ 8 }
-    ensures each { (lane : ℕ) → lane < 8 →
-        slice_index result lane ≡ max (slice_index numbers.now lane) (slice_index others.now lane) }
+pub(crate) fn greater(numbers: &[u32; COLUMNS], others: &[u32; COLUMNS]) -> [u32; COLUMNS]
+    ensures size { length result ≡ most_columns }
+    ensures each { (column : ℕ) → column < most_columns →
+        slice_index result column ≡ max (slice_index numbers.now column) (slice_index others.now column) }
 {
-    let mut made = [0u32; 8];
-    for lane in 0..8usize {
-        made[lane] = numbers[lane].max(others[lane]);
+    let mut made = [0u32; COLUMNS];
+    for column in 0..COLUMNS {
+        made[column] = numbers[column].max(others[column]);
     }
     made
 }
 
-/// The sum in each lane.
+/// The sum in each column.
 #[inline(always)]
-pub(crate) fn sums(numbers: &[u32; 8], others: &[u32; 8]) -> [u32; 8]
-    requires fits { (lane : ℕ) → lane < 8 → slice_index numbers.now lane + slice_index others.now lane ≤ u32.MAX }
-    ensures size { length result ≡ 8 }
-    ensures each { (lane : ℕ) → lane < 8 →
-        slice_index result lane ≡ slice_index numbers.now lane + slice_index others.now lane }
+pub(crate) fn sums(numbers: &[u32; COLUMNS], others: &[u32; COLUMNS]) -> [u32; COLUMNS]
+    requires fits { (column : ℕ) → column < most_columns →
+        slice_index numbers.now column + slice_index others.now column ≤ u32.MAX }
+    ensures size { length result ≡ most_columns }
+    ensures each { (column : ℕ) → column < most_columns →
+        slice_index result column ≡ slice_index numbers.now column + slice_index others.now column }
 {
-    let mut made = [0u32; 8];
-    for lane in 0..8usize {
-        made[lane] = numbers[lane] + others[lane];
+    let mut made = [0u32; COLUMNS];
+    for column in 0..COLUMNS {
+        made[column] = numbers[column] + others[column];
     }
     made
 }
 
-/// The difference in each lane; 0 where the other number is greater.
+/// The difference in each column; 0 where the other number is greater.
 #[inline(always)]
-pub(crate) fn differences(numbers: &[u32; 8], others: &[u32; 8]) -> [u32; 8]
-    ensures size { length result ≡ 8 }
-    ensures each { (lane : ℕ) → lane < 8 →
-        slice_index result lane ≡ slice_index numbers.now lane - slice_index others.now lane }
+pub(crate) fn differences(numbers: &[u32; COLUMNS], others: &[u32; COLUMNS]) -> [u32; COLUMNS]
+    ensures size { length result ≡ most_columns }
+    ensures each { (column : ℕ) → column < most_columns →
+        slice_index result column ≡ slice_index numbers.now column - slice_index others.now column }
 {
-    let mut made = [0u32; 8];
-    for lane in 0..8usize {
-        made[lane] = numbers[lane].saturating_sub(others[lane]);
+    let mut made = [0u32; COLUMNS];
+    for column in 0..COLUMNS {
+        made[column] = numbers[column].saturating_sub(others[column]);
     }
     made
 }
 
-/// The flags, without those of the lanes whose number reaches a limit.
+/// The flags, without those of the columns whose number reaches a limit.
 #[inline(always)]
-pub(crate) fn below(flags: &[u32; 8], numbers: &[u32; 8], limit: u32) -> [u32; 8]
-    ensures size { length result ≡ 8 }
-    ensures kept { (lane : ℕ) → lane < 8 → slice_index numbers.now lane < limit →
-        slice_index result lane ≡ slice_index flags.now lane }
-    ensures cut { (lane : ℕ) → lane < 8 → limit ≤ slice_index numbers.now lane → slice_index result lane ≡ 0 }
+pub(crate) fn where_less(
+    flags: &[u32; COLUMNS],
+    numbers: &[u32; COLUMNS],
+    limit: u32,
+) -> [u32; COLUMNS]
+    ensures size { length result ≡ most_columns }
+    ensures kept { (column : ℕ) → column < most_columns → slice_index numbers.now column < limit →
+        slice_index result column ≡ slice_index flags.now column }
+    ensures cut { (column : ℕ) → column < most_columns → limit ≤ slice_index numbers.now column →
+        slice_index result column ≡ 0 }
 {
-    let mut made = [0u32; 8];
-    for lane in 0..8usize {
-        made[lane] = if numbers[lane] < limit {
-            flags[lane]
+    let mut made = [0u32; COLUMNS];
+    for column in 0..COLUMNS {
+        made[column] = if numbers[column] < limit {
+            flags[column]
         } else {
             0
         };
@@ -123,18 +134,23 @@ pub(crate) fn below(flags: &[u32; 8], numbers: &[u32; 8], limit: u32) -> [u32; 8
     made
 }
 
-/// The flags, without those of the lanes whose number is no greater than a limit.
+/// The flags, without those of the columns whose number is no greater than a limit.
 #[inline(always)]
-pub(crate) fn above(flags: &[u32; 8], numbers: &[u32; 8], limit: u32) -> [u32; 8]
-    ensures size { length result ≡ 8 }
-    ensures kept { (lane : ℕ) → lane < 8 → limit < slice_index numbers.now lane →
-        slice_index result lane ≡ slice_index flags.now lane }
-    ensures cut { (lane : ℕ) → lane < 8 → slice_index numbers.now lane ≤ limit → slice_index result lane ≡ 0 }
+pub(crate) fn where_greater(
+    flags: &[u32; COLUMNS],
+    numbers: &[u32; COLUMNS],
+    limit: u32,
+) -> [u32; COLUMNS]
+    ensures size { length result ≡ most_columns }
+    ensures kept { (column : ℕ) → column < most_columns → limit < slice_index numbers.now column →
+        slice_index result column ≡ slice_index flags.now column }
+    ensures cut { (column : ℕ) → column < most_columns → slice_index numbers.now column ≤ limit →
+        slice_index result column ≡ 0 }
 {
-    let mut made = [0u32; 8];
-    for lane in 0..8usize {
-        made[lane] = if numbers[lane] > limit {
-            flags[lane]
+    let mut made = [0u32; COLUMNS];
+    for column in 0..COLUMNS {
+        made[column] = if numbers[column] > limit {
+            flags[column]
         } else {
             0
         };
@@ -144,12 +160,12 @@ pub(crate) fn above(flags: &[u32; 8], numbers: &[u32; 8], limit: u32) -> [u32; 8
 
 /// Whether each number is 0.
 #[inline(always)]
-pub(crate) fn are_zeros(numbers: &[u32; 8]) -> bool
-    ensures { result ≡ true → (lane : ℕ) → lane < 8 → slice_index numbers.now lane ≡ 0 }
+pub(crate) fn are_zeros(numbers: &[u32; COLUMNS]) -> bool
+    ensures { result ≡ true → (column : ℕ) → column < most_columns → slice_index numbers.now column ≡ 0 }
 {
     let mut most = 0u32;
-    for lane in 0..8usize {
-        most = most.max(numbers[lane]);
+    for column in 0..COLUMNS {
+        most = most.max(numbers[column]);
     }
     most == 0
 }

@@ -5,32 +5,35 @@ ghost use Rattle.flow_limits.specs.Limits.{most_machines, greatest_time, greates
 ghost use Rattle.flow_shop.specs.Shop.{Shop, IsWithinLimits};
 ghost use Rattle.flow_shop.specs.Sequences.{jobs_left};
 ghost use Rattle.flow_shop.specs.Bound.{bound_at, released_bound_at, release, front_of};
-ghost use Rattle.flow_search.specs.internal.Lanes.{IsOpened, IsTested, IsUncutCount, IsLaneLeft, AreSmallFrees, child};
+ghost use Rattle.flow_search.specs.internal.Columns.{IsOpened, IsTested, IsUncutCount, IsColumnLeft, KeepsColumns};
+ghost use Rattle.flow_search.specs.internal.Columns.{AreSmallFrees, child, most_columns};
 ghost use Rattle.flow_search.specs.declared.eight.group.TheConstants.{GONE};
 
-use crate::eight::group::{Group, LaneFrame};
-use crate::eight::numbers::{above, are_zeros, below, differences, greater, others, sums};
+use crate::eight::group::{COLUMNS, ColumnFrame, Group};
+use crate::eight::numbers::{
+    are_zeros, differences, greater, others, sums, where_greater, where_less,
+};
 use flow_shop::Instance;
 
 /// Computes for each child the release of the machine at a place, before which no job that the child leaves starts
-/// there. It stands in memory, since the compiler packs the lanes of a loop that stores them.
+/// there. It stands in memory, since the compiler packs the columns of a loop that stores them.
 #[inline(always)]
 fn releases(
     instance: &Instance,
     group: &Group,
-    frame: &LaneFrame,
+    frame: &ColumnFrame,
     place: usize,
-    late: &mut [u32; 8],
+    late: &mut [u32; COLUMNS],
 )
     requires opened { (list : List ℕ) × IsOpened instance.now list group.now frame.now }
     requires small { AreSmallFrees instance.now frame.now }
     requires to { place < instance.now.machines }
-    ensures small { (lane : ℕ) → lane < 8 → slice_index late.new lane
+    ensures small { (column : ℕ) → column < most_columns → slice_index late.new column
         ≤ greatest_completion + most_machines * greatest_time + greatest_time + GONE }
-    ensures each { (list : List ℕ) (lane other : ℕ) → IsOpened instance.now list group.now frame.now →
-        IsLaneLeft frame.now lane → IsLaneLeft frame.now other → other ≢ lane → slice_index late.new lane
-        ≡ release instance.now (front_of instance.now (child list group.now lane))
-        (jobs_left instance.now.jobs (child list group.now lane)) (place + 1) }
+    ensures each { (list : List ℕ) (column other : ℕ) → IsOpened instance.now list group.now frame.now →
+        IsColumnLeft frame.now column → IsColumnLeft frame.now other → other ≢ column → slice_index late.new column
+        ≡ release instance.now (front_of instance.now (child list group.now column))
+        (jobs_left instance.now.jobs (child list group.now column)) (place + 1) }
 {
     prove!(place < instance.machines() as usize);
     let here = &group.rows[place];
@@ -52,22 +55,22 @@ fn releases(
 fn uncut_by_releases(
     instance: &Instance,
     group: &Group,
-    frame: &LaneFrame,
-    late: &mut [u32; 8],
-) -> [u32; 8]
+    frame: &ColumnFrame,
+    late: &mut [u32; COLUMNS],
+) -> [u32; COLUMNS]
     requires tested { (list : List ℕ) × IsTested instance.now bound_at list group.now frame.now }
     requires small { AreSmallFrees instance.now frame.now }
-    ensures { (list : List ℕ) (lane other : ℕ) → IsTested instance.now bound_at list group.now frame.now →
-        IsLaneLeft frame.now lane → IsLaneLeft frame.now other → other ≢ lane →
-        IsUncutCount instance.now released_bound_at (child list group.now lane) frame.now.value instance.now.machines
-        (slice_index result lane) }
+    ensures { (list : List ℕ) (column other : ℕ) → IsTested instance.now bound_at list group.now frame.now →
+        IsColumnLeft frame.now column → IsColumnLeft frame.now other → other ≢ column →
+        IsUncutCount instance.now released_bound_at (child list group.now column) frame.now.value instance.now.machines
+        (slice_index result column) }
 {
     // No bound is so great.
     let limit = frame.value.min(u64::from(u32::MAX)) as u32;
-    let mut flags = below(&[1u32; 8], &frame.gone, 1);
-    let mut uncut = [0u32; 8];
+    let mut flags = where_less(&[1u32; COLUMNS], &frame.gone, 1);
+    let mut uncut = [0u32; COLUMNS];
     for place in 0..instance.machines() as usize {
-        let still = above(&flags, &frame.uncut, place as u32);
+        let still = where_greater(&flags, &frame.uncut, place as u32);
         if are_zeros(&still) {
             return uncut;
         }
@@ -76,7 +79,7 @@ fn uncut_by_releases(
         releases(instance, group, frame, place, late);
         let start = differences(late, &row.time);
         let behind = others(&greater(&row.tail, &frame.gone));
-        flags = below(&still, &sums(&start, &behind), room);
+        flags = where_less(&still, &sums(&start, &behind), room);
         uncut = sums(&uncut, &flags);
     }
     uncut
@@ -84,16 +87,14 @@ fn uncut_by_releases(
 
 /// Computes how many machines there are before the first whose released bound reaches the value against which the
 /// children's machine bounds were tested.
-pub fn test_releases(instance: &Instance, group: &Group, frame: &mut LaneFrame)
+pub fn test_releases(instance: &Instance, group: &Group, frame: &mut ColumnFrame)
     requires tested { (list : List ℕ) × IsTested instance.now bound_at list group.now frame.old }
     requires small { AreSmallFrees instance.now frame.old }
-    ensures gone { frame.new.gone ≡ frame.old.gone }
-    ensures lanes { frame.new.lanes ≡ frame.old.lanes }
-    ensures next { frame.new.next ≡ frame.old.next }
+    ensures kept { KeepsColumns frame.old frame.new }
     ensures value { frame.new.value ≡ frame.old.value }
     ensures tested { (list : List ℕ) → IsTested instance.now bound_at list group.now frame.old →
         IsTested instance.now released_bound_at list group.now frame.new }
 {
-    let mut late = [0u32; 8];
+    let mut late = [0u32; COLUMNS];
     frame.uncut = uncut_by_releases(instance, group, frame, &mut late);
 }

@@ -4,9 +4,10 @@ use crate::dispatch::run_words;
 use crate::inputs::Inputs;
 use crate::stop::Stop;
 use clap::error::ErrorKind;
-use flow_commands::ToolFault;
+use flow_commands::CommandFault;
 use flow_core::{MemorySink, MemorySource, WriteFault};
-use flow_words::{Improvement, OfBlock, OfText, Order, Run, Search, make_command, order_of};
+use flow_requests::{CertifyRequest, CheckRequest, ImproveRequest, SolveRequest};
+use flow_words::{Order, make_command, order_of};
 use std::alloc::{AllocError, Global};
 use std::cell::Cell;
 use std::sync::Wait;
@@ -57,7 +58,7 @@ const FROM_BEST: &[u8] = b"flowshop certificate 1\n3 3 0\n12\n3 1 2\n+BC+AB\nend
 const START: &[u8] = b"sequence 1 2 3\nmakespan 15\n";
 
 /// What each file holds, but for the one of the name `stdin`. One that is broken refuses each call.
-const FILES: [(&str, &[u8]); 11] = [
+const FILES: [(&str, &[u8]); 12] = [
     ("text_three", THREE_MACHINES),
     ("text_both", BOTH),
     ("./stdin", THREE_MACHINES),
@@ -68,6 +69,7 @@ const FILES: [(&str, &[u8]); 11] = [
     ("of_mirror", OF_MIRROR),
     ("start", START),
     ("other_start", b"sequence 1 2 3\nmakespan 14\n"),
+    ("best_start", b"sequence 3 1 2\n"),
     ("broken", b""),
 ];
 
@@ -279,8 +281,18 @@ fn each_version_has_its_certificate(rt: HostRuntime) -> Result<(), Fail> {
 
 #[test]
 fn the_mirrored_instance_has_its_certificate(rt: HostRuntime) -> Result<(), Fail> {
-    let rows: [(&str, &[u8], &str); 7] = [
+    let rows: [(&str, &[u8], &str); 9] = [
         ("solve text_three 1 --depth 0 --mirrored", OF_MIRROR, ""),
+        (
+            "check text_three 1 of_three --sequence",
+            b"sequence 3 1 2\nmakespan 12\n",
+            "",
+        ),
+        (
+            "check text_three 1 of_mirror --either --sequence",
+            b"sequence 3 1 2\nmakespan 12\n",
+            "",
+        ),
         ("solve text_both 2 --mirrored --depth 0", OF_MIRROR, ""),
         (
             "check text_three 1 of_mirror",
@@ -343,27 +355,36 @@ fn solve_takes_a_start_by_its_name(rt: HostRuntime) -> Result<(), Fail> {
     Ok(())
 }
 
-/// The instance of three machines has one best sequence. The values with few rounds are those of the plain program
-/// bench/improve.rs from the same starting sequences.
+/// The instance of three machines has one best sequence, which the beam finds. The values with few rounds and no beam
+/// are those of the plain program bench/improve.rs from the same starting sequences.
 #[test]
 fn improve_takes_its_numbers_and_its_start(rt: HostRuntime) -> Result<(), Fail> {
     let best = b"sequence 3 1 2\nmakespan 12\n";
     let neh = b"sequence 2 1 3\nmakespan 13\n";
-    let rows: [(&str, &[u8], &str); 20] = [
+    let rows: [(&str, &[u8], &str); 21] = [
         ("stdin 2", best, ""),
         ("text_three 1 --seed 2147483646", best, ""),
         ("text_both 1", b"sequence 2 3 1\nmakespan 9\n", ""),
-        ("text_three 1 --rounds 0", neh, ""),
+        ("text_three 1 --rounds 0", best, ""),
+        ("text_three 1 --rounds 0 --width 0", neh, ""),
         ("stdin 2 --start start", best, ""),
         (
-            "stdin 2 --start start --rounds 0",
+            "stdin 2 --start start --rounds 0 --width 0",
             b"sequence 1 2 3\nmakespan 15\n",
             "",
         ),
-        ("text_three 1 --start start --rounds 1", neh, ""),
-        ("text_three 1 --start start --rounds 1 --seed 4", best, ""),
-        ("text_three 1 --start start --rounds 2", best, ""),
-        ("stdin 2 --seed 2 --rounds 2 --start start", neh, ""),
+        ("text_three 1 --start start --rounds 1 --width 0", neh, ""),
+        (
+            "text_three 1 --start start --rounds 1 --width 0 --seed 4",
+            best,
+            "",
+        ),
+        ("text_three 1 --start start --rounds 2 --width 0", best, ""),
+        (
+            "stdin 2 --seed 2 --rounds 2 --width 0 --start start",
+            neh,
+            "",
+        ),
         ("stdin 2 --rounds 100000001", b"", "refused option Rounds"),
         (
             "stdin 2 --rounds 100000001 --seed 0",
@@ -398,9 +419,10 @@ fn improve_takes_its_numbers_and_its_start(rt: HostRuntime) -> Result<(), Fail> 
 
 #[test]
 fn certify_takes_its_numbers_and_its_start(rt: HostRuntime) -> Result<(), Fail> {
-    let version_2 = b"flowshop certificate 2\n3 3 0\n12\n3 1 2\n+BC+AB\nend\n";
+    let version_2 = b"flowshop certificate 2\n3 3 0\n12\n3 1 2\n+BC++.B\nend\n";
     let rows: [(&str, &[u8], &str); 19] = [
-        ("stdin 2", FROM_BEST, ""),
+        ("stdin 2", DEPTH_0, ""),
+        ("stdin 2 --start best_start", FROM_BEST, ""),
         ("stdin 1", OF_TWO_MACHINES, ""),
         ("text_both 2 --certificate 2", version_2, ""),
         (
@@ -410,13 +432,8 @@ fn certify_takes_its_numbers_and_its_start(rt: HostRuntime) -> Result<(), Fail> 
         ),
         ("text_three 1 --rounds 0", DEPTH_0, ""),
         ("text_three 1 --start start --rounds 0", FROM_START, ""),
-        ("stdin 2 --start start --rounds 1", DEPTH_0, ""),
-        ("stdin 2 --start start --rounds 1 --seed 4", FROM_BEST, ""),
-        (
-            "stdin 2 --start start --seed 2147483646 --certificate 2",
-            version_2,
-            "",
-        ),
+        ("stdin 2 --start start --seed 2147483646", FROM_START, ""),
+        ("stdin 2 --seed 2147483646 --certificate 2", version_2, ""),
         ("stdin 2 --rounds 100000001", b"", "refused option Rounds"),
         (
             "stdin 2 --start start --rounds 100000001",
@@ -446,6 +463,38 @@ fn certify_takes_its_numbers_and_its_start(rt: HostRuntime) -> Result<(), Fail> 
         assert_eq!(rt; said.as_str(), refusal, "after {line}");
         assert!(rt; out.bytes() == bytes, "after {line}");
     }
+    Ok(())
+}
+
+/// The table of the instance of three machines for the sequence 1 2 3, worked out by hand.
+const TIMES: &[u8] =
+    b"job,machine,start,end\n1,1,0,4\n1,2,4,4\n1,3,4,8\n2,1,4,4\n2,2,4,12\n2,3,12,12\n\
+3,1,4,4\n3,2,12,14\n3,3,14,15\n";
+
+#[test]
+fn schedule_takes_its_files_and_its_form(rt: HostRuntime) -> Result<(), Fail> {
+    let rows: [(&str, &[u8], &str); 11] = [
+        ("text_three 1 start", TIMES, ""),
+        ("stdin 2 start --form csv", TIMES, ""),
+        ("text_three 1 stdin", TIMES, ""),
+        ("text_three 1 other_start", b"", "refused start 2"),
+        ("stdin 1 start", b"", "refused start 2"),
+        ("stdin 3 start", b"", "refused index"),
+        ("missing 1 start", b"", "failed open"),
+        ("text_three 1 missing", b"", "failed open"),
+        ("text_three 1 broken --form svg", b"", "failed read Device"),
+        ("text_three 1 start --form pdf", b"", "refused command line"),
+        ("text_three 1 start --form", b"", "refused command line"),
+    ];
+    for (words, bytes, refusal) in rows {
+        let line = format!(in rt.alloc(); "schedule {words}")?;
+        let (out, said) = run_beside(&rt, rt.alloc(), START, line.as_str())?;
+        assert_eq!(rt; said.as_str(), refusal, "after {line}");
+        assert!(rt; out.bytes() == bytes, "after {line}");
+    }
+    let (out, said) = run_line(&rt, rt.alloc(), "schedule text_three 1 start --form svg")?;
+    assert_eq!(rt; said.as_str(), "");
+    assert!(rt; out.bytes().starts_with(b"<svg "));
     Ok(())
 }
 
@@ -499,67 +548,57 @@ fn ordered<'a>(alloc: Global, words: &'a [&'a str]) -> Result<Option<Order<'a>>,
     order_of(alloc, &matches).map_err(|_| ErrorKind::OutOfMemory)
 }
 
-/// The order to search block 1 of `FILE` from a starting sequence of the search's own.
-fn searched(search: Search) -> Order<'static> {
-    Order::OfText {
-        file: "FILE",
-        index: 1,
-        what: OfText::OfBlock {
-            what: OfBlock::Search { search },
-        },
-    }
-}
-
-/// The order to search block 1 of `FILE` from the starting sequence of `SEQUENCE`.
-fn searched_from(search: Search) -> Order<'static> {
-    Order::OfText {
-        file: "FILE",
-        index: 1,
-        what: OfText::SearchFrom {
-            start: "SEQUENCE",
-            search,
-        },
-    }
-}
-
 #[test]
 fn words_are_read_as_orders(rt: HostRuntime) -> Result<(), Fail> {
     let alloc = rt.alloc();
     let words = words_of(alloc, "span FILE 4294967295 3 1 65535")?;
-    let wanted = Order::OfText {
+    let wanted = Order::Span {
         file: "FILE",
         index: u32::MAX,
-        what: OfText::OfBlock {
-            what: OfBlock::Span {
-                jobs: vec![in alloc; 3, 1, 65_535]?,
-            },
+        jobs: vec![in alloc; 3, 1, 65_535]?,
+    };
+    assert_eq!(rt; ordered(alloc, words.as_slice()), Ok(Some(wanted)));
+    let words = words_of(alloc, "check FILE 1 CERT --either")?;
+    let wanted = Order::Check {
+        file: "FILE",
+        index: 1,
+        cert: "CERT",
+        request: CheckRequest {
+            either: true,
+            sequence: false,
         },
     };
     assert_eq!(rt; ordered(alloc, words.as_slice()), Ok(Some(wanted)));
     let words = words_of(alloc, "solve FILE 1 --depth 2")?;
-    let wanted = searched(Search::Solve {
-        run: Run {
+    let wanted = Order::Solve {
+        file: "FILE",
+        index: 1,
+        start: None,
+        request: SolveRequest {
             workers: 1,
             depth: 2,
             budget: 1_000_000,
             version: 1,
-            mirror: false,
+            mirrored: false,
         },
-    });
+    };
     assert_eq!(rt; ordered(alloc, words.as_slice()), Ok(Some(wanted)));
     let words = words_of(
         alloc,
         "solve FILE 1 --mirrored --start SEQUENCE --workers 3",
     )?;
-    let wanted = searched_from(Search::Solve {
-        run: Run {
+    let wanted = Order::Solve {
+        file: "FILE",
+        index: 1,
+        start: Some("SEQUENCE"),
+        request: SolveRequest {
             workers: 3,
             depth: 1,
             budget: 1_000_000,
             version: 1,
-            mirror: true,
+            mirrored: true,
         },
-    });
+    };
     assert_eq!(rt; ordered(alloc, words.as_slice()), Ok(Some(wanted)));
     Ok(())
 }
@@ -567,33 +606,60 @@ fn words_are_read_as_orders(rt: HostRuntime) -> Result<(), Fail> {
 #[test]
 fn improvements_are_read(rt: HostRuntime) -> Result<(), Fail> {
     let alloc = rt.alloc();
-    let improvement = Improvement {
+    let usual = ImproveRequest {
+        width: 4_096,
         rounds: 10_000,
         seed: 1,
+        work: 8_500,
     };
-    let other = Improvement {
+    let other = ImproveRequest {
+        width: 65_537,
         rounds: 4_294_967_295,
         seed: 0,
+        work: 7,
     };
     let rows = [
-        ("improve FILE 1", searched(Search::Improve { improvement })),
         (
-            "improve FILE 1 --seed 0 --start SEQUENCE --rounds 4294967295",
-            searched_from(Search::Improve { improvement: other }),
+            "improve FILE 1",
+            Order::Improve {
+                file: "FILE",
+                index: 1,
+                start: None,
+                request: usual,
+            },
+        ),
+        (
+            "improve FILE 1 --seed 0 --start SEQUENCE --rounds 4294967295 --width 65537 --work 7",
+            Order::Improve {
+                file: "FILE",
+                index: 1,
+                start: Some("SEQUENCE"),
+                request: other,
+            },
         ),
         (
             "certify FILE 1",
-            searched(Search::Certify {
-                improvement,
-                version: 1,
-            }),
+            Order::Certify {
+                file: "FILE",
+                index: 1,
+                start: None,
+                request: CertifyRequest {
+                    improve: usual,
+                    version: None,
+                },
+            },
         ),
         (
-            "certify FILE 1 --certificate 7 --seed 0 --rounds 4294967295 --start SEQUENCE",
-            searched_from(Search::Certify {
-                improvement: other,
-                version: 7,
-            }),
+            "certify FILE 1 --certificate 7 --work 7 --width 65537 --seed 0 --rounds 4294967295 --start SEQUENCE",
+            Order::Certify {
+                file: "FILE",
+                index: 1,
+                start: Some("SEQUENCE"),
+                request: CertifyRequest {
+                    improve: other,
+                    version: Some(7),
+                },
+            },
         ),
     ];
     for (line, wanted) in rows {
@@ -652,6 +718,9 @@ fn other_words_are_refused(rt: HostRuntime) -> Result<(), Fail> {
     assert!(rt; out.bytes() == b"flowshop 1.0, certificate versions 1 and 2\n".as_slice());
     let mut out = MemorySink::new(alloc, 10);
     let ran = run_words(&rt, alloc, &inputs, words.as_slice(), &mut out);
-    assert_eq!(rt; ran, Err(Stop::Fault(ToolFault::Write(WriteFault::Device))));
+    assert_eq!(rt;
+        ran,
+        Err(Stop::Fault(CommandFault::Write(WriteFault::Device)))
+    );
     Ok(())
 }

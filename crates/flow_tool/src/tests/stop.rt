@@ -1,7 +1,7 @@
 //! The lines on standard error.
 
 use crate::stop::Stop;
-use flow_commands::ToolFault;
+use flow_commands::CommandFault;
 use flow_core::SequenceFault;
 use std::test::Fail;
 
@@ -11,9 +11,9 @@ fn stops_are_printed_as_their_lines(rt: HostRuntime) -> Result<(), Fail> {
         (Stop::CommandLine, "refused command line"),
         (Stop::Memory, "refused memory"),
         (Stop::Open, "failed open"),
-        (Stop::Fault(ToolFault::Memory), "refused memory"),
+        (Stop::Fault(CommandFault::Memory), "refused memory"),
         (
-            Stop::Fault(ToolFault::Sequence(SequenceFault::Twice(2))),
+            Stop::Fault(CommandFault::Sequence(SequenceFault::Twice(2))),
             "refused sequence Twice 2",
         ),
     ];

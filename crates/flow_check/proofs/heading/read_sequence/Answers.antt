@@ -15,16 +15,16 @@ loop-place-init c =
 
 pub returns-in_err-job-clause-only : goal.returns-in_err-job-clause-only
 returns-in_err-job-clause-only c jobs rest h =
-    let next = at-job c.loop-place.invariant.1 c.jobs-jobs.result c.end_behind-end.result c.jobs-jobs.ensures.value
-    (omega (arith, c.loop-place-test.true)) c.end_behind-end.ensures.value jobs rest h in
+    let next = at-job c.loop-place.invariant.1 c.jobs-jobs.result c.end_after-end.result c.jobs-jobs.ensures.value
+    (omega (arith, c.loop-place-test.true)) c.end_after-end.ensures.value jobs rest h in
     absurd (c.in_err-job.ensures.only next.0 next.1 next.2)
 
 pub returns-then-contains-clause-only : goal.returns-then-contains-clause-only
 returns-then-contains-clause-only c jobs rest h =
     let done = c.loop-place.invariant.0 in
     let is = c.loop-place.invariant.1 in
-    let next = at-job is c.jobs-jobs.result c.end_behind-end.result c.jobs-jobs.ensures.value (omega
-    (arith, c.loop-place-test.true)) c.end_behind-end.ensures.value jobs rest h in
+    let next = at-job is c.jobs-jobs.result c.end_after-end.result c.jobs-jobs.ensures.value (omega
+    (arith, c.loop-place-test.true)) c.end_after-end.ensures.value jobs rest h in
     let same = c.in_ok-job.ensures.only next.0 next.1 next.2 in
     let small : c.in_ok-job.job ≤ most_jobs =
     omega (arith, c.in_ok-job.ensures.found.1, c.jobs-jobs.ensures.value, c.jobs-jobs.ensures.limits.jobs) in
@@ -45,9 +45,9 @@ loop-place-preserved c =
     let is = c.loop-place.invariant.1 in (
       done ++ c.in_ok-job.job ∷ [],
       done-more is c.insert.new.self c.front_push.new.front c.in_ok-job.after.now c.in_ok-job.job c.jobs-jobs.result
-          c.end_behind-end.result
+          c.end_after-end.result
           c.jobs-jobs.ensures.value (omega
-          (arith, c.loop-place-test.true)) c.end_behind-end.ensures.value c.jobs-jobs.ensures.limits.jobs
+          (arith, c.loop-place-test.true)) c.end_after-end.ensures.value c.jobs-jobs.ensures.limits.jobs
           c.in_ok-job.ensures.found c.in_ok-job.ensures.only
           (sym c.contains.ensures.value
           ∙ c.if-contains.false) c.contains.ensures.size c.insert.ensures.value

@@ -6,6 +6,6 @@ use Rattle.flow_check.proofs.node.completion_of.Given as goal
 
 abbrev pub invariant-loop-earlier : goal.invariant-loop-earlier
 invariant-loop-earlier l = record {
-  value : l.free ≡ after l.claim.instance.now (free_at l.front) l.job (l.earlier - 1);
+  value : l.free ≡ after l.text.shop.now (free_at l.front) l.job (l.earlier - 1);
   small : l.free ≤ greatest_completion + (l.earlier - 1) * greatest_time;
 }

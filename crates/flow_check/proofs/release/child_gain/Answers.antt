@@ -18,20 +18,22 @@ use Rattle.flow_check.proofs.release.child_gain.Goals.{After-from}
 here : (c : After-from) → c.loop-from.from < c.args.machine + 1 →
     (1 ≤ c.loop-from.from) × (c.loop-from.from ≤ c.args.machine)
     × (c.max.result + c.from.result
-    ≡ after c.args.claim.now.instance.now (free_at c.args.node.now.front) c.args.job c.loop-from.from)
+    ≡ after c.args.text.now.shop.now (free_at c.args.node.now.front) c.args.job c.loop-from.from)
     × (c.max.result + c.from.result ≤ greatest_completion + (c.loop-from.from + 1 - 1) * greatest_time)
 here c test =
-    let shop = c.args.claim.now.instance.now in
+    let shop = c.args.text.now.shop.now in
     let i = c.loop-from.invariant in
     let job = c.requires.at.4 in
     let low : 1 ≤ c.loop-from.from = c.loop-from.auto.from in
     let up : c.loop-from.from ≤ c.args.machine = omega (arith, test) in
-    let high : c.loop-from.from ≤ shop.machines = omega (arith, up, c.requires.to) in
+    let high : c.loop-from.from ≤ shop.machines = omega (arith, up, c.requires.machine.1) in
     let there : c.from.result ≡ time shop c.args.job c.loop-from.from =
-    c.from.ensures ∙ (c.requires.rows.each c.args.job (record { times = []; tails = [] }) job.0 job.1 c.loop-from.from
+    c.from.ensures ∙ (c.args.text.now.are_rows.each c.args.job (record { times = []; tails = [] }) job.0 job.1
+    c.loop-from.from
     low high).0 in
     let within : slice_index c.args.node.now.front (c.loop-from.from - 1) ≤ greatest_completion =
-    node-within shop c.requires.at.0 c.args.node.now (suc (suc c.requires.at.1)) c.requires.rows.limits c.requires.at.2
+    node-within shop c.requires.at.0 c.args.node.now (suc (suc c.requires.at.1)) c.args.text.now.are_rows.limits
+    c.requires.at.2
     (c.loop-from.from - 1) (omega (arith, low, high)) in
     let sum : c.max.result + c.from.result
     ≡ max (slice_index c.args.node.now.front (c.loop-from.from - 1)) c.loop-from.free + c.from.result =
@@ -48,25 +50,25 @@ here c test =
         low,
         i.small,
         there,
-        time-small shop c.args.job c.loop-from.from c.requires.rows.limits,
+        time-small shop c.args.job c.loop-from.from c.args.text.now.are_rows.limits,
       ),
     )
 
 pub overflow_add-free : goal.overflow_add-free
 overflow_add-free c =
-    let most : c.args.claim.now.instance.now.machines ≤ most_machines = c.requires.rows.limits.machines in
+    let most : c.args.text.now.shop.now.machines ≤ most_machines = c.args.text.now.are_rows.limits.machines in
     let is = here (goal.at.overflow_add-free c).After-from c.loop-from-test.true in
-    omega (arith, is.1, is.3, most, c.requires.to)
+    omega (arith, is.1, is.3, most, c.requires.machine.1)
 
 pub overflow_add-free-in-loop-from : goal.overflow_add-free-in-loop-from
 overflow_add-free-in-loop-from c =
-    let most : c.args.claim.now.instance.now.machines ≤ most_machines = c.requires.rows.limits.machines in
+    let most : c.args.text.now.shop.now.machines ≤ most_machines = c.args.text.now.are_rows.limits.machines in
     let is = here (goal.at.overflow_add-free-in-loop-from c).After-from c.loop-from-test.true in
-    omega (arith, is.1, is.3, most, c.requires.to, c.from-in-loop-from.ensures)
+    omega (arith, is.1, is.3, most, c.requires.machine.1, c.from-in-loop-from.ensures)
 
 pub loop-from-preserved : goal.loop-from-preserved
 loop-from-preserved c =
-    let shop = c.args.claim.now.instance.now in
+    let shop = c.args.text.now.shop.now in
     let at = here (goal.at.loop-from-preserved c).After-from c.loop-from-test.true in
     let next : c.loop-from.from + 1 - 1 ≡ c.loop-from.from = omega arith in
     let free : ℕ = c.max.result + c.from.result in
@@ -80,9 +82,9 @@ loop-from-preserved c =
           + least (lags shop from c.args.machine jobs) in
           let most : c.max-release.result ≡ max c.loop-from.release (free + c.from-in-loop-from.result) =
           omega (arith, c.max-release.ensures) in
-          let lag = child-lag shop list c.args.node.now left c.args.job c.loop-from.from c.args.machine c.lag.result
-          c.without-lag.result c.args.lags.now c.requires.rows.limits is kid.0 kid.1 kid.2 are at.0 at.1
-          c.requires.to c.lag.ensures c.without-lag.ensures in
+          let lag = child-lag shop list c.args.node.now left c.args.job c.loop-from.from c.args.machine c.lag-own.result
+          c.least_without-lag.result c.args.lags.now c.args.text.now.are_rows.limits is kid.0 kid.1 kid.2 are at.0 at.1
+          c.requires.machine.1 c.lag-own.ensures c.least_without-lag.ensures in
           let value : free + c.from-in-loop-from.result ≡ f c.loop-from.from =
           ap₂ (λ a b. a + b) at.2 (c.from-in-loop-from.ensures ∙ lag) in
           most ∙ ap₂ max (c.loop-from.invariant.release list left is are kid) value
@@ -91,7 +93,7 @@ loop-from-preserved c =
 
 pub returns : goal.returns
 returns c list left is are kid =
-    let shop = c.args.claim.now.instance.now in
+    let shop = c.args.text.now.shop.now in
     let jobs : List ℕ = jobs_left shop.jobs (list ++ c.args.job ∷ []) in
     let f : ℕ → ℕ = λ from. after shop (free_at c.args.node.now.front) c.args.job from
     + least (lags shop from c.args.machine jobs) in
@@ -99,8 +101,8 @@ returns c list left is are kid =
     omega (arith, c.loop-from-test.false, c.loop-from.auto.from, c.loop-from.auto.from-end) in
     let i = c.loop-from.invariant in
     let value = i.release list left is are kid ∙ ap (λ n. greatest (map f (numbers 1 n))) end
-    ∙ child-release shop list c.args.node.now (suc (suc left)) c.args.job c.args.machine is c.requires.to in
+    ∙ child-release shop list c.args.node.now (suc (suc left)) c.args.job c.args.machine is c.requires.machine.1 in
     let front = i.free ∙ ap (after shop (free_at c.args.node.now.front) c.args.job) end
-    ∙ child-completion shop list c.args.node.now.front c.args.job c.args.machine c.requires.to is.times
-    ∙ sym (front_of-is shop (list ++ c.args.job ∷ []) c.args.machine c.requires.from c.requires.to) in
+    ∙ child-completion shop list c.args.node.now.front c.args.job c.args.machine c.requires.machine.1 is.times
+    ∙ sym (front_of-is shop (list ++ c.args.job ∷ []) c.args.machine c.requires.machine.0 c.requires.machine.1) in
     omega (arith, value, front, i.late)

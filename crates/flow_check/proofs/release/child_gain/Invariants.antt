@@ -11,13 +11,13 @@ use Rattle.flow_check.proofs.release.child_gain.Given as goal
 
 abbrev pub invariant-loop-from : goal.invariant-loop-from
 invariant-loop-from l = record {
-  free : l.free ≡ after l.claim.instance.now (free_at l.node.front) l.job (l.from - 1);
+  free : l.free ≡ after l.text.shop.now (free_at l.node.front) l.job (l.from - 1);
   small : l.free ≤ greatest_completion + (l.from - 1) * greatest_time;
   late : l.free ≤ l.release;
-  release : (list : List ℕ) (left : ℕ) → IsNode l.claim.instance.now list l.node (suc (suc left)) →
-      AreTwoLeastLagsTo l.claim.instance.now list l.machine l.lags →
-      IsChild l.claim.instance.now.jobs list (Some l.job) →
-      l.release ≡ greatest (map (λ from. after l.claim.instance.now (free_at l.node.front) l.job from
-      + least (lags l.claim.instance.now from l.machine (jobs_left l.claim.instance.now.jobs (list ++ l.job ∷ []))))
+  release : (list : List ℕ) (left : ℕ) → IsNode l.text.shop.now list l.node (suc (suc left)) →
+      AreTwoLeastLagsTo l.text.shop.now list l.machine l.lags →
+      IsChild l.text.shop.now.jobs list (Some l.job) →
+      l.release ≡ greatest (map (λ from. after l.text.shop.now (free_at l.node.front) l.job from
+      + least (lags l.text.shop.now from l.machine (jobs_left l.text.shop.now.jobs (list ++ l.job ∷ []))))
       (numbers 1 (l.from - 1)));
 }

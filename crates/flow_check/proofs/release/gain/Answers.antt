@@ -5,17 +5,17 @@ use Rattle.flow_check.proofs.Releases.{release-gains, plain-gains}
 use Rattle.flow_check.specs.internal.Nodes.{IsAt, IsChild, grown, left_before}
 use Rattle.flow_check.proofs.release.gain.Goals as goal
 
-pub returns-then-claim-ne2-clause-value : goal.returns-then-claim-ne2-clause-value
-returns-then-claim-ne2-clause-value c list left at kept kid =
-    plain-gains c.args.claim.now.instance.now (grown list c.args.child) c.args.machine c.args.claim.now.version
-    c.if-claim-ne2.true
+pub returns-then-text-ne2-clause-value : goal.returns-then-text-ne2-clause-value
+returns-then-text-ne2-clause-value c list left at kept kid =
+    plain-gains c.args.text.now.shop.now (grown list c.args.child) c.args.machine c.args.text.now.version
+    c.if-text-ne2.true
 
 pub lags_of-lags-requires-clause-at : goal.lags_of-lags-requires-clause-at
 lags_of-lags-requires-clause-at c = (c.requires.at.0, c.requires.at.2.are_links, c.requires.at.3)
 
 pub own_gain-requires-clause-at : goal.own_gain-requires-clause-at
 own_gain-requires-clause-at c =
-    let shop = c.args.claim.now.instance.now in
+    let shop = c.args.text.now.shop.now in
     let list : List ℕ = c.requires.at.0 in
     let at = subst (λ o. IsAt shop list c.args.node.now c.args.links.now (left_before o (suc c.requires.at.1)))
     c.in-None.is c.requires.at.2 in
@@ -23,7 +23,7 @@ own_gain-requires-clause-at c =
 
 pub child_gain-requires-clause-at : goal.child_gain-requires-clause-at
 child_gain-requires-clause-at c =
-    let shop = c.args.claim.now.instance.now in
+    let shop = c.args.text.now.shop.now in
     let list : List ℕ = c.requires.at.0 in
     let at = subst (λ o. IsAt shop list c.args.node.now c.args.links.now (left_before o (suc c.requires.at.1)))
     c.in-Some.is c.requires.at.2 in
@@ -32,24 +32,24 @@ child_gain-requires-clause-at c =
 
 pub returns-in-None-clause-value : goal.returns-in-None-clause-value
 returns-in-None-clause-value c list left at kept kid =
-    let shop = c.args.claim.now.instance.now in
+    let shop = c.args.text.now.shop.now in
     let was = subst (λ o. IsAt shop list c.args.node.now c.args.links.now (left_before o (suc left))) c.in-None.is at in
     let gains = c.own_gain.ensures list left was.is_node (c.lags_of-lags.ensures.lags list was.are_links kept) in
-    release-gains shop (grown list c.args.child) c.args.machine c.own_gain.result c.args.claim.now.version
-    c.if-claim-ne2.false
+    release-gains shop (grown list c.args.child) c.args.machine c.own_gain.result c.args.text.now.version
+    c.if-text-ne2.false
     (subst (λ o. slice_index (front_of shop (grown list o)) (c.args.machine - 1) + c.own_gain.result
     ≡ release shop (front_of shop (grown list o)) (jobs_left shop.jobs (grown list o)) c.args.machine) (sym
     c.in-None.is) gains)
 
 pub returns-in-Some-clause-value : goal.returns-in-Some-clause-value
 returns-in-Some-clause-value c list left at kept kid =
-    let shop = c.args.claim.now.instance.now in
+    let shop = c.args.text.now.shop.now in
     let was = subst (λ o. IsAt shop list c.args.node.now c.args.links.now (left_before o (suc left))) c.in-Some.is at in
     let gains = c.child_gain.ensures list left was.is_node (c.lags_of-lags.ensures.lags list was.are_links kept)
     (subst
     (IsChild shop.jobs list) c.in-Some.is kid) in
-    release-gains shop (grown list c.args.child) c.args.machine c.child_gain.result c.args.claim.now.version
-    c.if-claim-ne2.false
+    release-gains shop (grown list c.args.child) c.args.machine c.child_gain.result c.args.text.now.version
+    c.if-text-ne2.false
     (subst (λ o. slice_index (front_of shop (grown list o)) (c.args.machine - 1) + c.child_gain.result
     ≡ release shop (front_of shop (grown list o)) (jobs_left shop.jobs (grown list o)) c.args.machine) (sym
     c.in-Some.is) gains)

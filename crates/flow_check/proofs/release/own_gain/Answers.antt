@@ -7,9 +7,9 @@ use Rattle.flow_check.proofs.release.own_gain.Goals as goal
 pub overflow_add-node : goal.overflow_add-node
 overflow_add-node c =
     let within : slice_index c.args.node.now.front (c.loop-from.from - 1) ≤ greatest_completion =
-    node-within c.args.claim.now.instance.now c.requires.at.0 c.args.node.now (suc c.requires.at.1)
-    c.requires.rows.limits c.requires.at.2 (c.loop-from.from - 1) (omega
-    (arith, c.loop-from.auto.from, c.loop-from-test.true, c.requires.to)) in
+    node-within c.args.text.now.shop.now c.requires.at.0 c.args.node.now (suc c.requires.at.1)
+    c.args.text.now.are_rows.limits c.requires.at.2 (c.loop-from.from - 1) (omega
+    (arith, c.loop-from.auto.from, c.loop-from-test.true, c.requires.machine.1)) in
     omega (arith, within, c.from.ensures)
 
 pub loop-from-preserved : goal.loop-from-preserved
@@ -25,16 +25,18 @@ loop-from-preserved c =
 
 pub overflow_sub-result-2 : goal.overflow_sub-result-2
 overflow_sub-result-2 c =
-    let is = own-late c.args.claim.now.instance.now c.requires.at.0 c.args.node.now c.requires.at.1 c.args.machine
-    c.args.lags.now c.loop-from.release (c.loop-from.from - 1) c.requires.rows.limits c.requires.at.2 c.requires.from
-    c.requires.to c.requires.at.3 c.loop-from.invariant (omega
+    let is = own-late c.args.text.now.shop.now c.requires.at.0 c.args.node.now c.requires.at.1 c.args.machine
+    c.args.lags.now c.loop-from.release (c.loop-from.from - 1) c.args.text.now.are_rows.limits c.requires.at.2
+    c.requires.machine.0
+    c.requires.machine.1 c.requires.at.3 c.loop-from.invariant (omega
     (arith, c.loop-from-test.false, c.loop-from.auto.from, c.loop-from.auto.from-end)) in
     omega (arith, is.1, is.2)
 
 pub returns : goal.returns
 returns c list left is are =
-    let at = own-late c.args.claim.now.instance.now list c.args.node.now left c.args.machine c.args.lags.now
-    c.loop-from.release (c.loop-from.from - 1) c.requires.rows.limits is c.requires.from c.requires.to are
+    let at = own-late c.args.text.now.shop.now list c.args.node.now left c.args.machine c.args.lags.now
+    c.loop-from.release (c.loop-from.from - 1) c.args.text.now.are_rows.limits is c.requires.machine.0
+    c.requires.machine.1 are
     c.loop-from.invariant (omega
     (arith, c.loop-from-test.false, c.loop-from.auto.from, c.loop-from.auto.from-end)) in
     omega (arith, at.0, at.1, at.2)

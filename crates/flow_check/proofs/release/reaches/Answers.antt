@@ -5,15 +5,15 @@ use Rattle.flow_check.specs.internal.Nodes.{grown, left_before}
 use Rattle.flow_check.proofs.Releases.{version-stronger, gain-reaches}
 use Rattle.flow_check.proofs.release.reaches.Goals as goal
 
-pub returns-then-plain-claim-clause-value : goal.returns-then-plain-claim-clause-value
-returns-then-plain-claim-clause-value c list left at kept kid =
-    sym (le-leb c.args.claim.now.value (bound_of c.args.claim.now.version c.args.claim.now.instance.now (grown list
+pub returns-then-plain-text-clause-value : goal.returns-then-plain-text-clause-value
+returns-then-plain-text-clause-value c list left at kept kid =
+    sym (le-leb c.args.text.now.value (bound_of c.args.text.now.version c.args.text.now.shop.now (grown list
     c.args.child) c.args.machine) (omega (
       arith,
-      c.if-plain-claim.true,
+      c.if-plain-text.true,
       c.bound-plain.ensures.value list left at kid,
-      version-stronger c.args.claim.now.instance.now (grown list c.args.child) c.args.machine c.args.claim.now.version
-          c.requires.from,
+      version-stronger c.args.text.now.shop.now (grown list c.args.child) c.args.machine c.args.text.now.version
+          c.requires.machine.0,
     )))
 
 pub gain-requires-clause-at : goal.gain-requires-clause-at
@@ -31,6 +31,6 @@ returns-clause-value c list left at kept kid =
     let gains = c.gain.ensures.value list left (c.bound-plain.ensures.kept list (left_before c.args.child (suc left))
     at) kept kid
     in
-    gain-reaches c.args.claim.now.value c.bound-plain.result c.gain.result (bound_of c.args.claim.now.version
-    c.args.claim.now.instance.now (grown list c.args.child) c.args.machine) (omega (arith, c.if-plain-claim.false))
+    gain-reaches c.args.text.now.value c.bound-plain.result c.gain.result (bound_of c.args.text.now.version
+    c.args.text.now.shop.now (grown list c.args.child) c.args.machine) (omega (arith, c.if-plain-text.false))
     (omega (arith, plain, gains))

@@ -1,7 +1,8 @@
 use Rattle.std.proofs.Common.{subst}
 use Rattle.std.proofs.lemmas.Result.{err_from_is_err_and}
 use Rattle.flow_core.specs.Generator.{generated}
-use Rattle.flow_commands.specs.Commands.{AnswersGen, IsGeneratedText}
+use Rattle.flow_commands.specs.Generate.{AnswersGen, IsGeneratedText}
+use Rattle.flow_commands.specs.Runs.{sink_run}
 use Rattle.flow_commands.proofs.Endings.{ends-alone-in-writing}
 use Rattle.flow_commands.proofs.generate.run_gen.Goals as goal
 
@@ -12,5 +13,6 @@ returns-in_err-put_all-clause-ended g c =
     subst (λ shop. IsGeneratedText c.args.seed shop line) c.in_ok-instance.ensures.value c.in_ok-text.ensures in
     let p = err_from_is_err_and c.from_residual-in_err-put_all.result c.from_residual-in_err-put_all.ensures.1 in
     rw (p.1, p.2)
-    (ends-alone-in-writing (AnswersGen c.args.jobs c.args.machines c.args.seed) _ _ _ line
+    (ends-alone-in-writing (AnswersGen c.args.jobs c.args.machines c.args.seed)
+    (sink_run g.K.Sink.taken c.args.out.now c.put_all.new.sink) _ line
     (c.in_ok-instance.ensures.accepted, text) (rw c.as_slice.ensures.value at c.in_err-put_all.ensures.err))

@@ -1,26 +1,34 @@
-use Rattle.std.proofs.Common.{◌≡◌}
-use Rattle.std.proofs.lemmas.Result.{IfErr-weaker, on_ok_weaker}
-use Rattle.flow_commands.specs.Better.{AnswersImproveStart, AnswersImprove}
-use Rattle.flow_core.specs.Limits.{most_text}
-use Rattle.flow_commands.proofs.Solved.{ends-for, from-neh, wrote-for}
+use Rattle.std.proofs.Common.{refl}
+use Rattle.std.proofs.lemmas.Result.{IfErr-weaker, err_from_is_err_and, on_ok_weaker}
+use Rattle.flow_commands.specs.Improve.{AnswersImprove}
+use Rattle.flow_commands.specs.Runs.{sink_run, source_run, start_run}
+use Rattle.flow_commands.proofs.Given.{ended-from, stopped-from, wrote-from}
 use Rattle.flow_commands.proofs.improve.run_improve.Goals as goal
+
+pub returns-in_err-block-clause-ended : goal.returns-in_err-block-clause-ended
+returns-in_err-block-clause-ended g c =
+    let p = err_from_is_err_and c.from_residual.result c.from_residual.ensures.1 in
+    rw (p.1, p.2)
+    (stopped-from (AnswersImprove c.args.request) c.args.index
+    (source_run g.S.Source.given g.S.Source.has_ended c.args.file.now c.read_inputs.new.file)
+    (start_run g.T.Source.given g.T.Source.has_ended c.args.start.now c.read_inputs.new.start)
+    (sink_run g.K.Sink.taken c.args.out.now c.args.out.now) _ refl c.in_err-block.ensures.refused)
 
 pub returns-clause-written : goal.returns-clause-written
 returns-clause-written g c =
-    on_ok_weaker c.improve_start.result
-    (wrote-for most_text
-    (AnswersImproveStart c.args.rounds c.args.seed c.in_ok-block.block.instance c.in_ok-start.start)
-    (AnswersImprove c.args.index c.args.rounds c.args.seed) _ _ _ _ _
-    (from-neh c.args.index (AnswersImproveStart c.args.rounds c.args.seed) c.in_ok-block.block c.in_ok-start.start
-    _ _ _ c.in_ok-block.ensures.picked c.in_ok-start.ensures.start))
-    c.improve_start.ensures.written
+    on_ok_weaker c.improve_block.result
+    (wrote-from (AnswersImprove c.args.request) c.args.index c.in_ok-block.block c.in_ok-block.given
+    (source_run g.S.Source.given g.S.Source.has_ended c.args.file.now c.read_inputs.new.file)
+    (start_run g.T.Source.given g.T.Source.has_ended c.args.start.now c.read_inputs.new.start)
+    (sink_run g.K.Sink.taken c.args.out.now c.improve_block.new.out) c.in_ok-block.ensures.picked c.in_ok-block.ensures.given)
+    c.improve_block.ensures.written
 
 pub returns-clause-ended : goal.returns-clause-ended
 returns-clause-ended g c =
-    IfErr-weaker c.improve_start.result _ _
-    (λ fault. ends-for (c.improve_start.new.out ≡ c.args.out.now) most_text
-    (AnswersImproveStart c.args.rounds c.args.seed c.in_ok-block.block.instance c.in_ok-start.start)
-    (AnswersImprove c.args.index c.args.rounds c.args.seed) _ _ _ _ _ fault
-    (from-neh c.args.index (AnswersImproveStart c.args.rounds c.args.seed) c.in_ok-block.block c.in_ok-start.start
-    _ _ _ c.in_ok-block.ensures.picked c.in_ok-start.ensures.start))
-    c.improve_start.ensures.ended
+    IfErr-weaker c.improve_block.result _ _
+    (λ fault. ended-from (AnswersImprove c.args.request) c.args.index
+    c.in_ok-block.block c.in_ok-block.given
+    (source_run g.S.Source.given g.S.Source.has_ended c.args.file.now c.read_inputs.new.file)
+    (start_run g.T.Source.given g.T.Source.has_ended c.args.start.now c.read_inputs.new.start)
+    (sink_run g.K.Sink.taken c.args.out.now c.improve_block.new.out) fault c.in_ok-block.ensures.picked c.in_ok-block.ensures.given)
+    c.improve_block.ensures.ended

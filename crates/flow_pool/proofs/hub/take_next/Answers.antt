@@ -3,6 +3,7 @@ use Rattle.std.proofs.Math.Seq.{map-set_same}
 use Rattle.flow_pool.specs.declared.ends.HubEnds.{HubEnds}
 use Rattle.flow_pool.specs.Hub.{hub_lanes}
 use Rattle.flow_pool.proofs.Hubs.{all_dealt-push}
+use Rattle.flow_pool.proofs.Over.{any_over_budget-push}
 use Rattle.flow_pool.proofs.hub.take_next.Goals as goal
 
 pub returns-in_default-clause-lanes : goal.returns-in_default-clause-lanes
@@ -27,3 +28,7 @@ returns-clause-dealt c =
     all_dealt-push c.args.hubs.now c.args.answers.now.items _ _ _ c.index-hubs-turn.result c.in-Some.answer
     (ap (λ n. n % length c.args.hubs.now) (omega arith))
     (omega arith) c.push_reserved.ensures.items c.in-Some.ensures.at_the_end c.requires.dealt
+
+pub returns-clause-kept : goal.returns-clause-kept
+returns-clause-kept c =
+    any_over_budget-push c.args.answers.now.items _ c.in-Some.answer c.push_reserved.ensures.items

@@ -8,6 +8,6 @@ abbrev pub invariant-each : goal.invariant-each
 invariant-each l =
     record {
       lanes : map hub_lanes l.hubs ≡ map hub_lanes l.fn.hubs;
-      ended : AllWithin IsCollected l.hubs 0 l.lane;
-      ready : AllWithin IsReadyHub l.hubs l.lane (length l.fn.hubs);
+      ended : AllWithin IsCollected l.hubs 0 l.worker;
+      ready : AllWithin IsReadyHub l.hubs l.worker (length l.fn.hubs);
     }

@@ -5,10 +5,11 @@ use Rattle.flow_shop.specs.Front.{IsFrontOf, IsWithinFront}
 use Rattle.flow_shop.specs.Bound.{bound_of}
 use Rattle.flow_search.specs.Search.{tree}
 use Rattle.flow_search.specs.Plans.{Planned, prefix_of, best_of, tree_of}
+use Rattle.flow_search.specs.Targets.{at_value, plan_below}
 use Rattle.flow_search.specs.internal.Nodes.{walked, found_if}
-use Rattle.flow_search.specs.declared.subtree.Search.{Search}
-use Rattle.flow_search.specs.declared.subtree.Stop.{Stop}
-use Rattle.flow_search.specs.declared.subtree.Stop.TheVariants.{OverBudget}
+use Rattle.flow_search.specs.declared.state.SearchState.{SearchState}
+use Rattle.flow_search.specs.declared.budget.SearchFault.{SearchFault}
+use Rattle.flow_search.specs.declared.budget.SearchFault.TheVariants.{OverBudget}
 use Rattle.flow_search.proofs.Nodes.{within-front}
 use Rattle.flow_search.proofs.Prefixes.{admissible-of, way-goes-on, prefix-answered, prefix-over, best-sequence}
 use Rattle.flow_search.proofs.outcome.search_below.Goals as goal
@@ -22,7 +23,7 @@ front_push-requires-clause-within c =
 
 pub loop-job-preserved : goal.loop-job-preserved
 loop-job-preserved c =
-    let plan : Planned = c.args.plan.now in
+    let plan : Planned = plan_below (at_value c.args.plan.now c.args.value) in
     let prefix : List ℕ = c.prefix-prefix.result.now in
     let deep : plan.options.depth ≤ plan.shop.jobs = c.prefix-prefix.ensures.plan.deep in
     let short : length prefix ≤ plan.shop.jobs = omega (arith, deep, c.prefix-prefix.ensures.size) in
@@ -40,13 +41,13 @@ loop-job-preserved c =
 
 pub returns-in_err-explore-clause-over : goal.returns-in_err-explore-clause-over
 returns-in_err-explore-clause-over c e =
-    let plan : Planned = c.args.plan.now in
+    let plan : Planned = plan_below (at_value c.args.plan.now c.args.value) in
     let prefix : List ℕ = c.prefix-prefix.result.now in
     let deep : plan.options.depth ≤ plan.shop.jobs = c.prefix-prefix.ensures.plan.deep in
     let short : length prefix ≤ plan.shop.jobs = omega (arith, deep, c.prefix-prefix.ensures.size) in
     let p = err_from_is_err_and c.from_residual-in_err-explore.result c.from_residual-in_err-explore.ensures.1 in
-    let put : Stop → Result Search Stop = λ stop. Err stop in
-    let put_unit : Stop → Result (Unit {0}) Stop = λ stop. Err stop in
+    let put : SearchFault → Result SearchState SearchFault = λ stop. Err stop in
+    let put_unit : SearchFault → Result (Unit {0}) SearchFault = λ stop. Err stop in
     let was : p.0 ≡ OverBudget = let r : put p.0 ≡ put OverBudget = sym p.1 ∙ e in cc in
     let same : put_unit c.in_err-explore.field-0.0 ≡ put_unit OverBudget = ap put_unit (sym p.2 ∙ was) in
     let shop : c.instance-instance.result.now ≡ plan.shop = c.instance-instance.ensures.value in
@@ -77,10 +78,11 @@ returns-in_err-explore-clause-over c e =
     omega (arith, longer, named, budget)
 
 -- what the prefix came to
-answered : (c : In_ok-explore) → (found_if c.explore.new.search ≡ best_of c.args.plan.now c.args.number)
-    × (c.explore.new.search.tree.items ≡ tree_of c.args.plan.now c.args.number)
+answered : (c : In_ok-explore) → (found_if c.explore.new.search
+    ≡ best_of (plan_below (at_value c.args.plan.now c.args.value)) c.args.number)
+    × (c.explore.new.search.tree.items ≡ tree_of (plan_below (at_value c.args.plan.now c.args.value)) c.args.number)
 answered c =
-    let plan : Planned = c.args.plan.now in
+    let plan : Planned = plan_below (at_value c.args.plan.now c.args.value) in
     let prefix : List ℕ = c.prefix-prefix.result.now in
     let deep : plan.options.depth ≤ plan.shop.jobs = c.prefix-prefix.ensures.plan.deep in
     let short : length prefix ≤ plan.shop.jobs = omega (arith, deep, c.prefix-prefix.ensures.size) in
@@ -100,5 +102,6 @@ returns-clause-tree c = (answered (goal.at.returns-clause-tree c).In_ok-explore)
 
 pub returns-clause-sequence : goal.returns-clause-sequence
 returns-clause-sequence c improved =
-    best-sequence c.args.plan.now c.args.number c.explore.new.search c.prefix-prefix.ensures.plan c.requires
+    best-sequence (plan_below (at_value c.args.plan.now c.args.value)) c.args.number c.explore.new.search
+    c.prefix-prefix.ensures.plan.deep c.requires
     (returns-clause-best c) improved

@@ -5,9 +5,9 @@ use Rattle.flow_shop.specs.Shop.{Shop, numbers}
 use Rattle.flow_shop.specs.Least.{least, greatest}
 use Rattle.flow_shop.specs.Sequences.{jobs_left}
 use Rattle.flow_shop.specs.Bound.{release}
-use Rattle.flow_search.specs.internal.Lows.{time_to}
+use Rattle.flow_search.specs.internal.TwoLeast.{time_to}
 use Rattle.flow_search.specs.internal.Lags.{IsLagged}
-use Rattle.flow_search.proofs.LanesReleased.{need, need-more, release-is}
+use Rattle.flow_search.proofs.ColumnsReleased.{need, need-more, release-is}
 use Rattle.flow_search.proofs.Needs.{row-needs-small, child-need}
 use Rattle.flow_search.proofs.release.release_at_child.Goals as goal
 use Rattle.flow_search.proofs.release.release_at_child.Goals.{After-without-least}
@@ -40,13 +40,13 @@ overflow_add-row c =
 
 -- the least time that the jobs which the child leaves need
 least-is : (c : After-without-least) (shop : Shop) (node : List ℕ) (left job : ℕ) →
-    IsLagged shop node left job c.args.machine c.args.row.now c.args.lows.now →
+    IsLagged shop node left job c.args.machine c.args.row.now c.args.lags.now →
     (c.without-least.result
     ≡ least (map (time_to shop c.args.machine c.loop-place.place) (jobs_left shop.jobs (node ++ job ∷ []))))
     × (c.without-least.result ≤ most_machines * greatest_time)
 least-is c shop node left job is =
     child-need shop node left job c.args.machine c.loop-place.place c.saturating_sub-own.result
-    c.without-least.result c.args.row.now c.args.lows.now is c.requires.from
+    c.without-least.result c.args.row.now c.args.lags.now is c.requires.from
     (omega (arith, c.loop-place-test.true)) c.saturating_sub-own.ensures
     (c.without-least.ensures.least, c.without-least.ensures.other)
 

@@ -6,26 +6,26 @@ use Rattle.flow_shop.specs.Front.{IsFrontOf}
 use Rattle.flow_shop.specs.JobSet.{members}
 use Rattle.flow_shop.specs.Bound.{bound_of}
 use Rattle.flow_bound.specs.Loads.{AreLoadsOf}
-use Rattle.flow_search.specs.internal.Lows.{second_tail}
+use Rattle.flow_search.specs.internal.TwoLeast.{second_tail}
 use Rattle.flow_search.specs.internal.Nodes.{IsAt, incumbent_of}
 use Rattle.flow_search.specs.internal.Frames.{IsFrame}
 use Rattle.flow_search.proofs.Nodes.{left-count, machine-is, cut-here}
 use Rattle.flow_search.proofs.Resume.{frame-of}
-use Rattle.flow_search.proofs.LanesWalked.{IsUncut, uncut-found, node-done, node-over}
+use Rattle.flow_search.proofs.ColumnsWalked.{IsUncut, uncut-found, node-done, node-over}
 use Rattle.flow_search.proofs.subtree.explore.Goals as goal
-use Rattle.flow_search.proofs.subtree.explore.Goals.{After-cutting_machine, In_default}
+use Rattle.flow_search.proofs.subtree.explore.Goals.{After-cutting_node, In_default}
 
 suc-back : (n : ℕ) → 1 ≤ n → n ≡ suc (n - 1)
 suc-back n some = omega (arith, some)
 
-pub of-rest-requires-clause-some : goal.of-rest-requires-clause-some
-of-rest-requires-clause-some c =
+pub of-loads-requires-clause-some : goal.of-loads-requires-clause-some
+of-loads-requires-clause-some c =
     let size = left-count c.args.setting.now.instance.now c.args.search.now.node.items c.args.front.now
     c.args.search.now.unscheduled c.args.count c.requires.at in
     omega (arith, size, c.if-count-eq0.false)
 
-pub cutting_machine-requires-clause-at : goal.cutting_machine-requires-clause-at
-cutting_machine-requires-clause-at c =
+pub cutting_node-requires-clause-at : goal.cutting_node-requires-clause-at
+cutting_node-requires-clause-at c =
     let more : c.args.count ≡ suc (c.args.count - 1) = omega (arith, c.if-count-eq0.false) in (
       c.args.search.now.node.items,
       c.args.count - 1,
@@ -34,27 +34,29 @@ cutting_machine-requires-clause-at c =
     )
 
 -- what the search for the machine found
-found : (c : After-cutting_machine) →
-    c.cutting_machine.result
+found : (c : After-cutting_node) →
+    c.cutting_node.result
     ≡ find (λ machine. nat_le c.args.search.now.value
     (bound_of c.args.setting.now.version c.args.setting.now.instance.now c.args.search.now.node.items machine))
     (numbers 1 c.args.setting.now.instance.now.machines)
 found c =
     let more : c.args.count ≡ suc (c.args.count - 1) = omega (arith, c.if-count-eq0.false) in
-    c.cutting_machine.ensures c.args.search.now.node.items (c.args.count - 1)
+    c.cutting_node.ensures c.args.search.now.node.items (c.args.count - 1)
     (subst (IsAt c.args.setting.now.instance.now c.args.search.now.node.items c.args.front.now
     c.args.search.now.unscheduled) more c.requires.at)
 
 pub overflow_cast-machine : goal.overflow_cast-machine
 overflow_cast-machine c =
-    let is = machine-is c.args.setting.now.instance.now _ c.in-Some.machine c.requires.rows.limits (sym c.in-Some.is
-    ∙ found (goal.at.overflow_cast-machine c).After-cutting_machine) in
+    let is = machine-is c.args.setting.now.instance.now _ c.in-Some.machine c.args.setting.now.are_rows.limits
+    (sym c.in-Some.is
+    ∙ found (goal.at.overflow_cast-machine c).After-cutting_node) in
     omega (arith, is.1)
 
 pub overflow_add-machine : goal.overflow_add-machine
 overflow_add-machine c =
-    let is = machine-is c.args.setting.now.instance.now _ c.in-Some.machine c.requires.rows.limits (sym c.in-Some.is
-    ∙ found (goal.at.overflow_add-machine c).After-cutting_machine) in
+    let is = machine-is c.args.setting.now.instance.now _ c.in-Some.machine c.args.setting.now.are_rows.limits
+    (sym c.in-Some.is
+    ∙ found (goal.at.overflow_add-machine c).After-cutting_node) in
     omega (arith, is.1)
 
 pub returns-in-Some-clause-done : goal.returns-in-Some-clause-done
@@ -63,7 +65,7 @@ returns-in-Some-clause-done c =
     c.args.count
     (c.args.count - 1) c.in-Some.machine c.args.search.now c.write-in-Some.new.self
     (omega (arith, c.if-count-eq0.false)) (sym c.in-Some.is
-    ∙ found (goal.at.returns-in-Some-clause-done c).After-cutting_machine) c.in_ok-write-2.ensures.done
+    ∙ found (goal.at.returns-in-Some-clause-done c).After-cutting_node) c.in_ok-write-2.ensures.done
 
 pub walk_children-requires-clause-frame : goal.walk_children-requires-clause-frame
 walk_children-requires-clause-frame c =
@@ -76,7 +78,7 @@ walk_children-requires-clause-frame c =
     subst (λ q. IsFrame shop q (suc (c.args.count - 1)) c.new-here.result) (sym w.node)
     (frame-of shop old.node.items c.args.front.now old.unscheduled (suc (c.args.count - 1)) c.new-here.result at
     (subst (IsFrontOf shop old.node.items) (sym c.new-here.ensures.front) c.requires.at.is_front)
-    (subst (AreLoadsOf shop (members old.unscheduled)) (sym c.new-here.ensures.rest) c.of-rest.ensures.loads)
+    (subst (AreLoadsOf shop (members old.unscheduled)) (sym c.new-here.ensures.loads) c.of-loads.ensures.loads)
     (λ machine from to. c.new-here.ensures.second machine from to
     ∙ ap (λ u. second_tail shop (members u) machine) w.unscheduled))
 
@@ -89,25 +91,25 @@ uncut c =
     uncut-found c.args.setting.now.instance.now (bound_of c.args.setting.now.version) c.args.count c.args.search.now
     (omega (arith, c.if-count-eq0.false))
     (sym c.in_default.is
-    ∙ c.cutting_machine.ensures c.args.search.now.node.items (c.args.count - 1)
+    ∙ c.cutting_node.ensures c.args.search.now.node.items (c.args.count - 1)
     (subst (IsAt c.args.setting.now.instance.now c.args.search.now.node.items c.args.front.now
     c.args.search.now.unscheduled) (suc-back c.args.count (omega (arith, c.if-count-eq0.false))) c.requires.at))
 
-pub returns-then-count-le8-clause-done : goal.returns-then-count-le8-clause-done
-returns-then-count-le8-clause-done c =
+pub returns-then-count-le-FEW-clause-done : goal.returns-then-count-le-FEW-clause-done
+returns-then-count-le-FEW-clause-done c =
     on_ok_weaker c.walk_few.result
     (node-done c.args.setting.now.instance.now (bound_of c.args.setting.now.version) c.args.setting.now.budget
     c.args.count c.args.search.now
     c.write-2.new.self c.walk_few.new.search
-    (uncut (goal.at.returns-then-count-le8-clause-done c).In_default) c.in_ok-write-3.ensures.done)
+    (uncut (goal.at.returns-then-count-le-FEW-clause-done c).In_default) c.in_ok-write-3.ensures.done)
     c.walk_few.ensures.done
 
-pub returns-then-count-le8-clause-over : goal.returns-then-count-le8-clause-over
-returns-then-count-le8-clause-over c e =
+pub returns-then-count-le-FEW-clause-over : goal.returns-then-count-le-FEW-clause-over
+returns-then-count-le-FEW-clause-over c e =
     node-over c.args.setting.now.instance.now (bound_of c.args.setting.now.version) c.args.setting.now.budget
     c.args.count c.args.search.now
     c.write-2.new.self
-    (uncut (goal.at.returns-then-count-le8-clause-over c).In_default) c.in_ok-write-3.ensures.done
+    (uncut (goal.at.returns-then-count-le-FEW-clause-over c).In_default) c.in_ok-write-3.ensures.done
     (c.walk_few.ensures.over e)
 
 pub returns-clause-done : goal.returns-clause-done

@@ -7,13 +7,13 @@ use Rattle.flow_shop.specs.Shop.{numbers}
 use Rattle.flow_shop.specs.Front.{IsFrontOf}
 use Rattle.flow_shop.specs.JobSet.{contains, members}
 use Rattle.flow_shop.specs.Bound.{bound_of, front_of}
-use Rattle.flow_search.specs.Walk.{walk}
+use Rattle.flow_search.specs.internal.Walk.{walk}
 use Rattle.flow_bound.specs.Loads.{AreLoadsOf}
 use Rattle.flow_search.specs.internal.Nodes.{IsAt, Left, Gave, Opens, children_walked, incumbent_of}
 use Rattle.flow_search.specs.internal.Frames.{IsWalking, IsChild, path}
-use Rattle.flow_search.specs.internal.Lags.{AreTwoLeastLags}
-use Rattle.flow_search.specs.declared.subtree.Stop.{Stop}
-use Rattle.flow_search.specs.declared.subtree.Stop.TheVariants.{OverBudget}
+use Rattle.flow_search.specs.internal.Lags.{AreLeastLags}
+use Rattle.flow_search.specs.declared.budget.SearchFault.{SearchFault}
+use Rattle.flow_search.specs.declared.budget.SearchFault.TheVariants.{OverBudget}
 use Rattle.flow_search.proofs.Nodes.{left-count, within-front}
 use Rattle.flow_search.proofs.Resume.{walk-some, walking-child, walking-whole, walking-over, walking-entered}
 use Rattle.flow_search.proofs.Resume.{walking-down, walking-up, walking-done, moved, reverse-push}
@@ -40,7 +40,7 @@ returns-in_default-pop-clause-done c =
     c.in_default-pop.ensures.items
     ∙ ap (λ xs. xs ++ []) (c.in_default-pop.ensures.rest
     ∙ ap (λ n. take (n - 1) c.walk.stack.items) c.in_default-pop.ensures.cases.0) in
-    walking-done c.walk.invariant.walking c.args.here.front (suc c.args.below)
+    walking-done c.walk.invariant.walking c.args.here.front (suc c.args.left)
     (sym c.in_default.is ∙ found (goal.at.returns-in_default-pop-clause-done c).After-first_of)
     (ap reverse empty) c.requires.at refl
 
@@ -69,22 +69,22 @@ walk-smaller-in_default c =
 up : (c : After-leave) →
     IsWalking c.args.setting.now.instance.now (bound_of c.args.setting.now.version) c.args.setting.now.budget
     c.args.search.now.node.items
-    (children_walked c.args.setting.now.instance.now (bound_of c.args.setting.now.version) c.args.below
-    c.args.search.now) c.args.search.now c.in-Some-pop.parent (c.walk.below + 1) (reverse c.pop.new.self.items)
+    (children_walked c.args.setting.now.instance.now (bound_of c.args.setting.now.version) c.args.left
+    c.args.search.now) c.args.search.now c.in-Some-pop.parent (c.walk.left + 1) (reverse c.pop.new.self.items)
     c.leave.new.self
 up c =
     let shop = c.args.setting.now.instance.now in
     let old = c.args.search.now in
     let up = walking-up c.walk.invariant.walking c.in-Some-pop.parent (reverse c.pop.new.self.items) c.leave.new.self
     (sym c.in_default.is ∙ found (goal.at.After-leave c).After-first_of) (above c).0 (above c).1 in
-    let more : suc c.walk.below ≡ c.walk.below + 1 = omega arith in
+    let more : suc c.walk.left ≡ c.walk.left + 1 = omega arith in
     subst (λ n. IsWalking shop (bound_of c.args.setting.now.version) c.args.setting.now.budget old.node.items
-    (children_walked shop (bound_of c.args.setting.now.version) c.args.below old) old c.in-Some-pop.parent n
+    (children_walked shop (bound_of c.args.setting.now.version) c.args.left old) old c.in-Some-pop.parent n
     (reverse c.pop.new.self.items) c.leave.new.self) more up
 
-pub renew_lags-requires-in_default-clause-jobs : goal.renew_lags-requires-in_default-clause-jobs
-renew_lags-requires-in_default-clause-jobs c =
-    (up (goal.at.renew_lags-requires-in_default-clause-jobs c).After-leave).at.none
+pub renew_lags-requires-in_default : goal.renew_lags-requires-in_default
+renew_lags-requires-in_default c =
+    record { jobs = (up (goal.at.renew_lags-requires-in_default c).After-leave).at.none }
 
 pub walk-preserved-in_default : goal.walk-preserved-in_default
 walk-preserved-in_default c = record {
@@ -102,25 +102,21 @@ kid : (c : In-Some) →
     × (contains c.walk.search.unscheduled c.in-Some.job ≡ true)
     × (c.args.setting.now.instance.now.jobs ≤ most_jobs)
 kid c = let next = walking-child c.walk.invariant.walking c.in-Some.job (found-job c) in
-    (next.1, next.2, c.requires.rows.limits.jobs)
+    (next.1, next.2, c.args.setting.now.are_rows.limits.jobs)
 
 pub overflow_add-here : goal.overflow_add-here
 overflow_add-here c = let k = kid c in omega (arith, k.0.to, k.2)
 
-pub visit-requires-clause-from : goal.visit-requires-clause-from
-visit-requires-clause-from c = (kid (goal.at.visit-requires-clause-from c).In-Some).0.from
-
-pub visit-requires-clause-to : goal.visit-requires-clause-to
-visit-requires-clause-to c = (kid (goal.at.visit-requires-clause-to c).In-Some).0.to
-
-pub visit-requires-clause-left : goal.visit-requires-clause-left
-visit-requires-clause-left c = (kid (goal.at.visit-requires-clause-left c).In-Some).1
+pub visit-requires-clause-job : goal.visit-requires-clause-job
+visit-requires-clause-job c =
+    let k = kid (goal.at.visit-requires-clause-job c).In-Some in
+    record { from = k.0.from; to = k.0.to; left = k.1 }
 
 pub returns-in_err-visit-clause-over : goal.returns-in_err-visit-clause-over
 returns-in_err-visit-clause-over c e =
     let p = err_from_is_err_and c.from_residual.result c.from_residual.ensures.1 in
-    let put : Stop → Result (Unit {0}) Stop = λ stop. Err stop in
-    let put_bool : Stop → Result Bool Stop = λ stop. Err stop in
+    let put : SearchFault → Result (Unit {0}) SearchFault = λ stop. Err stop in
+    let put_bool : SearchFault → Result Bool SearchFault = λ stop. Err stop in
     let was : p.0 ≡ OverBudget = let r : put p.0 ≡ put OverBudget = sym p.1 ∙ e in cc in
     let same : put_bool c.in_err-visit.field-0.0 ≡ put_bool OverBudget = ap put_bool (sym p.2 ∙ was) in
     walking-over c.walk.invariant.walking c.in-Some.job (found-job (goal.at.returns-in_err-visit-clause-over c).In-Some)
@@ -136,21 +132,21 @@ enter-requires-clause-to c = let k = kid (goal.at.enter-requires-clause-to c).In
 opens : (c : Then-branch) →
     Opens c.args.setting.now.instance.now (bound_of c.args.setting.now.version) c.args.setting.now.budget
     c.in-Some.job c.walk.search c.visit.new.search
-    × (9 ≤ c.walk.below)
+    × (9 ≤ c.walk.left)
 opens c =
-    let put : Bool → Result Bool Stop = λ b. Ok b in
+    let put : Bool → Result Bool SearchFault = λ b. Ok b in
     let true_is = ap put c.if-branch.true in
     (c.in_ok-visit.ensures.opens true_is, c.in_ok-visit.ensures.more true_is)
 
 -- the child's node
 entered : (c : In_ok-enter) →
     IsAt c.args.setting.now.instance.now c.enter.new.self.node.items (front_of c.args.setting.now.instance.now
-    (c.walk.search.node.items ++ c.in-Some.job ∷ [])) c.enter.new.self.unscheduled c.walk.below
+    (c.walk.search.node.items ++ c.in-Some.job ∷ [])) c.enter.new.self.unscheduled c.walk.left
     × AreLoadsOf c.args.setting.now.instance.now (members (slice_set c.enter.new.self.unscheduled
-    (c.in-Some.job - 1) true)) c.walk.here.rest
-    × (1 ≤ c.walk.below)
+    (c.in-Some.job - 1) true)) c.walk.here.loads
+    × (1 ≤ c.walk.left)
 entered c =
-    let put : Bool → Result Bool Stop = λ b. Ok b in
+    let put : Bool → Result Bool SearchFault = λ b. Ok b in
     let o = c.in_ok-visit.ensures.opens (ap put c.if-branch.true) in
     let found : Some c.in-Some.job
     ≡ find (contains c.walk.search.unscheduled) (numbers c.walk.here.next c.args.setting.now.instance.now.jobs) =
@@ -160,22 +156,22 @@ entered c =
     c.in_ok-enter.ensures in
     (is.0, is.1, omega (arith, c.in_ok-visit.ensures.more (ap put c.if-branch.true)))
 
-pub step-rest-requires-clause-job_from : goal.step-rest-requires-clause-job_from
-step-rest-requires-clause-job_from c = (kid (goal.at.step-rest-requires-clause-job_from c).In-Some).0.from
+pub step-loads-requires-clause-job_from : goal.step-loads-requires-clause-job_from
+step-loads-requires-clause-job_from c = (kid (goal.at.step-loads-requires-clause-job_from c).In-Some).0.from
 
-pub step-rest-requires-clause-job_to : goal.step-rest-requires-clause-job_to
-step-rest-requires-clause-job_to c = (kid (goal.at.step-rest-requires-clause-job_to c).In-Some).0.to
+pub step-loads-requires-clause-job_to : goal.step-loads-requires-clause-job_to
+step-loads-requires-clause-job_to c = (kid (goal.at.step-loads-requires-clause-job_to c).In-Some).0.to
 
-pub step-rest-requires-clause-some : goal.step-rest-requires-clause-some
-step-rest-requires-clause-some c =
-    let is = entered (goal.at.step-rest-requires-clause-some c).In_ok-enter in
+pub step-loads-requires-clause-some : goal.step-loads-requires-clause-some
+step-loads-requires-clause-some c =
+    let is = entered (goal.at.step-loads-requires-clause-some c).In_ok-enter in
     let size = left-count c.args.setting.now.instance.now c.enter.new.self.node.items
     (front_of c.args.setting.now.instance.now (c.walk.search.node.items ++ c.in-Some.job ∷ []))
-    c.enter.new.self.unscheduled c.walk.below is.0 in
+    c.enter.new.self.unscheduled c.walk.left is.0 in
     omega (arith, size, is.2)
 
-pub step-rest-requires-clause-loads : goal.step-rest-requires-clause-loads
-step-rest-requires-clause-loads c = (entered (goal.at.step-rest-requires-clause-loads c).In_ok-enter).1
+pub step-loads-requires-clause-loads : goal.step-loads-requires-clause-loads
+step-loads-requires-clause-loads c = (entered (goal.at.step-loads-requires-clause-loads c).In_ok-enter).1
 
 pub front_push-requires-clause-job_from : goal.front_push-requires-clause-job_from
 front_push-requires-clause-job_from c = (kid (goal.at.front_push-requires-clause-job_from c).In-Some).0.from
@@ -186,10 +182,10 @@ front_push-requires-clause-job_to c = (kid (goal.at.front_push-requires-clause-j
 pub front_push-requires-clause-within : goal.front_push-requires-clause-within
 front_push-requires-clause-within c =
     within-front c.args.setting.now.instance.now c.walk.search.node.items c.walk.here.front c.walk.search.unscheduled
-    (suc c.walk.below) c.walk.invariant.walking.at
+    (suc c.walk.left) c.walk.invariant.walking.at
 
-pub new-here-requires-clause-jobs : goal.new-here-requires-clause-jobs
-new-here-requires-clause-jobs c = (entered (goal.at.new-here-requires-clause-jobs c).In_ok-enter).0.none
+pub new-here-requires : goal.new-here-requires
+new-here-requires c = record { jobs = (entered (goal.at.new-here-requires c).In_ok-enter).0.none }
 
 pub walk-smaller-then-branch : goal.walk-smaller-then-branch
 walk-smaller-then-branch c =
@@ -211,9 +207,9 @@ walk-smaller-then-branch c =
       length-append c.walk.stack.items (moved c.walk.here (c.in-Some.job + 1) ∷ []),
     )
 
-pub renew_lags-requires-then-branch-clause-jobs : goal.renew_lags-requires-then-branch-clause-jobs
-renew_lags-requires-then-branch-clause-jobs c =
-    (entered (goal.at.renew_lags-requires-then-branch-clause-jobs c).In_ok-enter).0.none
+pub renew_lags-requires-then-branch : goal.renew_lags-requires-then-branch
+renew_lags-requires-then-branch c =
+    record { jobs = (entered (goal.at.renew_lags-requires-then-branch c).In_ok-enter).0.none }
 
 pub walk-preserved-then-branch : goal.walk-preserved-then-branch
 walk-preserved-then-branch c =
@@ -225,7 +221,7 @@ walk-preserved-then-branch c =
     + 1)) c.in_ok-push.ensures.items in
     let bound = bound_of c.args.setting.now.version in
     let down = subst (λ xs. IsWalking shop bound c.args.setting.now.budget old.node.items
-    (children_walked shop bound c.args.below old) old c.new-here.result (c.walk.below
+    (children_walked shop bound c.args.left old) old c.new-here.result (c.walk.left
     - 1) xs c.enter.new.self)
     (sym pushed)
     (walking-down c.walk.invariant.walking c.in-Some.job c.visit.new.search c.enter.new.self c.new-here.result
@@ -234,26 +230,26 @@ walk-preserved-then-branch c =
     ∷ [])) (sym c.new-here.ensures.front)
     (c.front_push.ensures.front c.walk.search.node.items c.walk.invariant.walking.at.is_front))
     (subst (AreLoadsOf shop (members c.enter.new.self.unscheduled))
-    (sym c.new-here.ensures.rest) c.step-rest.ensures.loads)
+    (sym c.new-here.ensures.loads) c.step-loads.ensures.loads)
     c.new-here.ensures.second c.new-here.ensures.next) in
     record { walking = down; lags = c.renew_lags-then-branch.ensures }
 
 -- the child's subtree that was walked
 whole : (c : goal.Else-branch) → Gave c.args.setting.now.budget
-    (walk c.args.setting.now.instance.now (bound_of c.args.setting.now.version) c.walk.below (c.walk.search.node.items
+    (walk c.args.setting.now.instance.now (bound_of c.args.setting.now.version) c.walk.left (c.walk.search.node.items
     ++ c.in-Some.job
     ∷ []) (incumbent_of c.walk.search)) c.walk.search c.visit.new.search
-whole c = let put : Bool → Result Bool Stop = λ b. Ok b in c.in_ok-visit.ensures.whole (ap put c.if-branch.false)
+whole c = let put : Bool → Result Bool SearchFault = λ b. Ok b in c.in_ok-visit.ensures.whole (ap put c.if-branch.false)
 
 pub walk-smaller : goal.walk-smaller
 walk-smaller c =
     let shop = c.args.setting.now.instance.now in
     let g = whole c in
-    let text : List ℕ = (walk shop (bound_of c.args.setting.now.version) c.walk.below (c.walk.search.node.items ++
+    let text : List ℕ = (walk shop (bound_of c.args.setting.now.version) c.walk.left (c.walk.search.node.items ++
     c.in-Some.job
     ∷ []) (incumbent_of c.walk.search)).0 in
     let some : 1 ≤ length text =
-    walk-some shop (bound_of c.args.setting.now.version) c.walk.below (c.walk.search.node.items ++ c.in-Some.job ∷ [])
+    walk-some shop (bound_of c.args.setting.now.version) c.walk.left (c.walk.search.node.items ++ c.in-Some.job ∷ [])
     (incumbent_of c.walk.search) in
     let tree : length c.visit.new.search.tree.items ≡ length (c.walk.search.tree.items ++ text) = ap length g.tree in
     omega (arith, some, tree, g.within, length-append c.walk.search.tree.items text)
@@ -262,6 +258,21 @@ pub walk-preserved : goal.walk-preserved
 walk-preserved c = record {
   walking = walking-whole c.walk.invariant.walking c.in-Some.job c.visit.new.search
       (found-job (goal.at.walk-preserved c).In-Some) (whole c);
-  lags = λ two. subst (λ set. AreTwoLeastLags c.args.setting.now.instance.now (members set) c.walk.lags)
+  lags = λ two. subst (λ set. AreLeastLags c.args.setting.now.instance.now (members set) c.walk.lags)
       (sym (whole c).unscheduled) (c.walk.invariant.lags two);
 }
+
+pub visit-requires-clause-at : goal.visit-requires-clause-at
+visit-requires-clause-at c = c.walk.invariant.walking.at
+
+pub visit-requires-clause-many : goal.visit-requires-clause-many
+visit-requires-clause-many c = c.walk.invariant.walking.many
+
+pub first_of-requires-clause-from : goal.first_of-requires-clause-from
+first_of-requires-clause-from c = c.walk.invariant.walking.next
+
+pub overflow_sub-left : goal.overflow_sub-left
+overflow_sub-left c = (entered (goal.at.overflow_sub-left c).In_ok-enter).2
+
+pub renew_lags-requires : goal.renew_lags-requires
+renew_lags-requires c = record { jobs = c.requires.at.none }

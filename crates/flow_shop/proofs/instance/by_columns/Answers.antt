@@ -1,6 +1,6 @@
 use Rattle.std.proofs.Common.{◌++◌, ◌∷◌, [], slice_index, ap, sym, ◌∙◌, arith}
 use Rattle.std.proofs.lemmas.List.FromFn.{map-range_with_len_more}
-use Rattle.flow_shop.proofs.Turns.{taken_from}
+use Rattle.flow_shop.proofs.Transposes.{taken_from}
 use Rattle.flow_shop.proofs.instance.by_columns.Goals as goal
 
 pub loop-place-preserved : goal.loop-place-preserved

@@ -1,6 +1,6 @@
 use Rattle.std.proofs.Common.{◌≡◌, vec_capacity, vec_len, map, slice_index}
 use Rattle.std.specs.List.{range_with_len}
-use Rattle.flow_shop.proofs.Turns.{taken_from}
+use Rattle.flow_shop.proofs.Transposes.{taken_from}
 use Rattle.flow_shop.proofs.instance.by_columns.Given as goal
 
 -- so many places are taken

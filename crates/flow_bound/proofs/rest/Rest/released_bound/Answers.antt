@@ -8,7 +8,7 @@ returns-clause-value c shop jobs rest =
     let high : c.args.machine ≤ shop.machines = omega (arith, c.requires.to, rest.loads_are.machines_are) in
     omega (
       arith,
-      c.release_by-release.ensures.value shop jobs (rest.lags_are c.args.machine c.requires.from high),
+      c.release_from_lags-release.ensures.value shop jobs (rest.lags_are c.args.machine c.requires.from high),
       c.sum.ensures,
       c.tail.ensures,
       c.from.ensures,
@@ -20,6 +20,6 @@ returns-clause-value c shop jobs rest =
 pub returns-clause-admissible : goal.returns-clause-admissible
 returns-clause-admissible c shop scheduled sequence rest some front is extends =
     released-members shop scheduled sequence c.args.front.now (jobs_left shop.jobs scheduled) c.args.machine
-    (c.release_by-release.result + (c.from.result + c.from-2.result))
+    (c.release_from_lags-release.result + (c.from.result + c.from-2.result))
     c.requires.from (omega (arith, c.requires.to, rest.loads_are.machines_are)) is extends some refl front
     (returns-clause-value c shop (jobs_left shop.jobs scheduled) rest)

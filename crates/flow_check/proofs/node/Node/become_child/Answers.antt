@@ -4,7 +4,7 @@ use Rattle.flow_shop.specs.Limits.{most_machines, greatest_completion}
 use Rattle.flow_shop.specs.Shop.{time}
 use Rattle.flow_shop.proofs.Recurrence.{after}
 use Rattle.flow_shop.proofs.Fronts.{free_at, after-step, time-small}
-use Rattle.flow_check.specs.internal.Nodes.{unknown}
+use Rattle.flow_check.specs.internal.Nodes.{no_least}
 use Rattle.flow_check.proofs.NodeSteps.{node-within, work-covers, filled-more, child-completion, child-node}
 use Rattle.flow_check.proofs.node.Node.become_child.Goals as goal
 use Rattle.flow_check.proofs.node.Node.become_child.Goals.{After-max}
@@ -24,27 +24,28 @@ loop-machine-init c = record {
 
 -- the machine is one of the instance's, the job's time there is known, and the list owes it
 here : (c : After-max) → c.loop-machine.machine < c.machines-machines.result + 1 →
-    (1 ≤ c.loop-machine.machine) × (c.loop-machine.machine ≤ c.args.claim.now.instance.now.machines)
-    × (c.from-time.result ≡ time c.args.claim.now.instance.now c.args.job c.loop-machine.machine)
+    (1 ≤ c.loop-machine.machine) × (c.loop-machine.machine ≤ c.args.text.now.shop.now.machines)
+    × (c.from-time.result ≡ time c.args.text.now.shop.now c.args.job c.loop-machine.machine)
     × (c.from-time.result ≤ slice_index c.args.list.now.work (c.loop-machine.machine - 1))
     × (slice_index c.args.list.now.front (c.loop-machine.machine - 1) ≤ greatest_completion)
 here c test =
     let low : 1 ≤ c.loop-machine.machine = c.loop-machine.auto.machine in
-    let high : c.loop-machine.machine ≤ c.args.claim.now.instance.now.machines =
+    let high : c.loop-machine.machine ≤ c.args.text.now.shop.now.machines =
     omega (arith, test, c.machines-machines.ensures.value) in
-    let there : c.from-time.result ≡ time c.args.claim.now.instance.now c.args.job c.loop-machine.machine =
-    c.from-time.ensures ∙ (c.requires.rows.each c.args.job _ c.requires.from c.requires.to c.loop-machine.machine low
+    let there : c.from-time.result ≡ time c.args.text.now.shop.now c.args.job c.loop-machine.machine =
+    c.from-time.ensures ∙ (c.args.text.now.are_rows.each c.args.job _ c.requires.job.0 c.requires.job.1
+    c.loop-machine.machine low
     high).0 in
-    let covers = work-covers c.args.claim.now.instance.now c.requires.at.0 c.args.list.now c.requires.at.1 c.args.job
-    c.loop-machine.machine c.requires.at.2 c.requires.from c.requires.to c.requires.at.3 low high in
-    let within = node-within c.args.claim.now.instance.now c.requires.at.0 c.args.list.now c.requires.at.1
-    c.requires.rows.limits c.requires.at.2 (c.loop-machine.machine - 1) (omega (arith, low, high)) in
+    let covers = work-covers c.args.text.now.shop.now c.requires.at.0 c.args.list.now c.requires.at.1 c.args.job
+    c.loop-machine.machine c.requires.at.2 c.requires.job.0 c.requires.job.1 c.requires.at.3 low high in
+    let within = node-within c.args.text.now.shop.now c.requires.at.0 c.args.list.now c.requires.at.1
+    c.args.text.now.are_rows.limits c.requires.at.2 (c.loop-machine.machine - 1) (omega (arith, low, high)) in
     (low, high, there, omega (arith, there, covers), within)
 
 pub overflow_add-free : goal.overflow_add-free
 overflow_add-free c =
     let is = here (goal.at.overflow_add-free c).After-max c.loop-machine-test.true in
-    let most : c.args.claim.now.instance.now.machines ≤ most_machines = c.requires.rows.limits.machines in
+    let most : c.args.text.now.shop.now.machines ≤ most_machines = c.args.text.now.are_rows.limits.machines in
     omega (
       arith,
       is.1,
@@ -54,7 +55,7 @@ overflow_add-free c =
       c.max.ensures,
       c.loop-machine.invariant.small,
       time-small
-          c.args.claim.now.instance.now c.args.job c.loop-machine.machine c.requires.rows.limits,
+          c.args.text.now.shop.now c.args.job c.loop-machine.machine c.args.text.now.are_rows.limits,
     )
 
 pub overflow_sub-self : goal.overflow_sub-self
@@ -63,22 +64,22 @@ overflow_sub-self c = (here (goal.at.overflow_sub-self c).After-max c.loop-machi
 pub loop-machine-preserved : goal.loop-machine-preserved
 loop-machine-preserved c =
     let is = here (goal.at.loop-machine-preserved c).After-max c.loop-machine-test.true in
-    let most : c.args.claim.now.instance.now.machines ≤ most_machines = c.requires.rows.limits.machines in
+    let most : c.args.text.now.shop.now.machines ≤ most_machines = c.args.text.now.are_rows.limits.machines in
     let i = c.loop-machine.invariant in
     let place : ℕ = c.loop-machine.machine - 1 in
     let free : ℕ = c.max.result + c.from-time.result in
     let work : ℕ = slice_index c.args.list.now.work place - c.from-time.result in
     let sum : free ≡ max (slice_index c.args.list.now.front place) c.loop-machine.free + c.from-time.result =
     omega (arith, c.max.ensures) in
-    let value = after-step c.args.claim.now.instance.now c.args.list.now.front c.args.list.now.front c.args.job
+    let value = after-step c.args.text.now.shop.now c.args.list.now.front c.args.list.now.front c.args.job
     c.loop-machine.machine c.loop-machine.free c.from-time.result free is.0 i.free refl is.2 sum in
     let next : c.loop-machine.machine + 1 - 1 ≡ c.loop-machine.machine = omega arith in
     record {
       front_size = length-set c.loop-machine.self.front place free ∙ i.front_size;
       work_size = length-set c.loop-machine.self.work place work ∙ i.work_size;
-      least_size = length-set c.loop-machine.self.least place unknown ∙ i.least_size;
+      least_size = length-set c.loop-machine.self.least place no_least ∙ i.least_size;
       second_size = i.second_size;
-      free = value ∙ ap (after c.args.claim.now.instance.now (free_at c.args.list.now.front) c.args.job) (sym next);
+      free = value ∙ ap (after c.args.text.now.shop.now (free_at c.args.list.now.front) c.args.job) (sym next);
       small = omega (
         arith,
         sum,
@@ -86,29 +87,29 @@ loop-machine-preserved c =
         is.2,
         is.4,
         i.small,
-        time-small c.args.claim.now.instance.now c.args.job
-            c.loop-machine.machine c.requires.rows.limits,
+        time-small c.args.text.now.shop.now c.args.job
+            c.loop-machine.machine c.args.text.now.are_rows.limits,
       );
       front = filled-more (λ k v. v
-          ≡ after c.args.claim.now.instance.now
+          ≡ after c.args.text.now.shop.now
           (free_at c.args.list.now.front) c.args.job k) c.loop-machine.self.front c.loop-machine.machine free is.0
           (omega (arith, is.0, is.1, most, i.front_size)) value i.front;
-      work = filled-more (λ k v. v + time c.args.claim.now.instance.now c.args.job k
+      work = filled-more (λ k v. v + time c.args.text.now.shop.now c.args.job k
           ≡ slice_index c.args.list.now.work (k - 1)) c.loop-machine.self.work c.loop-machine.machine work is.0 (omega
           (arith, is.0, is.1, most, i.work_size)) (omega (arith, is.2, is.3)) i.work;
       least = filled-more (λ k v. v
-          ≡ unknown) c.loop-machine.self.least c.loop-machine.machine unknown is.0 (omega
+          ≡ no_least) c.loop-machine.self.least c.loop-machine.machine no_least is.0 (omega
           (arith, is.0, is.1, most, i.least_size)) refl i.least;
     }
 
 pub returns : goal.returns
 returns c jobs left is fresh =
     let i = c.loop-machine.invariant in
-    let past : (machine : ℕ) → machine ≤ c.args.claim.now.instance.now.machines → machine < c.loop-machine.machine =
+    let past : (machine : ℕ) → machine ≤ c.args.text.now.shop.now.machines → machine < c.loop-machine.machine =
     λ machine high. omega (arith, high, c.loop-machine-test.false, c.machines-machines.ensures.value) in
-    child-node c.args.claim.now.instance.now jobs c.args.list.now c.loop-machine.self left c.args.job
-    c.requires.rows.limits is c.requires.from c.requires.to fresh
+    child-node c.args.text.now.shop.now jobs c.args.list.now c.loop-machine.self left c.args.job
+    c.args.text.now.are_rows.limits is c.requires.job.0 c.requires.job.1 fresh
     (λ machine low high. i.front machine low (past machine high)
-    ∙ child-completion c.args.claim.now.instance.now jobs c.args.list.now.front c.args.job machine high is.times)
+    ∙ child-completion c.args.text.now.shop.now jobs c.args.list.now.front c.args.job machine high is.times)
     i.work_size (λ machine low high. i.work machine low (past machine high)) (λ machine low high. i.least machine low
     (past machine high)) i.least_size i.second_size

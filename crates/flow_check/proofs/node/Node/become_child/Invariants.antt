@@ -3,7 +3,7 @@ use Rattle.flow_shop.specs.Limits.{most_machines, greatest_time, greatest_comple
 use Rattle.flow_shop.specs.Shop.{time}
 use Rattle.flow_shop.proofs.Recurrence.{after}
 use Rattle.flow_shop.proofs.Fronts.{free_at}
-use Rattle.flow_check.specs.internal.Nodes.{unknown}
+use Rattle.flow_check.specs.internal.Nodes.{no_least}
 use Rattle.flow_check.proofs.node.Node.become_child.Given as goal
 
 abbrev pub invariant-loop-machine : goal.invariant-loop-machine
@@ -12,12 +12,12 @@ invariant-loop-machine l = record {
   work_size : length l.self.work ≡ most_machines;
   least_size : length l.self.least ≡ most_machines;
   second_size : length l.self.second ≡ most_machines;
-  free : l.free ≡ after l.claim.instance.now (free_at l.list.front) l.job (l.machine - 1);
+  free : l.free ≡ after l.text.shop.now (free_at l.list.front) l.job (l.machine - 1);
   small : l.free ≤ greatest_completion + (l.machine - 1) * greatest_time;
   front : (machine : ℕ) → 1 ≤ machine → machine < l.machine →
-      slice_index l.self.front (machine - 1) ≡ after l.claim.instance.now (free_at l.list.front) l.job machine;
+      slice_index l.self.front (machine - 1) ≡ after l.text.shop.now (free_at l.list.front) l.job machine;
   work : (machine : ℕ) → 1 ≤ machine → machine < l.machine →
-      slice_index l.self.work (machine - 1) + time l.claim.instance.now l.job machine
+      slice_index l.self.work (machine - 1) + time l.text.shop.now l.job machine
       ≡ slice_index l.list.work (machine - 1);
-  least : (machine : ℕ) → 1 ≤ machine → machine < l.machine → slice_index l.self.least (machine - 1) ≡ unknown;
+  least : (machine : ℕ) → 1 ≤ machine → machine < l.machine → slice_index l.self.least (machine - 1) ≡ no_least;
 }

@@ -1,6 +1,6 @@
 use Rattle.flow_shop.specs.Limits.{most_machines}
 use Rattle.std.proofs.Common.{refl, replicate, arith}
-use Rattle.flow_check.specs.internal.Nodes.{unknown}
+use Rattle.flow_check.specs.internal.Nodes.{no_least}
 use Rattle.flow_shop.proofs.Fronts.{front-empty}
 use Rattle.flow_check.proofs.NodeSteps.{root-node}
 use Rattle.flow_check.proofs.node.Node.root.Goals as goal
@@ -13,9 +13,9 @@ returns c =
       work =
           c.loop-machine.work;
       least =
-          replicate most_machines unknown;
+          replicate most_machines no_least;
       second =
-          replicate most_machines unknown;
+          replicate most_machines no_least;
     }) c.machines-machines.ensures.limits
     (λ machine from to. front-empty c.args.instance.now machine)
     (λ machine from to. c.loop-machine.invariant.done machine from (omega

@@ -7,13 +7,13 @@ use Rattle.flow_check.proofs.reader.TreeReader.new.Goals as goal
 pub returns : goal.returns
 returns c =
     let shop = c.args.instance.now in
-    let below = c.jobs-jobs.result - 1 in
+    let child_left = c.jobs-jobs.result - 1 in
     let value : c.jobs-jobs.result ≡ shop.jobs = c.jobs-jobs.ensures.value in
-    let count : shop.jobs ≡ suc below = omega (arith, value, c.jobs-jobs.ensures.limits) in
+    let count : shop.jobs ≡ suc child_left = omega (arith, value, c.jobs-jobs.ensures.limits) in
     record {
       at = record {
-        is_node = subst (λ node. IsNode shop [] node (suc below))
-            (sym (c.in_ok-frames.ensures.each below (omega (arith, value, count))))
+        is_node = subst (λ node. IsNode shop [] node (suc child_left))
+            (sym (c.in_ok-frames.ensures.each child_left (omega (arith, value, count))))
             (subst (IsNode shop [] c.root.result) count c.root.ensures);
         are_links = subst (λ jobs. AreLinks jobs [] c.in_ok-links.links.items) value c.in_ok-links.ensures;
       };

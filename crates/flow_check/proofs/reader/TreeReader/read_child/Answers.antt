@@ -2,7 +2,7 @@ use Rattle.std.proofs.Common.{◌≡◌, ◌≢◌, ℕ, ◌+◌, ◌<◌, Bool,
 use Rattle.std.proofs.Common.{Ok, Err, true, refl, sym, ap, subst, ◌∙◌, arith}
 use Rattle.std.proofs.lemmas.Grind.{get_or_default_zero}
 use Rattle.flow_shop.specs.Bound.{bound_of}
-use Rattle.flow_check.specs.CertificateFaults.{read_tree}
+use Rattle.flow_check.specs.internal.Reading.{read_tree}
 use Rattle.flow_check.specs.internal.Links.{IsPlace}
 use Rattle.flow_check.specs.internal.Nodes.{IsChild}
 use Rattle.flow_check.specs.internal.Reader.{Stands, Opened, LetterGives, TreeGives}
@@ -22,49 +22,46 @@ leads c =
     c.index-job.ensures ∙ get_or_default_zero c.args.self.now.links.items c.args.last c.index-job.result.now within
 
 -- the letter of the next child
-given : (c : After-index-job) (list : List ℕ) → Stands c.args.claim.now.instance.now list c.args.self.now →
-    IsPlace c.args.claim.now.instance.now.jobs list c.args.last →
-    IsChild c.args.claim.now.instance.now.jobs list (Some c.index-job.result.now)
+given : (c : After-index-job) (list : List ℕ) → Stands c.args.text.now.shop.now list c.args.self.now →
+    IsPlace c.args.text.now.shop.now.jobs list c.args.last →
+    IsChild c.args.text.now.shop.now.jobs list (Some c.index-job.result.now)
 given c list stands place =
-    let next = next-some c.args.claim.now.instance.now.jobs list c.args.last
+    let next = next-some c.args.text.now.shop.now.jobs list c.args.last
     (slice_index c.args.self.now.links.items c.args.last)
     (stands.at.are_links.each c.args.last place) c.requires.some in
-    subst (λ j. IsChild c.args.claim.now.instance.now.jobs list (Some j)) (sym (leads c)) (next.1, next.2, next.3)
+    subst (λ j. IsChild c.args.text.now.shop.now.jobs list (Some j)) (sym (leads c)) (next.1, next.2, next.3)
 
-pub read_letter-requires-clause-at : goal.read_letter-requires-clause-at
-read_letter-requires-clause-at c = (
-  c.requires.at.0,
-  c.requires.at.1,
-  given
-      (goal.at.read_letter-requires-clause-at c).After-index-job c.requires.at.0 c.requires.at.1 c.requires.at.2,
-)
+pub read_letter-requires : goal.read_letter-requires
+read_letter-requires c =
+    let kid = given (goal.at.read_letter-requires c).After-index-job c.requires.at.0 c.requires.at.1 c.requires.at.2 in
+    record { at = (c.requires.at.0, c.requires.at.1, kid) }
 
 pub returns-in_err-open-clause-tree : goal.returns-in_err-open-clause-tree
 returns-in_err-open-clause-tree c list stands place =
     let at = (goal.at.returns-in_err-open-clause-tree c).After-index-job in
-    tree-fails c.args.spot.at c.args.claim.now.bytes.now
-    (read_tree c.args.claim.now.instance.now (bound_of c.args.claim.now.version) c.args.claim.now.value c.args.spot.line
-    c.args.self.now.below
+    tree-fails c.args.spot.at c.args.text.now.bytes.now
+    (read_tree c.args.text.now.shop.now (bound_of c.args.text.now.version) c.args.text.now.value c.args.spot.line
+    c.args.self.now.child_left
     (list ++ slice_index c.args.self.now.links.items c.args.last
-    ∷ []) (drop c.args.spot.at c.args.claim.now.bytes.now)) c.from_residual.result c.in_err-open.field-0.0
+    ∷ []) (drop c.args.spot.at c.args.text.now.bytes.now)) c.from_residual.result c.in_err-open.field-0.0
     (exit c.from_residual.result c.in_err-open.field-0.0 c.from_residual.ensures.1)
-    (subst (λ j. read_tree c.args.claim.now.instance.now (bound_of c.args.claim.now.version) c.args.claim.now.value
+    (subst (λ j. read_tree c.args.text.now.shop.now (bound_of c.args.text.now.version) c.args.text.now.value
     c.args.spot.line
-    c.args.self.now.below (list ++ j ∷ []) (drop c.args.spot.at c.args.claim.now.bytes.now)
+    c.args.self.now.child_left (list ++ j ∷ []) (drop c.args.spot.at c.args.text.now.bytes.now)
     ≡ Err c.in_err-open.field-0.0) (leads at) (c.in_err-open.ensures.gives list stands
     (given at list stands place)))
 
 pub returns-then-not-open-clause-tree : goal.returns-then-not-open-clause-tree
 returns-then-not-open-clause-tree c list stands place =
     let at = (goal.at.returns-then-not-open-clause-tree c).After-index-job in
-    let is = letter-whole c.args.claim.now.instance.now c.args.claim.now.version c.args.claim.now.value c.args.spot.line
-    c.args.self.now.below
+    let is = letter-whole c.args.text.now.shop.now c.args.text.now.version c.args.text.now.value c.args.spot.line
+    c.args.self.now.child_left
     (list ++ c.index-job.result.now
-    ∷ []) c.args.spot.at c.args.claim.now.bytes.now c.in_ok-open.open (c.in_ok-open.ensures.gives list stands
+    ∷ []) c.args.spot.at c.args.text.now.bytes.now c.in_ok-open.open (c.in_ok-open.ensures.gives list stands
     (given at list stands place)) c.if-not-open.true in (
-      ap (λ j. read_tree c.args.claim.now.instance.now (bound_of c.args.claim.now.version) c.args.claim.now.value
+      ap (λ j. read_tree c.args.text.now.shop.now (bound_of c.args.text.now.version) c.args.text.now.value
           c.args.spot.line
-          c.args.self.now.below (list ++ j ∷ []) (drop c.args.spot.at c.args.claim.now.bytes.now)) (sym (leads at))
+          c.args.self.now.child_left (list ++ j ∷ []) (drop c.args.spot.at c.args.text.now.bytes.now)) (sym (leads at))
           ∙ is.1,
       omega arith,
       omega (arith, is.0),
@@ -72,15 +69,15 @@ returns-then-not-open-clause-tree c list stands place =
 
 -- a plus was read
 plus : (c : After-index-job) (b : Bool) → b ≡ true → (list : List ℕ) →
-    LetterGives c.args.claim.now.instance.now c.args.claim.now.version c.args.claim.now.value c.args.spot.line
-    c.args.self.now.below (list
-    ++ c.index-job.result.now ∷ []) c.args.spot.at c.args.claim.now.bytes.now (Ok b) →
-    (0 < c.args.self.now.below) × (c.args.spot.at < length c.args.claim.now.bytes.now)
-    × (drop c.args.spot.at c.args.claim.now.bytes.now ≡ 43 ∷ drop (c.args.spot.at + 1) c.args.claim.now.bytes.now)
+    LetterGives c.args.text.now.shop.now c.args.text.now.version c.args.text.now.value c.args.spot.line
+    c.args.self.now.child_left (list
+    ++ c.index-job.result.now ∷ []) c.args.spot.at c.args.text.now.bytes.now (Ok b) →
+    (0 < c.args.self.now.child_left) × (c.args.spot.at < length c.args.text.now.bytes.now)
+    × (drop c.args.spot.at c.args.text.now.bytes.now ≡ 43 ∷ drop (c.args.spot.at + 1) c.args.text.now.bytes.now)
 plus c b is list gives =
-    letter-open c.args.claim.now.instance.now c.args.claim.now.version c.args.claim.now.value c.args.spot.line
-    c.args.self.now.below (list
-    ++ c.index-job.result.now ∷ []) c.args.spot.at c.args.claim.now.bytes.now b gives is
+    letter-open c.args.text.now.shop.now c.args.text.now.version c.args.text.now.value c.args.spot.line
+    c.args.self.now.child_left (list
+    ++ c.index-job.result.now ∷ []) c.args.spot.at c.args.text.now.bytes.now b gives is
 
 pub open-requires-clause-more : goal.open-requires-clause-more
 open-requires-clause-more c =
@@ -88,27 +85,27 @@ open-requires-clause-more c =
     let is = plus at c.in_ok-open.open c.if-not-open.false c.requires.at.0
     (c.in_ok-open.ensures.gives c.requires.at.0 c.requires.at.1
     (given at c.requires.at.0 c.requires.at.1 c.requires.at.2)) in
-    omega (arith, is.0, c.read_letter.ensures.back.below)
+    omega (arith, is.0, c.read_letter.ensures.back.child_left)
 
 -- the child is opened after the link that led to it
 out : (c : After-open) → c.index-job.result.now ≡ slice_index c.args.self.now.links.items c.args.last →
-    Opened c.args.claim.now.instance.now c.args.last
+    Opened c.args.text.now.shop.now c.args.last
     (slice_index c.read_letter.new.self.links.items c.args.last) c.read_letter.new.self c.open.new.self
-out c job = subst (λ j. Opened c.args.claim.now.instance.now c.args.last j c.read_letter.new.self c.open.new.self) (job
+out c job = subst (λ j. Opened c.args.text.now.shop.now c.args.last j c.read_letter.new.self c.open.new.self) (job
     ∙ ap (λ l. slice_index l c.args.last) (sym c.read_letter.ensures.back.links)) c.open.ensures
 
 -- and it is reached
 there : (c : After-open) → c.index-job.result.now ≡ slice_index c.args.self.now.links.items c.args.last →
-    (list : List ℕ) → Stands c.args.claim.now.instance.now list c.args.self.now →
-    IsPlace c.args.claim.now.instance.now.jobs list c.args.last →
-    Stands c.args.claim.now.instance.now (list ++ slice_index c.args.self.now.links.items c.args.last
+    (list : List ℕ) → Stands c.args.text.now.shop.now list c.args.self.now →
+    IsPlace c.args.text.now.shop.now.jobs list c.args.last →
+    Stands c.args.text.now.shop.now (list ++ slice_index c.args.self.now.links.items c.args.last
     ∷ []) c.open.new.self
 there c job list stands place =
     let links = c.read_letter.ensures.back.links in
     let some : slice_index c.read_letter.new.self.links.items c.args.last ≢ 0 =
     λ e. c.requires.some (ap (λ l. slice_index l c.args.last) (sym links) ∙ e) in
-    subst (λ l. Stands c.args.claim.now.instance.now (list ++ slice_index l c.args.last ∷ []) c.open.new.self) links
-    (opened-stands c.args.claim.now.instance.now list c.args.last c.read_letter.new.self c.open.new.self
+    subst (λ l. Stands c.args.text.now.shop.now (list ++ slice_index l c.args.last ∷ []) c.open.new.self) links
+    (opened-stands c.args.text.now.shop.now list c.args.last c.read_letter.new.self c.open.new.self
     (c.read_letter.ensures.back.kept list stands) place some (out c job))
 
 pub read_children-requires-clause-at : goal.read_children-requires-clause-at
@@ -132,27 +129,27 @@ returns-in_err-end-clause-tree c list stands place =
     let at = goal.at.returns-in_err-end-clause-tree c in
     let is = plus at.After-index-job c.in_ok-open.open c.if-not-open.false list (c.in_ok-open.ensures.gives list stands
     (given at.After-index-job list stands place)) in
-    subst (λ (r : Result ℕ CheckFault). TreeGives c.args.spot.at c.args.claim.now.bytes.now r
-    (read_tree c.args.claim.now.instance.now (bound_of c.args.claim.now.version) c.args.claim.now.value c.args.spot.line
-    c.args.self.now.below
+    subst (λ (r : Result ℕ CheckFault). TreeGives c.args.spot.at c.args.text.now.bytes.now r
+    (read_tree c.args.text.now.shop.now (bound_of c.args.text.now.version) c.args.text.now.value c.args.spot.line
+    c.args.self.now.child_left
     (list ++ slice_index c.args.self.now.links.items c.args.last
-    ∷ []) (drop c.args.spot.at c.args.claim.now.bytes.now)))
+    ∷ []) (drop c.args.spot.at c.args.text.now.bytes.now)))
     (sym (exit c.from_residual-in_err-end.result c.in_err-end.field-0.0 c.from_residual-in_err-end.ensures.1))
-    (plus-gives c.args.claim.now.instance.now c.args.claim.now.version c.args.claim.now.value c.args.spot.line (list
+    (plus-gives c.args.text.now.shop.now c.args.text.now.version c.args.text.now.value c.args.spot.line (list
     ++ slice_index c.args.self.now.links.items c.args.last
-    ∷ []) c.args.self.now.below c.open.new.self.below c.args.spot.at c.args.claim.now.bytes.now 43
+    ∷ []) c.args.self.now.child_left c.open.new.self.child_left c.args.spot.at c.args.text.now.bytes.now 43
     (Err c.in_err-end.field-0.0)
-    (sym (c.open.ensures.below
-    ∙ c.read_letter.ensures.back.below)) refl is.2 (c.in_err-end.ensures.trees (list
+    (sym (c.open.ensures.child_left
+    ∙ c.read_letter.ensures.back.child_left)) refl is.2 (c.in_err-end.ensures.trees (list
     ++ slice_index c.args.self.now.links.items c.args.last
     ∷ []) (there at.After-open (leads at.After-index-job) list stands place)))
 
 pub returns-clause-back : goal.returns-clause-back
 returns-clause-back c =
     let at = goal.at.returns-clause-back c in
-    back-twice c.args.claim.now.instance.now c.args.self.now c.read_letter.new.self c.close.new.self
+    back-twice c.args.text.now.shop.now c.args.self.now c.read_letter.new.self c.close.new.self
     c.read_letter.ensures.back
-    (closed-back c.args.claim.now.instance.now c.args.last c.read_letter.new.self c.open.new.self
+    (closed-back c.args.text.now.shop.now c.args.last c.read_letter.new.self c.open.new.self
     c.read_children.new.self c.close.new.self (out at.After-open
     (leads at.After-index-job)) c.in_ok-end.ensures.back c.close.ensures.closed)
 
@@ -161,11 +158,11 @@ returns-clause-tree c list stands place =
     let at = goal.at.returns-clause-tree c in
     let is = plus at.After-index-job c.in_ok-open.open c.if-not-open.false list (c.in_ok-open.ensures.gives list stands
     (given at.After-index-job list stands place)) in
-    plus-gives c.args.claim.now.instance.now c.args.claim.now.version c.args.claim.now.value c.args.spot.line (list
+    plus-gives c.args.text.now.shop.now c.args.text.now.version c.args.text.now.value c.args.spot.line (list
     ++ slice_index c.args.self.now.links.items c.args.last
-    ∷ []) c.args.self.now.below c.open.new.self.below c.args.spot.at c.args.claim.now.bytes.now 43
+    ∷ []) c.args.self.now.child_left c.open.new.self.child_left c.args.spot.at c.args.text.now.bytes.now 43
     (Ok c.in_ok-end.end)
-    (sym (c.open.ensures.below
-    ∙ c.read_letter.ensures.back.below)) refl is.2 (c.in_ok-end.ensures.trees (list
+    (sym (c.open.ensures.child_left
+    ∙ c.read_letter.ensures.back.child_left)) refl is.2 (c.in_ok-end.ensures.trees (list
     ++ slice_index c.args.self.now.links.items c.args.last
     ∷ []) (there at.After-open (leads at.After-index-job) list stands place))

@@ -1,10 +1,21 @@
-use Rattle.std.proofs.Common.{suc}
+use Rattle.std.proofs.Common.{suc, arith}
+use Rattle.flow_check.specs.internal.Gives.{IsSpotOf}
+use Rattle.flow_check.proofs.Exits.{no_value}
 use Rattle.flow_check.proofs.LineSteps.{line-gives}
 use Rattle.flow_check.proofs.reader.TreeReader.read_one_line.Goals as goal
 
 pub returns-clause-lines : goal.returns-clause-lines
 returns-clause-lines c list stands =
-    line-gives c.args.claim.now.instance.now c.args.claim.now.version c.args.claim.now.value
-    (suc c.args.self.now.below) list c.args.spot.line c.args.spot.at c.in_ok-at.at c.args.claim.now.bytes.now
+    line-gives c.args.text.now.shop.now c.args.text.now.version c.args.text.now.value
+    (suc c.args.self.now.child_left) list c.args.spot.line c.args.spot.at c.in_ok-at.at c.args.text.now.bytes.now
     c.line_end.result
     (c.in_ok-at.ensures list stands).0 c.line_end.ensures
+
+pub returns-in_err-at-clause-within : goal.returns-in_err-at-clause-within
+returns-in_err-at-clause-within c =
+    no_value c.from_residual.result c.in_err-at.field-0.0 (IsSpotOf c.args.text.now) c.from_residual.ensures.1
+
+pub line_end-requires : goal.line_end-requires
+line_end-requires c =
+    let is = c.in_ok-at.ensures c.requires.at.0 c.requires.at.1 in
+    (is.2, omega (arith, is.1, c.requires.spot.1))

@@ -7,8 +7,8 @@ abbrev pub invariant-loop-row : goal.invariant-loop-row
 invariant-loop-row l = record {
   front_size : length l.made.front ≡ most_machines;
   sum_size : length l.made.sum ≡ most_machines;
-  front : (k : ℕ) → k < l.row → slice_index l.made.front k ≡ slice_index (slice_index_or l.parent.free k []) l.lane;
+  front : (k : ℕ) → k < l.row → slice_index l.made.front k ≡ slice_index (slice_index_or l.parent.free k []) l.column;
   sum : (k : ℕ) → k < l.row → slice_index l.made.sum k
       ≡ slice_index l.parent.sum k - slice_index (slice_index_or l.group.rows k (record { time = []; tail = [] })).time
-      l.lane;
+      l.column;
 }

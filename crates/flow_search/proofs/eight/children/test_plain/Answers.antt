@@ -7,10 +7,10 @@ use Rattle.flow_limits.specs.Limits.{most_machines, greatest_time, greatest_comp
 use Rattle.flow_shop.specs.Shop.{Shop}
 use Rattle.flow_shop.specs.Paths.{completion}
 use Rattle.flow_shop.specs.Bound.{bound_at}
-use Rattle.flow_search.specs.internal.Lanes.{IsLaneLeft, IsFrameOf, IsUncutCount, child, job_of}
-use Rattle.flow_search.proofs.LanesPassed.{all-same, passed-start, passed-more, free-none, free-is, bound-is}
-use Rattle.flow_search.proofs.LanesPassed.{start-small, behind-small, sum-small, row-small, done-more}
-use Rattle.flow_search.proofs.LanesOpened.{opened-same}
+use Rattle.flow_search.specs.internal.Columns.{IsColumnLeft, IsFrameOf, IsUncutCount, child, job_of}
+use Rattle.flow_search.proofs.ColumnsPassed.{all-same, passed-start, passed-more, free-none, free-is, bound-is}
+use Rattle.flow_search.proofs.ColumnsPassed.{start-small, behind-small, sum-small, row-small, done-more}
+use Rattle.flow_search.proofs.ColumnsOpened.{opened-same}
 use Rattle.flow_search.proofs.eight.children.test_plain.Goals as goal
 
 pub loop-place-init : goal.loop-place-init
@@ -18,24 +18,24 @@ loop-place-init c = record {
   front = refl;
   sum = refl;
   gone = refl;
-  lanes = refl;
+  columns = refl;
   next = refl;
   size = search rules;
-  free_small = λ lane low. omega (arith, all-same 8 0 lane low);
-  uncut_small = λ lane low. omega (arith, all-same 8 0 lane low);
-  flags_small = λ lane low. omega (arith, all-same 8 1 lane low);
-  free = λ list lane at here. all-same 8 0 lane here.within ∙ free-none c.args.instance.now list (job_of
-      c.args.group.now lane);
-  passed = λ list lane other at here there differ.
-      passed-start c.args.instance.now bound_at (child list c.args.group.now lane) c.args.value _ _
-      (all-same 8 0 lane here.within) (all-same 8 1 lane here.within);
-  done_small = λ place lane h low. absurd (omega (arith, h));
-  done = λ list place lane at here h. absurd (omega (arith, h));
+  free_small = λ column low. omega (arith, all-same 8 0 column low);
+  uncut_small = λ column low. omega (arith, all-same 8 0 column low);
+  flags_small = λ column low. omega (arith, all-same 8 1 column low);
+  free = λ list column at here. all-same 8 0 column here.within ∙ free-none c.args.instance.now list (job_of
+      c.args.group.now column);
+  passed = λ list column other at here there differ.
+      passed-start c.args.instance.now bound_at (child list c.args.group.now column) c.args.value _ _
+      (all-same 8 0 column here.within) (all-same 8 1 column here.within);
+  done_small = λ place column h low. absurd (omega (arith, h));
+  done = λ list place column at here h. absurd (omega (arith, h));
 }
 
 pub sums-requires : goal.sums-requires
 sums-requires c = record {
-  fits = λ lane low.
+  fits = λ column low.
       let place : ℕ = c.loop-place.place in
       let to : place < c.args.instance.now.machines = omega (
         arith,
@@ -46,18 +46,18 @@ sums-requires c = record {
       let front : slice_index c.loop-place.frame.front place ≡ slice_index c.args.frame.now.front place = ap
       (λ f. slice_index f place) c.loop-place.invariant.front in
       let start = start-small c.args.instance.now c.requires.0 c.args.group.now c.args.frame.now place
-      (slice_index c.loop-place.free lane) (slice_index c.at_least-start.result lane)
-      c.machines-machines.ensures.limits c.requires.1 to (c.loop-place.invariant.free_small lane low)
-      (c.at_least-start.ensures.each lane low ∙ ap (max (slice_index c.loop-place.free lane)) front) in
+      (slice_index c.loop-place.free column) (slice_index c.at_least-start.result column)
+      c.machines-machines.ensures.limits c.requires.1 to (c.loop-place.invariant.free_small column low)
+      (c.at_least-start.ensures.each column low ∙ ap (max (slice_index c.loop-place.free column)) front) in
       let behind = behind-small c.args.instance.now c.requires.0 c.args.group.now c.args.frame.now
-      (record { time = []; tail = [] }) place lane (slice_index c.others-behind.result lane) c.greater.result
-      c.requires.1 to c.greater.ensures.each (c.others-behind.ensures.each lane low) in
+      (record { time = []; tail = [] }) place column (slice_index c.others-behind.result column) c.greater.result
+      c.requires.1 to c.greater.ensures.each (c.others-behind.ensures.each column low) in
       omega (arith, start, behind, to, most);
 }
 
 pub sums-free-requires : goal.sums-free-requires
 sums-free-requires c = record {
-  fits = λ lane low.
+  fits = λ column low.
       let place : ℕ = c.loop-place.place in
       let to : place < c.args.instance.now.machines = omega (
         arith,
@@ -68,11 +68,11 @@ sums-free-requires c = record {
       let front : slice_index c.loop-place.frame.front place ≡ slice_index c.args.frame.now.front place = ap
       (λ f. slice_index f place) c.loop-place.invariant.front in
       let start = start-small c.args.instance.now c.requires.0 c.args.group.now c.args.frame.now place
-      (slice_index c.loop-place.free lane) (slice_index c.at_least-start.result lane)
-      c.machines-machines.ensures.limits c.requires.1 to (c.loop-place.invariant.free_small lane low)
-      (c.at_least-start.ensures.each lane low ∙ ap (max (slice_index c.loop-place.free lane)) front) in
+      (slice_index c.loop-place.free column) (slice_index c.at_least-start.result column)
+      c.machines-machines.ensures.limits c.requires.1 to (c.loop-place.invariant.free_small column low)
+      (c.at_least-start.ensures.each column low ∙ ap (max (slice_index c.loop-place.free column)) front) in
       let small = (row-small c.args.instance.now c.requires.0 c.args.group.now c.args.frame.now
-      (record { time = []; tail = [] }) place lane c.requires.1 to low).time in
+      (record { time = []; tail = [] }) place column c.requires.1 to low).time in
       omega (arith, start, small, to, most);
 }
 
@@ -86,77 +86,78 @@ loop-place-preserved c =
     (λ f. slice_index f place) c.loop-place.invariant.front in
     let sum : slice_index c.loop-place.frame.sum place ≡ slice_index c.args.frame.now.sum place = ap
     (λ f. slice_index f place) c.loop-place.invariant.sum in
-    let start : (lane : ℕ) → lane < 8 → slice_index c.at_least-start.result lane ≡ max
-    (slice_index c.loop-place.free lane) (slice_index c.args.frame.now.front place) =
-    λ lane low. c.at_least-start.ensures.each lane low ∙ ap (max (slice_index c.loop-place.free lane)) front in
-    let leaves_small : (lane : ℕ) → lane < 8 → slice_index c.sums-free.result lane
-    ≤ greatest_completion + (place + 1) * greatest_time = λ lane low.
+    let start : (column : ℕ) → column < 8 → slice_index c.at_least-start.result column ≡ max
+    (slice_index c.loop-place.free column) (slice_index c.args.frame.now.front place) =
+    λ column low. c.at_least-start.ensures.each column low ∙ ap (max (slice_index c.loop-place.free column)) front in
+    let leaves_small : (column : ℕ) → column < 8 → slice_index c.sums-free.result column
+    ≤ greatest_completion + (place + 1) * greatest_time = λ column low.
     let begins = start-small shop c.requires.0 c.args.group.now c.args.frame.now place
-    (slice_index c.loop-place.free lane) (slice_index c.at_least-start.result lane)
-    c.machines-machines.ensures.limits c.requires.1 to (c.loop-place.invariant.free_small lane low)
-    (start lane low) in
+    (slice_index c.loop-place.free column) (slice_index c.at_least-start.result column)
+    c.machines-machines.ensures.limits c.requires.1 to (c.loop-place.invariant.free_small column low)
+    (start column low) in
     let small = (row-small shop c.requires.0 c.args.group.now c.args.frame.now (record { time = []; tail = [] })
-    place lane c.requires.1 to low).time in
-    omega (arith, c.sums-free.ensures.each lane low, begins, small) in
-    let leaves : (list : List ℕ) (lane : ℕ) → IsFrameOf shop list c.args.group.now c.args.frame.now → IsLaneLeft
-    c.args.frame.now lane → slice_index c.sums-free.result lane ≡ completion shop (child list c.args.group.now lane)
+    place column c.requires.1 to low).time in
+    omega (arith, c.sums-free.ensures.each column low, begins, small) in
+    let leaves : (list : List ℕ) (column : ℕ) → IsFrameOf shop list c.args.group.now c.args.frame.now → IsColumnLeft
+    c.args.frame.now column → slice_index c.sums-free.result column ≡ completion shop
+    (child list c.args.group.now column)
     (place + 1) =
-    λ list lane at here.
-    c.sums-free.ensures.each lane here.within
-    ∙ free-is shop list c.args.group.now c.args.frame.now (record { time = []; tail = [] }) lane place
-    (slice_index c.loop-place.free lane) (slice_index c.at_least-start.result lane) at here to
-    (c.loop-place.invariant.free list lane at here) (start lane here.within) in
+    λ list column at here.
+    c.sums-free.ensures.each column here.within
+    ∙ free-is shop list c.args.group.now c.args.frame.now (record { time = []; tail = [] }) column place
+    (slice_index c.loop-place.free column) (slice_index c.at_least-start.result column) at here to
+    (c.loop-place.invariant.free list column at here) (start column here.within) in
     record {
       front = c.loop-place.invariant.front;
       sum = c.loop-place.invariant.sum;
       gone = c.loop-place.invariant.gone;
-      lanes = c.loop-place.invariant.lanes;
+      columns = c.loop-place.invariant.columns;
       next = c.loop-place.invariant.next;
       size = length-set c.loop-place.frame.free place c.sums-free.result ∙ c.loop-place.invariant.size;
       free_small = leaves_small;
-      uncut_small = λ lane low.
-          let flag : slice_index c.below-flags.result lane ≤ 1 = elim
-          (cases_lt (slice_index c.sums.result lane) c.saturating_sub-room.result) [
+      uncut_small = λ column low.
+          let flag : slice_index c.where_less-flags.result column ≤ 1 = elim
+          (cases_lt (slice_index c.sums.result column) c.saturating_sub-room.result) [
             | inl under ↦ omega (
               arith,
-              c.below-flags.ensures.kept lane low under,
+              c.where_less-flags.ensures.kept column low under,
               c.loop-place.invariant.flags_small
-                  lane low,
+                  column low,
             )
-            | inr over ↦ omega (arith, c.below-flags.ensures.cut lane low over)
+            | inr over ↦ omega (arith, c.where_less-flags.ensures.cut column low over)
           ] in
-          omega (arith, c.sums-uncut.ensures.each lane low, flag, c.loop-place.invariant.uncut_small lane low);
-      flags_small = λ lane low. elim (cases_lt (slice_index c.sums.result lane) c.saturating_sub-room.result) [
+          omega (arith, c.sums-uncut.ensures.each column low, flag, c.loop-place.invariant.uncut_small column low);
+      flags_small = λ column low. elim (cases_lt (slice_index c.sums.result column) c.saturating_sub-room.result) [
         | inl under ↦ omega (
           arith,
-          c.below-flags.ensures.kept lane low under,
-          c.loop-place.invariant.flags_small lane
+          c.where_less-flags.ensures.kept column low under,
+          c.loop-place.invariant.flags_small column
               low,
         )
-        | inr over ↦ omega (arith, c.below-flags.ensures.cut lane low over)
+        | inr over ↦ omega (arith, c.where_less-flags.ensures.cut column low over)
       ];
       free = leaves;
-      passed = λ list lane other at here there differ.
-          let bound = bound-is shop list c.args.group.now c.args.frame.now (record { time = []; tail = [] }) lane
-          other place (slice_index c.loop-place.free lane) (slice_index c.at_least-start.result lane)
-          (slice_index c.others-behind.result lane) c.greater.result
-          at here there differ to (c.loop-place.invariant.free list lane at here) (start lane here.within)
-          c.greater.ensures.each (c.others-behind.ensures.each lane here.within) in
-          let whole = c.sums.ensures.each lane here.within in
+      passed = λ list column other at here there differ.
+          let bound = bound-is shop list c.args.group.now c.args.frame.now (record { time = []; tail = [] }) column
+          other place (slice_index c.loop-place.free column) (slice_index c.at_least-start.result column)
+          (slice_index c.others-behind.result column) c.greater.result
+          at here there differ to (c.loop-place.invariant.free list column at here) (start column here.within)
+          c.greater.ensures.each (c.others-behind.ensures.each column here.within) in
+          let whole = c.sums.ensures.each column here.within in
           let begins = start-small shop c.requires.0 c.args.group.now c.args.frame.now place
-          (slice_index c.loop-place.free lane) (slice_index c.at_least-start.result lane)
-          c.machines-machines.ensures.limits c.requires.1 to (c.loop-place.invariant.free_small lane here.within)
-          (start lane here.within) in
+          (slice_index c.loop-place.free column) (slice_index c.at_least-start.result column)
+          c.machines-machines.ensures.limits c.requires.1 to (c.loop-place.invariant.free_small column here.within)
+          (start column here.within) in
           let after = behind-small shop c.requires.0 c.args.group.now c.args.frame.now
-          (record { time = []; tail = [] }) place lane (slice_index c.others-behind.result lane) c.greater.result
-          c.requires.1 to c.greater.ensures.each (c.others-behind.ensures.each lane here.within) in
+          (record { time = []; tail = [] }) place column (slice_index c.others-behind.result column) c.greater.result
+          c.requires.1 to c.greater.ensures.each (c.others-behind.ensures.each column here.within) in
           let load = sum-small shop c.requires.0 c.args.group.now c.args.frame.now place
           c.machines-machines.ensures.limits c.requires.1 to in
-          passed-more shop bound_at (child list c.args.group.now lane) c.args.value place
-          (slice_index c.loop-place.uncut lane) (slice_index c.loop-place.flags lane)
-          (slice_index c.below-flags.result lane) (slice_index c.sums-uncut.result lane)
-          (c.loop-place.invariant.passed list lane other at here there differ)
-          (λ under. c.below-flags.ensures.kept lane here.within
+          passed-more shop bound_at (child list c.args.group.now column) c.args.value place
+          (slice_index c.loop-place.uncut column) (slice_index c.loop-place.flags column)
+          (slice_index c.where_less-flags.result column) (slice_index c.sums-uncut.result column)
+          (c.loop-place.invariant.passed list column other at here there differ)
+          (λ under. c.where_less-flags.ensures.kept column here.within
           (omega (
             arith,
             under,
@@ -171,24 +172,24 @@ loop-place-preserved c =
             c.saturating_sub-room.ensures,
             c.min-limit.ensures,
           )))
-          (λ over. c.below-flags.ensures.cut lane here.within
+          (λ over. c.where_less-flags.ensures.cut column here.within
           (omega (arith, over, bound, whole, sum, c.saturating_sub-room.ensures, c.min-limit.ensures)))
-          (c.sums-uncut.ensures.each lane here.within);
-      done_small = λ there lane earlier low.
-          done-more (λ k times. slice_index times lane ≤ greatest_completion + most_machines * greatest_time)
+          (c.sums-uncut.ensures.each column here.within);
+      done_small = λ there column earlier low.
+          done-more (λ k times. slice_index times column ≤ greatest_completion + most_machines * greatest_time)
           c.loop-place.frame.free [] place c.sums-free.result
-          (omega (arith, c.loop-place.invariant.size, to, most)) (omega (arith, leaves_small lane low, to, most))
-          (λ k before. c.loop-place.invariant.done_small k lane before low) there earlier;
-      done = λ list there lane at here low.
-          done-more (λ k times. slice_index times lane ≡ completion shop (child list c.args.group.now lane) (k + 1))
+          (omega (arith, c.loop-place.invariant.size, to, most)) (omega (arith, leaves_small column low, to, most))
+          (λ k before. c.loop-place.invariant.done_small k column before low) there earlier;
+      done = λ list there column at here low.
+          done-more (λ k times. slice_index times column ≡ completion shop (child list c.args.group.now column) (k + 1))
           c.loop-place.frame.free [] place c.sums-free.result
-          (omega (arith, c.loop-place.invariant.size, to, most)) (leaves list lane at here)
-          (λ k earlier. c.loop-place.invariant.done list k lane at here earlier) there low;
+          (omega (arith, c.loop-place.invariant.size, to, most)) (leaves list column at here)
+          (λ k earlier. c.loop-place.invariant.done list k column at here earlier) there low;
     }
 
 pub returns-clause-small : goal.returns-clause-small
-returns-clause-small c place lane to low =
-    c.loop-place.invariant.done_small place lane
+returns-clause-small c place column to low =
+    c.loop-place.invariant.done_small place column
     (omega (arith, to, c.loop-place-test.false, c.loop-place.auto.place-end, c.machines-machines.ensures.value)) low
 
 pub returns-clause-tested : goal.returns-clause-tested
@@ -199,12 +200,12 @@ returns-clause-tested c list at =
     λ k left. sym (ap (λ g. slice_index g k) c.loop-place.invariant.gone) ∙ left in
     record {
       opened = opened-same c.args.instance.now list c.args.group.now c.args.frame.now _ c.loop-place.invariant.front
-          c.loop-place.invariant.sum c.loop-place.invariant.gone c.loop-place.invariant.lanes at
-          (λ place lane left low. c.loop-place.invariant.done list place lane at left (omega (arith, low, e)));
-      uncut = λ lane other here there differ.
-          subst (λ m. IsUncutCount c.args.instance.now bound_at (child list c.args.group.now lane) c.args.value m
-          (slice_index c.loop-place.uncut lane)) e
-          (c.loop-place.invariant.passed list lane other at
-          (record { within = here.within; left = back lane here.left })
+          c.loop-place.invariant.sum c.loop-place.invariant.gone c.loop-place.invariant.columns at
+          (λ place column left low. c.loop-place.invariant.done list place column at left (omega (arith, low, e)));
+      uncut = λ column other here there differ.
+          subst (λ m. IsUncutCount c.args.instance.now bound_at (child list c.args.group.now column) c.args.value m
+          (slice_index c.loop-place.uncut column)) e
+          (c.loop-place.invariant.passed list column other at
+          (record { within = here.within; left = back column here.left })
           (record { within = there.within; left = back other there.left }) differ).is;
     }

@@ -3,8 +3,8 @@ use Rattle.std.proofs.lemmas.List.{length-set}
 use Rattle.flow_limits.specs.Limits.{most_machines}
 use Rattle.flow_shop.specs.Shop.{Shop, time_between}
 use Rattle.flow_shop.proofs.Fronts.{front-within}
-use Rattle.flow_search.specs.declared.eight.group.LaneRow.{LaneRow}
-use Rattle.flow_search.proofs.LanesEntered.{jobs-of, done-next, time_between-first, entered}
+use Rattle.flow_search.specs.declared.eight.group.MachineRow.{MachineRow}
+use Rattle.flow_search.proofs.ColumnsEntered.{jobs-of, done-next, time_between-first, entered}
 use Rattle.flow_search.proofs.eight.entry.enter_few.Goals as goal
 
 pub times_of-time-requires-clause-jobs : goal.times_of-time-requires-clause-jobs
@@ -29,32 +29,32 @@ loop-machine-preserved c =
     let high : machine ≤ shop.machines = c.loop-machine.invariant.most in
     let most : shop.machines ≤ most_machines = c.machines-machine.ensures.limits.machines in
     let e : machine - 1 + 1 ≡ machine = omega (arith, low) in
-    let row : LaneRow = record { time = c.times_of-time.result; tail = c.loop-machine.behind } in
+    let row : MachineRow = record { time = c.times_of-time.result; tail = c.loop-machine.behind } in
     record {
       most = omega (arith, high);
       rows_size = length-set c.loop-machine.group.rows (machine - 1) row ∙ c.loop-machine.invariant.rows_size;
       front_size = length-set c.loop-machine.frame.front (machine - 1) c.at.result
           ∙ c.loop-machine.invariant.front_size;
       sum_size = length-set c.loop-machine.frame.sum (machine - 1) c.load.result ∙ c.loop-machine.invariant.sum_size;
-      behind = λ lane within.
-          let few : lane < 8 = omega (arith, within, c.requires.1.few) in
-          let job : ℕ = slice_index c.args.jobs.now lane in
+      behind = λ column within.
+          let few : column < 8 = omega (arith, within, c.requires.1.few) in
+          let job : ℕ = slice_index c.args.jobs.now column in
           let first = time_between-first shop job machine shop.machines high in
           let same : time_between shop job (machine - 1 + 1) shop.machines ≡ time_between shop job machine
           shop.machines = ap (λ m. time_between shop job m shop.machines) e in
           omega (
             arith,
-            c.sums-behind.ensures.each lane few,
-            c.loop-machine.invariant.behind lane within,
-            c.times_of-time.ensures.each lane within,
+            c.sums-behind.ensures.each column few,
+            c.loop-machine.invariant.behind column within,
+            c.times_of-time.ensures.each column within,
             first,
             same,
           );
-      small = λ lane few. omega (
+      small = λ column few. omega (
         arith,
-        c.sums-behind.ensures.each lane few,
-        c.loop-machine.invariant.small lane few,
-        c.times_of-time.ensures.small lane few,
+        c.sums-behind.ensures.each column few,
+        c.loop-machine.invariant.small column few,
+        c.times_of-time.ensures.small column few,
         low,
         high,
       );
@@ -63,15 +63,15 @@ loop-machine-preserved c =
           (omega (arith, c.loop-machine.invariant.rows_size, low, high, most))
           (omega (arith, c.loop-machine.invariant.front_size, low, high, most))
           (omega (arith, c.loop-machine.invariant.sum_size, low, high, most))
-          (λ lane within. record {
-            time = c.times_of-time.ensures.each lane within;
+          (λ column within. record {
+            time = c.times_of-time.ensures.each column within;
             tail =
-                c.loop-machine.invariant.behind lane within;
+                c.loop-machine.invariant.behind column within;
           })
-          (λ lane few. record {
-            time = c.times_of-time.ensures.small lane few;
+          (λ column few. record {
+            time = c.times_of-time.ensures.small column few;
             tail = omega
-                (arith, c.loop-machine.invariant.small lane few, low, high, most);
+                (arith, c.loop-machine.invariant.small column few, low, high, most);
           })
           c.at.ensures c.load.ensures.value;
     }
@@ -80,5 +80,5 @@ pub returns-clause-at : goal.returns-clause-at
 returns-clause-at c list is =
     entered c.args.instance.now list c.args.front.now c.args.jobs.now _ _ c.loop-machine.machine is
     (omega (arith, c.loop-machine-test.false))
-    c.loop-machine.invariant.done c.in_lanes-group.ensures c.gone_from-frame.ensures.left
+    c.loop-machine.invariant.done c.in_columns-group.ensures c.gone_from-frame.ensures.left
     c.gone_from-frame.ensures.gone refl

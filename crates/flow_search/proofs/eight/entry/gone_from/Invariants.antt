@@ -2,9 +2,9 @@ use Rattle.std.proofs.Common.{◌≡◌, ℕ, ◌<◌, ◌≤◌, length, slice_
 use Rattle.flow_search.specs.declared.eight.group.TheConstants.{GONE}
 use Rattle.flow_search.proofs.eight.entry.gone_from.Given as goal
 
-abbrev pub invariant-loop-lane : goal.invariant-loop-lane
-invariant-loop-lane l = record {
+abbrev pub invariant-loop-column : goal.invariant-loop-column
+invariant-loop-column l = record {
   size : length l.made ≡ 8;
-  left : (k : ℕ) → k < l.lane → k < l.count → slice_index l.made k ≡ 0;
-  gone : (k : ℕ) → k < l.lane → l.count ≤ k → slice_index l.made k ≡ GONE;
+  left : (k : ℕ) → k < l.column → k < l.count → slice_index l.made k ≡ 0;
+  gone : (k : ℕ) → k < l.column → l.count ≤ k → slice_index l.made k ≡ GONE;
 }

@@ -4,8 +4,8 @@ use Rattle.flow_limits.specs.Limits.{greatest_time}
 use Rattle.flow_shop.specs.Shop.{time}
 use Rattle.flow_search.proofs.eight.entry.load.Given as goal
 
-abbrev pub invariant-loop-lane : goal.invariant-loop-lane
-invariant-loop-lane l = record {
-  value : l.total ≡ sum_by (λ job. time l.instance job l.machine) (take l.lane l.jobs);
-  small : l.total ≤ l.lane * greatest_time;
+abbrev pub invariant-loop-column : goal.invariant-loop-column
+invariant-loop-column l = record {
+  value : l.total ≡ sum_by (λ job. time l.instance job l.machine) (take l.column l.jobs);
+  small : l.total ≤ l.column * greatest_time;
 }

@@ -3,9 +3,9 @@ use Rattle.flow_limits.specs.Limits.{greatest_time}
 use Rattle.flow_shop.specs.Shop.{time}
 use Rattle.flow_search.proofs.eight.entry.times_of.Given as goal
 
-abbrev pub invariant-loop-lane : goal.invariant-loop-lane
-invariant-loop-lane l = record {
+abbrev pub invariant-loop-column : goal.invariant-loop-column
+invariant-loop-column l = record {
   size : length l.made ≡ 8;
-  each : (k : ℕ) → k < l.lane → slice_index l.made k ≡ time l.instance (slice_index l.jobs k) l.machine;
+  each : (k : ℕ) → k < l.column → slice_index l.made k ≡ time l.instance (slice_index l.jobs k) l.machine;
   small : (k : ℕ) → k < 8 → slice_index l.made k ≤ greatest_time;
 }

@@ -4,19 +4,19 @@ use Rattle.flow_shop.specs.Shop.{numbers}
 use Rattle.flow_shop.specs.Least.{greatest}
 use Rattle.flow_shop.specs.Sequences.{jobs_left}
 use Rattle.flow_shop.specs.Bound.{front_of}
-use Rattle.flow_search.specs.internal.Lanes.{IsOpened, IsLaneLeft, child}
+use Rattle.flow_search.specs.internal.Columns.{IsOpened, IsColumnLeft, child}
 use Rattle.flow_search.specs.declared.eight.group.TheConstants.{GONE}
-use Rattle.flow_search.proofs.LanesReleased.{need}
+use Rattle.flow_search.proofs.ColumnsReleased.{need}
 use Rattle.flow_search.proofs.eight.releases.releases.Given as goal
 
 -- the greatest need of the machines so far
 abbrev pub invariant-loop-earlier : goal.invariant-loop-earlier
 invariant-loop-earlier l = record {
-  small : (lane : ℕ) → lane < 8 →
-      slice_index l.late lane ≤ greatest_completion + most_machines * greatest_time + greatest_time + GONE;
-  each : (list : List ℕ) (lane other : ℕ) → IsOpened l.instance list l.group l.frame → IsLaneLeft l.frame lane →
-      IsLaneLeft l.frame other → other ≢ lane →
-      slice_index l.late lane ≡ max (slice_index (slice_index_or l.frame.free l.place []) lane)
-      (greatest (map (need l.instance (front_of l.instance (child list l.group lane))
-      (jobs_left l.instance.jobs (child list l.group lane)) (l.place + 1)) (numbers 1 l.earlier)));
+  small : (column : ℕ) → column < 8 →
+      slice_index l.late column ≤ greatest_completion + most_machines * greatest_time + greatest_time + GONE;
+  each : (list : List ℕ) (column other : ℕ) → IsOpened l.instance list l.group l.frame → IsColumnLeft l.frame column →
+      IsColumnLeft l.frame other → other ≢ column →
+      slice_index l.late column ≡ max (slice_index (slice_index_or l.frame.free l.place []) column)
+      (greatest (map (need l.instance (front_of l.instance (child list l.group column))
+      (jobs_left l.instance.jobs (child list l.group column)) (l.place + 1)) (numbers 1 l.earlier)));
 }

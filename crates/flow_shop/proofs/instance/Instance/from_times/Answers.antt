@@ -1,15 +1,15 @@
 use Rattle.std.proofs.Common.{◌≡◌, List, ℕ, length, subst, sym, ap, ◌∙◌}
 use Rattle.std.proofs.Math.Nat.{mul_comm}
 use Rattle.flow_shop.specs.Shop.{IsWithinLimits}
-use Rattle.flow_shop.specs.internal.Turned.{turned}
-use Rattle.flow_shop.proofs.Turns.{turned-length, turned-twice}
+use Rattle.flow_shop.specs.internal.Transposed.{transposed}
+use Rattle.flow_shop.proofs.Transposes.{transposed-length, transposed-twice}
 use Rattle.flow_shop.proofs.instance.Instance.from_times.Goals as goal
 
 back : (c : goal.In_ok-by_columns) →
-    turned c.args.jobs c.args.machines c.in_ok-by_columns.field-0.items ≡ c.args.times.now
+    transposed c.args.jobs c.args.machines c.in_ok-by_columns.field-0.items ≡ c.args.times.now
 back c =
-    ap (turned c.args.jobs c.args.machines) c.in_ok-by_columns.ensures
-    ∙ turned-twice c.args.jobs c.args.machines c.args.times.now c.requires.some_job c.requires.count
+    ap (transposed c.args.jobs c.args.machines) c.in_ok-by_columns.ensures
+    ∙ transposed-twice c.args.jobs c.args.machines c.args.times.now c.requires.some_job c.requires.count
 
 pub invariant_of-result : goal.invariant_of-result
 invariant_of-result c =
@@ -20,7 +20,7 @@ invariant_of-result c =
           times;
     }) in (
       subst P (sym (back c)) c.requires,
-      ap length c.in_ok-by_columns.ensures ∙ turned-length c.args.machines c.args.jobs c.args.times.now
+      ap length c.in_ok-by_columns.ensures ∙ transposed-length c.args.machines c.args.jobs c.args.times.now
           ∙ mul_comm c.args.machines c.args.jobs,
     )
 

@@ -2,7 +2,7 @@ use Rattle.std.proofs.Common.{◌≡◌, List, ℕ, length, slice_index, refl, s
 use Rattle.std.proofs.lemmas.List.FromFn.{length-map-range_with_len}
 use Rattle.flow_shop.specs.Shop.{Shop, IsWithinLimits}
 use Rattle.flow_shop.specs.Mirror.{mirrored}
-use Rattle.flow_shop.specs.internal.Turned.{turned, reversed}
+use Rattle.flow_shop.specs.internal.Transposed.{transposed, each_reversed}
 use Rattle.flow_shop.proofs.MirrorLemmas.{mirrored-within, reversed_from, reversed-rows}
 use Rattle.flow_shop.proofs.instance.Instance.mirrored.Goals as goal
 
@@ -11,17 +11,18 @@ abbrev before : goal.In_ok-rows_reversed → Shop
 before c = record {
   jobs = c.self.inside.jobs;
   machines = c.self.inside.machines;
-  times = turned c.self.inside.jobs c.self.inside.machines c.self.inside.rows.items;
+  times = transposed c.self.inside.jobs c.self.inside.machines c.self.inside.rows.items;
 }
 
 rows-are : (c : goal.In_ok-rows_reversed) →
-    c.in_ok-rows_reversed.field-0.items ≡ reversed c.self.inside.machines c.self.inside.rows.items
-rows-are c = c.in_ok-rows_reversed.ensures ∙ ap (reversed c.self.inside.machines) c.as_slice.ensures.value
+    c.in_ok-rows_reversed.field-0.items ≡ each_reversed c.self.inside.machines c.self.inside.rows.items
+rows-are c = c.in_ok-rows_reversed.ensures ∙ ap (each_reversed c.self.inside.machines) c.as_slice.ensures.value
 
 is-mirrored : (c : goal.In_ok-rows_reversed) →
-    turned c.self.inside.jobs c.self.inside.machines c.in_ok-rows_reversed.field-0.items ≡ (mirrored (before c)).times
+    transposed c.self.inside.jobs c.self.inside.machines c.in_ok-rows_reversed.field-0.items
+    ≡ (mirrored (before c)).times
 is-mirrored c =
-    ap (turned c.self.inside.jobs c.self.inside.machines) (rows-are c)
+    ap (transposed c.self.inside.jobs c.self.inside.machines) (rows-are c)
     ∙ reversed-rows (before c) c.self.inside.rows.items c.self.invariant.0 c.self.invariant.1 refl
 
 pub invariant_of-result : goal.invariant_of-result

@@ -2,7 +2,7 @@ use Rattle.std.proofs.Common.{◌≡◌, ◌≤◌, ◌-◌, ◌+◌, ◌*◌, s
 use Rattle.std.proofs.lemmas.Grind.{get_or_default_zero}
 use Rattle.flow_shop.specs.Shop.{Shop, IsWithinLimits, time}
 use Rattle.flow_shop.proofs.Fronts.{time-small}
-use Rattle.flow_shop.proofs.Turns.{row-time, row-within}
+use Rattle.flow_shop.proofs.Transposes.{row-time, row-within}
 use Rattle.flow_shop.proofs.instance.Instance.time.Goals as goal
 
 is-time : (c : goal.After-row_known-2-1) → c.index.result.now ≡ time c.args.self.now c.args.job c.args.machine

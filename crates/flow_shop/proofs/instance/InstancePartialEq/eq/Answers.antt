@@ -1,7 +1,7 @@
 use Rattle.std.proofs.Common.{◌≡◌, subst, sym, ◌∙◌}
 use Rattle.flow_shop.specs.Shop.{Shop, is_same_shop}
-use Rattle.flow_shop.specs.internal.Turned.{turned}
-use Rattle.flow_shop.proofs.Turns.{same-sizes}
+use Rattle.flow_shop.specs.internal.Transposed.{transposed}
+use Rattle.flow_shop.proofs.Transposes.{same-sizes}
 use Rattle.flow_shop.proofs.instance.InstancePartialEq.eq.Goals as goal
 
 pub returns-then-eq : goal.returns-then-eq
@@ -11,7 +11,7 @@ returns-then-eq c =
     let other_shop : Shop = record {
       jobs = other.jobs;
       machines = other.machines;
-      times = turned other.jobs other.machines other.rows.items;
+      times = transposed other.jobs other.machines other.rows.items;
     } in
     subst (λ shop. c.eq-then-eq.result ≡ is_same_shop c.args.self.now shop) c.other.view_is
     (subst (λ shop. c.eq-then-eq.result ≡ is_same_shop shop other_shop) c.self.view_is

@@ -1,0 +1,171 @@
+-- How a text is read as one of a kind, byte by byte: to what it states, or to its first fault.
+use Rattle.std.specs.Prelude.{◌≡◌, ℕ, zero, suc, ◌+◌, ◌-◌, ◌^◌, Bool, false, cond, not, ◌&&◌, nat_eq, nat_lt, nat_le}
+use Rattle.std.specs.Prelude.{List, [], ◌∷◌, ◌++◌, map, Option, Some, None, Result, Ok, Err}
+use Rattle.std.specs.Option.{option_map, option_map_or}
+use Rattle.std.specs.List.{find, list_all, slice_split}
+use Rattle.std.specs.Str.{bytes_eq}
+use Rattle.std.specs.Str.Parse.{digits_value}
+use Rattle.flow_shop.specs.Limits.{greatest_depth, least_version, greatest_version}
+use Rattle.flow_shop.specs.Digits.{is_digit}
+use Rattle.flow_shop.specs.Shop.{Shop, IsWithinLimits, numbers}
+use Rattle.flow_shop.specs.Paths.{span}
+use Rattle.flow_shop.specs.Sequences.{jobs_left, cut}
+use Rattle.flow_shop.specs.SequenceFaults.{sequence_fault}
+use Rattle.flow_shop.specs.Bound.{bound_of}
+use Rattle.flow_check.specs.Certificate.{point, plus, line_feed, space, line, title, ending}
+use Rattle.flow_check.specs.Certificate.{Stated, stated_bounds, IsLawful}
+use Rattle.flow_check.specs.CertificateFaults.{HasFaultAs}
+use Rattle.flow_check.specs.declared.kind.TextKind.{TextKind}
+use Rattle.flow_check.specs.declared.kind.TextKind.TheVariants.{Certificate, OfBounds}
+use Rattle.flow_check.specs.declared.fault.CheckFault.{CheckFault}
+use Rattle.flow_check.specs.declared.fault.CheckFault.TheVariants.{Header, Size, Value, Sequence, NotAttained, Tree}
+use Rattle.flow_check.specs.declared.fault.CheckFault.TheVariants.{Weak, Low, End}
+
+-- the first line, without its end, and the text after it
+abbrev pub first_line : List ℕ → Option (List ℕ × List ℕ)
+first_line [] = None
+first_line (byte ∷ bytes) =
+    cond (nat_eq byte line_feed) (Some ([], bytes)) (option_map (λ r. (byte ∷ r.0, r.1)) (first_line bytes))
+
+-- what the first line and the text after it give; a fault where no line ends
+abbrev pub on_line : {A : Type 0} → CheckFault → (List ℕ → List ℕ → Result A CheckFault) → List ℕ → Result A CheckFault
+on_line fault next bytes = option_map_or (λ r. next r.0 r.1) (first_line bytes) (Err fault)
+
+-- whether a text is a number in decimal, without leading zeros
+abbrev pub is_numeral : List ℕ → Bool
+is_numeral [] = false
+is_numeral (digit ∷ []) = is_digit digit
+is_numeral (digit ∷ next ∷ digits) = not (nat_eq digit 48) && list_all is_digit (digit ∷ next ∷ digits)
+
+-- the numbers of a line that holds numbers alone, with one space between them
+abbrev pub numbers_in : List ℕ → Option (List ℕ)
+numbers_in text =
+    let words = slice_split (λ byte. nat_eq byte space) text in
+    cond (list_all is_numeral words) (Some (map (digits_value 10) words)) None
+
+-- whether a byte is the letter of a machine of the instance
+abbrev pub is_letter : Shop → ℕ → Bool
+is_letter shop byte = nat_lt 64 byte && nat_le (byte - 64) shop.machines
+
+-- what is read next, from where the last part ended; a fault stays
+abbrev pub then_read : Result (List ℕ) CheckFault → (List ℕ → Result (List ℕ) CheckFault) → Result (List ℕ) CheckFault
+then_read (Ok rest) next = next rest
+then_read (Err fault) next = Err fault
+
+-- the trees of some jobs, one after the other
+abbrev pub each_tree : (ℕ → List ℕ → Result (List ℕ) CheckFault) → List ℕ → List ℕ → Result (List ℕ) CheckFault
+each_tree read [] bytes = Ok bytes
+each_tree read (job ∷ jobs) bytes = then_read (read job bytes) (each_tree read jobs)
+
+-- a letter: of a machine or not, its bound high enough or not
+abbrev pub cut_fault : Bool → Bool → ℕ → List ℕ → Result (List ℕ) CheckFault
+cut_fault known strong place rest = cond known (cond strong (Ok rest) (Err (Weak place))) (Err (Tree place))
+
+-- a point, or not; its makespan high enough or not
+abbrev pub leaf_fault : Bool → Bool → ℕ → List ℕ → Result (List ℕ) CheckFault
+leaf_fault point high place rest = cond point (cond high (Ok rest) (Err (Low place))) (Err (Tree place))
+
+-- the text after a tree that covers a value below a list with so many jobs left; or the fault of its first faulty
+-- byte
+abbrev pub read_tree : Shop → (Shop → List ℕ → ℕ → ℕ) → ℕ → ℕ → ℕ → List ℕ → List ℕ → Result (List ℕ) CheckFault
+read_tree shop bound value place zero jobs [] = Err (Tree place)
+read_tree shop bound value place zero jobs (byte ∷ rest) =
+    leaf_fault (nat_eq byte point) (nat_le value (span shop jobs)) place rest
+read_tree shop bound value place (suc left) jobs [] = Err (Tree place)
+read_tree shop bound value place (suc left) jobs (byte ∷ rest) =
+    cond (nat_eq byte plus)
+    (each_tree (λ job. read_tree shop bound value place left (jobs ++ job ∷ [])) (jobs_left shop.jobs jobs) rest)
+    (cut_fault (is_letter shop byte) (nat_le value (bound shop jobs (byte - 64))) place rest)
+
+-- what follows a whole tree: the end of its line, and the next lines
+abbrev pub after_tree : ℕ → (List ℕ → Result ℕ CheckFault) → Result (List ℕ) CheckFault → Result ℕ CheckFault
+after_tree place next (Ok []) = Err (Tree place)
+after_tree place next (Ok (byte ∷ rest)) = cond (nat_eq byte line_feed) (next rest) (Err (Tree place))
+after_tree place next (Err fault) = Err fault
+
+-- the last line, and nothing after it
+abbrev pub end_value : ℕ → List ℕ → Result ℕ CheckFault
+end_value value bytes = cond (bytes_eq bytes (line ending)) (Ok value) (Err End)
+
+-- the lines from this one on: a tree for each prefix, and the last line
+abbrev pub trees_value : Shop → (Shop → List ℕ → ℕ → ℕ) → ℕ → ℕ → List (List ℕ) → ℕ → List ℕ → Result ℕ CheckFault
+trees_value shop bound value left [] place bytes = end_value value bytes
+trees_value shop bound value left (prefix ∷ prefixes) place bytes =
+    after_tree place (trees_value shop bound value left prefixes (place + 1))
+    (read_tree shop bound value place left prefix bytes)
+
+-- the lines from the first tree on
+abbrev pub cut_value : Shop → ℕ → ℕ → ℕ → List ℕ → Result ℕ CheckFault
+cut_value shop version depth value bytes =
+    trees_value shop (bound_of version) value (shop.jobs - depth) (cut shop.jobs depth) 5 bytes
+
+-- what is stated, where the trees are read without a fault
+abbrev pub stated_once : {A : Type 0} → A → Result ℕ CheckFault → Result A CheckFault
+stated_once stated (Ok value) = Ok stated
+stated_once stated (Err fault) = Err fault
+
+-- the lines from the first tree on, behind lines that state something
+abbrev pub after_heading : (kind : TextKind) → Shop → ℕ → ℕ → Stated kind → List ℕ → Result (Stated kind) CheckFault
+after_heading kind shop version depth stated bytes =
+    stated_once stated (cut_value shop version depth (stated_bounds kind stated).lower bytes)
+
+-- the numbers of the sequence's line, and the lines after it
+abbrev pub sequence_value :
+    (kind : TextKind) → Shop → ℕ → ℕ → Stated kind → List ℕ → Option (List ℕ) → Result (Stated kind) CheckFault
+sequence_value kind shop version depth stated rest None = Err Sequence
+sequence_value kind shop version depth stated rest (Some jobs) =
+    option_map_or (λ fault. Err Sequence) (sequence_fault shop.jobs jobs)
+    (cond (nat_eq (span shop jobs) (stated_bounds kind stated).upper)
+    (after_heading kind shop version depth stated rest) (Err NotAttained))
+
+-- what the numbers of the third line state
+abbrev pub stated_by : (kind : TextKind) → Option (List ℕ) → Option (Stated kind)
+stated_by Certificate (Some (value ∷ [])) = cond (nat_lt value (2 ^ 64)) (Some value) None
+stated_by OfBounds (Some (lower ∷ upper ∷ [])) =
+    cond (nat_lt lower (2 ^ 64) && nat_lt upper (2 ^ 64)) (Some (record { lower = lower; upper = upper })) None
+stated_by kind other = None
+
+-- the numbers of the third line, and the lines after it
+abbrev pub value_value :
+    (kind : TextKind) → Shop → ℕ → ℕ → List ℕ → Option (List ℕ) → Result (Stated kind) CheckFault
+value_value kind shop version depth rest numbers =
+    option_map_or (λ stated.
+    on_line Sequence (λ text more. sequence_value kind shop version depth stated more (numbers_in text)) rest)
+    (stated_by kind numbers) (Err Value)
+
+-- the numbers of the size's line, and the lines after it
+abbrev pub size_value : (kind : TextKind) → Shop → ℕ → List ℕ → Option (List ℕ) → Result (Stated kind) CheckFault
+size_value kind shop version rest (Some (jobs ∷ machines ∷ depth ∷ [])) =
+    cond
+    (nat_eq jobs shop.jobs && nat_eq machines shop.machines && nat_le depth shop.jobs && nat_le depth greatest_depth)
+    (on_line Value (λ text more. value_value kind shop version depth more (numbers_in text)) rest)
+    (Err Size)
+size_value kind shop version rest other = Err Size
+
+-- the version whose first line a text is
+abbrev pub version_of : TextKind → List ℕ → Option ℕ
+version_of kind text = find (λ version. bytes_eq text (title kind version)) (numbers least_version greatest_version)
+
+-- the first line, and the lines after it
+abbrev pub header_value : (kind : TextKind) → Shop → List ℕ → List ℕ → Result (Stated kind) CheckFault
+header_value kind shop text rest =
+    option_map_or (λ version. on_line Size (λ text more. size_value kind shop version more (numbers_in text)) rest)
+    (version_of kind text) (Err Header)
+
+-- what a text of a kind states, or its first fault
+unfoldable pub text_value : (kind : TextKind) → Shop → List ℕ → Result (Stated kind) CheckFault
+text_value kind shop bytes = on_line Header (header_value kind shop) bytes
+
+-- a text is read as what it states exactly where it is a lawful one of its kind
+abbrev pub ValueIsExact : Type 0
+ValueIsExact =
+    (kind : TextKind) (shop : Shop) (bytes : List ℕ) (stated : Stated kind) → IsWithinLimits shop →
+    (text_value kind shop bytes ≡ Ok stated → IsLawful kind shop bytes stated)
+    × (IsLawful kind shop bytes stated → text_value kind shop bytes ≡ Ok stated)
+
+-- a text is read as a fault exactly where that is its first fault
+abbrev pub FaultIsExact : Type 0
+FaultIsExact =
+    (kind : TextKind) (shop : Shop) (bytes : List ℕ) (fault : CheckFault) → IsWithinLimits shop →
+    (text_value kind shop bytes ≡ Err fault → HasFaultAs kind shop bytes fault)
+    × (HasFaultAs kind shop bytes fault → text_value kind shop bytes ≡ Err fault)

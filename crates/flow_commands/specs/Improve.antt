@@ -1,0 +1,41 @@
+-- What `improve` answers.
+use Rattle.std.specs.Prelude.{◌≡◌, ℕ, ◌-◌, ◌≤◌, nat_le, List, [], ◌∷◌, Option, Some, None, Ok, Err}
+use Rattle.std.specs.Int.{is_in_range}
+use Rattle.flow_core.specs.Shop.{Shop}
+use Rattle.flow_core.specs.Paths.{span}
+use Rattle.flow_core.specs.Sequences.{IsSequence}
+use Rattle.flow_core.specs.Generator.{modulus}
+use Rattle.flow_core.specs.Limits.{most_rounds, most_width, most_work}
+use Rattle.flow_core.specs.Refusals.{fault_unless, first_fault}
+use Rattle.flow_requests.specs.declared.ImproveRequest.{ImproveRequest}
+use Rattle.flow_commands.specs.Answer.{Answer}
+use Rattle.flow_commands.specs.Printed.{sequence_lines}
+use Rattle.flow_commands.specs.Start.{StartsFrom}
+use Rattle.flow_commands.specs.declared.fault.CommandFault.{CommandFault}
+use Rattle.flow_commands.specs.declared.fault.CommandFault.TheVariants.{Improve}
+use Rattle.flow_commands.specs.declared.fault.ImproveFault.TheVariants.{Rounds, Seed, Width, Work}
+
+-- a sequence of a shop, of at most the makespan of another
+abbrev pub IsNoWorse : Shop → List ℕ → List ℕ → Type 0
+IsNoWorse shop start jobs = IsSequence shop.jobs jobs × (span shop jobs ≤ span shop start)
+
+-- why `improve` refuses its numbers, if it does
+abbrev pub improve_fault : ImproveRequest → Option CommandFault
+improve_fault request = first_fault (
+    fault_unless (nat_le request.width most_width) (Improve Width)
+    ∷ fault_unless (nat_le request.rounds most_rounds) (Improve Rounds)
+    ∷ fault_unless (is_in_range 1 (modulus - 1) request.seed) (Improve Seed)
+    ∷ fault_unless (nat_le request.work most_work) (Improve Work)
+    ∷ [])
+
+-- a sequence that is no worse than the one to start from
+abbrev pub IsImproved : Shop → Option (List ℕ) → List ℕ → Type 0
+IsImproved shop given jobs = (start : List ℕ) × StartsFrom shop given start × IsNoWorse shop start jobs
+
+-- what `improve` answers for a shop and a given sequence: the lines of a sequence that is no worse than the one to
+-- start from, or why its numbers are refused
+abbrev pub AnswersImprove : ImproveRequest → Shop → Option (List ℕ) → Answer → Type 0
+AnswersImprove request shop given answer = elim (improve_fault request) [
+  | Some fault ↦ answer ≡ Err fault
+  | None ↦ (jobs : List ℕ) × IsImproved shop given jobs × (answer ≡ Ok (sequence_lines shop jobs))
+]

@@ -1,0 +1,21 @@
+-- The lines that commands print.
+use Rattle.std.specs.Prelude.{ℕ, ◌++◌, List, [], ◌∷◌, codes, decimal}
+use Rattle.std.specs.List.{flat_map}
+use Rattle.flow_core.specs.Shop.{Shop}
+use Rattle.flow_core.specs.Paths.{span}
+
+-- a makespan's line
+abbrev pub makespan_line : ℕ → List ℕ
+makespan_line value = codes "makespan " ++ decimal value ++ codes "\n"
+
+-- the line of a value that a certificate proves least
+abbrev pub optimal_line : ℕ → List ℕ
+optimal_line value = codes "optimal " ++ decimal value ++ codes "\n"
+
+-- a sequence's line: the word, a space before each job number, and the line feed
+abbrev pub sequence_line : List ℕ → List ℕ
+sequence_line jobs = codes "sequence" ++ flat_map (λ job. 32 ∷ decimal job) jobs ++ 10 ∷ []
+
+-- the lines of a sequence and its makespan
+abbrev pub sequence_lines : Shop → List ℕ → List ℕ
+sequence_lines shop jobs = sequence_line jobs ++ makespan_line (span shop jobs)

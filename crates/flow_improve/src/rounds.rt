@@ -1,0 +1,148 @@
+//! Rounds of iterated greedy search, each from the best list of late.
+
+ghost use Rattle.std.specs.Prelude.{◌≡◌, ◌<◌, ◌≤◌, length, IfOk};
+ghost use Rattle.flow_text.specs.Generator.{modulus};
+ghost use Rattle.flow_shop.specs.Paths.{span};
+ghost use Rattle.flow_improve.specs.internal.Rooms.{IsKnown, IsRunOf};
+ghost use Rattle.flow_improve.specs.internal.Reaches.{IsReached};
+
+use crate::reached::{Reached, sequence_of};
+use crate::round::Rounds;
+use flow_bound::taillard_bound;
+use flow_shop::{Instance, Sequence, makespan};
+use flow_text::Taillard;
+use std::alloc::{AllocError, Global};
+
+/// A sequence of an instance, and its makespan.
+#[derive(Drop)]
+struct Known {
+    jobs: Vec<u16>,
+    makespan: u64,
+}
+
+impl Known {
+    /// A sequence of the instance.
+    fn new(alloc: Global, instance: &Instance, sequence: &Sequence) -> Result<Known, AllocError>
+        requires { length sequence.now ≡ instance.now.jobs }
+        ensures known { IfOk result (IsKnown instance.now) }
+        ensures makespan { IfOk result (λ known. known.makespan ≡ span instance.now sequence.now) }
+    {
+        Ok(Known {
+            jobs: Vec::from_slice(alloc, sequence.jobs())?,
+            makespan: makespan(instance, sequence),
+        })
+    }
+
+    /// Becomes the same as another.
+    fn copy_from(&mut self, instance: &Instance, other: &Known)
+        requires here { IsKnown instance.now self.old }
+        requires other { IsKnown instance.now other.now }
+        ensures known { IsKnown instance.now self.new }
+        ensures makespan { self.new.makespan ≡ other.now.makespan }
+    {
+        self.jobs
+            .as_mut_slice()
+            .copy_from_slice(other.jobs.as_slice());
+        self.makespan = other.makespan;
+    }
+}
+
+/// Rounds one after the other: the best list, the current one, and the one that a round changes.
+#[derive(Drop)]
+struct Run {
+    search: Rounds,
+    best: Known,
+    current: Known,
+    tried: Known,
+}
+
+impl Run {
+    /// A run from a sequence, with the random numbers of a seed.
+    fn new(
+        alloc: Global,
+        instance: &Instance,
+        start: &Sequence,
+        seed: u32,
+    ) -> Result<Run, AllocError>
+        requires start { length start.now ≡ instance.now.jobs }
+        requires seed_from { 1 ≤ seed }
+        requires seed_to { seed < modulus }
+        ensures run { IfOk result (IsRunOf instance.now) }
+        ensures best { IfOk result (λ run. run.best.makespan ≡ span instance.now start.now) }
+    {
+        Ok(Run {
+            search: Rounds::new(alloc, instance, Taillard::new(seed).unwrap())?,
+            best: Known::new(alloc, instance, start)?,
+            current: Known::new(alloc, instance, start)?,
+            tried: Known::new(alloc, instance, start)?,
+        })
+    }
+
+    /// Makes a round from the current list. The new list becomes the current one where it is no worse, and the best one
+    /// where it is better.
+    fn go_on(&mut self, instance: &Instance)
+        requires { IsRunOf instance.now self.old }
+        ensures run { IsRunOf instance.now self.new }
+        ensures best { self.new.best.makespan ≤ self.old.best.makespan }
+    {
+        self.tried.copy_from(instance, &self.current);
+        self.tried.makespan = self.search.round(instance, self.tried.jobs.as_mut_slice());
+        if self.tried.makespan <= self.current.makespan {
+            self.current.copy_from(instance, &self.tried);
+        }
+        if self.tried.makespan < self.best.makespan {
+            self.best.copy_from(instance, &self.tried);
+        }
+    }
+}
+
+/// When rounds end, and the seed of their random numbers.
+#[derive(Clone, Copy)]
+pub(crate) struct RunLimits {
+    /// The most rounds.
+    pub(crate) rounds: u32,
+    pub(crate) seed: u32,
+    /// How many steps end the rounds: the round that reaches them is the last.
+    pub(crate) work: u64,
+}
+
+impl RunLimits {
+    /// The same limits, but with no round where that is so.
+    pub(crate) fn none_if(self, is_done: bool) -> RunLimits
+        ensures { result.seed ≡ self.seed }
+    {
+        RunLimits {
+            rounds: if is_done { 0 } else { self.rounds },
+            seed: self.seed,
+            work: self.work,
+        }
+    }
+}
+
+/// The best sequence of rounds from a start. They also end where one has Taillard's lower bound.
+pub(crate) fn rounds(
+    alloc: Global,
+    instance: &Instance,
+    start: &Sequence,
+    limits: &RunLimits,
+) -> Result<Reached, AllocError>
+    requires start { length start.now ≡ instance.now.jobs }
+    requires seed_from { 1 ≤ limits.now.seed }
+    requires seed_to { limits.now.seed < modulus }
+    ensures reached { IfOk result (IsReached instance.now) }
+    ensures least { IfOk result (λ reached. reached.value ≤ span instance.now start.now) }
+{
+    let least = taillard_bound(instance);
+    let mut run = Run::new(alloc, instance, start, limits.seed)?;
+    for _ in 0..limits.rounds {
+        if run.best.makespan <= least || run.search.steps() >= limits.work {
+            break;
+        }
+        run.go_on(instance);
+    }
+    Ok(Reached {
+        sequence: sequence_of(alloc, instance, run.best.jobs.as_slice())?,
+        value: run.best.makespan,
+        whole: run.best.makespan <= least,
+    })
+}

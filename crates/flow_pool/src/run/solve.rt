@@ -1,0 +1,204 @@
+//! The whole run of a plan: workers, hub, settled lanes and verdict.
+
+ghost use Rattle.std.specs.Prelude.{◌≡◌, ◌<◌, ◌≤◌, ◌⊎◌, [], Err, IfOk, IfErr, length, map, vec_len, vec_capacity};
+ghost use Rattle.flow_limits.specs.Limits.{most_prefixes};
+ghost use Rattle.flow_search.specs.Verdicts.{first_refusal};
+ghost use Rattle.flow_pool.specs.declared.run.solve.SolveFault.TheVariants.{Memory, Threads};
+ghost use Rattle.flow_pool.specs.Report.{IsReport, IsSolveFault, solve_fault};
+ghost use Rattle.flow_pool.specs.internal.Runs.{IsMade, IsRun};
+
+use crate::ends::Desk;
+use crate::gate::HubGate;
+use crate::refusal::Refusal;
+use crate::run::make::{Made, make_run};
+use crate::settling::{LanePair, settle_all};
+use crate::threads::{Ended, Start, run_workers};
+use crate::{Answer, Gate};
+use flow_search::{Outcome, Plan, RunFault, Verdict, conclude};
+use std::alloc::{AllocError, Global};
+use std::sync::Wait;
+use std::thread::Threads;
+use thiserror::Error;
+
+/// The verdict of a run, and the settled lanes of its workers.
+#[derive(Drop)]
+pub struct Report {
+    /// The least makespan, a sequence that attains it, and the tree of each prefix.
+    pub verdict: Verdict,
+    /// The settled lanes of each worker, in the order of the workers.
+    pub lanes: Vec<LanePair>,
+}
+
+/// What comes of a run that may start only some of its workers.
+#[derive(Drop)]
+enum Run {
+    /// The report of all workers.
+    Whole(Report),
+    /// All workers were started, and there is no verdict.
+    Fault(RunFault),
+    /// As many workers were started as may be, and the plan has more.
+    UsedUp,
+    /// The system refused to start a worker.
+    Refused(Refusal),
+}
+
+/// Why a run has no report.
+#[derive(Clone, Copy, Debug, PartialEq, Eq, Error)]
+pub enum SolveFault {
+    /// Memory ran out, in this thread or in a worker.
+    #[error("Memory")]
+    Memory,
+    /// A worker could not be started.
+    #[error("Threads")]
+    Threads,
+    /// The tree of this prefix, counted from 0, is the first that is longer than the budget.
+    #[error("OverBudget {0}")]
+    OverBudget(u32),
+}
+
+impl From<AllocError> for SolveFault {
+    ghost from_gives = { λ _ fault. fault ≡ Memory };
+
+    fn from(_error: AllocError) -> SolveFault {
+        SolveFault::Memory
+    }
+}
+
+impl From<RunFault> for SolveFault {
+    ghost from_gives = { λ run fault. fault ≡ solve_fault run };
+
+    fn from(fault: RunFault) -> SolveFault {
+        match fault {
+            RunFault::OverBudget(number) => SolveFault::OverBudget(number),
+            RunFault::Memory => SolveFault::Memory,
+        }
+    }
+}
+
+/// The outcomes of the answers, put into `room`, which has memory for them.
+fn outcomes_of(answers: Vec<Answer>, room: Vec<Outcome>) -> Vec<Outcome>
+    requires { (room.items ≡ []) × (vec_len answers ≤ vec_capacity room) }
+    ensures { result.items ≡ map (λ answer. answer.outcome) answers.items }
+{
+    let mut outcomes = room;
+    'each: for answer in answers {
+        let Answer { number: _, outcome } = answer;
+        outcomes.push_reserved(outcome);
+    }
+    outcomes
+}
+
+/// The fault of the first outcome that is not `Done`.
+fn refusal_among(outcomes: &[Outcome]) -> Option<RunFault>
+    requires { length outcomes.now ≤ most_prefixes }
+    ensures { result ≡ first_refusal 0 outcomes.now }
+{
+    for (number, outcome) in outcomes.iter().enumerate() {
+        match outcome {
+            Outcome::Done { .. } => {}
+            Outcome::OverBudget => return Some(RunFault::OverBudget(number as u32)),
+            Outcome::NoMemory | Outcome::NoPrefix => return Some(RunFault::Memory),
+        }
+    }
+    None
+}
+
+/// Runs the plan as `solve_limited` does, from the start of the first worker on. Where the starts are used up it says
+/// so, whether or not there is memory.
+fn run_made<R: Threads + Wait + Sync, G: Gate + Sync>(
+    rt: &R,
+    alloc: Global,
+    plan: &Plan,
+    gate: &HubGate<G>,
+    starts: u32,
+    made: Made,
+) -> Run
+    requires { IsMade plan.now made }
+    ensures { IsRun plan.now starts result }
+{
+    let Made {
+        ends,
+        desk,
+        room,
+        mut lanes,
+    } = made;
+    let ended = run_workers(rt, alloc, plan, gate, starts, ends, desk);
+    let Ended {
+        start,
+        workers,
+        desk,
+    } = ended;
+    let Desk { hubs, answers, .. } = desk;
+    settle_all(hubs, workers, &mut lanes);
+    match start {
+        Start::Complete => {}
+        Start::UsedUp => return Run::UsedUp,
+        Start::Refused(refusal) => return Run::Refused(refusal),
+    }
+    let outcomes = outcomes_of(answers, room);
+    if let Some(fault) = refusal_among(outcomes.as_slice()) {
+        return Run::Fault(fault);
+    }
+    match conclude(alloc, plan, outcomes) {
+        Ok(verdict) => Run::Whole(Report { verdict, lanes }),
+        Err(fault) => Run::Fault(fault),
+    }
+}
+
+/// Runs the plan as `solve_limited` does, and tells apart why not all workers were started. `AllocError` where memory
+/// ran out before a worker was started.
+fn run_limited<R: Threads + Wait + Sync, G: Gate + Sync>(
+    rt: &R,
+    alloc: Global,
+    plan: &Plan,
+    gate: &G,
+    starts: u32,
+) -> Result<Run, AllocError>
+    ensures { IfOk result (λ run. IsRun plan.now starts run) }
+{
+    let made = make_run(alloc, plan)?;
+    let gate = HubGate::new(gate, &made.desk.parker)?;
+    Ok(run_made(rt, alloc, plan, &gate, starts, made))
+}
+
+/// Solves the plan as `solve` does, but starts at most `starts` workers: the next start counts as one that failed.
+/// Where the plan has more workers it refuses, by `Memory` before any worker starts, else by `Threads`. For callers
+/// alone, to try a start that fails.
+pub fn solve_limited<R: Threads + Wait + Sync, G: Gate + Sync>(
+    rt: &R,
+    alloc: Global,
+    plan: &Plan,
+    gate: &G,
+    starts: u32,
+) -> Result<Report, SolveFault>
+    ensures report { IfOk result (λ report. IsReport plan.now report) }
+    ensures fault { IfErr result (λ fault. IsSolveFault plan.now fault) }
+    ensures limited { starts < plan.now.options.workers → (result ≡ Err Memory) ⊎ (result ≡ Err Threads) }
+{
+    match run_limited(rt, alloc, plan, gate, starts)? {
+        Run::Whole(report) => Ok(report),
+        Run::Fault(fault) => Err(SolveFault::from(fault)),
+        Run::UsedUp | Run::Refused(_) => Err(SolveFault::Threads),
+    }
+}
+
+/// Solves the plan. Each worker answers its prefixes in its own thread; this thread sends the prefixes and collects the
+/// answers. All lanes and lists are made before a worker starts. If a fault comes after that, it is returned once each
+/// worker that was started has ended and its lanes are settled. Once an answer is over the budget no more prefixes are
+/// sent.
+pub fn solve<R: Threads + Wait + Sync, G: Gate + Sync>(
+    rt: &R,
+    alloc: Global,
+    plan: &Plan,
+    gate: &G,
+) -> Result<Report, SolveFault>
+    ensures report { IfOk result (λ report. IsReport plan.now report) }
+    ensures fault { IfErr result (λ fault. IsSolveFault plan.now fault) }
+{
+    match run_limited(rt, alloc, plan, gate, plan.options().workers())? {
+        Run::Whole(report) => Ok(report),
+        Run::Fault(fault) => Err(SolveFault::from(fault)),
+        Run::UsedUp => unreachable!(),
+        Run::Refused(_) => Err(SolveFault::Threads),
+    }
+}

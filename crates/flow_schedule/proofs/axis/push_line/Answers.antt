@@ -1,0 +1,11 @@
+use Rattle.std.proofs.Common.{refl}
+use Rattle.flow_schedule.proofs.Texts.{words-first, words-next, text-next}
+use Rattle.flow_schedule.proofs.axis.push_line.Goals as goal
+
+pub returns : goal.returns
+returns c =
+    let one = words-first c.args.out.now.items _ c.in_ok-push_words.ensures c.x_of-x.ensures.value in
+    let two = words-next c.args.out.now.items _ _ one c.in_ok-push_words-2.ensures refl in
+    let three = words-next c.args.out.now.items _ _ two c.in_ok-push_words-3.ensures c.x_of-x.ensures.value in
+    let four = words-next c.args.out.now.items _ _ three c.in_ok-push_words-4.ensures refl in
+    text-next c.args.out.now.items _ _ four c.in_ok-extend_from_slice.ensures.items

@@ -1,0 +1,10 @@
+use Rattle.std.proofs.Common.{refl}
+use Rattle.flow_schedule.proofs.Texts.{words-first, words-next, text-next}
+use Rattle.flow_schedule.proofs.axis.push_time.Goals as goal
+
+pub returns : goal.returns
+returns c =
+    let one = words-first c.args.out.now.items _ c.in_ok-push_words.ensures c.x_of.ensures.value in
+    let two = words-next c.args.out.now.items _ _ one c.in_ok-push_words-2.ensures refl in
+    let three = words-next c.args.out.now.items _ _ two c.in_ok-push_words-3.ensures refl in
+    text-next c.args.out.now.items _ _ three c.in_ok-extend_from_slice.ensures.items

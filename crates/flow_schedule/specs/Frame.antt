@@ -1,0 +1,87 @@
+-- The head of a picture: all of its text before the first bar.
+use Rattle.std.specs.Prelude.{ℕ, ◌+◌, ◌*◌, ◌/◌, List, ◌++◌, codes, decimal}
+use Rattle.std.specs.List.{flat_map}
+use Rattle.flow_shop.specs.Shop.{Shop, numbers}
+use Rattle.flow_schedule.specs.Scale.{x_of, y_of, bottom_of}
+
+-- The picture is 109500 units wide, 100 units to a pixel.
+
+-- the opening of the svg element, with the size of a picture of some height
+abbrev pub svg_text : ℕ → List ℕ
+svg_text height =
+    codes "<svg xmlns=\"http://www.w3.org/2000/svg\" width=\"" ++ decimal (109500 / 100) ++ codes "\" height=\""
+    ++ decimal (height / 100) ++ codes "\" viewBox=\"0 0 " ++ decimal 109500 ++ codes " " ++ decimal height
+    ++ codes "\" font-family=\"sans-serif\" font-size=\"1200\">\n"
+
+-- the makespan and the sizes of the shop
+abbrev pub sizes_text : Shop → ℕ → List ℕ
+sizes_text shop makespan =
+    codes "makespan " ++ decimal makespan ++ codes ", jobs " ++ decimal shop.jobs
+    ++ codes ", machines " ++ decimal shop.machines
+
+-- the title, which a screen reader says
+abbrev pub title_text : Shop → ℕ → List ℕ
+title_text shop makespan = codes "<title>" ++ sizes_text shop makespan ++ codes "</title>\n"
+
+-- a white sheet as high and wide as the picture
+abbrev pub sheet_text : ℕ → List ℕ
+sheet_text height =
+    codes "<path d=\"M0 0H" ++ decimal 109500 ++ codes "V" ++ decimal height ++ codes "H0z\" fill=\"#ffffff\"/>\n"
+
+-- the heading above the rows
+abbrev pub heading_text : Shop → ℕ → List ℕ
+heading_text shop makespan =
+    codes "<text x=\"" ++ decimal 9000 ++ codes "\" y=\"2500\" font-size=\"1600\">" ++ sizes_text shop makespan
+    ++ codes "</text>\n"
+
+-- what the outline means, above the rows at the right
+abbrev pub legend_text : List ℕ
+legend_text =
+    codes "<text x=\"" ++ decimal 105000 ++ codes "\" y=\"2500\" text-anchor=\"end\">"
+    ++ codes "outlined: a heaviest path, whose times sum to the makespan</text>\n"
+
+-- a tick of the axis at a time: a line through the rows
+abbrev pub line_text : ℕ → ℕ → ℕ → List ℕ
+line_text makespan bottom time =
+    codes "<line x1=\"" ++ decimal (x_of makespan time) ++ codes "\" y1=\"" ++ decimal 4000
+    ++ codes "\" x2=\"" ++ decimal (x_of makespan time) ++ codes "\" y2=\"" ++ decimal (bottom + 500)
+    ++ codes "\" stroke=\"#bbbbbb\" stroke-width=\"60\"/>"
+
+-- and the time, below the rows
+abbrev pub time_text : ℕ → ℕ → ℕ → List ℕ
+time_text makespan bottom time =
+    codes "<text x=\"" ++ decimal (x_of makespan time) ++ codes "\" y=\"" ++ decimal (bottom + 2000)
+    ++ codes "\" text-anchor=\"middle\">" ++ decimal time ++ codes "</text>\n"
+
+-- the tick after so many steps
+abbrev pub tick_text : ℕ → ℕ → ℕ → ℕ → List ℕ
+tick_text makespan bottom step count =
+    line_text makespan bottom (count * step) ++ time_text makespan bottom (count * step)
+
+-- the ticks, from time 0 to the makespan
+abbrev pub ticks_text : ℕ → ℕ → ℕ → List ℕ
+ticks_text makespan bottom step = flat_map (tick_text makespan bottom step) (numbers 0 (makespan / step))
+
+-- the name of the axis, left of its times
+abbrev pub axis_name_text : ℕ → List ℕ
+axis_name_text bottom =
+    codes "<text x=\"" ++ decimal 8000 ++ codes "\" y=\"" ++ decimal (bottom + 2000)
+    ++ codes "\" text-anchor=\"end\">time</text>\n"
+
+-- the name of a machine, left of its row
+abbrev pub machine_name_text : ℕ → List ℕ
+machine_name_text machine =
+    codes "<text x=\"" ++ decimal 8000 ++ codes "\" y=\"" ++ decimal (y_of machine + 1650)
+    ++ codes "\" text-anchor=\"end\">machine " ++ decimal machine ++ codes "</text>\n"
+
+-- what stands above the rows of a picture of some height
+abbrev pub top_text : Shop → ℕ → ℕ → List ℕ
+top_text shop makespan height =
+    svg_text height ++ title_text shop makespan ++ sheet_text height ++ heading_text shop makespan ++ legend_text
+
+-- the head of a picture of the shop with a makespan, whose ticks are a step apart; the group of the bars opens last
+abbrev pub frame_text : Shop → ℕ → ℕ → List ℕ
+frame_text shop makespan step =
+    top_text shop makespan (bottom_of shop.machines + 3400)
+    ++ ticks_text makespan (bottom_of shop.machines) step ++ axis_name_text (bottom_of shop.machines)
+    ++ flat_map machine_name_text (numbers 1 shop.machines) ++ codes "<g text-anchor=\"middle\">\n"

@@ -1,0 +1,9 @@
+pub use Rattle.flow_limits.specs.Limits
+pub use Rattle.flow_shop.specs.Shop
+pub use Rattle.flow_shop.specs.Paths
+pub mod Timetable
+pub mod Table
+pub mod HeaviestPath
+pub mod Scale
+pub mod Frame
+pub mod Picture

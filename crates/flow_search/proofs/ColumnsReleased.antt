@@ -1,0 +1,200 @@
+-- The release of a machine at a child in a column.
+use Rattle.std.proofs.Common.{◌≡◌, ◌≢◌, ℕ, ◌+◌, ◌-◌, ◌<◌, ◌≤◌, max, List, [], ◌∷◌, map}
+use Rattle.std.proofs.Common.{slice_index, slice_index_or, refl, ap, sym, ◌∙◌, arith}
+use Rattle.std.specs.List.{range_with_len, sum_by}
+use Rattle.std.proofs.lemmas.List.Sums.{sum_by-append}
+use Rattle.flow_limits.specs.Limits.{most_machines}
+use Rattle.flow_shop.specs.Shop.{Shop, numbers, time, time_between, IsWithinLimits}
+use Rattle.flow_shop.specs.Least.{least, greatest}
+use Rattle.flow_shop.specs.Sequences.{jobs_left}
+use Rattle.flow_shop.specs.Bound.{release, released_bound_at, front_of}
+use Rattle.flow_shop.proofs.Recurrence.{completion-push, time_between-first, time_between-none}
+use Rattle.flow_shop.proofs.Fronts.{tail-small}
+use Rattle.flow_shop.proofs.Extremes.{greatest-append, map-map-append}
+use Rattle.flow_shop.proofs.Admissible.{front_of-is}
+use Rattle.flow_shop.proofs.Taken.{range-split, left-sum}
+use Rattle.flow_search.specs.declared.eight.group.TheConstants.{GONE}
+use Rattle.flow_search.specs.declared.eight.group.MachineRow.{MachineRow}
+use Rattle.flow_search.specs.declared.eight.group.Group.{Group}
+use Rattle.flow_search.specs.declared.eight.group.ColumnFrame.{ColumnFrame}
+use Rattle.flow_search.specs.internal.Columns.{IsLeastOfOthers, IsColumnLeft, IsFrameOf, IsOpened, job_of, child}
+use Rattle.flow_search.proofs.ColumnsPassed.{least-left, behind-is}
+
+-- a job's time on some machines, parted behind one of them
+pub between-split : (shop : Shop) (job from here last : ℕ) → from ≤ here + 1 → here ≤ last →
+    time_between shop job from last ≡ time_between shop job from here + time_between shop job (here + 1) last
+between-split shop job from here last low high =
+    let len : last + 1 - from ≡ (here + 1 - from) + (last - here) = omega arith in
+    let next : from + (here + 1 - from) ≡ here + 1 = omega arith in
+    let rest : last - here ≡ last + 1 - (here + 1) = omega arith in
+    ap (λ n. sum_by (time shop job) (range_with_len from n)) len
+    ∙ ap (sum_by (time shop job)) (range-split from (here + 1 - from) (last - here))
+    ∙ sum_by-append (time shop job) (range_with_len from (here + 1 - from))
+    (range_with_len (from + (here + 1 - from)) (last - here))
+    ∙ ap (λ k. time_between shop job from here + sum_by (time shop job) (range_with_len k (last - here))) next
+    ∙ ap (λ n. time_between shop job from here + sum_by (time shop job) (range_with_len (here + 1) n)) rest
+
+-- when a machine is free, and the least time that one of some jobs needs from there to before another machine
+abbrev pub need : Shop → List ℕ → List ℕ → ℕ → ℕ → ℕ
+need shop front left machine from =
+    slice_index front (from - 1) + least (map (λ job. time_between shop job from (machine - 1)) left)
+
+greatest-more : (f : ℕ → ℕ) (n : ℕ) →
+    greatest (map f (numbers 1 (n + 1))) ≡ max (greatest (map f (numbers 1 n))) (f (n + 1))
+greatest-more f n =
+    let len : n + 1 + 1 - 1 ≡ (n + 1 - 1) + 1 = omega arith in
+    let last : 1 + (n + 1 - 1) ≡ n + 1 = omega arith in
+    let one : greatest (f (n + 1) ∷ []) ≡ f (n + 1) = omega arith in
+    ap (λ k. greatest (map f (range_with_len 1 k))) len
+    ∙ ap (λ xs. greatest (map f xs)) (range-split 1 (n + 1 - 1) 1)
+    ∙ ap greatest (map-map-append f (numbers 1 n) (range_with_len (1 + (n + 1 - 1)) 1))
+    ∙ greatest-append (map f (numbers 1 n)) (map f (range_with_len (1 + (n + 1 - 1)) 1))
+    ∙ ap (λ k. max (greatest (map f (numbers 1 n))) (greatest (f k ∷ []))) last
+    ∙ ap (max (greatest (map f (numbers 1 n)))) one
+
+least-none : (f : ℕ → ℕ) (jobs : List ℕ) → ((job : ℕ) → f job ≡ 0) → least (map f jobs) ≡ 0
+least-none f [] none = refl
+least-none f (job ∷ []) none = none job
+least-none f (job ∷ other ∷ jobs) none = omega (arith, none job, least-none f (other ∷ jobs) none)
+
+-- the release, from the needs of the earlier machines
+pub release-is : (shop : Shop) (front left : List ℕ) (place : ℕ) →
+    release shop front left (place + 1)
+    ≡ max (slice_index front place) (greatest (map (need shop front left (place + 1)) (numbers 1 place)))
+release-is shop front left place =
+    let e : place + 1 - 1 ≡ place = omega arith in
+    let none = least-none (λ job. time_between shop job (place + 1) (place + 1 - 1)) left
+    (λ job. time_between-none shop job (place + 1) (place + 1 - 1) (omega arith)) in
+    let here : need shop front left (place + 1) (place + 1) ≡ slice_index front place =
+    omega (arith, none, ap (slice_index front) e) in
+    omega (arith, greatest-more (need shop front left (place + 1)) place, here)
+
+-- one more machine
+pub need-more : (shop : Shop) (front left : List ℕ) (machine place first made next : ℕ) →
+    made ≡ max first (greatest (map (need shop front left machine) (numbers 1 place))) →
+    next ≡ max made (need shop front left machine (place + 1)) →
+    next ≡ max first (greatest (map (need shop front left machine) (numbers 1 (place + 1))))
+need-more shop front left machine place first made next was is =
+    omega (arith, was, is, greatest-more (need shop front left machine) place)
+
+-- what a column's job needs between two machines
+pub between-is : (shop : Shop) (list : List ℕ) (group : Group) (frame : ColumnFrame) (row : MachineRow)
+    (column earlier place : ℕ) → IsFrameOf shop list group frame → IsColumnLeft frame column →
+    earlier < place → place < shop.machines →
+    (slice_index (slice_index_or group.rows earlier row).time column
+    + slice_index (slice_index_or group.rows earlier row).tail column)
+    - (slice_index (slice_index_or group.rows place row).time column
+    + slice_index (slice_index_or group.rows place row).tail column)
+    ≡ time_between shop (job_of group column) (earlier + 1) (place + 1 - 1)
+between-is shop list group frame row column earlier place at here before to =
+    let job : ℕ = job_of group column in
+    let needs : (k : ℕ) → k < shop.machines → slice_index (slice_index_or group.rows k row).time column
+    + slice_index (slice_index_or group.rows k row).tail column ≡ time_between shop job (k + 1) shop.machines =
+    λ k low.
+    let e : k + 1 - 1 ≡ k = omega arith in
+    let is = at.rows row column (k + 1) here (omega arith) (omega (arith, low)) in
+    omega (
+      arith,
+      ap (λ i. slice_index (slice_index_or group.rows i row).time column) e,
+      ap (λ i. slice_index (slice_index_or group.rows i row).tail column) e,
+      is.time,
+      is.tail,
+      time_between-first shop job (k + 1) shop.machines (omega (arith, low)),
+    ) in
+    let e : place + 1 - 1 ≡ place = omega arith in
+    omega (
+      arith,
+      needs earlier (omega (arith, before, to)),
+      needs place to,
+      between-split shop job (earlier + 1) place shop.machines (omega (arith, before)) (omega (arith, to)),
+      ap (time_between shop job (earlier + 1)) e,
+    )
+
+-- the need of an earlier machine, from the columns
+pub need-is : (shop : Shop) (list : List ℕ) (group : Group) (frame : ColumnFrame) (row : MachineRow)
+    (column other earlier place value : ℕ) (between masked : List ℕ) → IsWithinLimits shop →
+    IsOpened shop list group frame → IsColumnLeft frame column → IsColumnLeft frame other → other ≢ column →
+    earlier < place → place < shop.machines →
+    ((k : ℕ) → k < 8 → slice_index between k
+    ≡ (slice_index (slice_index_or group.rows earlier row).time k
+    + slice_index (slice_index_or group.rows earlier row).tail k)
+    - (slice_index (slice_index_or group.rows place row).time k
+    + slice_index (slice_index_or group.rows place row).tail k)) →
+    ((k : ℕ) → k < 8 → slice_index masked k ≡ max (slice_index between k) (slice_index frame.gone k)) →
+    IsLeastOfOthers masked column value →
+    slice_index (slice_index_or frame.free earlier []) column + value
+    ≡ need shop (front_of shop (child list group column)) (jobs_left shop.jobs (child list group column)) (place + 1)
+    (earlier + 1)
+need-is shop list group frame row column other earlier place value between masked limits opened here there differ before
+    to
+    are made is =
+    let f : ℕ → ℕ = λ job. time_between shop job (earlier + 1) (place + 1 - 1) in
+    let at = opened.at in
+    let each : (k : ℕ) → IsColumnLeft frame k → slice_index between k ≡ f (job_of group k) =
+    λ k left. are k left.within ∙ between-is shop list group frame row k earlier place at left before to in
+    let most : shop.machines ≤ most_machines = limits.machines in
+    let e : place + 1 - 1 ≡ place = omega arith in
+    let all = between-split shop (job_of group other) (earlier + 1) place shop.machines (omega (arith, before))
+    (omega (arith, to)) in
+    let small : slice_index between other < GONE =
+    omega (
+      arith,
+      each other there,
+      ap (time_between shop (job_of group other) (earlier + 1)) e,
+      all,
+      tail-small shop (job_of group other) (shop.machines - earlier) earlier limits (omega (arith, before, to)),
+      most,
+    ) in
+    let tail = least-left shop list group frame f column other value between masked at here there differ each small made
+    is
+    in
+    let free = opened.free earlier column here (omega (arith, before, to)) in
+    let front = front_of-is shop (child list group column) (earlier + 1) (omega arith) (omega (arith, before, to)) in
+    omega (arith, free, front, tail)
+
+-- the released bound of a child with jobs left
+pub released-is : (shop : Shop) (list : List ℕ) (group : Group) (frame : ColumnFrame) (row : MachineRow)
+    (column other place released start behind : ℕ) (tails : List ℕ) →
+    IsOpened shop list group frame → IsColumnLeft frame column → IsColumnLeft frame other → other ≢ column →
+    place < shop.machines →
+    released ≡ release shop (front_of shop (child list group column)) (jobs_left shop.jobs (child list group column))
+    (place + 1) →
+    start ≡ released - slice_index (slice_index_or group.rows place row).time column →
+    ((k : ℕ) → k < 8 → slice_index tails k
+    ≡ max (slice_index (slice_index_or group.rows place row).tail k) (slice_index frame.gone k)) →
+    IsLeastOfOthers tails column behind →
+    start + behind + slice_index frame.sum place ≡ released_bound_at shop (child list group column) (place + 1)
+released-is shop list group frame row column other place released start behind tails opened here there differ to
+    release_is
+    start_is made is_least =
+    let at = opened.at in
+    let e : place + 1 - 1 ≡ place = omega arith in
+    let low : 1 ≤ place + 1 = omega arith in
+    let high : place + 1 ≤ shop.machines = omega (arith, to) in
+    let row_is : slice_index (slice_index_or group.rows place row).time column
+    ≡ time shop (job_of group column) (place + 1) =
+    sym (ap (λ k. slice_index (slice_index_or group.rows k row).time column) e)
+    ∙ (at.rows row column (place + 1) here low high).time in
+    let front = front_of-is shop (child list group column) (place + 1) low high in
+    let load : slice_index frame.sum place ≡ sum_by (λ job. time shop job (place + 1)) (jobs_left shop.jobs list) =
+    sym (ap (slice_index frame.sum) e) ∙ at.sums (place + 1) low high in
+    let sum = left-sum (λ job. time shop job (place
+    + 1)) shop.jobs list (job_of group column) (at.from column here) (at.to column here) (at.fresh column here) in
+    let tail = behind-is shop list group frame row column other place behind tails at here there differ to made is_least
+    in
+    let late = release-is shop (front_of shop (child list group column)) (jobs_left shop.jobs (child list group column))
+    place in
+    let leaves = completion-push shop list (job_of group column) place in
+    omega (
+      arith,
+      release_is,
+      start_is,
+      row_is,
+      ap (slice_index (front_of shop (child list group column))) e,
+      front,
+      load,
+      sum,
+      tail,
+      late,
+      leaves,
+    )

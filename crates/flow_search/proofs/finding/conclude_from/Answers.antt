@@ -1,0 +1,90 @@
+use Rattle.std.proofs.Common.{◌≡◌, ℕ, ◌+◌, ◌<◌, slice_index_or, [], ◌∷◌, ◌++◌, length, None, Some, subst, ap, sym, ◌∙◌}
+use Rattle.std.proofs.Common.{arith, append_assoc, length-append}
+use Rattle.std.specs.Vec.Iter.{into_iter_items}
+use Rattle.flow_search.specs.Outcomes.{IsLawful, IsDone}
+use Rattle.flow_search.specs.declared.outcome.Outcome.TheVariants.{Done}
+use Rattle.flow_search.specs.Plans.{prefixes_of}
+use Rattle.flow_search.specs.Verdicts.{first_refusal}
+use Rattle.flow_search.specs.Targets.{at_value, plan_below}
+use Rattle.flow_search.specs.internal.Tally.{IsTally}
+use Rattle.flow_search.specs.declared.verdict.RunFault.TheVariants.{OverBudget}
+use Rattle.flow_search.proofs.Tallies.{refusals, done-at, done-is, item-behind}
+use Rattle.flow_search.proofs.finding.conclude_from.Goals as goal
+
+pub refusal_among-requires : goal.refusal_among-requires
+refusal_among-requires c = omega (arith, c.requires.count, c.prefixes-count.ensures.plan.few)
+
+pub returns-in-Some-clause-over : goal.returns-in-Some-clause-over
+returns-in-Some-clause-over c number e =
+    let size : length c.args.outcomes.items ≡ length (prefixes_of c.args.plan.now) = sym c.args.outcomes.ok.0
+    ∙ c.requires.count in
+    let fault : c.in-Some.fault ≡ OverBudget number = cc in
+    let first : first_refusal 0 c.args.outcomes.items ≡ Some (OverBudget number) =
+    ap (first_refusal 0) (sym c.deref.ensures.value) ∙ sym c.refusal_among.ensures ∙ c.in-Some.is
+    ∙ ap (λ f. Some f) fault in
+    (refusals (plan_below (at_value c.args.plan.now c.args.target)) c.args.outcomes.items size c.requires.lawful).over number first
+
+pub returns-clause-within : goal.returns-clause-within
+returns-clause-within c =
+    let size : length c.args.outcomes.items ≡ length (prefixes_of c.args.plan.now) = sym c.args.outcomes.ok.0
+    ∙ c.requires.count in
+    let none : first_refusal 0 c.args.outcomes.items ≡ None = ap (first_refusal 0) (sym c.deref.ensures.value)
+    ∙ sym c.refusal_among.ensures ∙ c.in_default.is in
+    (refusals (plan_below (at_value c.args.plan.now c.args.target)) c.args.outcomes.items size c.requires.lawful).none none
+
+pub returns-clause-done : goal.returns-clause-done
+returns-clause-done c i other h =
+    let none : first_refusal 0 c.args.outcomes.items ≡ None = ap (first_refusal 0) (sym c.deref.ensures.value)
+    ∙ sym c.refusal_among.ensures ∙ c.in_default.is in
+    done-at 0 c.args.outcomes.items i other none h
+
+pub loop-outcome-preserved-in-Continue-branch-2 : goal.loop-outcome-preserved-in-Continue-branch-2
+loop-outcome-preserved-in-Continue-branch-2 c =
+    let at = c.loop-outcome in
+    let o = c.in-Some-outcome.outcome in
+    let k : ℕ = length at.yielded in
+    let size : length c.args.outcomes.items ≡ length (prefixes_of c.args.plan.now) = sym c.args.outcomes.ok.0
+    ∙ c.requires.count in
+    let steps : into_iter_items at.outcome-iterator ≡ o ∷ into_iter_items c.next.new.self =
+    c.in-Some-outcome.ensures.steps.0 in
+    let items : at.yielded ++ o ∷ into_iter_items c.next.new.self ≡ c.args.outcomes.items =
+    ap (λ r. at.yielded ++ r) (sym steps) ∙ at.invariant.taken in
+    let low : k < length c.args.outcomes.items =
+    omega (arith, ap length items, length-append at.yielded (o ∷ into_iter_items c.next.new.self)) in
+    let here : IsLawful (plan_below (at_value c.args.plan.now c.args.target)) k o =
+    subst (IsLawful (plan_below (at_value c.args.plan.now c.args.target)) k) (ap (λ os. slice_index_or os k o) (sym items)
+    ∙ item-behind at.yielded o (into_iter_items c.next.new.self) o) (c.requires.lawful k o low) in
+    let lawful : IsLawful (plan_below (at_value c.args.plan.now c.args.target)) k (Done c.in-Done.best c.in-Done.tree) =
+    subst (IsLawful (plan_below (at_value c.args.plan.now c.args.target)) k) c.in-Done.is here in
+    let added : IsTally (plan_below (at_value c.args.plan.now c.args.target)) (k + 1) c.add.new.self =
+    c.in_ok-add.ensures (plan_below (at_value c.args.plan.now c.args.target)) k (omega (arith, low, size)) at.invariant.tally lawful in
+    let more : length (at.yielded ++ o ∷ []) ≡ k + 1 = omega (arith, length-append at.yielded (o ∷ [])) in
+    record {
+      taken = append_assoc at.yielded (o ∷ []) (into_iter_items c.next.new.self) ∙ items;
+      rest =
+          let was = at.invariant.rest in
+          let gone = c.in-Some-outcome.ensures.steps.1 in
+          let short = ap length steps in
+          omega (arith, was, gone, short);
+      tally = subst (λ n. IsTally (plan_below (at_value c.args.plan.now c.args.target)) n c.add.new.self) (sym more) added;
+    }
+
+pub loop-outcome-preserved : goal.loop-outcome-preserved
+loop-outcome-preserved c =
+    let at = c.loop-outcome in
+    let o = c.in-Some-outcome.outcome in
+    let k : ℕ = length at.yielded in
+    let steps : into_iter_items at.outcome-iterator ≡ o ∷ into_iter_items c.next.new.self =
+    c.in-Some-outcome.ensures.steps.0 in
+    let items : at.yielded ++ o ∷ into_iter_items c.next.new.self ≡ c.args.outcomes.items =
+    ap (λ r. at.yielded ++ r) (sym steps) ∙ at.invariant.taken in
+    let low : k < length c.args.outcomes.items =
+    omega (arith, ap length items, length-append at.yielded (o ∷ into_iter_items c.next.new.self)) in
+    let none : first_refusal 0 c.args.outcomes.items ≡ None = ap (first_refusal 0) (sym c.deref.ensures.value)
+    ∙ sym c.refusal_among.ensures ∙ c.in_default.is in
+    let done : IsDone o =
+    subst IsDone (ap (λ os. slice_index_or os k o) (sym items)
+    ∙ item-behind at.yielded o (into_iter_items c.next.new.self) o)
+    (done-at 0 c.args.outcomes.items k o none low) in
+    let is = done-is o done in
+    absurd (c.in_default-outcome.not-Done is.0 is.1 is.2)

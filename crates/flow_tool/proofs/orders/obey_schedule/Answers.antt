@@ -1,0 +1,45 @@
+use Rattle.std.proofs.Common.{inl, inr, refl, rules}
+use Rattle.std.proofs.lemmas.Result.{err_from_is_err_and}
+use Rattle.flow_tool.proofs.Devices.{either-failed, read-failed}
+use Rattle.flow_tool.proofs.orders.obey_schedule.Goals as goal
+
+pub returns-clause-written : goal.returns-clause-written
+returns-clause-written g c = (
+  c.in_ok-text.text,
+  c.run_schedule.new.file,
+  c.in_ok-text.ensures.opened,
+  (c.in_ok-sequence.sequence, c.run_schedule.new.start, search rules, c.in_ok-run_schedule.ensures.written),
+)
+
+pub returns-in_err-run_schedule-clause-ended : goal.returns-in_err-run_schedule-clause-ended
+returns-in_err-run_schedule-clause-ended g c =
+    let p = err_from_is_err_and c.from_residual-in_err-run_schedule.result c.from_residual-in_err-run_schedule.ensures.1 in
+    rw (p.1, p.2) (inr (
+      c.in_ok-text.text,
+      c.run_schedule.new.file,
+      c.in_ok-text.ensures.opened,
+      inr (
+        c.in_ok-sequence.sequence,
+        c.run_schedule.new.start,
+        search rules,
+        (c.in_err-run_schedule.field-0.0, refl, c.in_err-run_schedule.ensures.ended),
+      ),
+    ))
+
+pub returns-in_err-run_schedule-clause-read_device : goal.returns-in_err-run_schedule-clause-read_device
+returns-in_err-run_schedule-clause-read_device g c =
+    let p = err_from_is_err_and c.from_residual-in_err-run_schedule.result c.from_residual-in_err-run_schedule.ensures.1 in
+    rw (p.1, p.2) (λ named. either-failed _ _ _ _
+    (λ failed. (c.in_ok-text.text, c.run_schedule.new.file, c.in_ok-text.ensures.opened, failed))
+    (λ failed. (c.in_ok-sequence.sequence, c.run_schedule.new.start, search rules, failed))
+    (read-failed c.in_err-run_schedule.field-0.0 _ c.in_err-run_schedule.ensures.read_device named))
+
+pub returns-in_err-sequence-clause-ended : goal.returns-in_err-sequence-clause-ended
+returns-in_err-sequence-clause-ended g c =
+    let p = err_from_is_err_and c.from_residual-in_err-sequence.result c.from_residual-in_err-sequence.ensures.1 in
+    rw (p.1, p.2) (inr (
+      c.in_ok-text.text,
+      c.in_ok-text.text,
+      c.in_ok-text.ensures.opened,
+      inl (search rules, refl, refl),
+    ))

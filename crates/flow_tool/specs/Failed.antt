@@ -1,0 +1,29 @@
+-- Which source of an order refused to be read.
+use Rattle.std.specs.Prelude.{◌≡◌, ℕ, ◌⊎◌, true, List, Option, Some, None}
+use Rattle.std.specs.Borrow.{Bor}
+use Rattle.flow_tool.specs.Asked.{Asked, alone, of_text, from_start, of_both}
+use Rattle.flow_tool.specs.Inputs.{IsText, Names, shown}
+use Rattle.flow_tool.specs.declared.inputs.Text.{Text}
+
+-- the name stands for a text, and a text of that kind has refused to be read; that it is this one is not said
+abbrev pub FailedText : {A : Type 0} → {B : Type 0} → Names A B → List ℕ → Type 0
+FailedText {A} {B} names name =
+    (text : Text A B) × (after : Text A B) × IsText names.is_standard names.opened name text
+    × (shown names.of_standard.has_failed names.of_file.has_failed after ≡ true)
+
+-- the same of a file that the name opened
+abbrev pub FailedFile : {A : Type 0} → {B : Type 0} → Names A B → List ℕ → Type 0
+FailedFile {A} {B} names name =
+    (file : B) × (after : B) × names.opened name file × (names.of_file.has_failed after ≡ true)
+
+-- the same of a start, where one is named
+abbrev pub FailedStart : {A : Type 0} → {B : Type 0} → Names A B → Option (Bor (List ℕ)) → Type 0
+FailedStart names None = ⊥
+FailedStart names (Some name) = FailedFile names name.now
+
+-- a source that is named has refused to be read: the text, or the second file
+abbrev pub FailedAsked : {A : Type 0} → {B : Type 0} → Names A B → Asked → Type 0
+FailedAsked names (alone Answers) = ⊥
+FailedAsked names (of_text name Answers) = FailedText names name
+FailedAsked names (from_start name index start Answers) = FailedText names name ⊎ FailedStart names start
+FailedAsked names (of_both name index second limit Answers) = FailedText names name ⊎ FailedFile names second

@@ -1,0 +1,82 @@
+-- What the names of a command line stand for.
+use Rattle.std.specs.Prelude.{◌≡◌, ◌≢◌, ℕ, Bool, List, codes, Option, Some, None}
+use Rattle.std.specs.Borrow.{Bor}
+use Rattle.flow_commands.specs.Runs.{SourceRun, source_run, start_run}
+use Rattle.flow_tool.specs.declared.inputs.Text.{Text}
+use Rattle.flow_tool.specs.declared.inputs.Text.TheVariants.{Standard, File}
+use Rattle.flow_tool.specs.declared.stop.Stop.{Stop}
+use Rattle.flow_tool.specs.declared.stop.Stop.TheVariants.{Open}
+
+-- what a source shows: the bytes that it has given, whether it has ended, and whether it has refused to be read
+pub record Views (S : Type 0) : Type 0 where
+  pub given : S → Option (List ℕ)
+  pub has_ended : S → Bool
+  pub has_failed : S → Bool
+
+abbrev pub views : {S : Type 0} → (S → Option (List ℕ)) → (S → Bool) → (S → Bool) → Views S
+views given has_ended has_failed = record { given = given; has_ended = has_ended; has_failed = has_failed }
+
+-- what names stand for: which source is standard input, which file a name opened, and which name opened none
+pub record Names (A : Type 0) (B : Type 0) : Type 1 where
+  pub is_standard : A → Type 0
+  pub opened : List ℕ → B → Type 0
+  pub refused : List ℕ → Type 0
+  pub of_standard : Views A
+  pub of_file : Views B
+
+abbrev pub names_of :
+    {A : Type 0} → {B : Type 0} → (A → Type 0) → (List ℕ → B → Type 0) → (List ℕ → Type 0) → Views A → Views B
+    → Names A B
+names_of is_standard opened refused of_standard of_file = record {
+  is_standard = is_standard;
+  opened = opened;
+  refused = refused;
+  of_standard = of_standard;
+  of_file = of_file;
+}
+
+-- what a text shows: what standard input or the file shows
+abbrev pub shown : {A : Type 0} → {B : Type 0} → {C : Type 0} → (A → C) → (B → C) → Text A B → C
+shown of_standard of_file (Standard source) = of_standard source
+shown of_standard of_file (File file) = of_file file
+
+-- a name stands for this text: for standard input the word of it, and for a file its own name, as it was opened
+abbrev pub IsText : {A : Type 0} → {B : Type 0} → (A → Type 0) → (List ℕ → B → Type 0) → List ℕ → Text A B → Type 0
+IsText is_standard opened name (Standard source) = (name ≡ codes "stdin") × is_standard source
+IsText is_standard opened name (File file) = (name ≢ codes "stdin") × opened name file
+
+-- a name stands for no text: its file could not be opened
+abbrev pub RefusedText : (List ℕ → Type 0) → List ℕ → Stop → Type 0
+RefusedText refused name stop = (stop ≡ Open) × (name ≢ codes "stdin") × refused name
+
+-- the name of a start opened this file; or there is neither
+abbrev pub IsStart : {F : Type 0} → (List ℕ → F → Type 0) → Option (Bor (List ℕ)) → Option F → Type 0
+IsStart opened None None = Unit {0}
+IsStart opened (Some name) (Some file) = opened name.now file
+IsStart opened name file = ⊥
+
+-- the file of a start could not be opened
+abbrev pub RefusedStart : (List ℕ → Type 0) → Option (Bor (List ℕ)) → Stop → Type 0
+RefusedStart refused None stop = ⊥
+RefusedStart refused (Some name) stop = (stop ≡ Open) × refused name.now
+
+-- this fact holds of the run of a text that the name stands for
+abbrev pub RunOfText :
+    {A : Type 0} → {B : Type 0} → Names A B → List ℕ → (SourceRun (Text A B) → Type 0) → Type 0
+RunOfText {A} {B} names name Holds =
+    (text : Text A B) × (after : Text A B) × IsText names.is_standard names.opened name text
+    × Holds (source_run (shown names.of_standard.given names.of_file.given)
+    (shown names.of_standard.has_ended names.of_file.has_ended) text after)
+
+-- the same of a file that the name opened
+abbrev pub RunOfFile : {A : Type 0} → {B : Type 0} → Names A B → List ℕ → (SourceRun B → Type 0) → Type 0
+RunOfFile {A} {B} names name Holds =
+    (file : B) × (after : B) × names.opened name file
+    × Holds (source_run names.of_file.given names.of_file.has_ended file after)
+
+-- the same of the start, whose name may be left out
+abbrev pub RunOfStart :
+    {A : Type 0} → {B : Type 0} → Names A B → Option (Bor (List ℕ)) → (Option (SourceRun B) → Type 0) → Type 0
+RunOfStart {A} {B} names name Holds =
+    (file : Option B) × (after : Option B) × IsStart names.opened name file
+    × Holds (start_run names.of_file.given names.of_file.has_ended file after)
