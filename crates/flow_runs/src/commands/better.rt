@@ -234,20 +234,18 @@ fn improve_names_the_first_fault(rt: HostRuntime) -> Result<(), Fail> {
     let alloc = rt.alloc();
     let rounds = CommandFault::Improve(ImproveFault::Rounds);
     let seed = CommandFault::Improve(ImproveFault::Seed);
-    let [most, width, work] = [
-        (65_536, 100_000_000, 2_147_483_646, 1_000_000),
-        (65_537, 100_000_001, 0, 1_000_001),
-        (0, 0, 1, 1_000_001),
-    ]
-    .map(|(width, rounds, seed, work)| {
-        let request = ImproveRequest {
-            width,
-            rounds,
-            seed,
-            work,
-        };
-        improved_as(alloc, ONE_JOB, request)
-    });
+    let request = |width, rounds, seed, work| ImproveRequest {
+        width,
+        rounds,
+        seed,
+        work,
+    };
+    let most = request(65_536, 100_000_000, 2_147_483_646, 1_000_000);
+    let most = improved_as(alloc, ONE_JOB, most);
+    let width = request(65_537, 100_000_001, 0, 1_000_001);
+    let width = improved_as(alloc, ONE_JOB, width);
+    let work = request(0, 0, 1, 1_000_001);
+    let work = improved_as(alloc, ONE_JOB, work);
     assert!(rt; wrote(&most, b"sequence 1\nmakespan 0\n"));
     assert!(rt; refused(&width, CommandFault::Improve(ImproveFault::Width)));
     assert!(rt; refused(&work, CommandFault::Improve(ImproveFault::Work)));
