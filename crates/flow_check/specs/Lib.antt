@@ -1,5 +1,6 @@
 pub mod Certificate
 pub mod CertificateFaults
 pub mod Check
+pub mod Kinds
 pub mod Stated
 pub mod internal

@@ -5,7 +5,7 @@ use Rattle.flow_shop.specs.Paths.{span}
 use Rattle.flow_check.specs.Certificate.{Shows, Stated, stated_bounds, text_of}
 use Rattle.flow_check.specs.declared.bounds.Bounds.{Bounds}
 use Rattle.flow_check.specs.declared.kind.TextKind.{TextKind}
-use Rattle.flow_check.specs.declared.kind.TextKind.TheVariants.{Certificate, OfBounds}
+use Rattle.flow_check.specs.declared.kind.TextKind.TheVariants.{Certificate}
 
 -- a text is a lawful one of its kind, with this sequence
 abbrev pub GivesSequenceAs : (kind : TextKind) → Shop → List ℕ → Stated kind → List ℕ → Type 0
@@ -18,6 +18,7 @@ GivesSequenceAs kind shop bytes stated sequence =
 abbrev pub GivesSequence : Shop → List ℕ → List ℕ → Type 0
 GivesSequence shop bytes sequence = GivesSequenceAs Certificate shop bytes (span shop sequence) sequence
 
--- a text is a lawful text of bounds, with this sequence, whose makespan is the upper one
-abbrev pub BoundsGiveSequence : Shop → List ℕ → Bounds → List ℕ → Type 0
-BoundsGiveSequence shop bytes bounds sequence = GivesSequenceAs OfBounds shop bytes bounds sequence
+-- a text is a lawful one of its kind that states these bounds and this sequence; a value is both bounds
+abbrev pub GivesAs : TextKind → Shop → List ℕ → Bounds → List ℕ → Type 0
+GivesAs kind shop bytes bounds sequence =
+    (stated : Stated kind) × (bounds ≡ stated_bounds kind stated) × GivesSequenceAs kind shop bytes stated sequence

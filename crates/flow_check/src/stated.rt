@@ -1,16 +1,15 @@
-//! The sequence that a text states.
+//! What a lawful text shows: its bounds, and the sequence that it states.
 
 ghost use Rattle.std.specs.Prelude.{◌≡◌, ℕ, ◌++◌, List, IfOk, IfErr};
 ghost use Rattle.std.specs.Option.{IsSomeAnd};
 ghost use Rattle.flow_shop.specs.Paths.{span};
 ghost use Rattle.flow_shop.specs.Sequences.{IsLeastMakespan, IsSequence};
-ghost use Rattle.flow_check.specs.Certificate.{IsDepth, IsVersion, IsStated, Stated, upto_stated};
-ghost use Rattle.flow_check.specs.Check.{IsFirstFault, IsOfNoValue, IsBoundsFault, IsOfNoBounds};
-ghost use Rattle.flow_check.specs.Check.{IsFaultAs, IsUnlawfulAs};
-ghost use Rattle.flow_check.specs.Stated.{GivesSequence, BoundsGiveSequence, GivesSequenceAs};
-ghost use Rattle.flow_check.specs.declared.bounds.Bounds.{Bounds};
+ghost use Rattle.flow_check.specs.Certificate.{AreBounds, IsDepth, IsVersion, IsStated, Stated, upto_stated};
+ghost use Rattle.flow_check.specs.Check.{IsFaultAs, IsFirstFault, IsOfNoValue, IsUnlawfulAs};
+ghost use Rattle.flow_check.specs.Stated.{GivesAs, GivesSequence, GivesSequenceAs};
 ghost use Rattle.flow_check.specs.internal.Heading.{BeginsWithSequence};
 
+use crate::bounds::Bounds;
 use crate::checker::check_as;
 use crate::fault::CheckFault;
 use crate::heading::{end_after, read_job, read_size, read_stated, read_title};
@@ -73,21 +72,33 @@ fn stated_jobs(
     }
 }
 
-/// The sequence of a lawful text of a kind, or the first fault of the text.
-fn sequence_as(
+/// What a lawful text shows.
+#[derive(Debug, Drop)]
+pub struct Shown {
+    /// The bounds that it proves. In a certificate its value is both.
+    pub bounds: Bounds,
+    /// Its sequence, whose makespan is the upper bound.
+    pub sequence: Sequence,
+}
+
+/// What a lawful text of a kind shows, or the first fault of the text. Any lawful text of the kind is accepted, whoever
+/// made it; `Memory` only where memory ran out.
+pub fn check_text(
     alloc: Global,
     kind: TextKind,
     instance: &Instance,
     bytes: &[u8],
-) -> Result<Sequence, CheckFault>
-    ensures sequence { IfOk result (λ sequence. (stated : Stated kind)
-        × GivesSequenceAs kind instance.now bytes.now stated sequence) }
+) -> Result<Shown, CheckFault>
+    ensures text { IfOk result (λ shown. GivesAs kind instance.now bytes.now shown.bounds shown.sequence) }
+    ensures each { IfOk result (λ shown. IsSequence instance.now.jobs shown.sequence) }
+    ensures bounds { IfOk result (λ shown. AreBounds instance.now shown.bounds) }
     ensures fault { IfErr result (λ fault. IsFaultAs kind instance.now bytes.now fault) }
     ensures none { IfErr result (λ fault. IsUnlawfulAs kind instance.now bytes.now fault) }
 {
-    check_as(alloc, kind, instance, bytes)?;
+    let bounds = check_as(alloc, kind, instance, bytes)?;
     let jobs = stated_jobs(alloc, kind, instance, bytes)?;
-    Ok(Sequence::of_known(alloc, jobs.as_slice())?)
+    let sequence = Sequence::of_known(alloc, jobs.as_slice())?;
+    Ok(Shown { bounds, sequence })
 }
 
 /// The sequence of a lawful certificate, whose makespan is the instance's least, or the first fault of the text.
@@ -103,21 +114,6 @@ pub fn check_sequence(
     ensures fault { IfErr result (λ fault. IsFirstFault instance.now bytes.now fault) }
     ensures none { IfErr result (λ fault. IsOfNoValue instance.now bytes.now fault) }
 {
-    sequence_as(alloc, TextKind::Certificate, instance, bytes)
-}
-
-/// The sequence of a lawful text of bounds, whose makespan is the upper one, or the first fault of the text. Accepts
-/// and refuses what `check_bounds` does.
-pub fn check_bounds_sequence(
-    alloc: Global,
-    instance: &Instance,
-    bytes: &[u8],
-) -> Result<Sequence, CheckFault>
-    ensures sequence { IfOk result (λ sequence. (bounds : Bounds)
-        × BoundsGiveSequence instance.now bytes.now bounds sequence) }
-    ensures each { IfOk result (IsSequence instance.now.jobs) }
-    ensures fault { IfErr result (λ fault. IsBoundsFault instance.now bytes.now fault) }
-    ensures none { IfErr result (λ fault. IsOfNoBounds instance.now bytes.now fault) }
-{
-    sequence_as(alloc, TextKind::OfBounds, instance, bytes)
+    let Shown { sequence, .. } = check_text(alloc, TextKind::Certificate, instance, bytes)?;
+    Ok(sequence)
 }

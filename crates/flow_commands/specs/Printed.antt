@@ -12,6 +12,10 @@ makespan_line value = codes "makespan " ++ decimal value ++ codes "\n"
 abbrev pub optimal_line : ℕ → List ℕ
 optimal_line value = codes "optimal " ++ decimal value ++ codes "\n"
 
+-- the line of the bounds that a text of bounds proves
+abbrev pub bounds_line : ℕ → ℕ → List ℕ
+bounds_line lower upper = codes "bounds " ++ decimal lower ++ codes " " ++ decimal upper ++ codes "\n"
+
 -- a sequence's line: the word, a space before each job number, and the line feed
 abbrev pub sequence_line : List ℕ → List ℕ
 sequence_line jobs = codes "sequence" ++ flat_map (λ job. 32 ∷ decimal job) jobs ++ 10 ∷ []

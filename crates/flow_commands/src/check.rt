@@ -4,21 +4,21 @@ ghost use Rattle.std.specs.Prelude.{◌≡◌, ◌↔◌, ◌⊎◌, false, true
 ghost use Rattle.std.specs.Prelude.{IfOk, OnOk, IfErr, IsErrOf};
 ghost use Rattle.flow_core.specs.Bytes.{Grows};
 ghost use Rattle.flow_core.specs.Paths.{span};
-ghost use Rattle.flow_core.specs.Sequences.{IsLeastMakespan, IsSequence};
+ghost use Rattle.flow_core.specs.Sequences.{IsSequence};
 ghost use Rattle.flow_core.specs.declared.bytes.fault.ReadFault.TheVariants as read;
 ghost use Rattle.flow_core.specs.declared.bytes.fault.WriteFault.TheVariants as write;
-ghost use Rattle.flow_commands.specs.Check.{AnswersCheck, GivesEither, SaysLeast, WroteLeast};
+ghost use Rattle.flow_commands.specs.Check.{AnswersCheck, GivesEither, Proves, SaysProved, WroteLeast, proved_line};
 ghost use Rattle.flow_commands.specs.Runs.{CameFor, Ends, EndsBoth, WroteBoth, WroteFor, sink_run, source_run};
 ghost use Rattle.flow_core.specs.Limits.{most_certificate};
-ghost use Rattle.flow_commands.specs.internal.Checked.{IsRefused, ran_out};
+ghost use Rattle.flow_commands.specs.internal.Checked.{IsRefused, IsRefusedAs, ran_out};
 
 use crate::block::read_block;
 use crate::fault::CommandFault;
-use crate::printed::{optimal_line, sequence_lines};
-use flow_check::{CheckFault, check_sequence};
-use flow_core::{Instance, MAX_CERTIFICATE, Sequence, Sink, Source, makespan, put_all, read_all};
+use crate::printed::{bounds_line, optimal_line, sequence_lines};
+use flow_check::{Bounds, CheckFault, Shown, TextKind, check_text, kind_of};
+use flow_core::{Instance, MAX_CERTIFICATE, Sink, Source, put_all, read_all};
 use flow_requests::CheckRequest;
-use std::alloc::Global;
+use std::alloc::{AllocError, Global};
 
 /// Whether a check ended because memory ran out.
 fn ran_out(fault: CheckFault) -> bool
@@ -27,21 +27,24 @@ fn ran_out(fault: CheckFault) -> bool
     matches!(fault, CheckFault::Memory)
 }
 
-/// The sequence of a certificate of an instance, or, where either is asked for, of one of the mirrored instance, turned
-/// round. A fault is that of the bytes as a certificate of the instance.
-fn checked_sequence(
+/// What a text of a kind shows of an instance; or, where either is asked for, what one of the mirrored instance does, its
+/// sequence turned round. A fault is that of the bytes as a text of the instance.
+fn checked(
     alloc: Global,
+    kind: TextKind,
     instance: &Instance,
     bytes: &[u8],
     request: CheckRequest,
-) -> Result<Sequence, CheckFault>
-    ensures gives { IfOk result (GivesEither request.either instance.now bytes.now) }
-    ensures each { IfOk result (IsSequence instance.now.jobs) }
-    ensures least { IfOk result (λ sequence. IsLeastMakespan instance.now (span instance.now sequence)) }
-    ensures refused { IfErr result (λ fault. IsRefused request instance.now bytes.now fault) }
+) -> Result<Shown, CheckFault>
+    ensures gives { IfOk result (λ shown.
+        GivesEither kind request.either instance.now bytes.now shown.bounds shown.sequence) }
+    ensures each { IfOk result (λ shown. IsSequence instance.now.jobs shown.sequence) }
+    ensures upper { IfOk result (λ shown. span instance.now shown.sequence ≡ shown.bounds.upper) }
+    ensures proved { IfOk result (λ shown. Proves kind instance.now shown.bounds) }
+    ensures refused { IfErr result (λ fault. IsRefusedAs kind request instance.now bytes.now fault) }
 {
-    let own = match check_sequence(alloc, instance, bytes) {
-        Ok(sequence) => return Ok(sequence),
+    let own = match check_text(alloc, kind, instance, bytes) {
+        Ok(shown) => return Ok(shown),
         Err(fault) => fault,
     };
     if ran_out(own) {
@@ -51,8 +54,13 @@ fn checked_sequence(
         return Err(own);
     }
     let mirror = instance.mirrored(alloc)?;
-    let other = match check_sequence(alloc, &mirror, bytes) {
-        Ok(sequence) => return Ok(sequence.reversed()),
+    let other = match check_text(alloc, kind, &mirror, bytes) {
+        Ok(Shown { bounds, sequence }) => {
+            return Ok(Shown {
+                bounds,
+                sequence: sequence.reversed(),
+            });
+        }
         Err(other) => other,
     };
     if ran_out(other) {
@@ -61,7 +69,17 @@ fn checked_sequence(
     Err(own)
 }
 
-/// What is printed for a certificate.
+/// The line of the bounds that a text of a kind proves.
+fn proved_line(alloc: Global, kind: TextKind, bounds: Bounds) -> Result<Vec<u8>, AllocError>
+    ensures { IfOk result (λ line. line.items ≡ proved_line kind bounds) }
+{
+    match kind {
+        TextKind::Certificate => optimal_line(alloc, bounds.lower),
+        TextKind::OfBounds => bounds_line(alloc, bounds.lower, bounds.upper),
+    }
+}
+
+/// What is printed for a certificate or a text of bounds.
 fn checked_text(
     alloc: Global,
     instance: &Instance,
@@ -69,19 +87,23 @@ fn checked_text(
     request: CheckRequest,
 ) -> Result<Vec<u8>, CheckFault>
     ensures text { IfOk result (λ text. AnswersCheck request instance.now bytes.now (Ok text.items)) }
-    ensures least { IfOk result (λ text. SaysLeast request.sequence instance.now text.items) }
+    ensures proved { IfOk result (λ text. SaysProved request instance.now bytes.now (Ok text.items)) }
     ensures refused { IfErr result (λ fault. IsRefused request instance.now bytes.now fault) }
 {
-    let sequence = checked_sequence(alloc, instance, bytes, request)?;
-    let value = makespan(instance, &sequence);
+    let kind = if request.bounds {
+        kind_of(bytes)
+    } else {
+        TextKind::Certificate
+    };
+    let Shown { bounds, sequence } = checked(alloc, kind, instance, bytes, request)?;
     if request.sequence {
-        return Ok(sequence_lines(alloc, sequence.jobs(), value)?);
+        return Ok(sequence_lines(alloc, sequence.jobs(), bounds.upper)?);
     }
-    Ok(optimal_line(alloc, value)?)
+    Ok(proved_line(alloc, kind, bounds)?)
 }
 
-/// Reads a certificate of an instance, or, where either is asked for, one of the mirrored instance, and writes the
-/// value that it proves least, or its sequence.
+/// Reads a text of an instance, or, where either is asked for, one of the mirrored instance, and writes what it proves,
+/// or its sequence.
 fn check_certificate<C: Source, K: Sink>(
     alloc: Global,
     instance: &Instance,
@@ -93,7 +115,8 @@ fn check_certificate<C: Source, K: Sink>(
     requires out_works { K.has_failed out.old ≡ false }
     ensures written { OnOk result (WroteFor most_certificate (AnswersCheck request instance.now)
         (source_run C.given C.has_ended cert.old cert.new) (sink_run K.taken out.old out.new)) }
-    ensures least { OnOk result (WroteLeast request.sequence instance.now (sink_run K.taken out.old out.new)) }
+    ensures proved { OnOk result (WroteFor most_certificate (SaysProved request instance.now)
+        (source_run C.given C.has_ended cert.old cert.new) (sink_run K.taken out.old out.new)) }
     ensures ended { IfErr result (Ends most_certificate (AnswersCheck request instance.now)
         (source_run C.given C.has_ended cert.old cert.new) (sink_run K.taken out.old out.new)) }
     ensures read_device { IsErrOf result (CommandFault.Read read.Device) ↔ (C.has_failed cert.new ≡ true) }
@@ -118,14 +141,13 @@ pub fn run_check<S: Source, C: Source, K: Sink>(
     requires cert_works { C.has_failed cert.old ≡ false }
     requires out_works { K.has_failed out.old ≡ false }
     ensures written { OnOk result (WroteBoth most_certificate
-        (AnswersCheck (record { either = false; sequence = false })) index
+        (AnswersCheck (record { either = false; bounds = false; sequence = false })) index
         (source_run S.given S.has_ended file.old file.new) (source_run C.given C.has_ended cert.old cert.new)
         (sink_run K.taken out.old out.new)) }
-    ensures least { OnOk result (CameFor index
-        (λ shop. WroteLeast false shop (sink_run K.taken out.old out.new))
+    ensures least { OnOk result (CameFor index (λ shop. WroteLeast shop (sink_run K.taken out.old out.new))
         (source_run S.given S.has_ended file.old file.new)) }
     ensures ended { IfErr result (EndsBoth most_certificate
-        (AnswersCheck (record { either = false; sequence = false })) index
+        (AnswersCheck (record { either = false; bounds = false; sequence = false })) index
         (source_run S.given S.has_ended file.old file.new) (source_run C.given C.has_ended cert.old cert.new)
         (sink_run K.taken out.old out.new)) }
     ensures read_device { IsErrOf result (CommandFault.Read read.Device)
@@ -141,14 +163,15 @@ pub fn run_check<S: Source, C: Source, K: Sink>(
         cert,
         CheckRequest {
             either: false,
+            bounds: false,
             sequence: false,
         },
         out,
     )
 }
 
-/// Writes the value that a certificate proves least for the block that an index names, or its sequence and that value,
-/// where a request says which certificates are accepted and what is written.
+/// Writes what a certificate or a text of bounds proves of the block that an index names, or its sequence and the
+/// makespan of that, where a request says which texts are accepted and what is written.
 pub fn run_check_as<S: Source, C: Source, K: Sink>(
     alloc: Global,
     file: &mut S,
@@ -163,9 +186,9 @@ pub fn run_check_as<S: Source, C: Source, K: Sink>(
     ensures written { OnOk result (WroteBoth most_certificate (AnswersCheck request) index
         (source_run S.given S.has_ended file.old file.new) (source_run C.given C.has_ended cert.old cert.new)
         (sink_run K.taken out.old out.new)) }
-    ensures least { OnOk result (CameFor index
-        (λ shop. WroteLeast request.sequence shop (sink_run K.taken out.old out.new))
-        (source_run S.given S.has_ended file.old file.new)) }
+    ensures proved { OnOk result (WroteBoth most_certificate (SaysProved request) index
+        (source_run S.given S.has_ended file.old file.new) (source_run C.given C.has_ended cert.old cert.new)
+        (sink_run K.taken out.old out.new)) }
     ensures ended { IfErr result (EndsBoth most_certificate (AnswersCheck request) index
         (source_run S.given S.has_ended file.old file.new) (source_run C.given C.has_ended cert.old cert.new)
         (sink_run K.taken out.old out.new)) }

@@ -1,7 +1,7 @@
 //! The lines that commands print.
 
 ghost use Rattle.std.specs.Prelude.{◌≡◌, ◌++◌, IfOk, codes, decimal};
-ghost use Rattle.flow_commands.specs.Printed.{makespan_line, optimal_line, sequence_line};
+ghost use Rattle.flow_commands.specs.Printed.{bounds_line, makespan_line, optimal_line, sequence_line};
 
 use itoa::Buffer;
 use std::alloc::{AllocError, Global};
@@ -18,6 +18,19 @@ pub(crate) fn optimal_line(alloc: Global, value: u64) -> Result<Vec<u8>, AllocEr
     ensures { IfOk result (λ line. line.items ≡ optimal_line value) }
 {
     value_line(alloc, b"optimal ", value)
+}
+
+/// The line of the bounds that a text of bounds proves.
+pub(crate) fn bounds_line(alloc: Global, lower: u64, upper: u64) -> Result<Vec<u8>, AllocError>
+    ensures { IfOk result (λ line. line.items ≡ bounds_line lower upper) }
+{
+    let mut buffer = Buffer::new();
+    let mut line = Vec::from_slice(alloc, b"bounds ")?;
+    line.extend_from_slice(buffer.format(lower).as_bytes())?;
+    line.push(b' ')?;
+    line.extend_from_slice(buffer.format(upper).as_bytes())?;
+    line.push(b'\n')?;
+    Ok(line)
 }
 
 /// A line of some words and a value.

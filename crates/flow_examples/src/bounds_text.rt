@@ -4,7 +4,7 @@ ghost use Rattle.std.specs.Prelude.{◌≡◌, false};
 
 use crate::instances::{CERTIFICATE_AT_DEPTH_0, three_machines};
 use flow_cert::write_finding;
-use flow_check::{Bounds, CheckFault, check, check_bounds, check_bounds_sequence};
+use flow_check::{Bounds, CheckFault, Shown, TextKind, check, check_bounds, check_text, kind_of};
 use flow_core::{Instance, MemorySink, WriteFault};
 use flow_search::{Options, Target, prepare, solve_plain_below};
 use std::alloc::Global;
@@ -52,7 +52,12 @@ fn text_of_bounds_is_written_for_each_target_up_to_the_least_makespan(
             upper: 13,
         };
         assert_eq!(rt; check_bounds(alloc, &instance, text), Ok(bounds));
-        let sequence = check_bounds_sequence(alloc, &instance, text)?;
+        assert_eq!(rt; kind_of(text), TextKind::OfBounds);
+        let Shown {
+            bounds: shown,
+            sequence,
+        } = check_text(alloc, TextKind::OfBounds, &instance, text)?;
+        assert_eq!(rt; shown, bounds);
         assert_eq!(rt; sequence.jobs(), [2, 1, 3].as_slice());
         assert_eq!(rt; check(alloc, &instance, text), Err(CheckFault::Header));
     }

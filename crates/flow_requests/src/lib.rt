@@ -39,12 +39,14 @@ pub struct CertifyRequest {
     pub version: Option<u32>,
 }
 
-/// Which certificates are accepted, and what is printed.
+/// Which texts are accepted, and what is printed.
 #[derive(Clone, Copy, Debug, PartialEq)]
 pub struct CheckRequest {
-    /// Whether one of the mirrored instance is accepted too.
+    /// Whether a text of the mirrored instance is accepted too.
     pub either: bool,
-    /// Whether the sequence is printed, in the place of the value.
+    /// Whether a text of bounds is accepted too, by its first line.
+    pub bounds: bool,
+    /// Whether the sequence is printed, in the place of the value or the bounds.
     pub sequence: bool,
 }
 

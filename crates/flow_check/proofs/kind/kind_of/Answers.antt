@@ -1,0 +1,4 @@
+use Rattle.flow_check.proofs.kind.kind_of.Goals as goal
+
+pub returns-in-None : goal.returns-in-None
+returns-in-None c opens = absurd (c.in-None.ensures.only opens.0 opens.2.0 opens.1 opens.2.1)
