@@ -1,17 +1,18 @@
--- The sequence of a certificate of the mirrored shop, turned round.
-use Rattle.std.proofs.Common.{◌≡◌, refl, inl, inr, ℕ, Bool, false, true, not, List, Ok, reverse, subst, sym, ap, ◌∙◌}
+-- What a text of the mirrored shop shows of the shop, its sequence turned round.
+use Rattle.std.proofs.Common.{◌≡◌, ◌≤◌, refl, inr, ℕ, Bool, false, true, not, List, reverse, subst, sym, ap, ◌∙◌}
 use Rattle.std.proofs.lemmas.Bool.{false≢true}
 use Rattle.std.proofs.lemmas.List.{reverse-reverse}
 use Rattle.flow_core.specs.Shop.{Shop}
 use Rattle.flow_core.specs.Paths.{span}
 use Rattle.flow_core.specs.Mirror.{mirrored}
-use Rattle.flow_core.specs.Sequences.{IsLeastMakespan}
 use Rattle.flow_core.proofs.MirrorLemmas.{mirror-keeps-least, mirror-lists}
-use Rattle.flow_check.specs.Certificate.{IsCertificate}
-use Rattle.flow_check.specs.Stated.{GivesSequence}
-use Rattle.flow_commands.specs.Check.{AnswersCheck, GivesEither, IsAccepted, IsPrinted}
-use Rattle.flow_commands.specs.Printed.{optimal_line, sequence_lines}
-use Rattle.flow_requests.specs.declared.CheckRequest.{CheckRequest}
+use Rattle.flow_core.proofs.ReversedSequence.{sequence-reverse}
+use Rattle.flow_check.specs.Certificate.{AreBounds, IsLawful, Stated, stated_bounds}
+use Rattle.flow_check.specs.Stated.{GivesAs}
+use Rattle.flow_check.specs.declared.bounds.Bounds.{Bounds}
+use Rattle.flow_check.specs.declared.kind.TextKind.{TextKind}
+use Rattle.flow_check.specs.declared.kind.TextKind.TheVariants.{Certificate, OfBounds}
+use Rattle.flow_commands.specs.Check.{GivesEither, Proves}
 
 -- whether either is asked for, by the test that it is not
 
@@ -23,42 +24,51 @@ pub is-asked : (either : Bool) → not either ≡ false → either ≡ true
 is-asked true granted = refl
 is-asked false granted = sym granted
 
--- what the turned sequence is for the shop
-pub turned : (either : Bool) (shop : Shop) (bytes back jobs : List ℕ) → either ≡ true →
-    ((value : ℕ) → ¬ IsCertificate shop bytes value) → GivesSequence (mirrored shop) bytes back →
-    IsLeastMakespan (mirrored shop) (span (mirrored shop) back) → jobs ≡ reverse back →
-    GivesEither either shop bytes jobs × IsLeastMakespan shop (span shop jobs)
-turned either shop bytes back jobs asked none gives least is =
+-- the turned sequence is what is given of the shop
+pub turned : (kind : TextKind) (either : Bool) (shop : Shop) (bytes back jobs : List ℕ) (bounds : Bounds) →
+    either ≡ true → ((stated : Stated kind) → ¬ IsLawful kind shop bytes stated) →
+    GivesAs kind (mirrored shop) bytes bounds back → jobs ≡ reverse back →
+    GivesEither kind either shop bytes bounds jobs
+turned kind either shop bytes back jobs bounds asked none gives is =
     let there : back ≡ reverse jobs = sym (ap reverse is ∙ reverse-reverse back) in
-    let same : span (mirrored shop) back ≡ span shop jobs =
-    mirror-lists shop back gives.3.whole.each.range ∙ ap (span shop) (sym is) in (
-      inr (asked, none, subst (GivesSequence (mirrored shop) bytes) there gives),
-      (mirror-keeps-least shop (span shop jobs)).0 (subst (IsLeastMakespan (mirrored shop)) same least),
+    inr (asked, none, subst (GivesAs kind (mirrored shop) bytes bounds) there gives)
+
+-- the sequence of a text has the upper bound as its makespan
+pub upper-attained : (kind : TextKind) (shop : Shop) (bytes jobs : List ℕ) (bounds : Bounds) →
+    GivesAs kind shop bytes bounds jobs → span shop jobs ≡ bounds.upper
+upper-attained kind shop bytes jobs bounds gives =
+    gives.2.3.attained ∙ sym (ap (λ (b : Bounds). b.upper) gives.1)
+
+-- and so has the turned sequence
+pub turned-attained : (kind : TextKind) (shop : Shop) (bytes back jobs : List ℕ) (bounds : Bounds) →
+    GivesAs kind (mirrored shop) bytes bounds back → jobs ≡ reverse back → span shop jobs ≡ bounds.upper
+turned-attained kind shop bytes back jobs bounds gives is =
+    ap (span shop) is ∙ sym (mirror-lists shop back gives.2.3.whole.each.range)
+    ∙ upper-attained kind (mirrored shop) bytes back bounds gives
+
+-- bounds of the mirrored shop are bounds of the shop
+pub bounds-turned : (shop : Shop) (bounds : Bounds) → AreBounds (mirrored shop) bounds → AreBounds shop bounds
+bounds-turned shop bounds are = record {
+  lower = λ jobs is.
+      let back = sequence-reverse shop.jobs jobs is in
+      subst (λ s. bounds.lower ≤ s)
+      (mirror-lists shop (reverse jobs) back.each.range ∙ ap (span shop) (reverse-reverse jobs))
+      (are.lower (reverse jobs) back);
+  upper = (
+    reverse are.upper.0,
+    sequence-reverse shop.jobs are.upper.0 are.upper.1,
+    sym (mirror-lists shop are.upper.0 are.upper.1.each.range) ∙ are.upper.2,
+  );
+  between = λ least is. are.between least ((mirror-keeps-least shop least).1 is);
+}
+
+-- what is proved by bounds that hold and are stated by a text of a kind
+pub proves-of : (kind : TextKind) (shop : Shop) (bounds : Bounds) (stated : Stated kind) →
+    bounds ≡ stated_bounds kind stated → AreBounds shop bounds → Proves kind shop bounds
+proves-of Certificate shop bounds value is are =
+    let same : bounds.upper ≡ bounds.lower =
+    ap (λ (b : Bounds). b.upper) is ∙ sym (ap (λ (b : Bounds). b.lower) is) in (
+      record { attained = (are.upper.0, are.upper.1, are.upper.2 ∙ same); least = are.lower },
+      same,
     )
-
--- a sequence that a certificate gives, and the value for which it is accepted
-pub accepted : (either : Bool) (shop : Shop) (bytes jobs : List ℕ) → GivesEither either shop bytes jobs →
-    IsAccepted either shop bytes (span shop jobs)
-accepted either shop bytes jobs (inl gives) = inl (gives.0, gives.1, jobs, gives.2, gives.3, gives.4)
-accepted either shop bytes jobs (inr (asked, none, gives)) =
-    let same : span (mirrored shop) (reverse jobs) ≡ span shop jobs =
-    mirror-lists shop (reverse jobs) gives.3.whole.each.range ∙ ap (span shop) (reverse-reverse jobs) in
-    inr (
-      asked,
-      subst (IsCertificate (mirrored shop) bytes) same
-          (gives.0, gives.1, reverse jobs, gives.2, gives.3, gives.4),
-    )
-
--- what is printed of such a sequence
-pub prints-sequence : (request : CheckRequest) (shop : Shop) (bytes jobs text : List ℕ) → request.sequence ≡ true →
-    GivesEither request.either shop bytes jobs → text ≡ sequence_lines shop jobs →
-    AnswersCheck request shop bytes (Ok text)
-prints-sequence request shop bytes jobs text asked gives is =
-    subst (λ sequence. IsPrinted sequence request.either shop bytes text) (sym asked) (jobs, gives, is)
-
-pub prints-value : (request : CheckRequest) (shop : Shop) (bytes jobs text : List ℕ) → request.sequence ≡ false →
-    GivesEither request.either shop bytes jobs → text ≡ optimal_line (span shop jobs) →
-    AnswersCheck request shop bytes (Ok text)
-prints-value request shop bytes jobs text unasked gives is =
-    subst (λ sequence. IsPrinted sequence request.either shop bytes text) (sym unasked)
-    (span shop jobs, accepted request.either shop bytes jobs gives, is)
+proves-of OfBounds shop bounds stated is are = are

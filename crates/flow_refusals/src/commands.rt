@@ -348,6 +348,7 @@ fn confirm_checked(
     let mut file = all_of(THREE_MACHINES_TEXT);
     let request = CheckRequest {
         either: true,
+        bounds: true,
         sequence,
     };
     let ran = run_check_as(alloc, &mut file, 1, &mut cert, request, &mut out);

@@ -20,6 +20,7 @@ use std::test::Fail;
 use std::thread::Threads;
 
 mod better;
+mod bounds;
 mod schedule;
 mod sequence;
 
@@ -144,6 +145,7 @@ fn checked_as(alloc: Global, text: &[u8], certificate: &[u8], either: bool) -> R
     let mut cert = MemorySource::new(certificate, 9, None);
     let request = CheckRequest {
         either,
+        bounds: true,
         sequence: false,
     };
     run_check_as(alloc, &mut all_of(text), 1, &mut cert, request, &mut out)?;

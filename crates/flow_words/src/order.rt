@@ -207,6 +207,7 @@ fn check_order<'a>(given: &ArgMatches<'a>) -> Option<Order<'a>> {
         cert: given.get_str("CERT")?,
         request: CheckRequest {
             either: given.get_flag("either"),
+            bounds: true,
             sequence: given.get_flag("sequence"),
         },
     })

@@ -22,6 +22,7 @@ const OWN_MIRROR: &[u8] = b"a\n2 2 0 0 0\nb\n1 2\n1 2\n";
 fn asked_for(either: bool) -> CheckRequest {
     CheckRequest {
         either,
+        bounds: true,
         sequence: true,
     }
 }

@@ -565,6 +565,7 @@ fn words_are_read_as_orders(rt: HostRuntime) -> Result<(), Fail> {
         cert: "CERT",
         request: CheckRequest {
             either: true,
+            bounds: true,
             sequence: false,
         },
     };

@@ -1,45 +1,57 @@
-use Rattle.std.proofs.Common.{subst, sym}
-use Rattle.flow_core.specs.Sequences.{IsLeastMakespan}
-use Rattle.flow_core.specs.Paths.{span}
-use Rattle.flow_check.specs.Certificate.{IsCertificate}
-use Rattle.flow_check.specs.Stated.{GivesSequence}
-use Rattle.flow_commands.proofs.Refused.{is-refused, no-certificate}
-use Rattle.flow_commands.proofs.Turned.{is-asked, is-not-asked, turned}
-use Rattle.flow_commands.proofs.check.checked_sequence.Goals as goal
+use Rattle.std.proofs.Common.{inl, subst, sym}
+use Rattle.flow_core.specs.Shop.{Shop}
+use Rattle.flow_check.specs.Certificate.{AreBounds, IsLawful}
+use Rattle.flow_check.specs.Stated.{GivesAs}
+use Rattle.flow_commands.proofs.Refused.{is-refused, no-text}
+use Rattle.flow_commands.proofs.Turned.{bounds-turned, is-asked, is-not-asked, proves-of, turned, turned-attained}
+use Rattle.flow_commands.proofs.Turned.{upper-attained}
+use Rattle.flow_commands.proofs.check.checked.Goals as goal
+
+pub returns-in-Ok-clause-upper : goal.returns-in-Ok-clause-upper
+returns-in-Ok-clause-upper c =
+    upper-attained c.args.kind c.args.instance.now c.args.bytes.now c.in-Ok.shown.sequence c.in-Ok.shown.bounds
+    c.in-Ok.ensures.text
+
+pub returns-in-Ok-clause-proved : goal.returns-in-Ok-clause-proved
+returns-in-Ok-clause-proved c =
+    proves-of c.args.kind c.args.instance.now c.in-Ok.shown.bounds c.in-Ok.ensures.text.0 c.in-Ok.ensures.text.1
+    c.in-Ok.ensures.bounds
 
 pub returns-then-not-request-clause-refused : goal.returns-then-not-request-clause-refused
 returns-then-not-request-clause-refused c =
-    is-refused c.args.request c.args.instance.now c.args.bytes.now c.in-Err.fault c.in-Err.ensures.fault
-    c.in-Err.ensures.none (λ asked value lawful. absurd (is-not-asked c.args.request.either c.if-not-request.true asked))
+    is-refused c.args.kind c.args.request c.args.instance.now c.args.bytes.now c.in-Err.fault c.in-Err.ensures.fault
+    c.in-Err.ensures.none (λ asked stated lawful. absurd (is-not-asked c.args.request.either c.if-not-request.true asked))
 
-pub returns-in-Ok-check_sequence-clause-gives : goal.returns-in-Ok-check_sequence-clause-gives
-returns-in-Ok-check_sequence-clause-gives c =
-    (turned c.args.request.either c.args.instance.now c.args.bytes.now c.in-Ok-check_sequence.sequence
-    c.reversed.result (is-asked c.args.request.either c.if-not-request.false)
-    (no-certificate c.args.instance.now c.args.bytes.now c.in-Err.fault (cc (c.ran_out.ensures, c.if-ran_out.false))
-    c.in-Err.ensures.none)
-    (subst (λ shop. GivesSequence shop c.args.bytes.now c.in-Ok-check_sequence.sequence) c.in_ok-mirror.ensures
-    c.in-Ok-check_sequence.ensures.sequence)
-    (subst (λ shop. IsLeastMakespan shop (span shop c.in-Ok-check_sequence.sequence)) c.in_ok-mirror.ensures
-    c.in-Ok-check_sequence.ensures.least)
-    c.reversed.ensures.value).0
+pub returns-in-Ok-check_text-clause-gives : goal.returns-in-Ok-check_text-clause-gives
+returns-in-Ok-check_text-clause-gives c =
+    turned c.args.kind c.args.request.either c.args.instance.now c.args.bytes.now c.in-Ok-check_text.sequence
+    c.reversed.result c.in-Ok-check_text.bounds (is-asked c.args.request.either c.if-not-request.false)
+    (no-text c.args.kind c.args.instance.now c.args.bytes.now c.in-Err.fault
+    (cc (c.ran_out.ensures, c.if-ran_out.false)) c.in-Err.ensures.none)
+    (subst (λ (shop : Shop). GivesAs c.args.kind shop c.args.bytes.now c.in-Ok-check_text.bounds
+    c.in-Ok-check_text.sequence) c.in_ok-mirror.ensures c.in-Ok-check_text.ensures.text)
+    c.reversed.ensures.value
 
-pub returns-in-Ok-check_sequence-clause-least : goal.returns-in-Ok-check_sequence-clause-least
-returns-in-Ok-check_sequence-clause-least c =
-    (turned c.args.request.either c.args.instance.now c.args.bytes.now c.in-Ok-check_sequence.sequence
-    c.reversed.result (is-asked c.args.request.either c.if-not-request.false)
-    (no-certificate c.args.instance.now c.args.bytes.now c.in-Err.fault (cc (c.ran_out.ensures, c.if-ran_out.false))
-    c.in-Err.ensures.none)
-    (subst (λ shop. GivesSequence shop c.args.bytes.now c.in-Ok-check_sequence.sequence) c.in_ok-mirror.ensures
-    c.in-Ok-check_sequence.ensures.sequence)
-    (subst (λ shop. IsLeastMakespan shop (span shop c.in-Ok-check_sequence.sequence)) c.in_ok-mirror.ensures
-    c.in-Ok-check_sequence.ensures.least)
-    c.reversed.ensures.value).1
+pub returns-in-Ok-check_text-clause-upper : goal.returns-in-Ok-check_text-clause-upper
+returns-in-Ok-check_text-clause-upper c =
+    turned-attained c.args.kind c.args.instance.now c.args.bytes.now c.in-Ok-check_text.sequence c.reversed.result
+    c.in-Ok-check_text.bounds
+    (subst (λ (shop : Shop). GivesAs c.args.kind shop c.args.bytes.now c.in-Ok-check_text.bounds
+    c.in-Ok-check_text.sequence) c.in_ok-mirror.ensures c.in-Ok-check_text.ensures.text)
+    c.reversed.ensures.value
+
+pub returns-in-Ok-check_text-clause-proved : goal.returns-in-Ok-check_text-clause-proved
+returns-in-Ok-check_text-clause-proved c =
+    proves-of c.args.kind c.args.instance.now c.in-Ok-check_text.bounds c.in-Ok-check_text.ensures.text.0
+    c.in-Ok-check_text.ensures.text.1
+    (bounds-turned c.args.instance.now c.in-Ok-check_text.bounds
+    (subst (λ (shop : Shop). AreBounds shop c.in-Ok-check_text.bounds) c.in_ok-mirror.ensures
+    c.in-Ok-check_text.ensures.bounds))
 
 pub returns-clause-refused : goal.returns-clause-refused
 returns-clause-refused c =
-    is-refused c.args.request c.args.instance.now c.args.bytes.now c.in-Err.fault c.in-Err.ensures.fault
+    is-refused c.args.kind c.args.request c.args.instance.now c.args.bytes.now c.in-Err.fault c.in-Err.ensures.fault
     c.in-Err.ensures.none
-    (λ asked value lawful. no-certificate _ c.args.bytes.now c.in-Err-check_sequence.other
-    (cc (c.ran_out-2.ensures, c.if-ran_out-2.false)) c.in-Err-check_sequence.ensures.none value
-    (subst (λ shop. IsCertificate shop c.args.bytes.now value) (sym c.in_ok-mirror.ensures) lawful))
+    (λ asked stated lawful. no-text c.args.kind _ c.args.bytes.now c.in-Err-check_text.other
+    (cc (c.ran_out-2.ensures, c.if-ran_out-2.false)) c.in-Err-check_text.ensures.none stated
+    (subst (λ (shop : Shop). IsLawful c.args.kind shop c.args.bytes.now stated) (sym c.in_ok-mirror.ensures) lawful))

@@ -1,0 +1,133 @@
+//! Texts of bounds, as `check` reads them.
+
+use super::{ROOM, Ran, THREE_MACHINES, all_of, refused, wrote};
+use flow_check::CheckFault;
+use flow_commands::{CheckRequest, CommandFault, run_check, run_check_as};
+use flow_core::{MemorySink, WriteFault};
+use std::alloc::Global;
+use std::test::Fail;
+
+/// Texts of bounds of the text with three machines, and the lines that are printed for them. The least makespan is 12.
+/// At the empty list the bounds are 7, 10 and 5. At 1, 2 and 3 they are 7, 14 and 9; 7, 11 and 13; 8, 10 and 7. At 3 1
+/// machine 1 has the bound 12, and at 3 2 machine 1 has 8 and machine 2 has 14.
+const TEXTS: [(&[u8], &[u8]); 3] = [
+    (
+        b"flowshop bounds 1\n3 3 0\n12 13\n2 1 3\n+BC+AB\nend\n",
+        b"bounds 12 13\n",
+    ),
+    (OF_11, b"bounds 11 13\n"),
+    (
+        b"flowshop bounds 2\n3 3 0\n10 13\n2 1 3\nB\nend\n",
+        b"bounds 10 13\n",
+    ),
+];
+
+/// The text of the bounds 11 and 13.
+const OF_11: &[u8] = b"flowshop bounds 1\n3 3 0\n11 13\n2 1 3\n+BB+AB\nend\n";
+
+/// The lines of its sequence.
+const LINES: &[u8] = b"sequence 2 1 3\nmakespan 13\n";
+
+/// A text of bounds of its mirrored instance. At the empty list machine 2 has the bound 10 there. In the instance itself
+/// the makespan of 3 1 2 is 12.
+const OF_THE_MIRROR: &[u8] = b"flowshop bounds 1\n3 3 0\n10 13\n3 1 2\nB\nend\n";
+
+/// A run of `check`.
+fn checked(alloc: Global, bytes: &[u8], either: bool, sequence: bool) -> Ran {
+    let mut out = MemorySink::new(alloc, ROOM);
+    let mut cert = all_of(bytes);
+    let request = CheckRequest {
+        either,
+        bounds: true,
+        sequence,
+    };
+    run_check_as(
+        alloc,
+        &mut all_of(THREE_MACHINES),
+        1,
+        &mut cert,
+        request,
+        &mut out,
+    )?;
+    Ok(out)
+}
+
+/// A run of `check` that takes certificates alone.
+fn checked_alone(alloc: Global, bytes: &[u8]) -> Ran {
+    let mut out = MemorySink::new(alloc, ROOM);
+    let mut cert = all_of(bytes);
+    run_check(alloc, &mut all_of(THREE_MACHINES), 1, &mut cert, &mut out)?;
+    Ok(out)
+}
+
+#[test]
+fn check_prints_bounds(rt: HostRuntime) -> Result<(), Fail> {
+    let alloc = rt.alloc();
+    for (bytes, line) in TEXTS {
+        for either in [false, true] {
+            assert!(rt; wrote(&checked(alloc, bytes, either, false), line));
+            assert!(rt; wrote(&checked(alloc, bytes, either, true), LINES));
+        }
+        let header = CommandFault::Certificate(CheckFault::Header);
+        assert!(rt; refused(&checked_alone(alloc, bytes), header));
+    }
+    Ok(())
+}
+
+#[test]
+fn check_turns_the_sequence_of_bounds_of_the_mirrored_instance(
+    rt: HostRuntime,
+) -> Result<(), Fail> {
+    let alloc = rt.alloc();
+    let ran = checked(alloc, OF_THE_MIRROR, true, false);
+    assert!(rt; wrote(&ran, b"bounds 10 13\n"));
+    assert!(rt; wrote(&checked(alloc, OF_THE_MIRROR, true, true), LINES));
+    let fault = CommandFault::Certificate(CheckFault::NotAttained);
+    for sequence in [false, true] {
+        assert!(rt; refused(&checked(alloc, OF_THE_MIRROR, false, sequence), fault));
+    }
+    Ok(())
+}
+
+// A first line of no known version is that of no text of bounds, so the text is read as a certificate.
+#[test]
+fn check_names_the_first_fault_of_bounds(rt: HostRuntime) -> Result<(), Fail> {
+    let alloc = rt.alloc();
+    let rows: [(&[u8], CheckFault); 8] = [
+        (b"flowshop bounds 3\n3 3 0\n11 13\n2 1 3\n+BB+AB\nend\n", CheckFault::Header),
+        (b"flowshop bounds 1", CheckFault::Header),
+        (b"flowshop bounds 1\n3 2 0\n11 13\n2 1 3\n+BB+AB\nend\n", CheckFault::Size),
+        (b"flowshop bounds 1\n3 3 0\n11\n2 1 3\n+BB+AB\nend\n", CheckFault::Value),
+        (b"flowshop bounds 1\n3 3 0\n11 13\n2 1\n+BB+AB\nend\n", CheckFault::Sequence),
+        (b"flowshop bounds 1\n3 3 0\n11 12\n2 1 3\n+BB+AB\nend\n", CheckFault::NotAttained),
+        (b"flowshop bounds 1\n3 3 0\n12 13\n2 1 3\n+BB+AB\nend\n", CheckFault::Weak(5)),
+        (b"flowshop bounds 1\n3 3 0\n11 13\n2 1 3\n+BB+AB\nend", CheckFault::End),
+    ];
+    for (bytes, fault) in rows {
+        for either in [false, true] {
+            let ran = checked(alloc, bytes, either, false);
+            assert!(rt; refused(&ran, CommandFault::Certificate(fault)));
+        }
+    }
+    Ok(())
+}
+
+#[test]
+fn a_sink_takes_a_front_of_the_line_of_bounds(rt: HostRuntime) -> Result<(), Fail> {
+    let alloc = rt.alloc();
+    let line = b"bounds 11 13\n";
+    let request = CheckRequest {
+        either: false,
+        bounds: true,
+        sequence: false,
+    };
+    for room in 0..line.len() {
+        let mut out = MemorySink::new(alloc, room);
+        let mut cert = all_of(OF_11);
+        let mut file = all_of(THREE_MACHINES);
+        let ran = run_check_as(alloc, &mut file, 1, &mut cert, request, &mut out);
+        assert_eq!(rt; ran, Err(CommandFault::Write(WriteFault::Device)));
+        assert!(rt; line.get(..room) == Some(out.bytes()));
+    }
+    Ok(())
+}
