@@ -5,12 +5,15 @@ use Rattle.flow_shop.specs.Sequences.{IsSequence, IsLeastMakespan}
 use Rattle.flow_search.specs.Plans.{Planned}
 use Rattle.flow_search.specs.Outcomes.{IsLawful, IsDone, first_over_budget}
 use Rattle.flow_search.specs.Verdicts.{IsVerdict}
+use Rattle.flow_search.specs.Targets.{Targeted, IsTarget, AreAlike, plan_below}
+use Rattle.flow_search.specs.Findings.{IsFinding, HasLeast, AreOne}
 use Rattle.flow_search.specs.declared.verdict.RunFault.{RunFault}
 use Rattle.flow_search.specs.declared.verdict.RunFault.TheVariants as run_fault
 use Rattle.flow_lanes.specs.declared.settled.Settled.{Settled}
 use Rattle.flow_pool.specs.declared.ends.Task.{Task}
 use Rattle.flow_pool.specs.declared.ends.Answer.{Answer}
 use Rattle.flow_pool.specs.declared.run.solve.Report.{Report}
+use Rattle.flow_pool.specs.declared.run.solve.FindingReport.{FindingReport}
 use Rattle.flow_pool.specs.declared.run.solve.SolveFault.{SolveFault}
 use Rattle.flow_pool.specs.declared.run.solve.SolveFault.TheVariants.{Memory, Threads, OverBudget}
 use Rattle.flow_pool.specs.Work.{prefix_count, share, tasks_of, answered}
@@ -47,6 +50,21 @@ pub record IsReport (plan : Planned) (report : Report) : Type 0 where
   pub least : IsLeastMakespan plan.shop report.verdict.value
   pub attained : span plan.shop report.verdict.sequence ≡ report.verdict.value
   pub sequence : IsSequence plan.shop.jobs report.verdict.sequence
+
+-- the report of a whole run below a target: its lanes carried the whole work; no tree is longer than the budget; the
+-- finding is that of the target, and where it has a verdict, the verdict has a sequence of least makespan
+pub record IsFindingReport (target : Targeted) (report : FindingReport) : Type 0 where
+  pub lanes : AreWholeWork (plan_below target) report.lanes.items
+  pub within : first_over_budget (plan_below target) ≡ None
+  pub finding : IsFinding target report.finding
+  pub least : HasLeast target.plan.shop report.finding
+
+-- reports of targets that are alike have one finding, whatever the workers and budgets
+abbrev pub ReportsAgree : Type 0
+ReportsAgree =
+    (target other : Targeted) (one another : FindingReport) → IsTarget target → IsTarget other →
+    AreAlike target other → IsFindingReport target one → IsFindingReport other another →
+    AreOne one.finding another.finding
 
 -- `OverBudget` names the first prefix whose tree is longer than the budget; nothing is said of `Memory` and `Threads`
 abbrev pub IsSolveFault : Planned → SolveFault → Type 0

@@ -2,6 +2,7 @@
 
 ghost use Rattle.std.specs.Prelude.{◌≡◌, ◌≢◌, ℕ, ◌%◌, ◌<◌, ◌≤◌};
 ghost use Rattle.flow_pool.specs.Work.{tasks_of, times_asked};
+ghost use Rattle.flow_pool.specs.Report.{ReportsAgree};
 
 /// Each prefix is a task of exactly one worker, and of that worker once.
 pub fn each_prefix_is_asked_once()
@@ -11,4 +12,10 @@ pub fn each_prefix_is_asked_once()
         times_asked number (tasks_of k n worker) ≡ 0 }
     ensures none_beyond { (k n number worker : ℕ) → n ≤ number →
         times_asked number (tasks_of k n worker) ≡ 0 }
+{}
+
+/// Two reports of targets of one number, for one instance, one starting sequence, one depth and one version, have one
+/// finding, whatever the workers and budgets.
+pub fn reports_agree()
+    ensures { ReportsAgree }
 {}

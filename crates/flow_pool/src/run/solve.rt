@@ -1,12 +1,14 @@
-//! The whole run of a plan: workers, hub, settled lanes and verdict.
+//! The whole run of a plan or of a target: workers, hub, settled lanes, and verdict or finding.
 
 ghost use Rattle.std.specs.Prelude.{◌≡◌, ◌<◌, ◌≤◌, ◌⊎◌, [], Err, IfOk, IfErr, length, map, vec_len, vec_capacity};
 ghost use Rattle.flow_limits.specs.Limits.{most_prefixes};
 ghost use Rattle.flow_search.specs.Verdicts.{first_refusal};
+ghost use Rattle.flow_search.specs.Targets.{plan_below};
 ghost use Rattle.flow_pool.specs.declared.run.solve.SolveFault.TheVariants.{Memory, Threads};
-ghost use Rattle.flow_pool.specs.Report.{IsReport, IsSolveFault, solve_fault};
+ghost use Rattle.flow_pool.specs.Report.{IsReport, IsFindingReport, IsSolveFault, solve_fault};
 ghost use Rattle.flow_pool.specs.internal.Runs.{IsMade, IsRun};
 
+use crate::at_start::{report_with_verdict, target_at_start};
 use crate::ends::Desk;
 use crate::gate::HubGate;
 use crate::refusal::Refusal;
@@ -14,7 +16,7 @@ use crate::run::make::{Made, make_run};
 use crate::settling::{LanePair, settle_all};
 use crate::threads::{Ended, Start, run_workers};
 use crate::{Answer, Gate};
-use flow_search::{Outcome, Plan, RunFault, Verdict, conclude};
+use flow_search::{Finding, Outcome, Plan, RunFault, Target, Verdict, conclude_below};
 use std::alloc::{AllocError, Global};
 use std::sync::Wait;
 use std::thread::Threads;
@@ -29,12 +31,21 @@ pub struct Report {
     pub lanes: Vec<LanePair>,
 }
 
+/// The finding of a run below a target, and the settled lanes of its workers.
+#[derive(Drop)]
+pub struct FindingReport {
+    /// The least makespan, or that no sequence is below the target.
+    pub finding: Finding,
+    /// The settled lanes of each worker, in the order of the workers.
+    pub lanes: Vec<LanePair>,
+}
+
 /// What comes of a run that may start only some of its workers.
 #[derive(Drop)]
 enum Run {
     /// The report of all workers.
-    Whole(Report),
-    /// All workers were started, and there is no verdict.
+    Whole(FindingReport),
+    /// All workers were started, and there is no finding.
     Fault(RunFault),
     /// As many workers were started as may be, and the plan has more.
     UsedUp,
@@ -103,18 +114,18 @@ fn refusal_among(outcomes: &[Outcome]) -> Option<RunFault>
     None
 }
 
-/// Runs the plan as `solve_limited` does, from the start of the first worker on. Where the starts are used up it says
-/// so, whether or not there is memory.
+/// Runs as `run_limited` does, from the start of the first worker on. Where the starts are used up it says so, whether
+/// or not there is memory.
 fn run_made<R: Threads + Wait + Sync, G: Gate + Sync>(
     rt: &R,
     alloc: Global,
-    plan: &Plan,
+    target: &Target,
     gate: &HubGate<G>,
     starts: u32,
     made: Made,
 ) -> Run
-    requires { IsMade plan.now made }
-    ensures { IsRun plan.now starts result }
+    requires { IsMade (plan_below target.now) made }
+    ensures { IsRun target.now starts result }
 {
     let Made {
         ends,
@@ -122,7 +133,7 @@ fn run_made<R: Threads + Wait + Sync, G: Gate + Sync>(
         room,
         mut lanes,
     } = made;
-    let ended = run_workers(rt, alloc, plan, gate, starts, ends, desk);
+    let ended = run_workers(rt, alloc, target, gate, starts, ends, desk);
     let Ended {
         start,
         workers,
@@ -139,26 +150,26 @@ fn run_made<R: Threads + Wait + Sync, G: Gate + Sync>(
     if let Some(fault) = refusal_among(outcomes.as_slice()) {
         return Run::Fault(fault);
     }
-    match conclude(alloc, plan, outcomes) {
-        Ok(verdict) => Run::Whole(Report { verdict, lanes }),
+    match conclude_below(alloc, target, outcomes) {
+        Ok(finding) => Run::Whole(FindingReport { finding, lanes }),
         Err(fault) => Run::Fault(fault),
     }
 }
 
-/// Runs the plan as `solve_limited` does, and tells apart why not all workers were started. `AllocError` where memory
-/// ran out before a worker was started.
+/// Runs the target as `solve_below` does, but starts at most `starts` workers, and tells apart why not all workers were
+/// started. `AllocError` where memory ran out before a worker was started.
 fn run_limited<R: Threads + Wait + Sync, G: Gate + Sync>(
     rt: &R,
     alloc: Global,
-    plan: &Plan,
+    target: &Target,
     gate: &G,
     starts: u32,
 ) -> Result<Run, AllocError>
-    ensures { IfOk result (λ run. IsRun plan.now starts run) }
+    ensures { IfOk result (λ run. IsRun target.now starts run) }
 {
-    let made = make_run(alloc, plan)?;
+    let made = make_run(alloc, target)?;
     let gate = HubGate::new(gate, &made.desk.parker)?;
-    Ok(run_made(rt, alloc, plan, &gate, starts, made))
+    Ok(run_made(rt, alloc, target, &gate, starts, made))
 }
 
 /// Solves the plan as `solve` does, but starts at most `starts` workers: the next start counts as one that failed.
@@ -175,8 +186,9 @@ pub fn solve_limited<R: Threads + Wait + Sync, G: Gate + Sync>(
     ensures fault { IfErr result (λ fault. IsSolveFault plan.now fault) }
     ensures limited { starts < plan.now.options.workers → (result ≡ Err Memory) ⊎ (result ≡ Err Threads) }
 {
-    match run_limited(rt, alloc, plan, gate, starts)? {
-        Run::Whole(report) => Ok(report),
+    let target = target_at_start(plan);
+    match run_limited(rt, alloc, &target, gate, starts)? {
+        Run::Whole(report) => Ok(report_with_verdict(report)),
         Run::Fault(fault) => Err(SolveFault::from(fault)),
         Run::UsedUp | Run::Refused(_) => Err(SolveFault::Threads),
     }
@@ -195,7 +207,24 @@ pub fn solve<R: Threads + Wait + Sync, G: Gate + Sync>(
     ensures report { IfOk result (λ report. IsReport plan.now report) }
     ensures fault { IfErr result (λ fault. IsSolveFault plan.now fault) }
 {
-    match run_limited(rt, alloc, plan, gate, plan.options().workers())? {
+    let target = target_at_start(plan);
+    let report = solve_below(rt, alloc, &target, gate)?;
+    Ok(report_with_verdict(report))
+}
+
+/// Searches below the target. It runs, refuses and ends early as `solve` does, which is the run of the target that is
+/// the makespan of the starting sequence.
+pub fn solve_below<R: Threads + Wait + Sync, G: Gate + Sync>(
+    rt: &R,
+    alloc: Global,
+    target: &Target,
+    gate: &G,
+) -> Result<FindingReport, SolveFault>
+    ensures report { IfOk result (λ report. IsFindingReport target.now report) }
+    ensures fault { IfErr result (λ fault. IsSolveFault (plan_below target.now) fault) }
+{
+    let workers = target.plan().options().workers();
+    match run_limited(rt, alloc, target, gate, workers)? {
         Run::Whole(report) => Ok(report),
         Run::Fault(fault) => Err(SolveFault::from(fault)),
         Run::UsedUp => unreachable!(),

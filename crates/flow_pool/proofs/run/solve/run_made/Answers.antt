@@ -1,5 +1,6 @@
 use Rattle.std.proofs.Common.{◌≡◌, ◌∙◌, None, Some, length, map, sym, ap, rules, arith}
 use Rattle.flow_search.specs.Verdicts.{first_refusal}
+use Rattle.flow_search.specs.Targets.{plan_below}
 use Rattle.flow_pool.specs.declared.ends.Answer.{Answer}
 use Rattle.flow_pool.proofs.Over.{IsRunFault-first, none-over_budget}
 use Rattle.flow_pool.proofs.Whole.{answers-of-run, lawful-outcomes, All-IsDoneAnswer, AreWholeWork-from_parts}
@@ -10,7 +11,7 @@ pub refusal_among-requires : goal.refusal_among-requires
 refusal_among-requires g c =
     let directed = c.run_workers-ended.ensures.directed c.in-Complete.is in
     let settled = c.settle_all.ensures in
-    let lawful = lawful-outcomes c.args.plan.now _ _ _ _ _ _ directed c.run_workers-ended.ensures.ended.served
+    let lawful = lawful-outcomes (plan_below c.args.target.now) _ _ _ _ _ _ directed c.run_workers-ended.ensures.ended.served
     settled.tasks settled.answers c.requires.some c.outcomes_of-outcomes.ensures in
     omega (arith, directed.few, c.requires.few, lawful.1, ap length c.as_slice.ensures.value)
 
@@ -19,36 +20,36 @@ returns-in-Some g c =
     let directed = c.run_workers-ended.ensures.directed c.in-Complete.is in
     let settled = c.settle_all.ensures in
     let outcomes = c.outcomes_of-outcomes.result.items in
-    let lawful = lawful-outcomes c.args.plan.now _ _ _ _ _ _ directed c.run_workers-ended.ensures.ended.served
+    let lawful = lawful-outcomes (plan_below c.args.target.now) _ _ _ _ _ _ directed c.run_workers-ended.ensures.ended.served
     settled.tasks settled.answers c.requires.some c.outcomes_of-outcomes.ensures in
     let first : first_refusal 0 outcomes ≡ Some c.in-Some.fault =
     ap (first_refusal 0) (sym c.as_slice.ensures.value) ∙ (sym c.refusal_among.ensures ∙ c.in-Some.is) in (
-      IsRunFault-first c.args.plan.now outcomes c.in-Some.fault (omega (arith, lawful.1, directed.few)) lawful.0 first,
+      IsRunFault-first (plan_below c.args.target.now) outcomes c.in-Some.fault (omega (arith, lawful.1, directed.few)) lawful.0 first,
       search rules,
     )
 
-pub conclude-requires-clause-count : goal.conclude-requires-clause-count
-conclude-requires-clause-count g c =
+pub conclude_below-requires-clause-count : goal.conclude_below-requires-clause-count
+conclude_below-requires-clause-count g c =
     let directed = c.run_workers-ended.ensures.directed c.in-Complete.is in
     let settled = c.settle_all.ensures in
     let answers = c.run_workers-ended.result.desk.answers.items in
-    let lawful = lawful-outcomes c.args.plan.now _ _ _ _ _ _ directed c.run_workers-ended.ensures.ended.served
+    let lawful = lawful-outcomes (plan_below c.args.target.now) _ _ _ _ _ _ directed c.run_workers-ended.ensures.ended.served
     settled.tasks settled.answers c.requires.some c.outcomes_of-outcomes.ensures in
     let none : first_refusal 0 (map (λ (a : Answer). a.outcome) answers) ≡ None =
     ap (first_refusal 0) (sym (c.as_slice.ensures.value ∙ c.outcomes_of-outcomes.ensures))
     ∙ (sym c.refusal_among.ensures ∙ c.in_default.is) in
     c.outcomes_of-outcomes.result.ok.0 ∙ (lawful.1 ∙ directed.whole (none-over_budget 0 answers none))
 
-pub conclude-requires-clause-lawful : goal.conclude-requires-clause-lawful
-conclude-requires-clause-lawful g c =
+pub conclude_below-requires-clause-lawful : goal.conclude_below-requires-clause-lawful
+conclude_below-requires-clause-lawful g c =
     let directed = c.run_workers-ended.ensures.directed c.in-Complete.is in
     let settled = c.settle_all.ensures in
-    (lawful-outcomes c.args.plan.now _ _ _ _ _ _ directed c.run_workers-ended.ensures.ended.served
+    (lawful-outcomes (plan_below c.args.target.now) _ _ _ _ _ _ directed c.run_workers-ended.ensures.ended.served
     settled.tasks settled.answers c.requires.some c.outcomes_of-outcomes.ensures).0
 
 pub returns-in-Ok : goal.returns-in-Ok
 returns-in-Ok g c =
-    let p = c.args.plan.now in
+    let p = plan_below c.args.target.now in
     let directed = c.run_workers-ended.ensures.directed c.in-Complete.is in
     let served = c.run_workers-ended.ensures.ended.served in
     let settled = c.settle_all.ensures in
@@ -61,16 +62,14 @@ returns-in-Ok g c =
     let all = directed.whole (none-over_budget 0 answers none) in
     let collected = HasCollected-dealt p _ _ answers directed.dealt all in
     let run = answers-of-run p _ _ _ answers _ directed.dealt served t a c.requires.some in
-    let verdict = c.in-Ok.ensures in
-    let done = All-IsDoneAnswer p answers _ directed.few run.0 run.1 c.outcomes_of-outcomes.ensures verdict.done in (
+    let found = c.in-Ok.ensures in
+    let done = All-IsDoneAnswer p answers _ directed.few run.0 run.1 c.outcomes_of-outcomes.ensures found.done in (
       record {
         lanes = AreWholeWork-from_parts p _ _ _ answers _ collected served done t.0 t.1 a.0 a.1 settled.received
             settled.lanes c.requires.slots;
         within = search rules;
-        verdict = verdict.verdict;
-        least = verdict.least;
-        attained = verdict.attained;
-        sequence = verdict.sequence;
+        finding = found.finding;
+        least = found.least;
       },
       search rules,
     )
