@@ -392,6 +392,15 @@ pub(crate) fn mirrored_sequence_is_checked(alloc: Global) -> Result<(), Trouble>
     )
 }
 
+/// A text of bounds of the text with three machines.
+const BOUNDS_OF_11: &[u8] = b"flowshop bounds 1\n3 3 0\n11 13\n2 1 3\n+BB+AB\nend\n";
+
+/// `run_check_as` of a text of bounds.
+pub(crate) fn bounds_are_checked(alloc: Global) -> Result<(), Trouble> {
+    let line = b"bounds 11 13\n";
+    confirm_checked(alloc, BOUNDS_OF_11, false, line, "run_check_as of bounds")
+}
+
 /// `run_schedule` of a table.
 pub(crate) fn table_is_run(alloc: Global) -> Result<(), Trouble> {
     let mut out = room(alloc);

@@ -82,6 +82,7 @@ fn found<T: Threads + Wait + Sync>(threads: &T, alloc: Global) -> [Result<(), Tr
         commands::mirrored_is_checked(alloc),
         commands::sequence_is_checked(alloc),
         commands::mirrored_sequence_is_checked(alloc),
+        commands::bounds_are_checked(alloc),
         commands::table_is_run(alloc),
         commands::picture_is_run(alloc),
     ]

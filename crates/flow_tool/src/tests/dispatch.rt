@@ -54,11 +54,14 @@ const MIRRORED_FROM_START: &[u8] = b"flowshop certificate 1\n3 3 0\n12\n2 1 3\n+
 /// program, by the definitions.
 const FROM_BEST: &[u8] = b"flowshop certificate 1\n3 3 0\n12\n3 1 2\n+BC+AB\nend\n";
 
+/// A text of bounds of the instance of three machines, which has the least makespan 12.
+const BOUNDS: &[u8] = b"flowshop bounds 1\n3 3 0\n11 13\n2 1 3\n+BB+AB\nend\n";
+
 /// A start of the instance of three machines.
 const START: &[u8] = b"sequence 1 2 3\nmakespan 15\n";
 
 /// What each file holds, but for the one of the name `stdin`. One that is broken refuses each call.
-const FILES: [(&str, &[u8]); 12] = [
+const FILES: [(&str, &[u8]); 13] = [
     ("text_three", THREE_MACHINES),
     ("text_both", BOTH),
     ("./stdin", THREE_MACHINES),
@@ -67,6 +70,7 @@ const FILES: [(&str, &[u8]); 12] = [
     ("of_two", OF_TWO_MACHINES),
     ("generated", GENERATED),
     ("of_mirror", OF_MIRROR),
+    ("bounds", BOUNDS),
     ("start", START),
     ("other_start", b"sequence 1 2 3\nmakespan 14\n"),
     ("best_start", b"sequence 3 1 2\n"),
@@ -500,8 +504,15 @@ fn schedule_takes_its_files_and_its_form(rt: HostRuntime) -> Result<(), Fail> {
 
 #[test]
 fn check_takes_each_file_by_its_name(rt: HostRuntime) -> Result<(), Fail> {
-    let rows: [(&str, &[u8], &str); 25] = [
+    let rows: [(&str, &[u8], &str); 28] = [
         ("check text_three 1 of_three", b"optimal 12\n", ""),
+        ("check text_three 1 bounds", b"bounds 11 13\n", ""),
+        (
+            "check text_three 1 bounds --sequence",
+            b"sequence 2 1 3\nmakespan 13\n",
+            "",
+        ),
+        ("check stdin 1 bounds", b"", "refused certificate Size"),
         ("check text_three 1 stdin", b"optimal 12\n", ""),
         ("check text_both 2 of_three", b"optimal 12\n", ""),
         ("check text_both 1 of_two", b"optimal 9\n", ""),
