@@ -5,6 +5,13 @@ use Rattle.flow_core.specs.Mirror.{mirrored}
 use Rattle.flow_core.proofs.MirrorLemmas.{mirror-keeps-least}
 use Rattle.flow_search.specs.Plans.{Planned, IsPlan, prefixes_of}
 use Rattle.flow_search.specs.Verdicts.{IsVerdict}
+use Rattle.flow_search.specs.Targets.{Targeted, IsTarget}
+use Rattle.flow_search.specs.Findings.{IsFinding}
+use Rattle.flow_search.specs.declared.finding.Finding.{Finding}
+use Rattle.flow_search.specs.declared.finding.Finding.TheVariants.{Least, Bound}
+use Rattle.flow_check.proofs.Sound.{bounds_are_sound, certificate_is_sound}
+use Rattle.flow_cert.specs.FindingCertificates.{bounds_at, finding_text}
+use Rattle.flow_cert.proofs.LawfulFindings.{finding_is_lawful}
 use Rattle.flow_search.specs.declared.verdict.Verdict.{Verdict}
 use Rattle.flow_cert.specs.PlanCertificates.{certificate_of, text_with}
 use Rattle.flow_cert.proofs.Lawful.{text-of-plan, verdict_is_certified}
@@ -14,7 +21,7 @@ use Rattle.flow_commands.specs.Certify.{AnswersCertify, WroteEither, all_over, c
 use Rattle.flow_commands.specs.Improve.{IsImproved}
 use Rattle.flow_commands.specs.declared.fault.CommandFault.{CommandFault}
 use Rattle.flow_commands.specs.Runs.{SinkRun, Took}
-use Rattle.flow_commands.specs.Solve.{WroteCertificate}
+use Rattle.flow_commands.specs.Solve.{WroteBounds, WroteCertificate}
 use Rattle.flow_commands.specs.Start.{StartsFrom}
 use Rattle.flow_commands.specs.internal.Tried.{IsSearchedAs}
 
@@ -30,6 +37,19 @@ wrote-certificate shop plan verdict sink of is_plan is_verdict adds =
       is.lawful,
       is.least,
     )
+
+-- a finding that is written is a lawful certificate or a lawful text of bounds
+pub wrote-finding : {K : Type 0} (target : Targeted) (finding : Finding) (sink : SinkRun K) →
+    IsTarget target → IsFinding target finding → Took (finding_text target finding) sink →
+    WroteCertificate target.plan.shop sink ⊎ WroteBounds target.plan.shop sink
+wrote-finding target (Least verdict) sink is_target is adds =
+    let lawful = finding_is_lawful target (Least verdict) is_target is in
+    inl (finding_text target (Least verdict), verdict.value, adds, lawful,
+    certificate_is_sound target.plan.shop (finding_text target (Least verdict)) verdict.value lawful)
+wrote-finding target (Bound trees) sink is_target is adds =
+    let lawful = finding_is_lawful target (Bound trees) is_target is in
+    inr (finding_text target (Bound trees), bounds_at target, adds, lawful,
+    bounds_are_sound target.plan.shop (finding_text target (Bound trees)) (bounds_at target) lawful)
 
 -- so a lawful certificate of one of them is written
 wrote-of : {K : Type 0} (shop : Shop) (plan : Planned) (verdict : Verdict) (sink : SinkRun K) →

@@ -7,24 +7,71 @@ ghost use Rattle.flow_core.specs.Sequences.{IsSequence};
 ghost use Rattle.flow_core.specs.declared.bytes.fault.ReadFault.TheVariants as read;
 ghost use Rattle.flow_core.specs.declared.bytes.fault.WriteFault.TheVariants as write;
 ghost use Rattle.flow_search.specs.Plans.{IsPlan, but_memory, plan_fault};
+ghost use Rattle.flow_search.specs.Targets.{IsTarget};
 ghost use Rattle.flow_commands.specs.Block.{AnswersFor};
 ghost use Rattle.flow_commands.specs.Runs.{CameFor, Ends, EndsAlone, EndsFrom, HasFailed, Stands, Wrote, WroteFor};
 ghost use Rattle.flow_commands.specs.Runs.{WroteFrom, sink_run, source_run, start_run};
-ghost use Rattle.flow_commands.specs.Solve.{AnswersOptions, AnswersPlan, AnswersRun, AnswersSolve, WroteCertificate};
-ghost use Rattle.flow_commands.specs.Solve.{asked_options, mirrored_if, reversed_if};
+ghost use Rattle.flow_commands.specs.Solve.{AnswersBelow, AnswersFound, AnswersOptions, AnswersPlan, AnswersRun};
+ghost use Rattle.flow_commands.specs.Solve.{AnswersSolve, WroteBounds, WroteCertificate, WroteFound, asked_options};
+ghost use Rattle.flow_commands.specs.Solve.{mirrored_if, reversed_if};
 ghost use Rattle.flow_commands.specs.Start.{StartsFrom};
 ghost use Rattle.flow_core.specs.Limits.{most_text};
 
 use crate::fault::CommandFault;
 use crate::start::read_inputs;
-use flow_cert::write_certificate;
+use flow_cert::{write_certificate, write_finding};
 use flow_core::{Instance, MemorySource, Sequence, Sink, Source};
-use flow_pool::{Gate, solve};
+use flow_pool::{Gate, solve, solve_below};
 use flow_requests::SolveRequest;
-use flow_search::{OptionFault, Options, Plan, PlanFault, prepare, prepare_from};
+use flow_search::{OptionFault, Options, Plan, PlanFault, Target, prepare, prepare_from};
 use std::alloc::{AllocError, Global};
 use std::sync::Wait;
 use std::thread::Threads;
+
+/// Searches below a target, and writes the certificate or the text of bounds of what it finds.
+fn solve_target<R: Threads + Wait + Sync, G: Gate + Sync, K: Sink>(
+    rt: &R,
+    alloc: Global,
+    target: &Target,
+    gate: &G,
+    out: &mut K,
+) -> Result<(), CommandFault>
+    requires out_works { K.has_failed out.old ≡ false }
+    requires is_target { IsTarget target.now }
+    ensures written { OnOk result (Wrote (AnswersBelow target.now) (sink_run K.taken out.old out.new)) }
+    ensures lawful { OnOk result (WroteCertificate target.now.plan.shop (sink_run K.taken out.old out.new)
+        ⊎ WroteBounds target.now.plan.shop (sink_run K.taken out.old out.new)) }
+    ensures ended { IfErr result (EndsAlone (AnswersBelow target.now) (sink_run K.taken out.old out.new)) }
+    ensures write_device { IsErrOf result (CommandFault.Write write.Device) ↔ (K.has_failed out.new ≡ true) }
+    ensures reads_nothing { IsErrOf result (CommandFault.Read read.Device) → ⊥ }
+{
+    let report = solve_below(rt, alloc, target, gate)?;
+    write_finding(target, &report.finding, out)?;
+    Ok(())
+}
+
+/// Solves a plan, or searches below the target of a number, and writes what it finds.
+fn solve_found<R: Threads + Wait + Sync, G: Gate + Sync, K: Sink>(
+    rt: &R,
+    alloc: Global,
+    plan: &Plan,
+    number: Option<u32>,
+    gate: &G,
+    out: &mut K,
+) -> Result<(), CommandFault>
+    requires out_works { K.has_failed out.old ≡ false }
+    requires is_plan { IsPlan plan.now }
+    ensures written { OnOk result (Wrote (AnswersFound number plan.now) (sink_run K.taken out.old out.new)) }
+    ensures lawful { OnOk result (WroteFound number plan.now.shop (sink_run K.taken out.old out.new)) }
+    ensures ended { IfErr result (EndsAlone (AnswersFound number plan.now) (sink_run K.taken out.old out.new)) }
+    ensures write_device { IsErrOf result (CommandFault.Write write.Device) ↔ (K.has_failed out.new ≡ true) }
+    ensures reads_nothing { IsErrOf result (CommandFault.Read read.Device) → ⊥ }
+{
+    match number {
+        Some(number) => solve_target(rt, alloc, &Target::new(plan, u64::from(number)), gate, out),
+        None => solve_plan(rt, alloc, plan, gate, out),
+    }
+}
 
 /// Solves a plan, and writes its certificate.
 fn solve_plan<R: Threads + Wait + Sync, G: Gate + Sync, K: Sink>(
@@ -69,27 +116,29 @@ fn plan_of<'a>(
     }
 }
 
-/// Solves an instance, and writes the certificate of its plan.
+/// Solves an instance, or searches below the target of a number, and writes what it finds.
 fn solve_instance<R: Threads + Wait + Sync, G: Gate + Sync, K: Sink>(
     rt: &R,
     alloc: Global,
     instance: &Instance,
     given: Option<Sequence>,
     options: Options,
+    target: Option<u32>,
     gate: &G,
     out: &mut K,
 ) -> Result<(), CommandFault>
     requires out_works { K.has_failed out.old ≡ false }
     requires given { IfSome given (IsSequence instance.now.jobs) }
-    ensures written { OnOk result (Wrote (AnswersPlan instance.now given options) (sink_run K.taken out.old out.new)) }
-    ensures lawful { OnOk result (WroteCertificate instance.now (sink_run K.taken out.old out.new)) }
-    ensures ended { IfErr result (EndsAlone (AnswersPlan instance.now given options)
+    ensures written { OnOk result (Wrote (AnswersPlan target instance.now given options)
+        (sink_run K.taken out.old out.new)) }
+    ensures lawful { OnOk result (WroteFound target instance.now (sink_run K.taken out.old out.new)) }
+    ensures ended { IfErr result (EndsAlone (AnswersPlan target instance.now given options)
         (sink_run K.taken out.old out.new)) }
     ensures write_device { IsErrOf result (CommandFault.Write write.Device) ↔ (K.has_failed out.new ≡ true) }
     ensures reads_nothing { IsErrOf result (CommandFault.Read read.Device) → ⊥ }
 {
     let plan = plan_of(alloc, instance, given, options)?;
-    solve_plan(rt, alloc, &plan, gate, out)
+    solve_found(rt, alloc, &plan, target, gate, out)
 }
 
 /// The options of four numbers; or the first fault, that of the version last.
@@ -128,7 +177,7 @@ fn reversed_if(given: Option<Sequence>, mirrored: bool) -> Option<Sequence>
     Some(sequence)
 }
 
-/// Solves a block as a request says, from a given sequence if there is one, and writes the certificate of its plan.
+/// Solves a block as a request says, from a given sequence if there is one, and writes what it finds.
 fn solve_block<R: Threads + Wait + Sync, G: Gate + Sync, K: Sink>(
     rt: &R,
     alloc: Global,
@@ -141,7 +190,7 @@ fn solve_block<R: Threads + Wait + Sync, G: Gate + Sync, K: Sink>(
     requires out_works { K.has_failed out.old ≡ false }
     requires given { IfSome given (IsSequence instance.jobs) }
     ensures written { OnOk result (Wrote (AnswersSolve request instance given) (sink_run K.taken out.old out.new)) }
-    ensures lawful { OnOk result (WroteCertificate (mirrored_if request.mirrored instance)
+    ensures lawful { OnOk result (WroteFound request.target (mirrored_if request.mirrored instance)
         (sink_run K.taken out.old out.new)) }
     ensures ended { IfErr result (EndsAlone (AnswersSolve request instance given) (sink_run K.taken out.old out.new)) }
     ensures write_device { IsErrOf result (CommandFault.Write write.Device) ↔ (K.has_failed out.new ≡ true) }
@@ -155,7 +204,7 @@ fn solve_block<R: Threads + Wait + Sync, G: Gate + Sync, K: Sink>(
     )?;
     let given = reversed_if(given, request.mirrored);
     let instance = mirrored_if(alloc, instance, request.mirrored)?;
-    solve_instance(rt, alloc, &instance, given, options, gate, out)
+    solve_instance(rt, alloc, &instance, given, options, request.target, gate, out)
 }
 
 /// Solves the block that an index names, from the starting sequence of Nawaz, Enscore and Ham, and writes the
@@ -175,12 +224,12 @@ pub fn run_solve<R: Threads + Wait + Sync, S: Source, G: Gate + Sync, K: Sink>(
     requires file_works { S.has_failed file.old ≡ false }
     requires out_works { K.has_failed out.old ≡ false }
     ensures written { OnOk result (WroteFor most_text (AnswersFor index
-        (λ block. AnswersOptions block.instance None (asked_options workers depth budget version)))
+        (λ block. AnswersOptions None block.instance None (asked_options workers depth budget version)))
         (source_run S.given S.has_ended file.old file.new) (sink_run K.taken out.old out.new)) }
     ensures lawful { OnOk result (CameFor index (λ shop. WroteCertificate shop (sink_run K.taken out.old out.new))
         (source_run S.given S.has_ended file.old file.new)) }
     ensures ended { IfErr result (Ends most_text (AnswersFor index
-        (λ block. AnswersOptions block.instance None (asked_options workers depth budget version)))
+        (λ block. AnswersOptions None block.instance None (asked_options workers depth budget version)))
         (source_run S.given S.has_ended file.old file.new) (sink_run K.taken out.old out.new)) }
     ensures read_device { IsErrOf result (CommandFault.Read read.Device) ↔ (S.has_failed file.new ≡ true) }
     ensures write_device { IsErrOf result (CommandFault.Write write.Device) ↔ (K.has_failed out.new ≡ true) }
@@ -192,6 +241,7 @@ pub fn run_solve<R: Threads + Wait + Sync, S: Source, G: Gate + Sync, K: Sink>(
         budget,
         version,
         mirrored: false,
+        target: None,
     };
     run_solve_as(
         rt,
@@ -207,7 +257,8 @@ pub fn run_solve<R: Threads + Wait + Sync, S: Source, G: Gate + Sync, K: Sink>(
 
 /// Solves the block that an index names as a request says, and writes the certificate of its plan. It starts from the
 /// sequence that a start text gives, or, where there is no such text, from that of Nawaz, Enscore and Ham. Where the
-/// mirrored instance is asked for, it is solved in place of the block, from the reversed sequence of the text.
+/// mirrored instance is asked for, it is solved in place of the block, from the reversed sequence of the text. Where
+/// there is a target, only sequences below it are searched for, and where there are none, a text of bounds is written.
 pub fn run_solve_as<R: Threads + Wait + Sync, S: Source, T: Source, G: Gate + Sync, K: Sink>(
     rt: &R,
     alloc: Global,
@@ -225,7 +276,7 @@ pub fn run_solve_as<R: Threads + Wait + Sync, S: Source, T: Source, G: Gate + Sy
         (source_run S.given S.has_ended file.old file.new)
         (start_run T.given T.has_ended start.old start.new) (sink_run K.taken out.old out.new)) }
     ensures lawful { OnOk result (CameFor index
-        (λ shop. WroteCertificate (mirrored_if request.mirrored shop) (sink_run K.taken out.old out.new))
+        (λ shop. WroteFound request.target (mirrored_if request.mirrored shop) (sink_run K.taken out.old out.new))
         (source_run S.given S.has_ended file.old file.new)) }
     ensures ended { IfErr result (EndsFrom (AnswersSolve request) index
         (source_run S.given S.has_ended file.old file.new)

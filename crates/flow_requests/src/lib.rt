@@ -15,6 +15,8 @@ pub struct SolveRequest {
     pub version: u32,
     /// Whether the mirrored instance is solved.
     pub mirrored: bool,
+    /// The number below which sequences are searched for; none for the makespan of the starting sequence.
+    pub target: Option<u32>,
 }
 
 /// How long a starting sequence is improved, and by which choices.

@@ -144,7 +144,7 @@ static GEN: [Word; 3] = [
     },
 ];
 
-static SOLVE: [Word; 8] = [
+static SOLVE: [Word; 9] = [
     FILE,
     INDEX,
     Word {
@@ -185,6 +185,11 @@ static SOLVE: [Word; 8] = [
         kind: Kind::Flag,
         help: "Solves the instance with its machines in reverse order, from the reversed start if one is given",
     },
+    Word {
+        name: "target",
+        kind: Kind::Choice { value: "T" },
+        help: "Searches below this number alone; where nothing is below it, a text of bounds is written",
+    },
 ];
 
 static CHECK: [Word; 5] = [
@@ -193,7 +198,7 @@ static CHECK: [Word; 5] = [
     Word {
         name: "CERT",
         kind: Kind::Word,
-        help: "The file of the certificate",
+        help: "The file of the certificate or of the text of bounds",
     },
     Word {
         name: "either",
@@ -304,7 +309,7 @@ fn solve_command<'a>(alloc: Global) -> Result<Command<'a>, AllocError> {
 }
 
 fn check_command<'a>(alloc: Global) -> Result<Command<'a>, AllocError> {
-    let about = "Checks a certificate, and prints the value that it proves least";
+    let about = "Checks a certificate or a text of bounds, and prints what it proves";
     let example = "Example: ./flowshop check examples/three_machines.txt 1 certificate";
     command_of(alloc, "check", about, example, &CHECK)
 }

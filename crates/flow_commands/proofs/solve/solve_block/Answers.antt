@@ -13,7 +13,7 @@ pub returns-clause-written : goal.returns-clause-written
 returns-clause-written g c =
     on_ok_weaker c.solve_instance.result
     (wrote-weaker _ _ (sink_run g.K.Sink.taken c.args.out.now c.solve_instance.new.out)
-    (with-options (mirrored_if c.args.request.mirrored c.args.instance)
+    (with-options c.args.request.target (mirrored_if c.args.request.mirrored c.args.instance)
     (reversed_if c.args.request.mirrored c.args.given) _ c.in_ok-options.options c.in_ok-options.ensures))
     (rw (c.in_ok-instance.ensures, c.reversed_if-given.ensures) at c.solve_instance.ensures.written)
 
@@ -21,7 +21,7 @@ pub returns-clause-ended : goal.returns-clause-ended
 returns-clause-ended g c =
     IfErr-weaker c.solve_instance.result _ _
     (λ fault. ends-weaker _ _ (sink_run g.K.Sink.taken c.args.out.now c.solve_instance.new.out) fault
-    (with-options (mirrored_if c.args.request.mirrored c.args.instance)
+    (with-options c.args.request.target (mirrored_if c.args.request.mirrored c.args.instance)
     (reversed_if c.args.request.mirrored c.args.given) _ c.in_ok-options.options c.in_ok-options.ensures))
     (rw (c.in_ok-instance.ensures, c.reversed_if-given.ensures) at c.solve_instance.ensures.ended)
 
