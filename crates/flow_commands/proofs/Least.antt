@@ -10,7 +10,7 @@ use Rattle.flow_commands.specs.Check.{Proves, SaysProved, WroteLeast, checked_te
 use Rattle.flow_commands.specs.Runs.{CameFor, SinkRun, SourceRun, Took, WroteBoth, WroteFor}
 
 -- the request of certificates of the instance itself alone
-pub alone : CheckRequest
+abbrev pub alone : CheckRequest
 alone = record { either = false; bounds = false; sequence = false }
 
 -- the value that is printed for a certificate is the least makespan
