@@ -2,6 +2,7 @@ mod Certified
 mod Endings
 mod Given
 mod Improved
+mod Least
 mod Refused
 mod Scheduled
 mod Small

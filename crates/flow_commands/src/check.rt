@@ -4,10 +4,12 @@ ghost use Rattle.std.specs.Prelude.{◌≡◌, ◌↔◌, ◌⊎◌, false, true
 ghost use Rattle.std.specs.Prelude.{IfOk, OnOk, IfErr, IsErrOf};
 ghost use Rattle.flow_core.specs.Bytes.{Grows};
 ghost use Rattle.flow_core.specs.Paths.{span};
+ghost use Rattle.flow_core.specs.Shop.{Shop};
 ghost use Rattle.flow_core.specs.Sequences.{IsSequence};
 ghost use Rattle.flow_core.specs.declared.bytes.fault.ReadFault.TheVariants as read;
 ghost use Rattle.flow_core.specs.declared.bytes.fault.WriteFault.TheVariants as write;
-ghost use Rattle.flow_commands.specs.Check.{AnswersCheck, GivesEither, Proves, SaysProved, WroteLeast, proved_line};
+ghost use Rattle.flow_commands.specs.Check.{AnswersCheck, GivesEither, IsTakenAs, Proves, SaysProved, WroteLeast};
+ghost use Rattle.flow_commands.specs.Check.{checked_text, proved_line};
 ghost use Rattle.flow_commands.specs.Runs.{CameFor, Ends, EndsBoth, WroteBoth, WroteFor, sink_run, source_run};
 ghost use Rattle.flow_core.specs.Limits.{most_certificate};
 ghost use Rattle.flow_commands.specs.internal.Checked.{IsRefused, IsRefusedAs, ran_out};
@@ -79,6 +81,33 @@ fn proved_line(alloc: Global, kind: TextKind, bounds: Bounds) -> Result<Vec<u8>,
     }
 }
 
+/// The kind as which bytes are read: a certificate, where texts of bounds are not accepted.
+fn kind_among(bytes: &[u8], bounds: bool) -> TextKind
+    ensures { IsTakenAs bounds bytes.now result }
+{
+    if bounds {
+        kind_of(bytes)
+    } else {
+        TextKind::Certificate
+    }
+}
+
+/// The text that is printed of what a text of a kind shows.
+fn text_of(
+    alloc: Global,
+    kind: TextKind,
+    shown: &Shown,
+    sequence: bool,
+) -> Result<Vec<u8>, AllocError>
+    ensures { (shop : Shop) → span shop shown.now.sequence ≡ shown.now.bounds.upper →
+        IfOk result (λ text. text.items ≡ checked_text kind sequence shop shown.now.bounds shown.now.sequence) }
+{
+    if sequence {
+        return sequence_lines(alloc, shown.sequence.jobs(), shown.bounds.upper);
+    }
+    proved_line(alloc, kind, shown.bounds)
+}
+
 /// What is printed for a certificate or a text of bounds.
 fn checked_text(
     alloc: Global,
@@ -90,16 +119,9 @@ fn checked_text(
     ensures proved { IfOk result (λ text. SaysProved request instance.now bytes.now (Ok text.items)) }
     ensures refused { IfErr result (λ fault. IsRefused request instance.now bytes.now fault) }
 {
-    let kind = if request.bounds {
-        kind_of(bytes)
-    } else {
-        TextKind::Certificate
-    };
-    let Shown { bounds, sequence } = checked(alloc, kind, instance, bytes, request)?;
-    if request.sequence {
-        return Ok(sequence_lines(alloc, sequence.jobs(), bounds.upper)?);
-    }
-    Ok(proved_line(alloc, kind, bounds)?)
+    let kind = kind_among(bytes, request.bounds);
+    let shown = checked(alloc, kind, instance, bytes, request)?;
+    Ok(text_of(alloc, kind, &shown, request.sequence)?)
 }
 
 /// Reads a text of an instance, or, where either is asked for, one of the mirrored instance, and writes what it proves,

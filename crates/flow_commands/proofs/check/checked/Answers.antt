@@ -24,28 +24,28 @@ returns-then-not-request-clause-refused c =
 
 pub returns-in-Ok-check_text-clause-gives : goal.returns-in-Ok-check_text-clause-gives
 returns-in-Ok-check_text-clause-gives c =
-    turned c.args.kind c.args.request.either c.args.instance.now c.args.bytes.now c.in-Ok-check_text.sequence
-    c.reversed.result c.in-Ok-check_text.bounds (is-asked c.args.request.either c.if-not-request.false)
+    turned c.args.kind c.args.request.either c.args.instance.now c.args.bytes.now c.in-Ok-check_text.field-0.sequence
+    c.reversed.result c.in-Ok-check_text.field-0.bounds (is-asked c.args.request.either c.if-not-request.false)
     (no-text c.args.kind c.args.instance.now c.args.bytes.now c.in-Err.fault
     (cc (c.ran_out.ensures, c.if-ran_out.false)) c.in-Err.ensures.none)
-    (subst (λ (shop : Shop). GivesAs c.args.kind shop c.args.bytes.now c.in-Ok-check_text.bounds
-    c.in-Ok-check_text.sequence) c.in_ok-mirror.ensures c.in-Ok-check_text.ensures.text)
+    (subst (λ (shop : Shop). GivesAs c.args.kind shop c.args.bytes.now c.in-Ok-check_text.field-0.bounds
+    c.in-Ok-check_text.field-0.sequence) c.in_ok-mirror.ensures c.in-Ok-check_text.ensures.text)
     c.reversed.ensures.value
 
 pub returns-in-Ok-check_text-clause-upper : goal.returns-in-Ok-check_text-clause-upper
 returns-in-Ok-check_text-clause-upper c =
-    turned-attained c.args.kind c.args.instance.now c.args.bytes.now c.in-Ok-check_text.sequence c.reversed.result
-    c.in-Ok-check_text.bounds
-    (subst (λ (shop : Shop). GivesAs c.args.kind shop c.args.bytes.now c.in-Ok-check_text.bounds
-    c.in-Ok-check_text.sequence) c.in_ok-mirror.ensures c.in-Ok-check_text.ensures.text)
+    turned-attained c.args.kind c.args.instance.now c.args.bytes.now c.in-Ok-check_text.field-0.sequence c.reversed.result
+    c.in-Ok-check_text.field-0.bounds
+    (subst (λ (shop : Shop). GivesAs c.args.kind shop c.args.bytes.now c.in-Ok-check_text.field-0.bounds
+    c.in-Ok-check_text.field-0.sequence) c.in_ok-mirror.ensures c.in-Ok-check_text.ensures.text)
     c.reversed.ensures.value
 
 pub returns-in-Ok-check_text-clause-proved : goal.returns-in-Ok-check_text-clause-proved
 returns-in-Ok-check_text-clause-proved c =
-    proves-of c.args.kind c.args.instance.now c.in-Ok-check_text.bounds c.in-Ok-check_text.ensures.text.0
+    proves-of c.args.kind c.args.instance.now c.in-Ok-check_text.field-0.bounds c.in-Ok-check_text.ensures.text.0
     c.in-Ok-check_text.ensures.text.1
-    (bounds-turned c.args.instance.now c.in-Ok-check_text.bounds
-    (subst (λ (shop : Shop). AreBounds shop c.in-Ok-check_text.bounds) c.in_ok-mirror.ensures
+    (bounds-turned c.args.instance.now c.in-Ok-check_text.field-0.bounds
+    (subst (λ (shop : Shop). AreBounds shop c.in-Ok-check_text.field-0.bounds) c.in_ok-mirror.ensures
     c.in-Ok-check_text.ensures.bounds))
 
 pub returns-clause-refused : goal.returns-clause-refused
