@@ -5,8 +5,10 @@ use crate::trouble::{Trouble, confirm};
 use flow_core::Instance;
 use flow_examples::{AMPLE, TIGHT, three_machines};
 use flow_lanes::{lane, settle};
-use flow_pool::{Gate, Open, SolveFault, Task, WorkerEnds, serve, solve, solve_limited};
-use flow_search::{Options, Outcome, prepare};
+use flow_pool::{
+    Gate, Open, SolveFault, Task, WorkerEnds, serve, solve, solve_below, solve_limited,
+};
+use flow_search::{Finding, Options, Outcome, Target, prepare};
 use std::alloc::Global;
 use std::sync::Wait;
 use std::sync::atomic::{AtomicU32, Ordering};
@@ -105,6 +107,24 @@ fn budget_is_kept<T: Threads + Wait + Sync>(
     }
 }
 
+/// `solve_below` by two workers, where no sequence is below the target.
+fn target_is_solved<T: Threads + Wait + Sync>(
+    rt: &T,
+    alloc: Global,
+    instance: &Instance,
+) -> Result<(), Trouble> {
+    let plan = prepare(alloc, instance, Options::new(2, 1, AMPLE)?)?;
+    let target = Target::new(&plan, 12);
+    match solve_below(rt, alloc, &target, &Open) {
+        Ok(report) => {
+            let right = matches!(&report.finding, Finding::Bound { trees } if trees.len() == 3);
+            confirm(right, "solve_below")
+        }
+        Err(SolveFault::Memory | SolveFault::Threads) => Err(Trouble::Refused),
+        Err(_) => Err(Trouble::Wrong("solve_below")),
+    }
+}
+
 /// `solve_limited` where the third worker may not start. No prefix is reached.
 fn start_is_refused<T: Threads + Wait + Sync>(
     rt: &T,
@@ -122,7 +142,7 @@ fn start_is_refused<T: Threads + Wait + Sync>(
     }
 }
 
-/// `serve`, `solve` and `solve_limited`.
+/// `serve`, `solve`, `solve_below` and `solve_limited`.
 pub(crate) fn workers_solve<T: Threads + Wait + Sync>(
     threads: &T,
     alloc: Global,
@@ -131,5 +151,6 @@ pub(crate) fn workers_solve<T: Threads + Wait + Sync>(
     worker_serves(threads, alloc, &instance)?;
     plan_is_solved(threads, alloc, &instance)?;
     budget_is_kept(threads, alloc, &instance)?;
+    target_is_solved(threads, alloc, &instance)?;
     start_is_refused(threads, alloc, &instance)
 }
