@@ -230,6 +230,7 @@ fn mirrored(version: u32) -> SolveRequest {
         budget: AMPLE,
         version,
         mirrored: true,
+        target: None,
     }
 }
 

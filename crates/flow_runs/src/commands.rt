@@ -124,6 +124,7 @@ fn solved_from<T: Threads + Wait + Sync>(
         budget,
         version: 1,
         mirrored: mirror,
+        target: None,
     };
     let mut file = all_of(text);
     run_solve_as(
@@ -437,6 +438,7 @@ fn fault_from<T: Threads + Wait + Sync>(
         budget,
         version: 1,
         mirrored: false,
+        target: None,
     };
     let mut file = all_of(THREE_MACHINES);
     run_solve_as(
@@ -478,6 +480,7 @@ fn solve_stops_an_endless_start(rt: HostRuntime) -> Result<(), Fail> {
         budget: AMPLE,
         version: 1,
         mirrored: false,
+        target: None,
     };
     let ran = run_solve_as(
         &rt,

@@ -1,9 +1,10 @@
-//! Texts of bounds, as `check` reads them.
+//! Texts of bounds, as `solve` writes them and `check` reads them.
 
-use super::{ROOM, Ran, THREE_MACHINES, all_of, refused, wrote};
+use super::{AMPLE, DEPTH_0, ROOM, Ran, THREE_MACHINES, all_of, refused, solved_as, wrote};
 use flow_check::CheckFault;
-use flow_commands::{CheckRequest, CommandFault, run_check, run_check_as};
+use flow_commands::{CheckRequest, CommandFault, SolveRequest, run_check, run_check_as};
 use flow_core::{MemorySink, WriteFault};
+use flow_pool::SolveFault;
 use std::alloc::Global;
 use std::test::Fail;
 
@@ -129,5 +130,55 @@ fn a_sink_takes_a_front_of_the_line_of_bounds(rt: HostRuntime) -> Result<(), Fai
         assert_eq!(rt; ran, Err(CommandFault::Write(WriteFault::Device)));
         assert!(rt; line.get(..room) == Some(out.bytes()));
     }
+    Ok(())
+}
+
+/// A request with one worker at depth 0, of a search below a number.
+fn below(number: u32) -> SolveRequest {
+    SolveRequest {
+        workers: 1,
+        depth: 0,
+        budget: AMPLE,
+        version: 1,
+        mirrored: false,
+        target: Some(number),
+    }
+}
+
+// The starting sequence has the makespan 13. Version 2 cuts the empty list at 10 by the same machine.
+#[test]
+fn solve_writes_bounds_where_nothing_is_below_the_target(rt: HostRuntime) -> Result<(), Fail> {
+    let alloc = rt.alloc();
+    for ((bytes, _), number) in TEXTS.iter().zip([12, 11, 10]) {
+        let request = SolveRequest {
+            version: if number == 10 { 2 } else { 1 },
+            ..below(number)
+        };
+        assert!(rt; wrote(&solved_as(&rt, alloc, THREE_MACHINES, request), bytes));
+    }
+    let least = b"flowshop bounds 1\n3 3 0\n0 13\n2 1 3\nA\nend\n";
+    assert!(rt; wrote(&solved_as(&rt, alloc, THREE_MACHINES, below(0)), least));
+    for number in [13, 14, u32::MAX] {
+        let ran = solved_as(&rt, alloc, THREE_MACHINES, below(number));
+        assert!(rt; wrote(&ran, DEPTH_0));
+    }
+    Ok(())
+}
+
+// The text of 11 has a tree of 6 bytes.
+#[test]
+fn solve_below_a_target_keeps_its_budget(rt: HostRuntime) -> Result<(), Fail> {
+    let alloc = rt.alloc();
+    let request = SolveRequest {
+        budget: 6,
+        ..below(11)
+    };
+    assert!(rt; wrote(&solved_as(&rt, alloc, THREE_MACHINES, request), OF_11));
+    let request = SolveRequest {
+        budget: 5,
+        ..below(11)
+    };
+    let fault = CommandFault::Run(SolveFault::OverBudget(0));
+    assert!(rt; refused(&solved_as(&rt, alloc, THREE_MACHINES, request), fault));
     Ok(())
 }

@@ -215,7 +215,17 @@ fn each_command_writes_its_answer(rt: HostRuntime) -> Result<(), Fail> {
 
 #[test]
 fn each_option_of_solve_has_its_effect(rt: HostRuntime) -> Result<(), Fail> {
-    let rows: [(&str, &[u8], &str); 14] = [
+    let rows: [(&str, &[u8], &str); 20] = [
+        ("--target 11 --depth 0", BOUNDS, ""),
+        ("--depth 0 --target 13", DEPTH_0, ""),
+        ("--depth 0 --target 4294967295", DEPTH_0, ""),
+        ("--depth 0 --target 11 --budget 6", BOUNDS, ""),
+        (
+            "--depth 0 --target 11 --budget 5",
+            b"",
+            "refused run OverBudget 0",
+        ),
+        ("--target -1", b"", "refused command line"),
         ("--workers 64", DEPTH_1, ""),
         ("--workers 65", b"", "refused option Workers"),
         ("--workers 0", b"", "refused option Workers"),
@@ -592,12 +602,13 @@ fn words_are_read_as_orders(rt: HostRuntime) -> Result<(), Fail> {
             budget: 1_000_000,
             version: 1,
             mirrored: false,
+            target: None,
         },
     };
     assert_eq!(rt; ordered(alloc, words.as_slice()), Ok(Some(wanted)));
     let words = words_of(
         alloc,
-        "solve FILE 1 --mirrored --start SEQUENCE --workers 3",
+        "solve FILE 1 --mirrored --start SEQUENCE --workers 3 --target 4294967295",
     )?;
     let wanted = Order::Solve {
         file: "FILE",
@@ -609,6 +620,7 @@ fn words_are_read_as_orders(rt: HostRuntime) -> Result<(), Fail> {
             budget: 1_000_000,
             version: 1,
             mirrored: true,
+            target: Some(u32::MAX),
         },
     };
     assert_eq!(rt; ordered(alloc, words.as_slice()), Ok(Some(wanted)));
