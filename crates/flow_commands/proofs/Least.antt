@@ -1,5 +1,5 @@
 -- What is written where certificates alone are taken.
-use Rattle.std.proofs.Common.{◌≡◌, ℕ, List, Bool, false, subst}
+use Rattle.std.proofs.Common.{◌≡◌, ℕ, List, false, subst}
 use Rattle.flow_core.specs.Limits.{most_certificate}
 use Rattle.flow_core.specs.Shop.{Shop}
 use Rattle.flow_check.specs.declared.bounds.Bounds.{Bounds}

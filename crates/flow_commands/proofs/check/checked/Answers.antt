@@ -1,4 +1,4 @@
-use Rattle.std.proofs.Common.{inl, subst, sym}
+use Rattle.std.proofs.Common.{subst, sym}
 use Rattle.flow_core.specs.Shop.{Shop}
 use Rattle.flow_check.specs.Certificate.{AreBounds, IsLawful}
 use Rattle.flow_check.specs.Stated.{GivesAs}
