@@ -1,12 +1,12 @@
 -- A plan is searched below the makespan of its start as it is itself, and has the hub and the lanes of its targets.
-use Rattle.std.proofs.Common.{◌≡◌, ℕ, List, Some, sym, subst, arith}
+use Rattle.std.proofs.Common.{◌≡◌, List, Some, sym, subst, arith}
 use Rattle.std.specs.Global.{Vec}
 use Rattle.flow_search.specs.Plans.{Planned}
 use Rattle.flow_search.specs.Outcomes.{first_over_budget}
 use Rattle.flow_search.specs.declared.verdict.RunFault.{RunFault}
 use Rattle.flow_search.specs.declared.verdict.RunFault.TheVariants as run_fault
 use Rattle.flow_search.specs.Targets.{Targeted, at_value, plan_below}
-use Rattle.flow_search.specs.Findings.{IsFinding, IsLeast, HasLeast}
+use Rattle.flow_search.specs.Findings.{IsFinding, HasLeast}
 use Rattle.flow_search.specs.declared.finding.Finding.{Finding}
 use Rattle.flow_search.specs.declared.finding.Finding.TheVariants.{Least, Bound}
 use Rattle.flow_pool.specs.declared.ends.Answer.{Answer}

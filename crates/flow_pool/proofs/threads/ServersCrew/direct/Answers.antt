@@ -1,4 +1,3 @@
-use Rattle.flow_search.specs.Targets.{plan_below}
 use Rattle.flow_pool.proofs.Starts.{CanCollect-plan, HasDirected-below}
 use Rattle.flow_pool.proofs.Whole.{All-IsCollected}
 use Rattle.flow_pool.proofs.threads.ServersCrew.direct.Goals as goal
