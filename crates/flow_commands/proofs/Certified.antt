@@ -44,12 +44,22 @@ pub wrote-finding : {K : Type 0} (target : Targeted) (finding : Finding) (sink :
     WroteCertificate target.plan.shop sink ⊎ WroteBounds target.plan.shop sink
 wrote-finding target (Least verdict) sink is_target is adds =
     let lawful = finding_is_lawful target (Least verdict) is_target is in
-    inl (finding_text target (Least verdict), verdict.value, adds, lawful,
-    certificate_is_sound target.plan.shop (finding_text target (Least verdict)) verdict.value lawful)
+    inl (
+      finding_text target (Least verdict),
+      verdict.value,
+      adds,
+      lawful,
+      certificate_is_sound target.plan.shop (finding_text target (Least verdict)) verdict.value lawful,
+    )
 wrote-finding target (Bound trees) sink is_target is adds =
     let lawful = finding_is_lawful target (Bound trees) is_target is in
-    inr (finding_text target (Bound trees), bounds_at target, adds, lawful,
-    bounds_are_sound target.plan.shop (finding_text target (Bound trees)) (bounds_at target) lawful)
+    inr (
+      finding_text target (Bound trees),
+      bounds_at target,
+      adds,
+      lawful,
+      bounds_are_sound target.plan.shop (finding_text target (Bound trees)) (bounds_at target) lawful,
+    )
 
 -- so a lawful certificate of one of them is written
 wrote-of : {K : Type 0} (shop : Shop) (plan : Planned) (verdict : Verdict) (sink : SinkRun K) →

@@ -1,12 +1,13 @@
 -- Runs of plans, from the plan up to the shop and the options.
 use Rattle.std.proofs.Common.{◌≡◌, refl, inl, inr, subst, None, ℕ, Bool, true, false, List, Option, Some, Result, Ok, Err}
 use Rattle.std.proofs.Common.{IfSome}
+use Rattle.std.proofs.Math.Nat.{min-le_right}
 use Rattle.flow_core.specs.Shop.{Shop}
 use Rattle.flow_core.specs.Sequences.{IsSequence}
 use Rattle.flow_core.proofs.ReversedSequence.{sequence-reverse}
 use Rattle.flow_search.specs.Choices.{Choices}
 use Rattle.flow_search.specs.Plans.{Planned, IsPlan, plan_fault}
-use Rattle.flow_search.specs.Targets.{Targeted, plan_below}
+use Rattle.flow_search.specs.Targets.{IsTarget, Targeted, plan_below, target_of}
 use Rattle.flow_search.specs.declared.options.OptionFault.{OptionFault}
 use Rattle.flow_pool.specs.Report.{IsSolveFault}
 use Rattle.flow_pool.specs.declared.run.solve.SolveFault.{SolveFault}
@@ -68,3 +69,7 @@ pub below-ended : {K : Type 0} (sink : SinkRun K) → IsUnwritten sink → (targ
 below-ended sink unwritten target solve.Memory h = inl (unwritten, inl refl)
 below-ended sink unwritten target solve.Threads h = inl (unwritten, inr (inl refl))
 below-ended sink unwritten target (solve.OverBudget number) h = inl (unwritten, inr (inr (number, h, refl)))
+
+-- the target of a number is one of its plan
+pub is-target : (plan : Planned) (number : ℕ) → IsPlan plan → IsTarget (target_of plan number)
+is-target plan number is = record { is_plan = is; low = min-le_right number plan.start.value }

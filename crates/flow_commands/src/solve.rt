@@ -7,7 +7,7 @@ ghost use Rattle.flow_core.specs.Sequences.{IsSequence};
 ghost use Rattle.flow_core.specs.declared.bytes.fault.ReadFault.TheVariants as read;
 ghost use Rattle.flow_core.specs.declared.bytes.fault.WriteFault.TheVariants as write;
 ghost use Rattle.flow_search.specs.Plans.{IsPlan, but_memory, plan_fault};
-ghost use Rattle.flow_search.specs.Targets.{IsTarget};
+ghost use Rattle.flow_search.specs.Targets.{target_of};
 ghost use Rattle.flow_commands.specs.Block.{AnswersFor};
 ghost use Rattle.flow_commands.specs.Runs.{CameFor, Ends, EndsAlone, EndsFrom, HasFailed, Stands, Wrote, WroteFor};
 ghost use Rattle.flow_commands.specs.Runs.{WroteFrom, sink_run, source_run, start_run};
@@ -28,25 +28,29 @@ use std::alloc::{AllocError, Global};
 use std::sync::Wait;
 use std::thread::Threads;
 
-/// Searches below a target, and writes the certificate or the text of bounds of what it finds.
+/// Searches below the target of a number, and writes the certificate or the text of bounds of what it finds.
 fn solve_target<R: Threads + Wait + Sync, G: Gate + Sync, K: Sink>(
     rt: &R,
     alloc: Global,
-    target: &Target,
+    plan: &Plan,
+    number: u64,
     gate: &G,
     out: &mut K,
 ) -> Result<(), CommandFault>
     requires out_works { K.has_failed out.old ≡ false }
-    requires is_target { IsTarget target.now }
-    ensures written { OnOk result (Wrote (AnswersBelow target.now) (sink_run K.taken out.old out.new)) }
-    ensures lawful { OnOk result (WroteCertificate target.now.plan.shop (sink_run K.taken out.old out.new)
-        ⊎ WroteBounds target.now.plan.shop (sink_run K.taken out.old out.new)) }
-    ensures ended { IfErr result (EndsAlone (AnswersBelow target.now) (sink_run K.taken out.old out.new)) }
+    requires is_plan { IsPlan plan.now }
+    ensures written { OnOk result (Wrote (AnswersBelow (target_of plan.now number))
+        (sink_run K.taken out.old out.new)) }
+    ensures lawful { OnOk result (WroteCertificate plan.now.shop (sink_run K.taken out.old out.new)
+        ⊎ WroteBounds plan.now.shop (sink_run K.taken out.old out.new)) }
+    ensures ended { IfErr result (EndsAlone (AnswersBelow (target_of plan.now number))
+        (sink_run K.taken out.old out.new)) }
     ensures write_device { IsErrOf result (CommandFault.Write write.Device) ↔ (K.has_failed out.new ≡ true) }
     ensures reads_nothing { IsErrOf result (CommandFault.Read read.Device) → ⊥ }
 {
-    let report = solve_below(rt, alloc, target, gate)?;
-    write_finding(target, &report.finding, out)?;
+    let target = Target::new(plan, number);
+    let report = solve_below(rt, alloc, &target, gate)?;
+    write_finding(&target, &report.finding, out)?;
     Ok(())
 }
 
@@ -55,7 +59,7 @@ fn solve_found<R: Threads + Wait + Sync, G: Gate + Sync, K: Sink>(
     rt: &R,
     alloc: Global,
     plan: &Plan,
-    number: Option<u32>,
+    number: Option<u64>,
     gate: &G,
     out: &mut K,
 ) -> Result<(), CommandFault>
@@ -68,7 +72,7 @@ fn solve_found<R: Threads + Wait + Sync, G: Gate + Sync, K: Sink>(
     ensures reads_nothing { IsErrOf result (CommandFault.Read read.Device) → ⊥ }
 {
     match number {
-        Some(number) => solve_target(rt, alloc, &Target::new(plan, u64::from(number)), gate, out),
+        Some(number) => solve_target(rt, alloc, plan, number, gate, out),
         None => solve_plan(rt, alloc, plan, gate, out),
     }
 }
@@ -123,7 +127,7 @@ fn solve_instance<R: Threads + Wait + Sync, G: Gate + Sync, K: Sink>(
     instance: &Instance,
     given: Option<Sequence>,
     options: Options,
-    target: Option<u32>,
+    target: Option<u64>,
     gate: &G,
     out: &mut K,
 ) -> Result<(), CommandFault>
@@ -204,7 +208,16 @@ fn solve_block<R: Threads + Wait + Sync, G: Gate + Sync, K: Sink>(
     )?;
     let given = reversed_if(given, request.mirrored);
     let instance = mirrored_if(alloc, instance, request.mirrored)?;
-    solve_instance(rt, alloc, &instance, given, options, request.target, gate, out)
+    solve_instance(
+        rt,
+        alloc,
+        &instance,
+        given,
+        options,
+        request.target,
+        gate,
+        out,
+    )
 }
 
 /// Solves the block that an index names, from the starting sequence of Nawaz, Enscore and Ham, and writes the

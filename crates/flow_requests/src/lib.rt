@@ -16,7 +16,7 @@ pub struct SolveRequest {
     /// Whether the mirrored instance is solved.
     pub mirrored: bool,
     /// The number below which sequences are searched for; none for the makespan of the starting sequence.
-    pub target: Option<u32>,
+    pub target: Option<u64>,
 }
 
 /// How long a starting sequence is improved, and by which choices.

@@ -175,7 +175,7 @@ fn solve_order<'a>(given: &ArgMatches<'a>) -> Option<Order<'a>> {
             budget: given.get_one::<u32>("budget")?,
             version: given.get_one::<u32>("certificate")?,
             mirrored: given.get_flag("mirrored"),
-            target: given.get_one::<u32>("target"),
+            target: given.get_one::<u32>("target").map(u64::from),
         },
     })
 }

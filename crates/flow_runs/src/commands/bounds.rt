@@ -134,7 +134,7 @@ fn a_sink_takes_a_front_of_the_line_of_bounds(rt: HostRuntime) -> Result<(), Fai
 }
 
 /// A request with one worker at depth 0, of a search below a number.
-fn below(number: u32) -> SolveRequest {
+fn below(number: u64) -> SolveRequest {
     SolveRequest {
         workers: 1,
         depth: 0,
@@ -158,7 +158,7 @@ fn solve_writes_bounds_where_nothing_is_below_the_target(rt: HostRuntime) -> Res
     }
     let least = b"flowshop bounds 1\n3 3 0\n0 13\n2 1 3\nA\nend\n";
     assert!(rt; wrote(&solved_as(&rt, alloc, THREE_MACHINES, below(0)), least));
-    for number in [13, 14, u32::MAX] {
+    for number in [13, 14, u64::MAX] {
         let ran = solved_as(&rt, alloc, THREE_MACHINES, below(number));
         assert!(rt; wrote(&ran, DEPTH_0));
     }

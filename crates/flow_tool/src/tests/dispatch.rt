@@ -620,7 +620,7 @@ fn words_are_read_as_orders(rt: HostRuntime) -> Result<(), Fail> {
             budget: 1_000_000,
             version: 1,
             mirrored: true,
-            target: Some(u32::MAX),
+            target: Some(4_294_967_295),
         },
     };
     assert_eq!(rt; ordered(alloc, words.as_slice()), Ok(Some(wanted)));
