@@ -259,6 +259,31 @@ pub(crate) fn mirrored_is_solved<T: Threads + Wait + Sync>(
     )
 }
 
+/// `run_solve_as` of two workers, where no sequence is below the target.
+pub(crate) fn bounds_are_solved<T: Threads + Wait + Sync>(
+    threads: &T,
+    alloc: Global,
+) -> Result<(), Trouble> {
+    let request = SolveRequest {
+        mirrored: false,
+        target: Some(11),
+        ..mirrored(1)
+    };
+    let mut out = room(alloc);
+    let mut file = all_of(THREE_MACHINES_TEXT);
+    let ran = run_solve_as(
+        threads,
+        alloc,
+        &mut file,
+        1,
+        &mut no_start(),
+        request,
+        &Open,
+        &mut out,
+    );
+    confirm_written(ran, &out, BOUNDS_OF_11, "run_solve_as below a target")
+}
+
 /// `run_solve_as` of the mirrored instance from a start.
 pub(crate) fn start_is_solved<T: Threads + Wait + Sync>(
     threads: &T,

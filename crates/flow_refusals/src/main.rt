@@ -35,7 +35,7 @@ const REFUSED: u8 = 1;
 const WRONG: u8 = 2;
 
 /// How many groups of calls there are.
-const GROUPS: usize = 45;
+const GROUPS: usize = 46;
 
 /// Makes all calls: each group, also where one before it did not return what it should.
 fn found<T: Threads + Wait + Sync>(threads: &T, alloc: Global) -> [Result<(), Trouble>; GROUPS] {
@@ -75,6 +75,7 @@ fn found<T: Threads + Wait + Sync>(threads: &T, alloc: Global) -> [Result<(), Tr
         commands::solve_is_run(threads, alloc),
         commands::solve_is_refused(threads, alloc),
         commands::mirrored_is_solved(threads, alloc),
+        commands::bounds_are_solved(threads, alloc),
         commands::start_is_solved(threads, alloc),
         commands::start_is_refused(threads, alloc),
         commands::check_is_run(alloc),
