@@ -5,4 +5,6 @@
 
 mod fault;
 mod makespan;
+mod neh;
 mod report;
+mod room;
