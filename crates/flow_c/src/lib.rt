@@ -3,6 +3,7 @@
 //! a status. What a Rust caller proves of its arguments is tested here.
 #![tactic(auto)]
 
+mod check;
 mod fault;
 mod makespan;
 mod neh;
