@@ -8,6 +8,7 @@ ghost use Rattle.flow_c.specs.declared.fault.Fault.TheVariants as fault;
 use flow_check::CheckFault;
 use flow_search::{OptionFault, PlanFault, RunFault};
 use flow_shop::{InstanceFault, SequenceFault};
+use flow_text::WriteFault;
 use std::alloc::AllocError;
 
 /// Why a call refused.
@@ -35,6 +36,15 @@ impl From<AllocError> for Fault {
     ghost from_gives = { λ _ given. given ≡ fault.Memory };
 
     fn from(_error: AllocError) -> Fault {
+        Fault::Memory
+    }
+}
+
+// The sinks of this crate are in memory, so a refusal is a growth that was refused.
+impl From<WriteFault> for Fault {
+    ghost from_gives = { λ _ given. given ≡ fault.Memory };
+
+    fn from(_error: WriteFault) -> Fault {
         Fault::Memory
     }
 }

@@ -9,3 +9,4 @@ mod makespan;
 mod neh;
 mod report;
 mod room;
+mod solve;
