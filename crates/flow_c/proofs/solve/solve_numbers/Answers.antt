@@ -1,0 +1,24 @@
+use Rattle.std.proofs.lemmas.Result.{IfErr-weaker}
+use Rattle.flow_c.specs.Faults.{shop_of, options_of, plan_of, choice_fault, makespan_fault}
+use Rattle.flow_c.specs.Faults.{planning_fault, solve_fault}
+use Rattle.flow_c.proofs.Tested.{no-makespan-fault, of-four}
+use Rattle.flow_c.proofs.solve.solve_numbers.Goals as goal
+
+pub returns-clause-lawful : goal.returns-clause-lawful
+returns-clause-lawful c = rw c.in_ok-instance.ensures.value at c.solve_from.ensures.lawful
+
+pub returns-clause-refused : goal.returns-clause-refused
+returns-clause-refused c =
+    let a = c.args in
+    let shop = shop_of a.jobs a.machines a.times.now in
+    let options = options_of a.choice.depth a.choice.budget a.choice.version in
+    IfErr-weaker c.solve_from.result _ _
+    (λ fault is. of-four (makespan_fault a.jobs a.machines a.times.now a.start.now)
+    (choice_fault a.choice.depth a.choice.budget a.choice.version)
+    (planning_fault shop options a.room.sequence)
+    (solve_fault (plan_of shop a.start.now options) a.room.text) fault
+    (no-makespan-fault a.jobs a.machines a.times.now a.start.now c.in_ok-instance.ensures.accepted
+    (rw c.in_ok-instance.ensures.value at c.in_ok-start.ensures.accepted))
+    c.in_ok-options.ensures.accepted is)
+    (rw (c.in_ok-instance.ensures.value, c.in_ok-start.ensures.value, c.in_ok-options.ensures.value)
+    at c.solve_from.ensures.refused)

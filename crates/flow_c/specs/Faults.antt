@@ -1,0 +1,98 @@
+-- Why a call refuses what it is lent, and what it reports.
+use Rattle.std.specs.Prelude.{ℕ, ◌≡◌, ◌⊎◌, nat_le, List, [], ◌∷◌, length, Option, Some, None}
+use Rattle.std.specs.Int.{is_in_range}
+use Rattle.std.specs.Option.{option_map}
+use Rattle.flow_shop.specs.Limits.{least_version, greatest_version}
+use Rattle.flow_shop.specs.Refusals.{fault_unless, first_fault}
+use Rattle.flow_shop.specs.Shop.{Shop}
+use Rattle.flow_shop.specs.Paths.{span}
+use Rattle.flow_shop.specs.InstanceFaults.{instance_fault}
+use Rattle.flow_shop.specs.SequenceFaults.{sequence_fault}
+use Rattle.flow_search.specs.Choices.{Choices, option_fault}
+use Rattle.flow_search.specs.Plans.{Planned, plan_fault}
+use Rattle.flow_search.specs.Outcomes.{first_over_budget}
+use Rattle.flow_search.specs.declared.options.OptionFault.TheVariants.{Version}
+use Rattle.flow_search.specs.declared.verdict.RunFault.TheVariants.{OverBudget}
+use Rattle.flow_cert.specs.PlanCertificates.{certificate_of}
+use Rattle.flow_c.specs.Statuses.{number, place_of, done, memory}
+use Rattle.flow_c.specs.declared.fault.Fault.{Fault}
+use Rattle.flow_c.specs.declared.fault.Fault.TheVariants.{Room, Instance, Sequence, Choice, Plan, Run}
+
+-- the instance of these numbers
+abbrev pub shop_of : ℕ → ℕ → List ℕ → Shop
+shop_of jobs machines times = record { jobs = jobs; machines = machines; times = times }
+
+-- a call answers a fault: the first one of what it was lent; or memory ran out
+abbrev pub IsFaultOf : Option Fault → Fault → Type 0
+IsFaultOf first fault = (first ≡ Some fault) ⊎ (number fault ≡ memory)
+
+-- What a call reports that was lent arguments with this first fault: the number of the fault and its place, or that
+-- memory ran out. Where there is no fault it reports that it was done, or that memory ran out.
+abbrev pub Reports : Option Fault → ℕ → ℕ → Type 0
+Reports (Some fault) status place = ((status ≡ number fault) × (place ≡ place_of fault)) ⊎ (status ≡ memory)
+Reports None status place = (status ≡ done) ⊎ (status ≡ memory)
+
+-- the fault of a slice for results that has fewer entries than are needed
+abbrev pub room_fault : ℕ → ℕ → Option Fault
+room_fault needed entries = fault_unless (nat_le needed entries) (Room needed)
+
+-- why numbers are no instance, or jobs no sequence of it
+abbrev pub makespan_fault : ℕ → ℕ → List ℕ → List ℕ → Option Fault
+makespan_fault jobs machines times sequence = first_fault (
+    option_map Instance (instance_fault jobs machines times)
+    ∷ option_map Sequence (sequence_fault jobs sequence)
+    ∷ [])
+
+-- why numbers are no instance, or why a sequence of it has no room
+abbrev pub instance_room_fault : ℕ → ℕ → List ℕ → ℕ → Option Fault
+instance_room_fault jobs machines times entries = first_fault (
+    option_map Instance (instance_fault jobs machines times)
+    ∷ room_fault jobs entries
+    ∷ [])
+
+-- the options of a run on one thread
+abbrev pub options_of : ℕ → ℕ → ℕ → Choices
+options_of depth budget version = record { workers = 1; depth = depth; budget = budget; version = version }
+
+-- the plan of an instance, from a sequence of it
+abbrev pub plan_of : Shop → List ℕ → Choices → Planned
+plan_of shop start options =
+    record { shop = shop; start = record { value = span shop start; sequence = start }; options = options }
+
+-- why numbers are no options
+abbrev pub choice_fault : ℕ → ℕ → ℕ → Option Fault
+choice_fault depth budget version = first_fault (
+    option_map Choice (option_fault 1 depth budget)
+    ∷ fault_unless (is_in_range least_version greatest_version version) (Choice Version)
+    ∷ [])
+
+-- why a plan has no certificate within its budget: the first prefix whose tree is too long
+abbrev pub budget_fault : Planned → Option Fault
+budget_fault plan = option_map (λ prefix. Run (OverBudget prefix)) (first_over_budget plan)
+
+-- why a plan is not solved, or why its certificate has no room
+abbrev pub solve_fault : Planned → ℕ → Option Fault
+solve_fault plan bytes = first_fault (
+    budget_fault plan
+    ∷ room_fault (length (certificate_of plan)) bytes
+    ∷ [])
+
+-- why there is no plan, or why a sequence of its instance has no room
+abbrev pub planning_fault : Shop → Choices → ℕ → Option Fault
+planning_fault shop options entries = first_fault (
+    option_map Plan (plan_fault shop options)
+    ∷ room_fault shop.jobs entries
+    ∷ [])
+
+-- why no certificate is written: the numbers are no instance, the jobs no sequence, the numbers no options, there is no
+-- plan, a sequence has no room, a tree is longer than the budget, or the certificate has no room
+abbrev pub certificate_fault : ℕ → ℕ → List ℕ → List ℕ → ℕ → ℕ → ℕ → ℕ → ℕ → Option Fault
+certificate_fault jobs machines times start depth budget version entries bytes =
+    let shop = shop_of jobs machines times in
+    let options = options_of depth budget version in
+    first_fault (
+    makespan_fault jobs machines times start
+    ∷ choice_fault depth budget version
+    ∷ planning_fault shop options entries
+    ∷ solve_fault (plan_of shop start options) bytes
+    ∷ [])

@@ -1,0 +1,4 @@
+pub mod Statuses
+pub mod Faults
+pub mod Checks
+pub mod internal

@@ -1,0 +1,121 @@
+-- The numbers of statuses, and the places of faults.
+use Rattle.std.specs.Prelude.{ℕ}
+use Rattle.flow_shop.specs.declared.instance.InstanceFault.{InstanceFault}
+use Rattle.flow_shop.specs.declared.instance.InstanceFault.TheVariants as instance
+use Rattle.flow_shop.specs.declared.sequence.SequenceFault.{SequenceFault}
+use Rattle.flow_shop.specs.declared.sequence.SequenceFault.TheVariants as sequence
+use Rattle.flow_search.specs.declared.options.OptionFault.{OptionFault}
+use Rattle.flow_search.specs.declared.options.OptionFault.TheVariants as choice
+use Rattle.flow_search.specs.declared.plan.PlanFault.{PlanFault}
+use Rattle.flow_search.specs.declared.plan.PlanFault.TheVariants as plan
+use Rattle.flow_search.specs.declared.verdict.RunFault.{RunFault}
+use Rattle.flow_search.specs.declared.verdict.RunFault.TheVariants as run
+use Rattle.flow_check.specs.declared.fault.CheckFault.{CheckFault}
+use Rattle.flow_check.specs.declared.fault.CheckFault.TheVariants as check
+use Rattle.flow_c.specs.declared.fault.Fault.{Fault}
+use Rattle.flow_c.specs.declared.fault.Fault.TheVariants.{Memory, Room, Instance, Sequence, Choice, Plan, Run}
+use Rattle.flow_c.specs.declared.fault.Fault.TheVariants.{Certificate}
+
+-- the call was done
+abbrev pub done : ℕ
+done = 0
+
+-- memory ran out
+abbrev pub memory : ℕ
+memory = 1
+
+-- a slice for results is too short
+abbrev pub room : ℕ
+room = 2
+
+-- the number of a fault of an instance
+abbrev pub of_instance : InstanceFault → ℕ
+of_instance instance.Memory = memory
+of_instance instance.Jobs = 10
+of_instance instance.Machines = 11
+of_instance instance.Count = 12
+of_instance (instance.Time place) = 13
+of_instance instance.Seed = 14
+
+-- the place of a fault of an instance; 0 where it has none
+abbrev pub place_of_instance : InstanceFault → ℕ
+place_of_instance (instance.Time place) = place
+place_of_instance fault = 0
+
+-- the number of a fault of a sequence
+abbrev pub of_sequence : SequenceFault → ℕ
+of_sequence sequence.Memory = memory
+of_sequence sequence.Length = 20
+of_sequence (sequence.Job place) = 21
+of_sequence (sequence.Twice place) = 22
+
+-- the place of a fault of a sequence; 0 where it has none
+abbrev pub place_of_sequence : SequenceFault → ℕ
+place_of_sequence (sequence.Job place) = place
+place_of_sequence (sequence.Twice place) = place
+place_of_sequence fault = 0
+
+-- the number of a fault of options
+abbrev pub of_choice : OptionFault → ℕ
+of_choice choice.Workers = 30
+of_choice choice.Depth = 31
+of_choice choice.Budget = 32
+of_choice choice.Version = 33
+
+-- the number of a fault of a plan
+abbrev pub of_plan : PlanFault → ℕ
+of_plan plan.Memory = memory
+of_plan plan.Depth = 40
+of_plan plan.Prefixes = 41
+
+-- the number of a fault of a run
+abbrev pub of_run : RunFault → ℕ
+of_run run.Memory = memory
+of_run (run.OverBudget prefix) = 50
+
+-- the prefix of a fault of a run, counted from 0
+abbrev pub place_of_run : RunFault → ℕ
+place_of_run run.Memory = 0
+place_of_run (run.OverBudget prefix) = prefix
+
+-- the number of a fault of a certificate
+abbrev pub of_check : CheckFault → ℕ
+of_check check.Memory = memory
+of_check check.Header = 60
+of_check check.Size = 61
+of_check check.Value = 62
+of_check check.Sequence = 63
+of_check check.NotAttained = 64
+of_check (check.Tree line) = 65
+of_check (check.Weak line) = 66
+of_check (check.Low line) = 67
+of_check check.End = 68
+
+-- the line of a fault of a certificate; 0 where its number says the line
+abbrev pub place_of_check : CheckFault → ℕ
+place_of_check (check.Tree line) = line
+place_of_check (check.Weak line) = line
+place_of_check (check.Low line) = line
+place_of_check fault = 0
+
+-- the number of a fault
+abbrev pub number : Fault → ℕ
+number Memory = memory
+number (Room needed) = room
+number (Instance fault) = of_instance fault
+number (Sequence fault) = of_sequence fault
+number (Choice fault) = of_choice fault
+number (Plan fault) = of_plan fault
+number (Run fault) = of_run fault
+number (Certificate fault) = of_check fault
+
+-- the place of a fault, or the length that a slice needs; 0 where it has none
+abbrev pub place_of : Fault → ℕ
+place_of Memory = 0
+place_of (Room needed) = needed
+place_of (Instance fault) = place_of_instance fault
+place_of (Sequence fault) = place_of_sequence fault
+place_of (Choice fault) = 0
+place_of (Plan fault) = 0
+place_of (Run fault) = place_of_run fault
+place_of (Certificate fault) = place_of_check fault

@@ -1,0 +1,12 @@
+//! The calls for C: a static library over the crates of the shop, the starting sequence, the search and the checker.
+//! Each function takes numbers and slices, writes its results to slices and numbers that the caller lends, and returns
+//! a status. What a Rust caller proves of its arguments is tested here.
+#![tactic(auto)]
+
+mod check;
+mod fault;
+mod makespan;
+mod neh;
+mod report;
+mod room;
+mod solve;

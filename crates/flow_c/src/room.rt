@@ -1,0 +1,27 @@
+//! Slices that the caller lends for results.
+
+ghost use Rattle.std.specs.Prelude.{◌≡◌, ◌≤◌, None, Some, length, take, drop, nat_le, OnOk, IfErr};
+ghost use Rattle.flow_c.specs.Faults.{room_fault};
+
+use crate::fault::Fault;
+
+/// Refuses a slice that has fewer entries than are needed.
+pub(crate) fn need(needed: usize, entries: usize) -> Result<(), Fault>
+    ensures accepted { OnOk result (room_fault needed entries ≡ None) }
+    ensures refused { IfErr result (λ fault. room_fault needed entries ≡ Some fault) }
+    ensures enough { OnOk result (needed ≤ entries) }
+{
+    if needed > entries {
+        return Err(Fault::Room(needed));
+    }
+    Ok(())
+}
+
+/// Copies numbers to the front of a slice that has room for them.
+pub(crate) fn fill<T: Copy>(from: &[T], room: &mut [T])
+    requires { length from.now ≤ length room.old }
+    ensures front { take (length from.now) room.new ≡ from.now }
+    ensures rest { drop (length from.now) room.new ≡ drop (length from.now) room.old }
+{
+    room[..from.len()].copy_from_slice(from);
+}

@@ -1,0 +1,69 @@
+"""The shared library, and the statuses of its calls (library/flowshop.h)."""
+
+import ctypes
+import os
+from pathlib import Path
+from typing import Dict
+
+STATUSES: Dict[int, str] = {
+    1: "MEMORY",
+    2: "ROOM",
+    10: "JOBS",
+    11: "MACHINES",
+    12: "COUNT",
+    13: "TIME",
+    20: "LENGTH",
+    21: "JOB",
+    22: "TWICE",
+    31: "DEPTH",
+    32: "BUDGET",
+    33: "VERSION",
+    40: "PLAN_DEPTH",
+    41: "PLAN_PREFIXES",
+    50: "OVER_BUDGET",
+    60: "HEADER",
+    61: "SIZE",
+    62: "VALUE",
+    63: "SEQUENCE",
+    64: "NOT_ATTAINED",
+    65: "TREE",
+    66: "WEAK",
+    67: "LOW",
+    68: "END",
+}
+
+u16, u32, u64, u8 = ctypes.c_uint16, ctypes.c_uint32, ctypes.c_uint64, ctypes.c_uint8
+size, flag, out = ctypes.c_size_t, ctypes.c_bool, ctypes.POINTER
+SHOP = [u32, u32, out(u32), size]
+CALLS = {
+    "makespan": SHOP + [out(u16), size, out(u64), out(size)],
+    "neh": SHOP + [out(u16), size, out(u64), out(size)],
+    "check": SHOP + [out(u8), size, flag, out(u16), size, out(u64), out(flag), out(size)],
+    "solve": SHOP
+    + [out(u16), size, u32, u32, u32, out(u16), size, out(u64), out(u8), size, out(size), out(size)],
+}
+
+
+def _path() -> Path:
+    """The library: that of FLOWSHOP_LIBRARY, else the one beside this file, else the one of the clone."""
+    named = os.environ.get("FLOWSHOP_LIBRARY")
+    if named:
+        return Path(named)
+    here = Path(__file__).resolve().parent
+    for path in (here / "libflowshop.so", here.parent.parent / "out" / "libflowshop.so"):
+        if path.exists():
+            return path
+    raise ImportError(
+        "flowshop: there is no libflowshop.so; run ./build --library at the top of the clone, "
+        "or set FLOWSHOP_LIBRARY to the path of one"
+    )
+
+
+def load() -> ctypes.CDLL:
+    """The library, with the types of its calls."""
+    library = ctypes.CDLL(str(_path()))
+    for name, types in CALLS.items():
+        call = getattr(library, f"flowshop_{name}")
+        call.argtypes = types
+        call.restype = u32
+    return library
