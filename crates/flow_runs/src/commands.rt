@@ -517,6 +517,7 @@ fn check_accepts_what_solve_wrote(rt: HostRuntime) -> Result<(), Fail> {
                         budget: AMPLE,
                         version,
                         mirrored,
+                        target: None,
                     };
                     let ran = solved_as(&rt, alloc, text, request)?;
                     assert!(rt; wrote(&checked_as(alloc, text, ran.bytes(), mirrored), line));

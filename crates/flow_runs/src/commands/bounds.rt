@@ -2,11 +2,15 @@
 
 use super::{AMPLE, DEPTH_0, ROOM, Ran, THREE_MACHINES, all_of, refused, solved_as, wrote};
 use flow_check::CheckFault;
-use flow_commands::{CheckRequest, CommandFault, SolveRequest, run_check, run_check_as};
+use flow_commands::{
+    CheckRequest, CommandFault, SolveRequest, run_check, run_check_as, run_solve_as,
+};
 use flow_core::{MemorySink, WriteFault};
-use flow_pool::SolveFault;
+use flow_pool::{Open, SolveFault};
 use std::alloc::Global;
+use std::sync::Wait;
 use std::test::Fail;
+use std::thread::Threads;
 
 /// Texts of bounds of the text with three machines, and the lines that are printed for them. The least makespan is 12.
 /// At the empty list the bounds are 7, 10 and 5. At 1, 2 and 3 they are 7, 14 and 9; 7, 11 and 13; 8, 10 and 7. At 3 1
@@ -95,14 +99,35 @@ fn check_turns_the_sequence_of_bounds_of_the_mirrored_instance(
 fn check_names_the_first_fault_of_bounds(rt: HostRuntime) -> Result<(), Fail> {
     let alloc = rt.alloc();
     let rows: [(&[u8], CheckFault); 8] = [
-        (b"flowshop bounds 3\n3 3 0\n11 13\n2 1 3\n+BB+AB\nend\n", CheckFault::Header),
+        (
+            b"flowshop bounds 3\n3 3 0\n11 13\n2 1 3\n+BB+AB\nend\n",
+            CheckFault::Header,
+        ),
         (b"flowshop bounds 1", CheckFault::Header),
-        (b"flowshop bounds 1\n3 2 0\n11 13\n2 1 3\n+BB+AB\nend\n", CheckFault::Size),
-        (b"flowshop bounds 1\n3 3 0\n11\n2 1 3\n+BB+AB\nend\n", CheckFault::Value),
-        (b"flowshop bounds 1\n3 3 0\n11 13\n2 1\n+BB+AB\nend\n", CheckFault::Sequence),
-        (b"flowshop bounds 1\n3 3 0\n11 12\n2 1 3\n+BB+AB\nend\n", CheckFault::NotAttained),
-        (b"flowshop bounds 1\n3 3 0\n12 13\n2 1 3\n+BB+AB\nend\n", CheckFault::Weak(5)),
-        (b"flowshop bounds 1\n3 3 0\n11 13\n2 1 3\n+BB+AB\nend", CheckFault::End),
+        (
+            b"flowshop bounds 1\n3 2 0\n11 13\n2 1 3\n+BB+AB\nend\n",
+            CheckFault::Size,
+        ),
+        (
+            b"flowshop bounds 1\n3 3 0\n11\n2 1 3\n+BB+AB\nend\n",
+            CheckFault::Value,
+        ),
+        (
+            b"flowshop bounds 1\n3 3 0\n11 13\n2 1\n+BB+AB\nend\n",
+            CheckFault::Sequence,
+        ),
+        (
+            b"flowshop bounds 1\n3 3 0\n11 12\n2 1 3\n+BB+AB\nend\n",
+            CheckFault::NotAttained,
+        ),
+        (
+            b"flowshop bounds 1\n3 3 0\n12 13\n2 1 3\n+BB+AB\nend\n",
+            CheckFault::Weak(5),
+        ),
+        (
+            b"flowshop bounds 1\n3 3 0\n11 13\n2 1 3\n+BB+AB\nend",
+            CheckFault::End,
+        ),
     ];
     for (bytes, fault) in rows {
         for either in [false, true] {
@@ -114,7 +139,7 @@ fn check_names_the_first_fault_of_bounds(rt: HostRuntime) -> Result<(), Fail> {
 }
 
 #[test]
-fn a_sink_takes_a_front_of_the_line_of_bounds(rt: HostRuntime) -> Result<(), Fail> {
+fn a_sink_takes_a_proper_prefix_of_the_line_of_bounds(rt: HostRuntime) -> Result<(), Fail> {
     let alloc = rt.alloc();
     let line = b"bounds 11 13\n";
     let request = CheckRequest {
@@ -179,6 +204,61 @@ fn solve_below_a_target_keeps_its_budget(rt: HostRuntime) -> Result<(), Fail> {
         ..below(11)
     };
     let fault = CommandFault::Run(SolveFault::OverBudget(0));
+    assert!(rt; refused(&solved_as(&rt, alloc, THREE_MACHINES, request), fault));
+    Ok(())
+}
+
+/// A run of `solve` from a start, below a number.
+fn solved_below<T: Threads + Wait + Sync>(rt: &T, alloc: Global, start: &[u8], number: u64) -> Ran {
+    let mut out = MemorySink::new(alloc, ROOM);
+    let mut start = Some(all_of(start));
+    let mut file = all_of(THREE_MACHINES);
+    let request = below(number);
+    run_solve_as(
+        rt, alloc, &mut file, 1, &mut start, request, &Open, &mut out,
+    )?;
+    Ok(out)
+}
+
+// The start has the makespan 15. Below 14 the list 1 is cut at once by machine 2, whose bound is 14.
+#[test]
+fn solve_finds_the_least_makespan_below_a_target(rt: HostRuntime) -> Result<(), Fail> {
+    let alloc = rt.alloc();
+    let start = b"sequence 1 2 3\nmakespan 15\n";
+    let rows: [(u64, &[u8]); 3] = [
+        (12, b"flowshop bounds 1\n3 3 0\n12 15\n1 2 3\n+BC+AB\nend\n"),
+        (
+            14,
+            b"flowshop certificate 1\n3 3 0\n12\n3 1 2\n+B++.B++.B\nend\n",
+        ),
+        (
+            15,
+            b"flowshop certificate 1\n3 3 0\n12\n3 1 2\n++B+.++.B++.B\nend\n",
+        ),
+    ];
+    for (number, text) in rows {
+        assert!(rt; wrote(&solved_below(&rt, alloc, start, number), text));
+    }
+    Ok(())
+}
+
+// At depth 1 the trees of the text of 11 are those of the lists 1, 2 and 3.
+#[test]
+fn solve_below_a_target_names_the_prefix_that_is_over(rt: HostRuntime) -> Result<(), Fail> {
+    let alloc = rt.alloc();
+    let text = b"flowshop bounds 1\n3 3 1\n11 13\n2 1 3\nB\nB\n+AB\nend\n";
+    let request = SolveRequest {
+        depth: 1,
+        budget: 3,
+        ..below(11)
+    };
+    assert!(rt; wrote(&solved_as(&rt, alloc, THREE_MACHINES, request), text));
+    let request = SolveRequest {
+        depth: 1,
+        budget: 2,
+        ..below(11)
+    };
+    let fault = CommandFault::Run(SolveFault::OverBudget(2));
     assert!(rt; refused(&solved_as(&rt, alloc, THREE_MACHINES, request), fault));
     Ok(())
 }
