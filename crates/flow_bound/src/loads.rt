@@ -1,7 +1,7 @@
 //! The remaining work of each machine, where the jobs of a set are left.
 
-ghost use Rattle.std.specs.Prelude.{◌≡◌, ℕ, ◌+◌, ◌-◌, ◌*◌, ◌<◌, ◌≤◌, min, List, Bool, true, false};
-ghost use Rattle.std.specs.Prelude.{length, slice_index, slice_set, sum_by};
+ghost use Rattle.std.specs.Prelude.{◌≡◌, ℕ, ◌+◌, ◌-◌, ◌*◌, ◌<◌, ◌≤◌, min, List, true, false};
+ghost use Rattle.std.specs.Prelude.{length, slice_index, slice_set};
 ghost use Rattle.flow_limits.specs.Limits.{most_jobs, most_machines, greatest_time, greatest_completion};
 ghost use Rattle.flow_shop.specs.Shop.{Shop, time, time_between};
 ghost use Rattle.flow_shop.specs.Paths.{span};
@@ -9,7 +9,7 @@ ghost use Rattle.flow_shop.specs.Front.{IsFrontOf};
 ghost use Rattle.flow_shop.specs.JobSet.{contains, members, IsSetOf};
 ghost use Rattle.flow_shop.specs.Sequences.{jobs_left, IsSequence, Extends};
 ghost use Rattle.flow_shop.specs.Bound.{machine_bound};
-ghost use Rattle.flow_bound.specs.Loads.{AreLoadsOf, least_tail};
+ghost use Rattle.flow_bound.specs.Loads.{AreLoadsOf};
 
 use crate::least::least_between;
 use flow_limits::MAX_MACHINES;

@@ -1,6 +1,6 @@
 //! The rest of a set of jobs: the loads of the machines, and the lags to each of them.
 
-ghost use Rattle.std.specs.Prelude.{◌≡◌, ℕ, ◌+◌, ◌-◌, ◌^◌, ◌<◌, ◌≤◌, min, List, Bool, true, false};
+ghost use Rattle.std.specs.Prelude.{◌≡◌, ℕ, ◌+◌, ◌-◌, ◌^◌, ◌<◌, ◌≤◌, min, List, true, false};
 ghost use Rattle.std.specs.Prelude.{length, slice_index, slice_set};
 ghost use Rattle.flow_limits.specs.Limits.{most_machines, greatest_completion};
 ghost use Rattle.flow_shop.specs.Shop.{Shop, time_between};

@@ -1,7 +1,7 @@
 //! The nodes of the trees: what is kept of a list of jobs, and the machine bounds.
 
 ghost use Rattle.std.specs.Prelude.{◌≡◌, ℕ, ◌+◌, ◌-◌, ◌*◌, ◌≤◌, ◌<◌, List, [], ◌∷◌, ◌++◌, sum_by, suc, false};
-ghost use Rattle.flow_shop.specs.Limits.{most_jobs, most_machines, greatest_time, greatest_completion};
+ghost use Rattle.flow_shop.specs.Limits.{greatest_time, greatest_completion};
 ghost use Rattle.flow_shop.specs.Shop.{time};
 ghost use Rattle.flow_shop.specs.Paths.{completion};
 ghost use Rattle.flow_shop.specs.Front.{IsFrontOf, IsWithinFront};

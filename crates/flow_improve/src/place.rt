@@ -1,6 +1,6 @@
 //! Jobs placed in a list.
 
-ghost use Rattle.std.specs.Prelude.{◌≡◌, ◌+◌, ◌<◌, ◌≤◌, length, take, IfOk};
+ghost use Rattle.std.specs.Prelude.{◌≡◌, ◌+◌, ◌<◌, take, IfOk};
 ghost use Rattle.flow_shop.specs.Paths.{span};
 ghost use Rattle.flow_shop.specs.Sequences.{IsSequence};
 ghost use Rattle.flow_improve.specs.internal.Rooms.{IsRoomFor};

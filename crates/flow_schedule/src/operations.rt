@@ -1,6 +1,6 @@
 //! When each job of a sequence starts and ends on each machine.
 
-ghost use Rattle.std.specs.Prelude.{◌≡◌, ℕ, ◌-◌, ◌≤◌, ◌++◌, length, take, All, IfOk, OnOk};
+ghost use Rattle.std.specs.Prelude.{◌≡◌, ◌-◌, ◌≤◌, ◌++◌, length, take, All, IfOk, OnOk};
 ghost use Rattle.flow_limits.specs.Limits.{greatest_completion};
 ghost use Rattle.flow_shop.specs.Paths.{span};
 ghost use Rattle.flow_shop.specs.Front.{IsFrontOf};

@@ -1,6 +1,6 @@
 //! The cut: the number of its lists, and the lists one after another.
 
-ghost use Rattle.std.specs.Prelude.{◌≡◌, ℕ, ◌<◌, ◌≤◌, ◌++◌, length, IfSome, IfNone, OnOk};
+ghost use Rattle.std.specs.Prelude.{◌≡◌, ◌<◌, ◌≤◌, ◌++◌, length, IfSome, IfNone, OnOk};
 ghost use Rattle.std.specs.List.{concat};
 ghost use Rattle.flow_limits.specs.Limits.{most_jobs, most_prefixes};
 ghost use Rattle.flow_shop.specs.Sequences.{has, extensions, cut};

@@ -1,6 +1,6 @@
 //! An instance: the times of jobs on machines.
 
-ghost use Rattle.std.specs.Prelude.{◌≡◌, ℕ, ◌*◌, ◌%◌, ◌<◌, ◌≤◌, nat_lt, length, position, All, None};
+ghost use Rattle.std.specs.Prelude.{◌≡◌, ◌*◌, ◌%◌, ◌<◌, ◌≤◌, nat_lt, length, position, All, None};
 ghost use Rattle.std.specs.Prelude.{IfSome, IfNone, IfOk, OnOk, IfErr};
 ghost use Rattle.std.specs.Cmp.{partial_equiv_from_equiv};
 ghost use Rattle.flow_shop.specs.Shop.{IsWithinLimits, time, is_same_shop};

@@ -1,6 +1,6 @@
 //! The children of a node, side by side: their fronts, and the machines that cut them.
 
-ghost use Rattle.std.specs.Prelude.{◌≡◌, ℕ, ◌+◌, ◌<◌, ◌≤◌, List, length, slice_index};
+ghost use Rattle.std.specs.Prelude.{◌≡◌, ℕ, ◌<◌, List, length, slice_index};
 ghost use Rattle.flow_shop.specs.Bound.{bound_at};
 ghost use Rattle.flow_search.specs.internal.Columns.{IsFrameOf, IsOpened, IsTested, KeepsColumns, AreSmallFrees};
 ghost use Rattle.flow_search.specs.internal.Columns.{child, columns_of};

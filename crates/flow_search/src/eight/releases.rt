@@ -1,8 +1,7 @@
 //! The children of a node, side by side: the machines that cut them by their released bounds.
 
-ghost use Rattle.std.specs.Prelude.{◌≡◌, ◌≢◌, ℕ, ◌+◌, ◌*◌, ◌<◌, ◌≤◌, List, length, slice_index};
+ghost use Rattle.std.specs.Prelude.{◌≡◌, ◌≢◌, ℕ, ◌+◌, ◌*◌, ◌<◌, ◌≤◌, List, slice_index};
 ghost use Rattle.flow_limits.specs.Limits.{most_machines, greatest_time, greatest_completion};
-ghost use Rattle.flow_shop.specs.Shop.{Shop, IsWithinLimits};
 ghost use Rattle.flow_shop.specs.Sequences.{jobs_left};
 ghost use Rattle.flow_shop.specs.Bound.{bound_at, released_bound_at, release, front_of};
 ghost use Rattle.flow_search.specs.internal.Columns.{IsOpened, IsTested, IsUncutCount, IsColumnLeft, KeepsColumns};
