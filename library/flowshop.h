@@ -12,8 +12,8 @@
  * Each call returns a status: FLOWSHOP_DONE, or the number of what is wrong, which is the first fault in the order
  * that the call lists; or FLOWSHOP_MEMORY where memory ran out, which can come in the place of any later fault. A
  * call that is not done changes nothing but `place`. It then has the place of the fault: which time or which job of
- * the list, counted from 1; which line of a certificate; which prefix is over the budget, counted from 0; how many
- * entries a slice needs (FLOWSHOP_ROOM); else 0.
+ * the list, counted from 1; which line of a text; which prefix is over the budget, counted from 0; how many
+ * entries a slice needs (FLOWSHOP_ROOM); how many blocks a text has (FLOWSHOP_INDEX); else 0.
  *
  * The calls keep no state, so that any number of threads may call them at once. They start no thread and take no
  * lock. They use malloc, realloc and free. No call may come from a signal handler.
@@ -38,6 +38,10 @@ enum flowshop_limit {
     FLOWSHOP_MAX_JOBS = 800,
     FLOWSHOP_MAX_MACHINES = 26,
     FLOWSHOP_MAX_TIME = 999999,
+    FLOWSHOP_MAX_SEED = 2147483646,
+    FLOWSHOP_MAX_WIDTH = 65536,
+    FLOWSHOP_MAX_ROUNDS = 100000000,
+    FLOWSHOP_MAX_WORK = 1000000,
     FLOWSHOP_MAX_DEPTH = 3,
     FLOWSHOP_MAX_PREFIXES = 100000,
     FLOWSHOP_MAX_BUDGET = 100000000,
@@ -55,6 +59,7 @@ enum flowshop_status {
     FLOWSHOP_MACHINES = 11, /* the machines are not 1 to 26 */
     FLOWSHOP_COUNT = 12, /* there are not jobs * machines times */
     FLOWSHOP_TIME = 13, /* a time is above 999999; place: the first, counted from 1 */
+    FLOWSHOP_SEED = 14, /* the seed of random numbers is not 1 to 2147483646 */
 
     /* The list is no sequence of the shop. */
     FLOWSHOP_LENGTH = 20, /* it has another length than there are jobs */
@@ -64,34 +69,86 @@ enum flowshop_status {
     /* The numbers are no options of a run. */
     FLOWSHOP_DEPTH = 31, /* the depth is above 3 */
     FLOWSHOP_BUDGET = 32, /* the budget is not 1 to 100000000 */
-    FLOWSHOP_VERSION = 33, /* the version is not 1 or 2 */
+    FLOWSHOP_VERSION = 33, /* the version is not 1 or 2; in flowshop_certify it may be 0 too */
+
+    /* The numbers of an improvement are not within their limits; or SEED. */
+    FLOWSHOP_WIDTH = 34, /* the width is above 65536 */
+    FLOWSHOP_ROUNDS = 35, /* the rounds are above 100000000 */
+    FLOWSHOP_WORK = 36, /* the work is above 1000000 */
+
+    /* The shop and the options have no plan. */
     FLOWSHOP_PLAN_DEPTH = 40, /* the depth is above the number of jobs */
     FLOWSHOP_PLAN_PREFIXES = 41, /* there are more than 100000 lists of so many jobs */
 
     FLOWSHOP_OVER_BUDGET = 50, /* a tree is longer than the budget; place: its prefix, counted from 0 */
 
-    /* The text is no lawful certificate of the shop. */
+    /* The text is no lawful certificate of the shop, or no lawful text of bounds. */
     FLOWSHOP_HEADER = 60, /* line 1 */
     FLOWSHOP_SIZE = 61, /* line 2 */
     FLOWSHOP_VALUE = 62, /* line 3 */
     FLOWSHOP_SEQUENCE = 63, /* line 4 is no sequence of the shop */
-    FLOWSHOP_NOT_ATTAINED = 64, /* the makespan of the sequence is not the value */
+    FLOWSHOP_NOT_ATTAINED = 64, /* the makespan of the sequence is not the value, or not the upper bound */
     FLOWSHOP_TREE = 65, /* a line is not one tree; place: the line */
-    FLOWSHOP_WEAK = 66, /* a bound is below the value; place: the line */
-    FLOWSHOP_LOW = 67, /* a makespan is below the value; place: the line */
-    FLOWSHOP_END = 68 /* what follows the trees is not the last line alone */
+    FLOWSHOP_WEAK = 66, /* a bound is below the value, or below the lower bound; place: the line */
+    FLOWSHOP_LOW = 67, /* a makespan is below the value, or below the lower bound; place: the line */
+    FLOWSHOP_END = 68, /* what follows the trees is not the last line alone */
+
+    /* The text is no benchmark text; place: the line, counted from 1, or the one after the last where the text ends. */
+    FLOWSHOP_NO_BLOCK = 70, /* it has no line that is not blank; place: 0 */
+    FLOWSHOP_LABEL = 71, /* a line of words is wanted */
+    FLOWSHOP_BYTE = 72, /* a line of numbers has a byte that is neither a digit nor a blank */
+    FLOWSHOP_NUMBER = 73, /* a number is above 4294967295 */
+    FLOWSHOP_HEAD = 74, /* the head of a block has not five numbers */
+    FLOWSHOP_LIMITS = 75, /* the jobs, the machines or a time are not within the limits */
+    FLOWSHOP_TIMES = 76, /* there is not one time for each job and machine */
+    FLOWSHOP_INDEX = 77 /* the text has no block of this index; place: how many blocks it has */
 };
+
+/* The shop of a seed, by Taillard's generator: each time is drawn from 1 to 99. The first jobs * machines entries of
+ * `times` become its times, machine by machine; the rest stays as it was.
+ * Faults in order: JOBS, MACHINES, SEED; ROOM. */
+uint32_t flowshop_generate(uint32_t jobs, uint32_t machines, uint32_t seed, uint32_t *times, size_t times_count,
+                           size_t *place);
+
+/* The block of a benchmark text that an index names, counted from 1: its jobs and machines, its times, machine by
+ * machine, in the first jobs * machines entries of `times`, and the seed, the upper and the lower bound that the text
+ * states. They are what the text says, and nothing tests them. The rest of `times` stays as it was. 20800 entries are
+ * enough for every block. The whole text is read and tested, also where the index names its first block.
+ * Faults in order: NO_BLOCK to TIMES, the first in the text; INDEX; ROOM. */
+uint32_t flowshop_block(const uint8_t *text, size_t text_count, uint32_t index, uint32_t *jobs, uint32_t *machines,
+                        uint32_t *times, size_t times_count, uint32_t *seed, uint32_t *upper, uint32_t *lower,
+                        size_t *place);
 
 /* The makespan of a sequence.
  * Faults in order: JOBS, MACHINES, COUNT, TIME; LENGTH, JOB, TWICE. */
 uint32_t flowshop_makespan(uint32_t jobs, uint32_t machines, const uint32_t *times, size_t times_count,
                            const uint16_t *sequence, size_t sequence_count, uint64_t *value, size_t *place);
 
+/* When each job of a sequence starts and ends on each machine, where each starts as early as it can: when it has left
+ * the machine before, and the job before it has left this one. Entry (p - 1) * machines + (k - 1) of `starts` and of
+ * `ends` becomes that of the job at place p of the sequence on machine k. A job whose time there is 0 ends as it
+ * starts. The first jobs * machines entries of both are written; the rest stays as it was.
+ * Faults in order: JOBS, MACHINES, COUNT, TIME; LENGTH, JOB, TWICE; ROOM (of starts); ROOM (of ends). */
+uint32_t flowshop_timetable(uint32_t jobs, uint32_t machines, const uint32_t *times, size_t times_count,
+                            const uint16_t *sequence, size_t sequence_count, uint64_t *starts, size_t starts_count,
+                            uint64_t *ends, size_t ends_count, size_t *place);
+
 /* The starting sequence of Nawaz, Enscore and Ham, and its makespan. The first `jobs` entries of `sequence` become
  * its jobs; the rest stays as it was.
  * Faults in order: JOBS, MACHINES, COUNT, TIME; ROOM. */
 uint32_t flowshop_neh(uint32_t jobs, uint32_t machines, const uint32_t *times, size_t times_count, uint16_t *sequence,
                       size_t sequence_count, uint64_t *value, size_t *place);
+
+/* A sequence whose makespan is at most that of the sequence `start`, and its makespan, on the calling thread. The
+ * first `jobs` entries of `sequence` become its jobs; the rest stays as it was. A two-ended beam search comes first,
+ * of widths up to `width`; where that is 0 there is none. Then come two runs of at most `rounds` rounds of iterated
+ * greedy search each, with the random numbers of `seed`. `work` is about how many steps there may be in all, in
+ * millions; a step is about the work for one job on one machine. The program's `improve` has the width 4096, 10000
+ * rounds, the seed 1 and the work 8500, where they are left out. How good the sequence is beyond that, nothing proves.
+ * Faults in order: JOBS, MACHINES, COUNT, TIME; LENGTH, JOB, TWICE (of start); WIDTH, ROUNDS, SEED, WORK; ROOM. */
+uint32_t flowshop_improve(uint32_t jobs, uint32_t machines, const uint32_t *times, size_t times_count,
+                          const uint16_t *start, size_t start_count, uint32_t width, uint32_t rounds, uint32_t seed,
+                          uint32_t work, uint16_t *sequence, size_t sequence_count, uint64_t *value, size_t *place);
 
 /* The least makespan, as a certificate proves it, and a sequence that has it: the one that the certificate states, in
  * the first `jobs` entries of `sequence`. Every lawful certificate is accepted, whoever made it, and nothing else.
@@ -102,6 +159,17 @@ uint32_t flowshop_neh(uint32_t jobs, uint32_t machines, const uint32_t *times, s
 uint32_t flowshop_check(uint32_t jobs, uint32_t machines, const uint32_t *times, size_t times_count,
                         const uint8_t *certificate, size_t certificate_count, bool either, uint16_t *sequence,
                         size_t sequence_count, uint64_t *value, bool *mirrored, size_t *place);
+
+/* The bounds that a text proves, between which the least makespan lies, and the sequence that it states, whose
+ * makespan is the upper bound, in the first `jobs` entries of `sequence`. A text whose line 1 is that of a text of
+ * bounds is read as one; every other text as a certificate, whose value becomes both bounds. Bounds that are equal are
+ * the least makespan. Every lawful text of its kind is accepted, whoever made it, and nothing else. `either` and
+ * `mirrored` are as in flowshop_check. A fault is that of the text, as one of its kind, of the shop.
+ * Faults in order: JOBS, MACHINES, COUNT, TIME; ROOM; HEADER to END. */
+uint32_t flowshop_check_bounds(uint32_t jobs, uint32_t machines, const uint32_t *times, size_t times_count,
+                               const uint8_t *text, size_t text_count, bool either, uint16_t *sequence,
+                               size_t sequence_count, uint64_t *lower, uint64_t *upper, bool *mirrored,
+                               size_t *place);
 
 /* The least makespan, a sequence that has it, and a certificate of both, by a search from the sequence `start`, on
  * the calling thread. The first `jobs` entries of `sequence` become the sequence, and the first `*length` bytes of
@@ -116,6 +184,25 @@ uint32_t flowshop_solve(uint32_t jobs, uint32_t machines, const uint32_t *times,
                         const uint16_t *start, size_t start_count, uint32_t depth, uint32_t budget, uint32_t version,
                         uint16_t *sequence, size_t sequence_count, uint64_t *value, uint8_t *certificate,
                         size_t certificate_count, size_t *length, size_t *place);
+
+/* A text that proves the least makespan, or bounds of it, by searches on the calling thread, from the sequence `start`
+ * and from better ones: the shop and the mirrored one are searched in turn, with five budgets, as the program's
+ * `certify` does (docs/manual.md). `width`, `rounds`, `seed` and `work` are as in flowshop_improve. `version` is 1 or
+ * 2, or 0 for either, as where the program's `--certificate` is left out. The text is a certificate of the shop or of
+ * the mirrored one, and both bounds are its value, the least makespan. Where all trees are over their budgets the call
+ * is refused, with the place 0; with `bounds` it gives a text of bounds of one of both then. The first `*length` bytes
+ * of `text` become the text, and the first `jobs` entries of `sequence` the sequence that it states, whose makespan is
+ * the upper bound; the rest of both stays as it was. `mirrored` becomes true where the text is of the mirrored shop,
+ * and false where it is of the shop; the sequence is one of the shop in either case, so where it is true the text has
+ * it in reverse order. flowshop_check_bounds with `either` accepts the text. Where the text has no room, `place` has
+ * its length, and the searches are to be made again. It has at most 100003201 bytes.
+ * Faults in order: JOBS, MACHINES, COUNT, TIME; LENGTH, JOB, TWICE (of start); WIDTH, ROUNDS, SEED, WORK; VERSION;
+ * ROOM (of sequence); OVER_BUDGET; ROOM (of text). */
+uint32_t flowshop_certify(uint32_t jobs, uint32_t machines, const uint32_t *times, size_t times_count,
+                          const uint16_t *start, size_t start_count, uint32_t width, uint32_t rounds, uint32_t seed,
+                          uint32_t work, uint32_t version, bool bounds, uint16_t *sequence, size_t sequence_count,
+                          uint64_t *lower, uint64_t *upper, bool *mirrored, uint8_t *text, size_t text_count,
+                          size_t *length, size_t *place);
 
 #ifdef __cplusplus
 }

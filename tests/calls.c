@@ -44,6 +44,49 @@ static void makespans(void) {
     is("a value that is kept", value, 77);
 }
 
+static void generated(void) {
+    uint32_t times[5] = {7, 7, 7, 7, 7};
+    size_t place = 0;
+    for (size_t room = 0; room < 4; room++) {
+        is("times without room", flowshop_generate(2, 2, 1, times, room, &place), FLOWSHOP_ROOM);
+        is("the room needed", place, 4);
+    }
+    is("no jobs to generate", flowshop_generate(0, 2, 1, times, 4, &place), FLOWSHOP_JOBS);
+    is("no machines to generate", flowshop_generate(2, 0, 1, times, 4, &place), FLOWSHOP_MACHINES);
+    is("no seed", flowshop_generate(2, 2, 0, times, 4, &place), FLOWSHOP_SEED);
+    is("times that are kept", times[0] == 7 && times[3] == 7, 1);
+    is("a shop", flowshop_generate(2, 2, 1, times, 5, &place), FLOWSHOP_DONE);
+    is("its times", times[0] == 1 && times[1] == 14 && times[2] == 75 && times[3] == 46, 1);
+    is("the rest", times[4], 7);
+}
+
+static void blocks(void) {
+    const char *words = "one\n2 2 5 9 8\ntimes\n1 14\n75 46\n";
+    const uint8_t *text = (const uint8_t *)words;
+    const size_t count = strlen(words);
+    uint32_t times[5] = {7, 7, 7, 7, 7}, jobs = 77, machines = 77, seed = 77, upper = 77, lower = 77;
+    size_t place = 0;
+    for (size_t room = 0; room < 4; room++) {
+        is("a block without room",
+           flowshop_block(text, count, 1, &jobs, &machines, times, room, &seed, &upper, &lower, &place), FLOWSHOP_ROOM);
+        is("the room needed", place, 4);
+    }
+    for (size_t short_of = 0; short_of + 3 < count; short_of++)
+        is("a text cut short",
+           flowshop_block(text, short_of, 1, &jobs, &machines, times, 5, &seed, &upper, &lower, &place)
+               >= FLOWSHOP_NO_BLOCK, 1);
+    is("no such block", flowshop_block(text, count, 2, &jobs, &machines, times, 5, &seed, &upper, &lower, &place),
+       FLOWSHOP_INDEX);
+    is("how many there are", place, 1);
+    is("what is kept", jobs == 77 && machines == 77 && seed == 77 && upper == 77 && lower == 77 && times[0] == 7, 1);
+    is("a block", flowshop_block(text, count, 1, &jobs, &machines, times, 5, &seed, &upper, &lower, &place),
+       FLOWSHOP_DONE);
+    is("its sizes", jobs == 2 && machines == 2, 1);
+    is("what it states", seed == 5 && upper == 9 && lower == 8, 1);
+    is("its times", times[0] == 1 && times[1] == 14 && times[2] == 75 && times[3] == 46, 1);
+    is("the rest", times[4], 7);
+}
+
 static void greatest(void) {
     uint32_t *times = malloc(800 * 26 * sizeof *times);
     uint16_t *sequence = malloc(800 * sizeof *sequence);
@@ -55,8 +98,51 @@ static void greatest(void) {
     is("the greatest makespan", value, 824999175);
     is("its start", flowshop_neh(800, 26, times, 800 * 26, sequence, 800, &value, &place), FLOWSHOP_DONE);
     is("its start's makespan", value, 824999175);
+    uint64_t *starts = malloc(800 * 26 * sizeof *starts), *ends = malloc(800 * 26 * sizeof *ends);
+    is("its timetable",
+       flowshop_timetable(800, 26, times, 800 * 26, sequence, 800, starts, 800 * 26, ends, 800 * 26, &place),
+       FLOWSHOP_DONE);
+    is("its last start", starts[800 * 26 - 1], 823999176);
+    is("its last end", ends[800 * 26 - 1], 824999175);
+    free(starts);
+    free(ends);
+    /* Every sequence of equal times has the same makespan. */
+    uint16_t *better = malloc(800 * sizeof *better);
+    is("no room for it",
+       flowshop_improve(800, 26, times, 800 * 26, sequence, 800, 2, 2, 1, 1, better, 799, &value, &place),
+       FLOWSHOP_ROOM);
+    is("the room needed", place, 800);
+    is("no better one",
+       flowshop_improve(800, 26, times, 800 * 26, sequence, 800, 2, 2, 1, 1, better, 800, &value, &place),
+       FLOWSHOP_DONE);
+    is("the same makespan", value, 824999175);
+    free(better);
+    is("the greatest shop of a seed", flowshop_generate(800, 26, 2147483646, times, 800 * 26, &place), FLOWSHOP_DONE);
     free(times);
     free(sequence);
+}
+
+static void timetables(void) {
+    const uint16_t sequence[3] = {2, 1, 3};
+    const uint64_t first[9] = {0, 0, 8, 0, 8, 8, 4, 8, 12}, last[9] = {0, 8, 8, 4, 8, 12, 4, 10, 13};
+    uint64_t starts[10], ends[10];
+    size_t place = 0;
+    for (int i = 0; i < 10; i++) starts[i] = ends[i] = 77;
+    for (size_t room = 0; room < 9; room++) {
+        is("no room for starts", flowshop_timetable(3, 3, TIMES, 9, sequence, 3, starts, room, ends, 9, &place),
+           FLOWSHOP_ROOM);
+        is("the room needed", place, 9);
+        is("no room for ends", flowshop_timetable(3, 3, TIMES, 9, sequence, 3, starts, 9, ends, room, &place),
+           FLOWSHOP_ROOM);
+        is("the room needed", place, 9);
+    }
+    is("a timetable of a short list", flowshop_timetable(3, 3, TIMES, 9, sequence, 2, starts, 9, ends, 9, &place),
+       FLOWSHOP_LENGTH);
+    is("times that are kept", starts[0] == 77 && starts[8] == 77 && ends[0] == 77 && ends[8] == 77, 1);
+    is("a timetable", flowshop_timetable(3, 3, TIMES, 9, sequence, 3, starts, 10, ends, 10, &place), FLOWSHOP_DONE);
+    is("its starts", memcmp(starts, first, sizeof first) == 0, 1);
+    is("its ends", memcmp(ends, last, sizeof last) == 0, 1);
+    is("the rest", starts[9] == 77 && ends[9] == 77, 1);
 }
 
 static void starts(void) {
@@ -70,6 +156,35 @@ static void starts(void) {
     is("a start", flowshop_neh(3, 3, TIMES, 9, sequence, 4, &value, &place), FLOWSHOP_DONE);
     is("its value", value, 13);
     is("its jobs", (uint64_t)(sequence[0] * 100 + sequence[1] * 10 + sequence[2]), 213);
+    is("the rest", sequence[3], 9);
+}
+
+static void improvements(void) {
+    const uint16_t start[3] = {1, 2, 3};
+    uint16_t sequence[4] = {9, 9, 9, 9};
+    uint64_t value = 77, again = 0;
+    size_t place = 0;
+    for (size_t room = 0; room < 3; room++) {
+        is("no room for a better sequence",
+           flowshop_improve(3, 3, TIMES, 9, start, 3, 16, 10, 1, 1, sequence, room, &value, &place), FLOWSHOP_ROOM);
+        is("the room needed", place, 3);
+    }
+    is("a start that is short", flowshop_improve(3, 3, TIMES, 9, start, 2, 16, 10, 1, 1, sequence, 3, &value, &place),
+       FLOWSHOP_LENGTH);
+    is("a great width", flowshop_improve(3, 3, TIMES, 9, start, 3, 65537, 10, 1, 1, sequence, 3, &value, &place),
+       FLOWSHOP_WIDTH);
+    is("many rounds", flowshop_improve(3, 3, TIMES, 9, start, 3, 16, 100000001, 1, 1, sequence, 3, &value, &place),
+       FLOWSHOP_ROUNDS);
+    is("no seed", flowshop_improve(3, 3, TIMES, 9, start, 3, 16, 10, 0, 1, sequence, 3, &value, &place), FLOWSHOP_SEED);
+    is("much work", flowshop_improve(3, 3, TIMES, 9, start, 3, 16, 10, 1, 1000001, sequence, 3, &value, &place),
+       FLOWSHOP_WORK);
+    is("what is kept", value == 77 && sequence[0] == 9, 1);
+    /* The best sequence has 12, so nothing is better. */
+    is("no better one", flowshop_improve(3, 3, TIMES, 9, BEST, 3, 16, 10, 1, 1, sequence, 4, &value, &place),
+       FLOWSHOP_DONE);
+    is("its value", value, 12);
+    is("that of its sequence", flowshop_makespan(3, 3, TIMES, 9, sequence, 3, &again, &place), FLOWSHOP_DONE);
+    is("the same", again, value);
     is("the rest", sequence[3], 9);
 }
 
@@ -114,6 +229,135 @@ static void certificates(void) {
     free(text);
 }
 
+/* The bounds of a text, and slices that are too short for its sequence. */
+static void bounds(void) {
+    const char *words = "flowshop bounds 1\n3 3 0\n11 13\n2 1 3\n+BB+AB\nend\n";
+    const uint8_t *text = (const uint8_t *)words;
+    const size_t count = strlen(words);
+    uint16_t sequence[4] = {9, 9, 9, 9};
+    uint64_t lower = 77, upper = 77, value = 77;
+    size_t place = 0;
+    bool mirrored = true;
+    for (size_t room = 0; room < 3; room++) {
+        is("bounds without room",
+           flowshop_check_bounds(3, 3, TIMES, 9, text, count, false, sequence, room, &lower, &upper, &mirrored, &place),
+           FLOWSHOP_ROOM);
+        is("the room needed", place, 3);
+    }
+    is("a certificate is wanted", flowshop_check(3, 3, TIMES, 9, text, count, true, sequence, 3, &value, &mirrored,
+       &place), FLOWSHOP_HEADER);
+    for (size_t short_of = 0; short_of < count; short_of++)
+        is("bounds cut short", flowshop_check_bounds(3, 3, TIMES, 9, text, short_of, true, sequence, 3, &lower, &upper,
+           &mirrored, &place) >= FLOWSHOP_HEADER, 1);
+    is("what is kept", lower == 77 && upper == 77 && value == 77 && mirrored && sequence[0] == 9, 1);
+    is("bounds",
+       flowshop_check_bounds(3, 3, TIMES, 9, text, count, false, sequence, 4, &lower, &upper, &mirrored, &place),
+       FLOWSHOP_DONE);
+    is("the lower bound", lower, 11);
+    is("the upper bound", upper, 13);
+    is("its jobs", (uint64_t)(sequence[0] * 100 + sequence[1] * 10 + sequence[2]), 213);
+    is("the rest", sequence[3], 9);
+    is("not mirrored", mirrored, false);
+}
+
+/* Searches from the sequence 2 1 3 of the shop in a slice of so many bytes, and returns the status. */
+static uint32_t certify(size_t room, uint8_t *text, size_t *length, uint64_t *values, uint16_t *sequence,
+                        bool *mirrored, size_t *place) {
+    const uint16_t start[3] = {2, 1, 3};
+    return flowshop_certify(3, 3, TIMES, 9, start, 3, 0, 0, 1, 0, 1, false, sequence, 3, &values[0], &values[1],
+                            mirrored, text, room, length, place);
+}
+
+/* Searches with these numbers, a start of so many jobs and a sequence of so many entries, and returns the status. */
+static uint32_t refused(const uint16_t *start, size_t count, const uint32_t *numbers, size_t entries, size_t *place) {
+    uint16_t sequence[3] = {9, 9, 9};
+    uint64_t lower = 77, upper = 77;
+    uint8_t text[100] = {7};
+    size_t length = 55;
+    bool mirrored = true;
+    uint32_t status = flowshop_certify(3, 3, TIMES, 9, start, count, numbers[0], numbers[1], numbers[2], numbers[3],
+                                       numbers[4], true, sequence, entries, &lower, &upper, &mirrored, text, 0, &length,
+                                       place);
+    is("what is kept", lower == 77 && upper == 77 && mirrored && length == 55 && sequence[0] == 9 && text[0] == 7, 1);
+    return status;
+}
+
+static void certified(void) {
+    const char *wanted = "flowshop certificate 1\n3 3 0\n12\n3 1 2\n+BC++.B\nend\n";
+    const size_t needed = strlen(wanted);
+    uint16_t sequence[3] = {9, 9, 9};
+    uint64_t values[2] = {77, 77};
+    size_t place = 0, length = 55;
+    bool mirrored = true;
+    for (size_t room = 0; room < needed; room++) {
+        uint8_t *text = malloc(room + 1);
+        memset(text, 7, room + 1);
+        is("a room too short", certify(room, text, &length, values, sequence, &mirrored, &place), FLOWSHOP_ROOM);
+        is("the room needed", place, needed);
+        is("a text that is kept", text[0] == 7 && text[room] == 7, 1);
+        free(text);
+    }
+    is("what is kept", length == 55 && values[0] == 77 && values[1] == 77 && sequence[0] == 9 && mirrored, 1);
+    uint8_t *text = malloc(needed + 1);
+    text[needed] = 7;
+    is("a certificate", certify(needed + 1, text, &length, values, sequence, &mirrored, &place), FLOWSHOP_DONE);
+    is("its bytes", length == needed && memcmp(text, wanted, needed) == 0 && text[needed] == 7, 1);
+    is("its bounds", values[0] == 12 && values[1] == 12, 1);
+    is("its sequence", memcmp(sequence, BEST, sizeof BEST) == 0, 1);
+    is("not mirrored", mirrored, false);
+    free(text);
+    const uint16_t start[3] = {2, 1, 3}, twice[3] = {2, 1, 2}, strange[3] = {2, 4, 3};
+    const uint32_t faults[5] = {65537, 100000001, 0, 1000001, 3}, least[5] = {0, 0, 1, 0, 0};
+    const uint32_t statuses[5] = {FLOWSHOP_WIDTH, FLOWSHOP_ROUNDS, FLOWSHOP_SEED, FLOWSHOP_WORK, FLOWSHOP_VERSION};
+    uint32_t numbers[5];
+    memcpy(numbers, faults, sizeof numbers);
+    is("a short start", refused(start, 2, numbers, 0, &place), FLOWSHOP_LENGTH);
+    is("a strange job", refused(strange, 3, numbers, 0, &place), FLOWSHOP_JOB);
+    is("its place", place, 2);
+    is("a job twice", refused(twice, 3, numbers, 0, &place), FLOWSHOP_TWICE);
+    is("its place", place, 3);
+    for (int i = 0; i < 5; i++) {
+        is("the first number at fault", refused(start, 3, numbers, 0, &place), statuses[i]);
+        is("no place", place, 0);
+        numbers[i] = least[i];
+    }
+    for (size_t entries = 0; entries < 3; entries++) {
+        is("a sequence too short", refused(start, 3, numbers, entries, &place), FLOWSHOP_ROOM);
+        is("the entries needed", place, 3);
+    }
+    is("no room for a text", refused(start, 3, numbers, 3, &place), FLOWSHOP_ROOM);
+    is("the room needed", place, needed);
+}
+
+/* A shop whose trees are all over their budgets: 13 jobs of times 1 and 1, and one of 10 and 11. */
+static void over(void) {
+    const char *wanted =
+        "flowshop bounds 1\n14 2 0\n25 34\n14 1 2 3 4 5 6 7 8 9 10 11 12 13\nA\nend\n";
+    uint32_t times[28];
+    uint16_t start[14], sequence[14] = {9};
+    for (int i = 0; i < 28; i++) times[i] = i == 13 ? 10 : i == 27 ? 11 : 1;
+    for (int i = 0; i < 14; i++) start[i] = i == 13 ? 14 : (uint16_t)(13 - i);
+    uint64_t lower = 77, upper = 77;
+    uint8_t text[100] = {7};
+    size_t place = 9, length = 55;
+    bool mirrored = false;
+    is("all trees over their budgets", flowshop_certify(14, 2, times, 28, start, 14, 0, 0, 1, 0, 1, false, sequence, 14,
+       &lower, &upper, &mirrored, text, 100, &length, &place), FLOWSHOP_OVER_BUDGET);
+    is("no place", place, 0);
+    is("what is kept", lower == 77 && upper == 77 && !mirrored && length == 55 && sequence[0] == 9 && text[0] == 7, 1);
+    is("bounds", flowshop_certify(14, 2, times, 28, start, 14, 0, 0, 1, 0, 1, true, sequence, 14, &lower, &upper,
+       &mirrored, text, 100, &length, &place), FLOWSHOP_DONE);
+    is("their bytes", length == strlen(wanted) && memcmp(text, wanted, length) == 0, 1);
+    is("both bounds", lower == 25 && upper == 34, 1);
+    is("mirrored", mirrored, true);
+    is("the sequence of the shop", memcmp(sequence, start, sizeof start) == 0, 1);
+    is("a check of it", flowshop_check_bounds(14, 2, times, 28, text, length, true, sequence, 14, &lower, &upper,
+       &mirrored, &place), FLOWSHOP_DONE);
+    is("the same", lower == 25 && upper == 34 && mirrored && memcmp(sequence, start, sizeof start) == 0, 1);
+    is("no lawful text of the shop itself", flowshop_check_bounds(14, 2, times, 28, text, length, false, sequence, 14,
+       &lower, &upper, &mirrored, &place), FLOWSHOP_WEAK);
+}
+
 /* Many calls at once, each on data of its own. */
 static void *many(void *from) {
     size_t wrong = 0;
@@ -121,7 +365,7 @@ static void *many(void *from) {
         uint32_t times[12];
         for (uint32_t i = 0; i < 12; i++) times[i] = (seed * 7 + i * i * 31 + (uint32_t)(size_t)from) % 23;
         uint16_t start[4], best[4], found[4];
-        uint64_t value, least, checked;
+        uint64_t value, least, checked, better, upper, starts[12], ends[12];
         uint8_t text[4096];
         size_t length, place;
         bool mirrored;
@@ -129,6 +373,17 @@ static void *many(void *from) {
         wrong += flowshop_solve(4, 3, times, 12, start, 4, 1, 900, 2, best, 4, &least, text, 4096, &length, &place) != FLOWSHOP_DONE;
         wrong += flowshop_check(4, 3, times, 12, text, length, false, found, 4, &checked, &mirrored, &place) != FLOWSHOP_DONE;
         wrong += checked != least || least > value || memcmp(found, best, sizeof best) != 0;
+        wrong += flowshop_check_bounds(4, 3, times, 12, text, length, false, found, 4, &checked, &upper, &mirrored,
+                                       &place) != FLOWSHOP_DONE;
+        wrong += checked != least || upper != least || memcmp(found, best, sizeof best) != 0;
+        wrong += flowshop_timetable(4, 3, times, 12, start, 4, starts, 12, ends, 12, &place) != FLOWSHOP_DONE;
+        wrong += ends[11] != value;
+        wrong += flowshop_improve(4, 3, times, 12, start, 4, 4, 4, seed + 1, 1, found, 4, &better,
+                                  &place) != FLOWSHOP_DONE;
+        wrong += better < least || better > value;
+        wrong += flowshop_certify(4, 3, times, 12, start, 4, 2, 2, seed + 1, 1, seed % 3, false, found, 4, &checked,
+                                  &upper, &mirrored, text, 4096, &length, &place) != FLOWSHOP_DONE;
+        wrong += checked != least || upper != least || mirrored;
     }
     return (void *)wrong;
 }
@@ -145,9 +400,16 @@ static void at_once(void) {
 
 int main(void) {
     makespans();
+    generated();
+    blocks();
     greatest();
+    timetables();
     starts();
+    improvements();
     certificates();
+    bounds();
+    certified();
+    over();
     at_once();
     printf("calls from C: %d as they should be, %d not\n", passed, failed);
     return failed != 0;

@@ -60,6 +60,34 @@ def outcome(status, place):
     return NAMES[status], place.value
 
 
+def generate(jobs, machines, seed, room=None):
+    place = ctypes.c_size_t(0)
+    times = Room(ctypes.c_uint32, jobs * machines if room is None else room)
+    words = [ctypes.c_uint32(number) for number in (jobs, machines, seed)]
+    status = LIBRARY.flowshop_generate(*words, *times.words(), ctypes.byref(place))
+    if status:
+        equal("times that are kept", times.untouched(), True)
+        return outcome(status, place)
+    equal("the rest of the times", set(times.array[jobs * machines :]), {7})
+    return list(times.array[: jobs * machines])
+
+
+def block(text, index, room=20_800):
+    numbers = [ctypes.c_uint32(7) for _ in range(5)]
+    place = ctypes.c_size_t(0)
+    times = Room(ctypes.c_uint32, room)
+    results = [ctypes.byref(number) for number in numbers]
+    words = [*slice_of(ctypes.c_uint8, text), ctypes.c_uint32(index), *results[:2], *times.words(), *results[2:]]
+    status = LIBRARY.flowshop_block(*words, ctypes.byref(place))
+    if status:
+        kept = [number.value for number in numbers], times.untouched()
+        equal("what is kept", kept, ([7] * 5, True))
+        return outcome(status, place)
+    jobs, machines, seed, upper, lower = [number.value for number in numbers]
+    equal("the rest of the times", set(times.array[jobs * machines :]), {7})
+    return (jobs, machines, list(times.array[: jobs * machines])), seed, upper, lower
+
+
 def makespan(shop, sequence):
     value, place = ctypes.c_uint64(7), ctypes.c_size_t(0)
     words = [*shop_words(shop), *slice_of(ctypes.c_uint16, sequence)]
@@ -70,6 +98,19 @@ def makespan(shop, sequence):
     return value.value
 
 
+def timetable(shop, sequence, rooms=None):
+    place = ctypes.c_size_t(0)
+    count = shop[0] * shop[1]
+    starts, ends = [Room(ctypes.c_uint64, room) for room in rooms or (count, count)]
+    words = [*shop_words(shop), *slice_of(ctypes.c_uint16, sequence), *starts.words(), *ends.words()]
+    status = LIBRARY.flowshop_timetable(*words, ctypes.byref(place))
+    if status:
+        equal("what is kept", (starts.untouched(), ends.untouched()), (True, True))
+        return outcome(status, place)
+    equal("the rest of the starts and ends", {*starts.array[count:], *ends.array[count:]}, {7})
+    return list(starts.array[:count]), list(ends.array[:count])
+
+
 def neh(shop, room=None):
     value, place = ctypes.c_uint64(7), ctypes.c_size_t(0)
     sequence = Room(ctypes.c_uint16, shop[0] if room is None else room)
@@ -77,6 +118,19 @@ def neh(shop, room=None):
     if status:
         equal("what is kept", (value.value, sequence.untouched()), (7, True))
         return outcome(status, place)
+    return list(sequence.array[: shop[0]]), value.value
+
+
+def improve(shop, start, width=16, rounds=10, seed=1, work=1, room=None):
+    value, place = ctypes.c_uint64(7), ctypes.c_size_t(0)
+    sequence = Room(ctypes.c_uint16, shop[0] if room is None else room)
+    effort = [ctypes.c_uint32(number) for number in (width, rounds, seed, work)]
+    words = [*shop_words(shop), *slice_of(ctypes.c_uint16, start), *effort, *sequence.words()]
+    status = LIBRARY.flowshop_improve(*words, ctypes.byref(value), ctypes.byref(place))
+    if status:
+        equal("what is kept", (value.value, sequence.untouched()), (7, True))
+        return outcome(status, place)
+    equal("the rest of the sequence", set(sequence.array[shop[0] :]), {7})
     return list(sequence.array[: shop[0]]), value.value
 
 
@@ -106,6 +160,49 @@ def check(shop, text, either=False, room=None):
     return list(sequence.array[: shop[0]]), value.value, mirrored.value
 
 
+def check_bounds(shop, text, either=False, room=None):
+    lower, upper = ctypes.c_uint64(7), ctypes.c_uint64(7)
+    mirrored, place = ctypes.c_bool(False), ctypes.c_size_t(0)
+    sequence = Room(ctypes.c_uint16, shop[0] if room is None else room)
+    words = [*shop_words(shop), *slice_of(ctypes.c_uint8, text), ctypes.c_bool(either), *sequence.words()]
+    results = [ctypes.byref(number) for number in (lower, upper, mirrored, place)]
+    status = LIBRARY.flowshop_check_bounds(*words, *results)
+    if status:
+        kept = (lower.value, upper.value, mirrored.value, sequence.untouched())
+        equal("what is kept", kept, (7, 7, False, True))
+        return outcome(status, place)
+    equal("the rest of the sequence", set(sequence.array[shop[0] :]), {7})
+    return list(sequence.array[: shop[0]]), lower.value, upper.value, mirrored.value
+
+
+def certify(shop, start, numbers=(0, 0, 1, 0, 1), bounds=False, room=None, text_room=800):
+    """`numbers` are the width, the rounds, the seed, the work and the version."""
+    lower, upper, length = ctypes.c_uint64(7), ctypes.c_uint64(7), ctypes.c_size_t(7)
+    mirrored, place = ctypes.c_bool(False), ctypes.c_size_t(0)
+    sequence = Room(ctypes.c_uint16, shop[0] if room is None else room)
+    text = Room(ctypes.c_uint8, text_room)
+    words = [*shop_words(shop), *slice_of(ctypes.c_uint16, start), *[ctypes.c_uint32(number) for number in numbers]]
+    results = [ctypes.byref(number) for number in (lower, upper, mirrored)]
+    rooms = [*sequence.words(), *results, *text.words()]
+    status = LIBRARY.flowshop_certify(*words, ctypes.c_bool(bounds), *rooms, ctypes.byref(length), ctypes.byref(place))
+    if status:
+        kept = (lower.value, upper.value, mirrored.value, length.value, sequence.untouched(), text.untouched())
+        equal("what is kept", kept, (7, 7, False, 7, True, True))
+        return outcome(status, place)
+    equal("the rest of the sequence", set(sequence.array[shop[0] :]), {7})
+    equal("the rest of the text", set(text.array[length.value :]), {7})
+    stated = bytes(text.array[: length.value])
+    return list(sequence.array[: shop[0]]), lower.value, upper.value, mirrored.value, stated
+
+
+def plain_times(jobs, machines, seed):
+    times = []
+    for _ in range(jobs * machines):
+        seed = seed * 16_807 % 2_147_483_647
+        times.append(1 + seed * 99 // 2_147_483_647)
+    return times
+
+
 def plain_makespan(shop, sequence):
     jobs, machines, times = shop
     front = [0] * machines
@@ -115,6 +212,18 @@ def plain_makespan(shop, sequence):
             before = max(before, front[machine]) + times[machine * jobs + job - 1]
             front[machine] = before
     return front[-1]
+
+
+def plain_timetable(shop, sequence):
+    jobs, machines, times = shop
+    front, starts, ends = [0] * machines, [], []
+    for job in sequence:
+        before = 0
+        for machine in range(machines):
+            starts.append(max(before, front[machine]))
+            before = front[machine] = starts[-1] + times[machine * jobs + job - 1]
+            ends.append(before)
+    return starts, ends
 
 
 def plain_neh(shop):
@@ -149,16 +258,26 @@ def compare_shop(draw):
     equal("a start", (start, start_value), (plain_neh(shop), plain_makespan(shop, plain_neh(shop))))
     draw.shuffle(start)
     equal("a makespan", makespan(shop, start), plain_makespan(shop, start))
+    equal("a timetable", timetable(shop, start), plain_timetable(shop, start))
     least = plain_least(shop)
+    better, value = improve(shop, start, draw.choice((0, 1, 16)), draw.choice((0, 9)), draw.randint(1, 2_147_483_646))
+    equal("a better sequence", (sorted(better), plain_makespan(shop, better)), (sorted(start), value))
+    equal("whether it is no worse", least <= value <= plain_makespan(shop, start), True)
     depth = draw.randint(0, min(2, shop[0]))
     sequence, value, text = solve(shop, start, depth, version=draw.randint(1, 2))
     equal("a least makespan", (value, plain_makespan(shop, sequence)), (least, least))
     equal("a check", check(shop, text), (sequence, least, False))
+    equal("a check of its bounds", check_bounds(shop, text), (sequence, least, least, False))
     turned = check(mirrored(shop), text, True)
     equal("a check of the mirrored shop", turned[1], least)
+    equal("the same, of its bounds", check_bounds(mirrored(shop), text, True), (turned[0], least, *turned[1:]))
     if turned[2]:
         equal("a sequence turned", turned[0], sequence[::-1])
         equal("its makespan", plain_makespan(mirrored(shop), turned[0]), least)
+    numbers = draw.choice((0, 1, 20)), draw.choice((0, 9)), draw.randint(1, 2_147_483_646), 1, draw.randint(0, 2)
+    sequence, *bounds, is_mirrored, text = certify(shop, start, numbers, bounds=draw.random() < 0.5)
+    equal("bounds that are certified", (bounds, plain_makespan(shop, sequence)), ([least, least], least))
+    equal("a check of its text", check(shop, text), (sequence, least, is_mirrored))
 
 
 SHOP = (3, 3, [4, 0, 0, 0, 8, 2, 4, 0, 1])
@@ -177,9 +296,35 @@ def compare_statuses():
         (makespan(SHOP, [1, 2]), ("LENGTH", 0)),
         (makespan(SHOP, [1, 0, 1]), ("JOB", 2)),
         (makespan(SHOP, [1, 2, 2]), ("TWICE", 3)),
+        # The timetable that docs/formats.md reads by hand.
+        (timetable(SHOP, [2, 1, 3]), ([0, 0, 8, 0, 8, 8, 4, 8, 12], [0, 8, 8, 4, 8, 12, 4, 10, 13])),
+        (timetable(SHOP, [2, 1, 3], (9, 10))[1], [0, 8, 8, 4, 8, 12, 4, 10, 13]),
+        (timetable(SHOP, [2, 1, 3], (8, 0)), ("ROOM", 9)),
+        (timetable(SHOP, [2, 1, 3], (9, 8)), ("ROOM", 9)),
+        (timetable(SHOP, [2, 1], (0, 0)), ("LENGTH", 0)),
+        (timetable(SHOP, [4, 1, 3], (0, 0)), ("JOB", 1)),
+        (timetable(SHOP, [2, 2, 3], (0, 0)), ("TWICE", 2)),
+        (timetable((3, 27, [1]), [2, 1, 3], (0, 0)), ("MACHINES", 0)),
+        (timetable((3, 3, [1]), [2, 1], (0, 0)), ("COUNT", 0)),
+        (timetable((1, 1, [999_999]), [1]), ([0], [999_999])),
         (neh((2, 1, [1]), 0), ("COUNT", 0)),
         (neh(SHOP, 2), ("ROOM", 3)),
         (neh(SHOP, 5), ([2, 1, 3], 13)),
+        (improve((3, 3, [1]), [1, 2], 65_537), ("COUNT", 0)),
+        (improve(SHOP, [1, 2], 65_537), ("LENGTH", 0)),
+        (improve(SHOP, [1, 4, 2], 65_537), ("JOB", 2)),
+        (improve(SHOP, [1, 2, 2], 65_537), ("TWICE", 3)),
+        (improve(SHOP, [1, 2, 3], 65_537, 100_000_001, 0, 1_000_001, room=0), ("WIDTH", 0)),
+        (improve(SHOP, [1, 2, 3], 65_536, 100_000_001, 0, 1_000_001, room=0), ("ROUNDS", 0)),
+        (improve(SHOP, [1, 2, 3], 65_536, 100_000_000, 0, 1_000_001, room=0), ("SEED", 0)),
+        (improve(SHOP, [1, 2, 3], 65_536, 100_000_000, 2_147_483_647, 1_000_001, room=0), ("SEED", 0)),
+        (improve(SHOP, [1, 2, 3], 65_536, 100_000_000, 2_147_483_646, 1_000_001, room=0), ("WORK", 0)),
+        (improve(SHOP, [1, 2, 3], 65_536, 100_000_000, 2_147_483_646, 1_000_000, room=2), ("ROOM", 3)),
+        (improve(SHOP, [3, 1, 2])[1], 12),
+        (improve(SHOP, [3, 1, 2], room=5)[1], 12),
+        # Each sequence of one machine has the sum of its times.
+        (improve((2, 1, [3, 4]), [2, 1], 65_536, 100_000_000, 2_147_483_646, 1_000_000)[1], 7),
+        (improve((1, 1, [0]), [1], 0, 0, 1, 0), ([1], 0)),
         (solve(SHOP, [1, 1, 1], 9, 0, 0), ("TWICE", 2)),
         (solve(SHOP, [1, 2, 3], 4, 0, 0), ("DEPTH", 0)),
         (solve(SHOP, [1, 2, 3], 3, 0, 0), ("BUDGET", 0)),
@@ -219,6 +364,154 @@ def compare_statuses():
     equal("a low point", check((2, 2, [2, 1, 1, 2]), low), ("LOW", 6))
 
 
+def compare_generator(draw):
+    """Generated shops, each status, and slices that are too short. The states of the seed 1 are 16807, 282475249,
+    1622650073 and 984943658."""
+    for got, wanted in [
+        (generate(2, 2, 1), [1, 14, 75, 46]),
+        (generate(2, 2, 1, room=9), [1, 14, 75, 46]),
+        (generate(2, 2, 1, room=3), ("ROOM", 4)),
+        (generate(800, 26, 1, room=0), ("ROOM", 20_800)),
+        (generate(0, 27, 0, room=9), ("JOBS", 0)),
+        (generate(801, 1, 1, room=9), ("JOBS", 0)),
+        (generate(1, 0, 0, room=9), ("MACHINES", 0)),
+        (generate(1, 27, 0, room=9), ("MACHINES", 0)),
+        (generate(1, 1, 0, room=0), ("SEED", 0)),
+        (generate(1, 1, 2_147_483_647, room=0), ("SEED", 0)),
+        # The seed is the modulus less 1, so the state is the modulus less the multiplier.
+        (generate(1, 1, 2_147_483_646), [99]),
+        (generate(800, 26, 5), plain_times(800, 26, 5)),
+    ]:
+        equal("generated times", got, wanted)
+    for _ in range(200):
+        words = draw.randint(1, 20), draw.randint(1, 5), draw.randint(1, 2_147_483_646)
+        equal(f"times of {words}", generate(*words), plain_times(*words))
+
+
+def compare_blocks():
+    """Blocks of a text, and the first fault of changed ones, by the rules of docs/formats.md."""
+    text = b"one\n2 2 5 9 8\ntimes\n1 14\n75 46\n\nnext\n1 1 0 4294967295 0\ntimes\n999999\n"
+    first = (2, 2, [1, 14, 75, 46]), 5, 9, 8
+    for got, wanted in [
+        (block(text, 1), first),
+        (block(text, 2), ((1, 1, [999_999]), 0, 4_294_967_295, 0)),
+        (block(text, 1, room=4), first),
+        (block(text, 1, room=3), ("ROOM", 4)),
+        (block(text, 2, room=0), ("ROOM", 1)),
+        (block(text, 0), ("INDEX", 2)),
+        (block(text, 3, room=0), ("INDEX", 2)),
+        (block(text, 4_294_967_295), ("INDEX", 2)),
+        (block(b"", 0, room=0), ("NO_BLOCK", 0)),
+        (block(b" \n\t\n", 1), ("NO_BLOCK", 0)),
+        (block(b"1\n", 1), ("LABEL", 1)),
+        (block(b"one\n", 1), ("HEAD", 2)),
+        (block(b"one\n2 2 5 9 8", 1), ("LABEL", 3)),
+        (block(b"one\n2 2 5 9 8\ntimes\n1 14\n", 1), ("TIMES", 5)),
+    ]:
+        equal("a block", got, wanted)
+    words = b" ".join([b"999999"] * 20_800)
+    greatest = b"one\n800 26 4294967295 4294967295 4294967295\ntimes\n" + words
+    wanted = (800, 26, [999_999] * 20_800), *[4_294_967_295] * 3
+    equal("the greatest block", block(greatest, 1), wanted)
+    equal("the greatest without room", block(greatest, 1, room=20_799), ("ROOM", 20_800))
+    for old, new, wanted in [
+        (b"one", b"1", ("LABEL", 1)),
+        (b"2 2 5", b"2 2x5", ("BYTE", 2)),
+        (b"9 8", b"9 4294967296", ("NUMBER", 2)),
+        (b"9 8", b"9 8 7", ("HEAD", 2)),
+        (b"9 8", b"9", ("HEAD", 3)),
+        (b"2 2 5", b"801 2 5", ("LIMITS", 2)),
+        (b"2 2 5", b"2 27 5", ("LIMITS", 2)),
+        (b"999999", b"1000000", ("LIMITS", 10)),
+        (b"75 46", b"75", ("TIMES", 7)),
+        (b"75 46", b"75 46 1", ("TIMES", 5)),
+        (b"next", b"3", ("LABEL", 7)),
+    ]:
+        equal(f"{old!r} as {new!r}", block(text.replace(old, new, 1), 1), wanted)
+
+
+def compare_bounds():
+    """Texts of bounds, each read by hand, and the first fault of changed ones; certificates are read as such."""
+    text = b"flowshop bounds 1\n3 3 0\n11 13\n2 1 3\n+BB+AB\nend\n"
+    turned = b"flowshop bounds 2\n3 3 0\n10 13\n3 1 2\nB\nend\n"
+    certificate = b"flowshop certificate 1\n3 3 0\n12\n3 1 2\n+BC+AB\nend\n"
+    for got, wanted in [
+        (check_bounds(SHOP, text), ([2, 1, 3], 11, 13, False)),
+        (check_bounds(SHOP, text, True), ([2, 1, 3], 11, 13, False)),
+        (check_bounds(SHOP, text, room=5), ([2, 1, 3], 11, 13, False)),
+        (check_bounds(SHOP, text, room=2), ("ROOM", 3)),
+        (check_bounds((3, 3, [1]), text, room=2), ("COUNT", 0)),
+        (check_bounds(SHOP, turned), ("NOT_ATTAINED", 0)),
+        (check_bounds(SHOP, turned, True), ([2, 1, 3], 10, 13, True)),
+        (check_bounds(SHOP, certificate), ([3, 1, 2], 12, 12, False)),
+        (check_bounds(SHOP, certificate.replace(b"12", b"13", 1)), ("NOT_ATTAINED", 0)),
+        (check_bounds(SHOP, b"flowshop bounds 1\n3 3 0\n12 12\n3 1 2\n+BC+AB\nend\n"), ([3, 1, 2], 12, 12, False)),
+        # A letter of any machine reaches 0.
+        (check_bounds((1, 1, [999_999]), b"flowshop bounds 1\n1 1 0\n0 999999\n1\nA\nend\n"), ([1], 0, 999_999, False)),
+        (check_bounds(SHOP, b""), ("HEADER", 0)),
+        (check(SHOP, text), ("HEADER", 0)),
+        (check(SHOP, text, True), ("HEADER", 0)),
+    ]:
+        equal("bounds", got, wanted)
+    for old, new, wanted in [
+        (b"bounds 1", b"bounds 3", ("HEADER", 0)),
+        (b"3 3 0", b"3 2 0", ("SIZE", 0)),
+        (b"11 13", b"11", ("VALUE", 0)),
+        (b"11 13", b"11 18446744073709551616", ("VALUE", 0)),
+        (b"2 1 3", b"2 1 2", ("SEQUENCE", 0)),
+        (b"11 13", b"11 14", ("NOT_ATTAINED", 0)),
+        (b"11 13", b"12 13", ("WEAK", 5)),
+        (b"11 13\n2 1 3\n+BB+AB", b"13 12\n3 1 2\n+BC++.B", ("LOW", 5)),
+        (b"+BB+AB", b"+BB+ABA", ("TREE", 5)),
+        (b"end", b"end\n", ("END", 0)),
+    ]:
+        equal(f"{old!r} as {new!r}", check_bounds(SHOP, text.replace(old, new, 1)), wanted)
+
+
+def compare_certify():
+    """Certificates and bounds, worked out by hand, and each status of the arguments."""
+    start = [2, 1, 3]
+    text = b"flowshop certificate 1\n3 3 0\n12\n3 1 2\n+BC++.B\nend\n"
+    found = [3, 1, 2], 12, 12, False, text
+    for got, wanted in [
+        (certify(SHOP, start), found),
+        (certify(SHOP, start, bounds=True), found),
+        (certify(SHOP, start, (0, 0, 1, 0, 0)), found),
+        (certify(SHOP, start, room=9), found),
+        (certify(SHOP, start, text_room=len(text)), found),
+        (certify(SHOP, start, text_room=len(text) - 1), ("ROOM", len(text))),
+        (certify(SHOP, start, text_room=0), ("ROOM", len(text))),
+        (certify(SHOP, start, room=2, text_room=0), ("ROOM", 3)),
+        (certify(SHOP, start, (0, 0, 1, 0, 3), room=2), ("VERSION", 0)),
+        (certify(SHOP, start, (0, 0, 1, 0, 4_294_967_295), room=2), ("VERSION", 0)),
+        (certify(SHOP, start, (0, 0, 1, 1_000_001, 3)), ("WORK", 0)),
+        (certify(SHOP, start, (0, 0, 0, 1_000_001, 3)), ("SEED", 0)),
+        (certify(SHOP, start, (0, 0, 2_147_483_647, 0, 1)), ("SEED", 0)),
+        (certify(SHOP, start, (0, 100_000_001, 0, 0, 3)), ("ROUNDS", 0)),
+        (certify(SHOP, start, (65_537, 100_000_001, 0, 0, 3)), ("WIDTH", 0)),
+        (certify(SHOP, [2, 1, 1], (65_537, 0, 0, 0, 3)), ("TWICE", 3)),
+        (certify(SHOP, [2, 4, 3], (65_537, 0, 0, 0, 3)), ("JOB", 2)),
+        (certify(SHOP, [2, 1], (65_537, 0, 0, 0, 3)), ("LENGTH", 0)),
+        (certify((2, 1, [1, 1_000_000]), [2]), ("TIME", 2)),
+        (certify((3, 3, [1]), [2]), ("COUNT", 0)),
+        (certify((3, 27, [1]), [2]), ("MACHINES", 0)),
+        (certify((0, 27, [1]), [2]), ("JOBS", 0)),
+    ]:
+        equal("a text that is certified", got, wanted)
+    for version, name in enumerate((b"certificate 1", b"certificate 1", b"certificate 2")):
+        got = certify(SHOP, start, (0, 0, 1, 0, version))
+        equal("a version", (got[:4], got[4].startswith(b"flowshop " + name + b"\n")), (found[:4], True))
+    # All trees are over their budgets. The bound of machine 1 is 25 in the mirrored shop alone; all sequences have 34.
+    long = 14, 2, [1] * 13 + [10] + [1] * 13 + [11]
+    turned = list(range(13, 0, -1)) + [14]
+    bounds = b"flowshop bounds 1\n14 2 0\n25 34\n14 1 2 3 4 5 6 7 8 9 10 11 12 13\nA\nend\n"
+    equal("no certificate", certify(long, turned), ("OVER_BUDGET", 0))
+    equal("bounds", certify(long, turned, bounds=True), (turned, 25, 34, True, bounds))
+    equal("bounds without room", certify(long, turned, bounds=True, text_room=len(bounds) - 1), ("ROOM", len(bounds)))
+    equal("a check of them", check_bounds(long, bounds, True), (turned, 25, 34, True))
+    equal("a check of them for the mirrored shop", check_bounds(mirrored(long), bounds), (turned[::-1], 25, 34, False))
+
+
 def compare_at_once():
     """Eight threads, each with shops of its own."""
     threads = [threading.Thread(target=lambda seed=seed: [compare_shop(random.Random(seed * 100 + i)) for i in range(50)])
@@ -230,7 +523,11 @@ def compare_at_once():
 
 
 compare_statuses()
+compare_bounds()
+compare_certify()
+compare_blocks()
 draw = random.Random(20_261_125)
+compare_generator(draw)
 for _ in range(SHOPS):
     compare_shop(draw)
 compare_at_once()

@@ -7,7 +7,7 @@ import sys
 import tempfile
 
 import flowshop
-from flowshop import FlowshopError, Shop, _library
+from flowshop import FlowshopError, Shop, _library, read
 
 TOP = os.path.dirname(os.path.dirname(os.path.abspath(__file__)))
 failed = doctest.testmod(flowshop).failed
@@ -44,17 +44,74 @@ rows = [[4, 0, 4], [0, 8, 0], [0, 2, 1]]
 shop = Shop.from_rows(rows)
 equal("rows and columns", shop.makespan([1, 2, 3]), Shop([list(row) for row in zip(*rows)]).makespan([1, 2, 3]))
 equal("a start", shop.neh(), ([2, 1, 3], 13))
+better = shop.improve([1, 2, 3])
+equal("a better start", shop.makespan(better.sequence), better.value)
+equal("that it is no worse", better.value <= shop.makespan([1, 2, 3]), True)
+equal("one from that of neh", shop.improve(width=8, rounds=5, seed=7, work=1).value <= 13, True)
+# The timetable that docs/formats.md reads by hand.
+equal(
+    "a timetable",
+    shop.schedule([2, 1, 3]),
+    [(2, 1, 0, 0), (2, 2, 0, 8), (2, 3, 8, 8), (1, 1, 0, 4), (1, 2, 8, 8), (1, 3, 8, 12)]
+    + [(3, 1, 4, 4), (3, 2, 8, 10), (3, 3, 12, 13)],
+)
 found = shop.solve()
 equal("a least makespan", (found.value, found.sequence, shop.makespan(found.sequence)), (12, [3, 1, 2], 12))
 equal("a check", shop.check(found.text), found)
 turned = Shop.from_rows([row[::-1] for row in rows]).check(found.text, either=True)
-equal("a check of the mirrored shop", turned[:3], (12, [2, 1, 3], True))
+equal("a check of the mirrored shop", turned[:4], (12, 12, [2, 1, 3], True))
+equal("a least value", (turned.value, turned.is_least), (12, True))
+# The texts of bounds that docs/formats.md reads by hand, and one of the mirrored shop.
+bounds = b"flowshop bounds 1\n3 3 0\n11 13\n2 1 3\n+BB+AB\nend\n"
+checked = shop.check(bounds)
+equal("bounds", checked, (11, 13, [2, 1, 3], False, bounds))
+equal("bounds that are not equal", (checked.value, checked.is_least), (13, False))
+turned_bounds = b"flowshop bounds 2\n3 3 0\n10 13\n3 1 2\nB\nend\n"
+equal("bounds of the mirrored shop", shop.check(turned_bounds, either=True)[:4], (10, 13, [2, 1, 3], True))
+certificate = b"flowshop certificate 1\n3 3 0\n12\n3 1 2\n+BC++.B\nend\n"
+few = {"width": 0, "rounds": 0, "seed": 1, "work": 0}
+equal("a certificate", shop.certify([2, 1, 3], version=1, **few), (12, 12, [3, 1, 2], False, certificate))
+equal("one from that of neh", shop.certify(**few), (12, 12, [3, 1, 2], False, certificate))
+equal("one where bounds are asked for", shop.certify(bounds=True, **few)[4], certificate)
+second = shop.certify(version=2, width=8, rounds=5, seed=7, work=1)
+equal("one in version 2", (second.value, second.text.split(b"\n")[0]), (12, b"flowshop certificate 2"))
+equal("a check of it", shop.check(second.text), second)
+# All trees are over their budgets. The bound of machine 1 is 25 in the mirrored shop alone; all sequences have 34.
+long, jobs = Shop([[1] * 13 + [10], [1] * 13 + [11]]), list(range(13, 0, -1)) + [14]
+equal("no certificate", refused(lambda: long.certify(jobs, version=1, **few)), ("OVER_BUDGET", 0))
+shown = long.certify(jobs, version=1, bounds=True, **few)
+stated = b"flowshop bounds 1\n14 2 0\n25 34\n14 1 2 3 4 5 6 7 8 9 10 11 12 13\nA\nend\n"
+equal("bounds of the mirrored shop", shown, (25, 34, jobs, True, stated))
+equal("a check of them", long.check(shown.text, either=True), shown)
 with tempfile.TemporaryDirectory() as folder:
     found.save(os.path.join(folder, "certificate"))
     with open(os.path.join(folder, "certificate"), "rb") as saved:
         equal("a text that is saved", saved.read(), found.text)
 
+# The published shop of 20 jobs and 5 machines whose seed is 873654221.
+with open(os.path.join(TOP, "examples", "taillard_20_5.txt"), encoding="ascii") as published:
+    lines = published.read().splitlines()
+times = [[int(word) for word in line.split()] for line in lines[3:8]]
+equal("a published shop", Shop.generate(20, 5, 873_654_221).times, times)
+equal("its makespans", Shop.generate(20, 5, 873_654_221).neh(), Shop(times).neh())
+equal("the greatest shop", len(Shop.generate(800, 26, 2_147_483_646).times), 26)
+
+blocks = os.path.join(TOP, "examples", "several_blocks.txt")
+published = read(os.path.join(TOP, "examples", "taillard_20_5.txt"))
+equal("a published text", (published.shop.times, *published[1:]), (times, 873_654_221, 1286, 1232))
+equal("the third block", read(blocks, 3)[1:], (3, 708, 708))
+equal("its times", read(blocks, 3).shop.times[4], [74, 94, 17, 26, 95, 22, 89, 65, 81, 31])
+with tempfile.TemporaryDirectory() as folder:
+    empty = os.path.join(folder, "empty")
+    with open(empty, "wb"):
+        pass
+    equal("an empty text", refused(lambda: read(empty)), ("NO_BLOCK", 0))
+
 for what, call, wanted in [
+    ("a block 0", lambda: read(blocks, 0), ("INDEX", 3)),
+    ("a block 4", lambda: read(blocks, 4), ("INDEX", 3)),
+    ("a block of 33 bits", lambda: read(blocks, 1 << 32), ("INDEX", 3)),
+    ("a text that is none", lambda: read(__file__), ("HEAD", 3)),
     ("no machines", lambda: Shop([]), ("JOBS", 0)),
     ("no jobs", lambda: Shop([[]]), ("JOBS", 0)),
     ("too many jobs", lambda: Shop([[1] * 801]), ("JOBS", 0)),
@@ -65,6 +122,20 @@ for what, call, wanted in [
     ("a time below 0", lambda: Shop([[-1]]), ValueError),
     ("a time above 32 bits", lambda: Shop([[1 << 32]]), ValueError),
     ("a time that is not whole", lambda: Shop([[1.5]]), TypeError),
+    ("a shop of no jobs", lambda: Shop.generate(0, 5, 1), ("JOBS", 0)),
+    ("a shop of 33 bits", lambda: Shop.generate(1 << 32, 5, 1), ("JOBS", 0)),
+    ("a shop of too many machines", lambda: Shop.generate(1, 27, 1), ("MACHINES", 0)),
+    ("a seed of 0", lambda: Shop.generate(1, 1, 0), ("SEED", 0)),
+    ("a seed too great", lambda: Shop.generate(1, 1, 2_147_483_647), ("SEED", 0)),
+    ("a seed below 0", lambda: Shop.generate(1, 1, -1), ("SEED", 0)),
+    ("a timetable of a short list", lambda: shop.schedule([1, 2]), ("LENGTH", 0)),
+    ("a timetable of a job twice", lambda: shop.schedule([1, 2, 2]), ("TWICE", 3)),
+    ("a width too great", lambda: shop.improve(width=65_537), ("WIDTH", 0)),
+    ("a width below 0", lambda: shop.improve(width=-1), ("WIDTH", 0)),
+    ("too many rounds", lambda: shop.improve(rounds=100_000_001), ("ROUNDS", 0)),
+    ("no seed", lambda: shop.improve(seed=0), ("SEED", 0)),
+    ("too much work", lambda: shop.improve(work=1_000_001), ("WORK", 0)),
+    ("a start that is too short", lambda: shop.improve([2, 1]), ("LENGTH", 0)),
     ("a short list", lambda: shop.makespan([1, 2]), ("LENGTH", 0)),
     ("a job twice", lambda: shop.makespan([1, 2, 1]), ("TWICE", 3)),
     ("a strange job", lambda: shop.makespan([1, 4, 2]), ("JOB", 2)),
@@ -75,7 +146,18 @@ for what, call, wanted in [
     ("no version", lambda: shop.solve(version=3), ("VERSION", 0)),
     ("a small budget", lambda: shop.solve(budget=1), ("OVER_BUDGET", 0)),
     ("a start that is none", lambda: shop.solve([1]), ("LENGTH", 0)),
+    ("a start that is short", lambda: shop.certify([1]), ("LENGTH", 0)),
+    ("a start with a strange job", lambda: shop.certify([1, 2, 4]), ("JOB", 3)),
+    ("a start with a job twice", lambda: shop.certify([1, 2, 2]), ("TWICE", 3)),
+    ("a great width", lambda: shop.certify(width=65_537), ("WIDTH", 0)),
+    ("many rounds", lambda: shop.certify(rounds=100_000_001), ("ROUNDS", 0)),
+    ("a seed of 0 for it", lambda: shop.certify(seed=0), ("SEED", 0)),
+    ("much work", lambda: shop.certify(work=1_000_001), ("WORK", 0)),
+    ("a version 3", lambda: shop.certify(version=3), ("VERSION", 0)),
+    ("a version 0", lambda: shop.certify(version=0), ("VERSION", 0)),
     ("no text", lambda: shop.check(b""), ("HEADER", 0)),
+    ("bounds of the mirrored shop, unasked", lambda: shop.check(turned_bounds), ("NOT_ATTAINED", 0)),
+    ("bounds too high", lambda: shop.check(bounds.replace(b"11", b"14")), ("WEAK", 5)),
     ("a text cut short", lambda: shop.check(found.text[:-1]), ("END", 0)),
 ]:
     equal(what, refused(call), wanted)

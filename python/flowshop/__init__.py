@@ -18,7 +18,7 @@ from typing import Any, Iterable, List, NamedTuple, Optional, Sequence, Tuple, U
 
 from . import _library
 
-__all__ = ["Certificate", "FlowshopError", "Shop", "Start"]
+__all__ = ["Block", "Certificate", "FlowshopError", "Operation", "Shop", "Start", "read"]
 
 _LIBRARY = _library.load()
 # The bytes that a certificate is given room for at first. No memory is used for what is not written.
@@ -29,8 +29,8 @@ _Buffer = Tuple[Any, int]
 
 class FlowshopError(ValueError):
     """What a call refused: `name` is that of a status of library/flowshop.h without FLOWSHOP_, and `place` the place of
-    the fault: which time or job of the list, counted from 1, which line of a text, or which prefix, counted from 0; else
-    0."""
+    the fault: which time or job of the list, counted from 1, which line of a text, which prefix, counted from 0, or, of
+    INDEX, how many blocks a text has; else 0."""
 
     def __init__(self, name: str, place: int) -> None:
         super().__init__(f"{name} {place}" if place else name)
@@ -45,19 +45,46 @@ class Start(NamedTuple):
     value: int
 
 
-class Certificate(NamedTuple):
-    """A least makespan in the unit of the times, a sequence of the shop that has it, as job numbers from 1, whether the
-    text is a certificate of the mirrored shop, and the text."""
+class Operation(NamedTuple):
+    """What a job does on a machine, both counted from 1: when it starts and when it ends there, in the unit of the
+    times. A job whose time there is 0 ends as it starts."""
 
-    value: int
+    job: int
+    machine: int
+    start: int
+    end: int
+
+
+class Certificate(NamedTuple):
+    """What a text proves of a shop: no sequence has a makespan below `lower`, in the unit of the times, and `sequence`,
+    as job numbers from 1, has `upper`. Both are the least makespan where they are equal, as for every certificate.
+    `mirrored` says whether the text is one of the mirrored shop."""
+
+    lower: int
+    upper: int
     sequence: List[int]
     mirrored: bool
     text: bytes
+
+    @property
+    def value(self) -> int:
+        """The makespan of the sequence: the upper bound."""
+        return self.upper
+
+    @property
+    def is_least(self) -> bool:
+        """Whether the bounds are equal, so that no sequence has a smaller makespan."""
+        return self.lower == self.upper
 
     def save(self, path: Union[str, "os.PathLike[str]"]) -> None:
         """Writes the text to a file. OSError where that fails."""
         with open(path, "wb") as file:
             file.write(self.text)
+
+
+def _bytes(data: bytes) -> _Buffer:
+    """Bytes as an array for a call, which is never empty, and how many there are."""
+    return (_library.u8 * max(1, len(data))).from_buffer_copy(data or b"\0"), len(data)
 
 
 def _numbers(code: str, kind: Any, numbers: Iterable[int], what: str) -> _Buffer:
@@ -81,6 +108,14 @@ def _option(number: int) -> int:
 def _refusal(status: int, place: int) -> Exception:
     name = _library.STATUSES.get(status, f"STATUS_{status}")
     return MemoryError("flowshop: memory ran out") if name == "MEMORY" else FlowshopError(name, place)
+
+
+def _call(name: str, *words: Any) -> None:
+    """Makes a call, whose last argument is the place. A refusal is an exception."""
+    place = _library.size(0)
+    status = getattr(_LIBRARY, f"flowshop_{name}")(*words, ctypes.byref(place))
+    if status:
+        raise _refusal(status, place.value)
 
 
 class Shop:
@@ -108,6 +143,29 @@ class Shop:
             raise ValueError("rows of times differ in length")
         return cls([list(column) for column in zip(*rows)])
 
+    @classmethod
+    def _of(cls, jobs: int, machines: int, times: Any) -> "Shop":
+        """The shop of the first times of an array that a call wrote."""
+        shop = cls.__new__(cls)
+        shop.jobs, shop.machines, shop._count = jobs, machines, jobs * machines
+        shop._times = (_library.u32 * shop._count)(*times[: shop._count])
+        return shop
+
+    @classmethod
+    def generate(cls, jobs: int, machines: int, seed: int) -> "Shop":
+        """The shop of a seed, by the generator of Taillard (1993): each time is drawn from 1 to 99. FlowshopError JOBS,
+        MACHINES or SEED where the jobs are not 1 to 800, the machines not 1 to 26, or the seed not 1 to
+        2,147,483,646."""
+        times = (_library.u32 * _library.MOST_TIMES)()
+        words = [_option(number) for number in (jobs, machines, seed)]
+        _call("generate", *words, times, _library.MOST_TIMES)
+        return cls._of(jobs, machines, times)
+
+    @property
+    def times(self) -> List[List[int]]:
+        """The times: a row for each machine, each with the time of each job."""
+        return [self._times[start : start + self.jobs] for start in range(0, self._count, self.jobs)]
+
     def _test(self) -> None:
         """Refuses times that are no shop: the list of jobs is tested after them."""
         try:
@@ -117,13 +175,8 @@ class Shop:
                 raise
 
     def _call(self, name: str, *words: Any) -> None:
-        """Makes a call on the shop, whose last argument is the place. A refusal is an exception."""
-        place = _library.size(0)
-        call = getattr(_LIBRARY, f"flowshop_{name}")
-        sizes = _option(self.jobs), _option(self.machines)
-        status = call(*sizes, self._times, self._count, *words, ctypes.byref(place))
-        if status:
-            raise _refusal(status, place.value)
+        """Makes a call on the shop."""
+        _call(name, _option(self.jobs), _option(self.machines), self._times, self._count, *words)
 
     def makespan(self, sequence: Sequence[int]) -> int:
         """The makespan of a sequence, which has each job number from 1 once, in the unit of the times. FlowshopError
@@ -132,11 +185,42 @@ class Shop:
         self._call("makespan", *_numbers("H", _library.u16, sequence, "sequence"), ctypes.byref(value))
         return value.value
 
+    def schedule(self, sequence: Sequence[int]) -> List[Operation]:
+        """The timetable of a sequence, where each job starts as early as it can: an operation for each job in the order
+        of the sequence, and for each machine. Errors are those of `makespan`."""
+        jobs = list(sequence)
+        starts, ends = (_library.u64 * self._count)(), (_library.u64 * self._count)()
+        rooms = starts, self._count, ends, self._count
+        self._call("timetable", *_numbers("H", _library.u16, jobs, "sequence"), *rooms)
+        names = [(job, machine) for job in jobs for machine in range(1, self.machines + 1)]
+        return [Operation(*name, start, end) for name, start, end in zip(names, starts, ends)]
+
     def neh(self) -> Start:
         """The starting sequence of Nawaz, Enscore and Ham (1983): jobs by decreasing total time, of equal ones the lower
         number first, each put in at the earliest place that gives the least makespan."""
         sequence, value = (_library.u16 * self.jobs)(), _library.u64(0)
         self._call("neh", sequence, self.jobs, ctypes.byref(value))
+        return Start(list(sequence), value.value)
+
+    def improve(
+        self,
+        start: Optional[Sequence[int]] = None,
+        *,
+        width: int = 4096,
+        rounds: int = 10_000,
+        seed: int = 1,
+        work: int = 8500,
+    ) -> Start:
+        """A sequence whose makespan is at most that of a start, or of the sequence of `neh`, by searches on this
+        thread: a two-ended beam of widths up to `width`, 0 to 65,536, and two runs of at most `rounds` rounds, 0 to
+        100,000,000, with the random numbers of `seed`, 1 to 2,147,483,646. They take about `work` million steps at
+        most, 0 to 1,000,000, each about the work for one job on one machine. FlowshopError LENGTH, JOB or TWICE where
+        the start is no sequence, WIDTH, ROUNDS, SEED or WORK where the numbers are not as said here."""
+        jobs = self.neh().sequence if start is None else list(start)
+        begun = _numbers("H", _library.u16, jobs, "start")
+        choice = [_option(number) for number in (width, rounds, seed, work)]
+        sequence, value = (_library.u16 * self.jobs)(), _library.u64(0)
+        self._call("improve", *begun, *choice, sequence, self.jobs, ctypes.byref(value))
         return Start(list(sequence), value.value)
 
     def solve(
@@ -152,33 +236,87 @@ class Shop:
         or 2, says by which bound the search cuts. FlowshopError OVER_BUDGET where a tree is longer, LENGTH, JOB or TWICE
         where the start is no sequence, DEPTH, BUDGET, VERSION, PLAN_DEPTH or PLAN_PREFIXES where the numbers are not as
         said here. The search can take long, and no time limit ends it."""
-        jobs = self.neh().sequence if start is None else list(start)
         choice = [_option(number) for number in (depth, budget, version)]
+        value = _library.u64(0)
+        sequence, text = self._written("solve", start, choice, [ctypes.byref(value)])
+        return Certificate(value.value, value.value, sequence, False, text)
+
+    def certify(
+        self,
+        start: Optional[Sequence[int]] = None,
+        *,
+        width: int = 4096,
+        rounds: int = 10_000,
+        seed: int = 1,
+        work: int = 8500,
+        version: Optional[int] = None,
+        bounds: bool = False,
+    ) -> Certificate:
+        """A certificate of the least makespan, of this shop or of the mirrored one, by searches on this thread from a
+        sequence, or from that of `neh`, and from better ones, with budgets of up to 100,000,000 bytes. With `bounds`, a
+        text of bounds where all trees are longer. The sequence is one of this shop in either case. `version`, 1 or 2,
+        says by which bound the searches cut; where it is left out, they are in version 1, and at last in version 2.
+        The other numbers are those of `improve`. FlowshopError OVER_BUDGET where all trees are longer and no bounds are
+        asked for, LENGTH, JOB or TWICE where the start is no sequence, WIDTH, ROUNDS, SEED, WORK or VERSION where the
+        numbers are not as said here. The searches can take long, and no time limit ends them."""
+        choice = [_option(number) for number in (width, rounds, seed, work)]
+        choice.append(0 if version is None else _option(version) or _MOST)
+        lower, upper, mirrored = _library.u64(0), _library.u64(0), _library.flag(False)
+        places = [ctypes.byref(number) for number in (lower, upper, mirrored)]
+        sequence, text = self._written("certify", start, [*choice, bool(bounds)], places)
+        return Certificate(lower.value, upper.value, sequence, mirrored.value, text)
+
+    def _written(
+        self, name: str, start: Optional[Sequence[int]], choice: List[Any], places: List[Any]
+    ) -> Tuple[List[int], bytes]:
+        """The sequence and the text that a call writes; it is made again where the text has no room."""
+        jobs = self.neh().sequence if start is None else list(start)
         room = _ROOM
         while True:
-            sequence, value, length = (_library.u16 * self.jobs)(), _library.u64(0), _library.size(0)
-            text = bytearray(room)
+            sequence, length, text = (_library.u16 * self.jobs)(), _library.size(0), bytearray(room)
             begun = _numbers("H", _library.u16, jobs, "start")
             written = (_library.u8 * room).from_buffer(text), room
             try:
-                self._call(
-                    "solve", *begun, *choice, sequence, self.jobs, ctypes.byref(value), *written, ctypes.byref(length)
-                )
+                self._call(name, *begun, *choice, sequence, self.jobs, *places, *written, ctypes.byref(length))
             except FlowshopError as error:
                 if error.name != "ROOM":
                     raise
                 room = error.place
                 continue
-            return Certificate(value.value, list(sequence), False, bytes(memoryview(text)[: length.value]))
+            return list(sequence), bytes(memoryview(text)[: length.value])
 
     def check(self, text: bytes, *, either: bool = False) -> Certificate:
-        """The least makespan that a certificate proves, with its sequence. With `either`, a certificate of the mirrored
-        shop, whose machines are in reverse order, is accepted too; its sequence is turned round, so that it is one of
-        this shop. FlowshopError with the first fault of the text and its line where it is no lawful certificate."""
+        """What a certificate or a text of bounds proves, with the sequence that it states; line 1 tells which of the
+        two it is. With `either`, a text of the mirrored shop, whose machines are in reverse order, is accepted too; its
+        sequence is turned round, so that it is one of this shop. FlowshopError with the first fault of the text and its
+        line where it is not lawful."""
         data = bytes(text)
-        sequence, value, mirrored = (_library.u16 * self.jobs)(), _library.u64(0), _library.flag(False)
-        given = (_library.u8 * max(1, len(data))).from_buffer_copy(data or b"\0"), len(data)
-        self._call(
-            "check", *given, bool(either), sequence, self.jobs, ctypes.byref(value), ctypes.byref(mirrored)
-        )
-        return Certificate(value.value, list(sequence), mirrored.value, data)
+        sequence, mirrored = (_library.u16 * self.jobs)(), _library.flag(False)
+        lower, upper = _library.u64(0), _library.u64(0)
+        places = [ctypes.byref(number) for number in (lower, upper, mirrored)]
+        self._call("check_bounds", *_bytes(data), bool(either), sequence, self.jobs, *places)
+        return Certificate(lower.value, upper.value, list(sequence), mirrored.value, data)
+
+
+class Block(NamedTuple):
+    """A block of a benchmark text: a shop, and the seed and the bounds of its least makespan that the text states. They
+    are what the text says, and nothing tests them."""
+
+    shop: Shop
+    seed: int
+    upper: int
+    lower: int
+
+
+def read(path: Union[str, "os.PathLike[str]"], index: int = 1) -> Block:
+    """The block of a benchmark text in a file that an index names, counted from 1. OSError where the file is not read;
+    FlowshopError NO_BLOCK, LABEL, BYTE, NUMBER, HEAD, LIMITS or TIMES with the line of the first fault of the text, or
+    INDEX with how many blocks it has."""
+    with open(path, "rb") as file:
+        text = file.read()
+    jobs, machines, seed, upper, lower = [_library.u32(0) for _ in range(5)]
+    times = (_library.u32 * _library.MOST_TIMES)()
+    sizes = ctypes.byref(jobs), ctypes.byref(machines)
+    stated = [ctypes.byref(number) for number in (seed, upper, lower)]
+    _call("block", *_bytes(text), _option(index), *sizes, times, _library.MOST_TIMES, *stated)
+    return Block(Shop._of(jobs.value, machines.value, times), seed.value, upper.value, lower.value)

@@ -12,12 +12,16 @@ STATUSES: Dict[int, str] = {
     11: "MACHINES",
     12: "COUNT",
     13: "TIME",
+    14: "SEED",
     20: "LENGTH",
     21: "JOB",
     22: "TWICE",
     31: "DEPTH",
     32: "BUDGET",
     33: "VERSION",
+    34: "WIDTH",
+    35: "ROUNDS",
+    36: "WORK",
     40: "PLAN_DEPTH",
     41: "PLAN_PREFIXES",
     50: "OVER_BUDGET",
@@ -30,17 +34,37 @@ STATUSES: Dict[int, str] = {
     66: "WEAK",
     67: "LOW",
     68: "END",
+    70: "NO_BLOCK",
+    71: "LABEL",
+    72: "BYTE",
+    73: "NUMBER",
+    74: "HEAD",
+    75: "LIMITS",
+    76: "TIMES",
+    77: "INDEX",
 }
+
+# The most times of a shop: 800 jobs on 26 machines.
+MOST_TIMES = 20_800
 
 u16, u32, u64, u8 = ctypes.c_uint16, ctypes.c_uint32, ctypes.c_uint64, ctypes.c_uint8
 size, flag, out = ctypes.c_size_t, ctypes.c_bool, ctypes.POINTER
 SHOP = [u32, u32, out(u32), size]
 CALLS = {
+    "generate": [u32, u32, u32, out(u32), size, out(size)],
+    "block": [out(u8), size, u32, out(u32), out(u32), out(u32), size] + 3 * [out(u32)] + [out(size)],
     "makespan": SHOP + [out(u16), size, out(u64), out(size)],
+    "timetable": SHOP + [out(u16), size, out(u64), size, out(u64), size, out(size)],
     "neh": SHOP + [out(u16), size, out(u64), out(size)],
+    "improve": SHOP + [out(u16), size, u32, u32, u32, u32, out(u16), size, out(u64), out(size)],
     "check": SHOP + [out(u8), size, flag, out(u16), size, out(u64), out(flag), out(size)],
+    "check_bounds": SHOP
+    + [out(u8), size, flag, out(u16), size, out(u64), out(u64), out(flag), out(size)],
     "solve": SHOP
     + [out(u16), size, u32, u32, u32, out(u16), size, out(u64), out(u8), size, out(size), out(size)],
+    "certify": SHOP
+    + [out(u16), size, u32, u32, u32, u32, u32, flag, out(u16), size]
+    + [out(u64), out(u64), out(flag), out(u8), size, out(size), out(size)],
 }
 
 

@@ -1,2 +1,5 @@
 mod Turned
 mod Tested
+mod Told
+mod Found
+mod Asked

@@ -1,11 +1,15 @@
--- What the check of a certificate reports.
+-- What the check of a certificate, or of a text of either kind, reports.
 use Rattle.std.specs.Prelude.{ℕ, ◌≡◌, ◌⊎◌, Bool, true, false, List, reverse, Option, Some, None}
 use Rattle.flow_shop.specs.Shop.{Shop}
 use Rattle.flow_shop.specs.Mirror.{mirrored}
-use Rattle.flow_check.specs.Certificate.{IsCertificate}
-use Rattle.flow_check.specs.CertificateFaults.{HasFirstFault}
-use Rattle.flow_check.specs.Stated.{GivesSequence}
+use Rattle.flow_check.specs.Certificate.{IsLawful, Stated}
+use Rattle.flow_check.specs.CertificateFaults.{HasFaultAs}
+use Rattle.flow_check.specs.Kinds.{IsReadAs}
+use Rattle.flow_check.specs.Stated.{GivesAs, GivesSequence}
+use Rattle.flow_check.specs.declared.bounds.Bounds.{Bounds}
 use Rattle.flow_check.specs.declared.fault.CheckFault.{CheckFault}
+use Rattle.flow_check.specs.declared.kind.TextKind.{TextKind}
+use Rattle.flow_check.specs.declared.kind.TextKind.TheVariants as kinds
 use Rattle.flow_c.specs.Statuses.{number, place_of, done, memory}
 use Rattle.flow_c.specs.declared.fault.Fault.{Fault}
 use Rattle.flow_c.specs.declared.fault.Fault.TheVariants.{Certificate}
@@ -20,26 +24,58 @@ abbrev pub jobs_if : Bool → List ℕ → List ℕ
 jobs_if true jobs = reverse jobs
 jobs_if false jobs = jobs
 
--- the bytes are a lawful certificate of the shop; or, where either is asked for, of the mirrored shop
-abbrev pub IsAccepted : Bool → Shop → List ℕ → ℕ → Type 0
-IsAccepted either shop bytes value =
-    IsCertificate shop bytes value ⊎ ((either ≡ true) × IsCertificate (mirrored shop) bytes value)
+-- the bytes are a lawful text of a kind, of the shop; or, where either is asked for, of the mirrored shop
+abbrev pub IsAcceptedAs : (kind : TextKind) → Bool → Shop → List ℕ → Stated kind → Type 0
+IsAcceptedAs kind either shop bytes stated =
+    IsLawful kind shop bytes stated ⊎ ((either ≡ true) × IsLawful kind (mirrored shop) bytes stated)
+
+-- the bytes are a lawful text of a kind, of the shop, that states these bounds and jobs; or, where that is said, of the
+-- mirrored shop, and they state the jobs in reverse order
+abbrev pub GivesJobsAs : TextKind → Bool → Shop → List ℕ → Bounds → List ℕ → Type 0
+GivesJobsAs kind is_mirrored shop bytes bounds jobs =
+    GivesAs kind (shop_if is_mirrored shop) bytes bounds (jobs_if is_mirrored jobs)
 
 -- the bytes are a lawful certificate of the shop that states these jobs; or, where that is said, of the mirrored shop,
 -- and they state the jobs in reverse order
 abbrev pub GivesJobs : Bool → Shop → List ℕ → List ℕ → Type 0
 GivesJobs is_mirrored shop bytes jobs = GivesSequence (shop_if is_mirrored shop) bytes (jobs_if is_mirrored jobs)
 
--- the mirrored shop is meant only where either is asked for, and the bytes are no certificate of the shop
-abbrev pub IsMirroredOnly : Bool → Shop → List ℕ → Bool → Type 0
-IsMirroredOnly either shop bytes is_mirrored =
-    is_mirrored ≡ true → (either ≡ true) × ((value : ℕ) → ¬ IsCertificate shop bytes value)
+-- the mirrored shop is meant only where either is asked for, and the bytes are no lawful text of a kind of the shop
+abbrev pub IsMirroredOnlyAs : TextKind → Bool → Shop → List ℕ → Bool → Type 0
+IsMirroredOnlyAs kind either shop bytes is_mirrored =
+    is_mirrored ≡ true → (either ≡ true) × ((stated : Stated kind) → ¬ IsLawful kind shop bytes stated)
 
--- a fault of bytes that are accepted for no value: their first one as a certificate of the shop
+-- the same of a certificate
+abbrev pub IsMirroredOnly : Bool → Shop → List ℕ → Bool → Type 0
+IsMirroredOnly either shop bytes is_mirrored = IsMirroredOnlyAs kinds.Certificate either shop bytes is_mirrored
+
+-- a fault of bytes that are accepted as no text of a kind: their first one as such a text of the shop
+abbrev pub IsRefusedAs : TextKind → Bool → Shop → List ℕ → Fault → Type 0
+IsRefusedAs kind either shop bytes fault =
+    (first : CheckFault) × (fault ≡ Certificate first) × HasFaultAs kind shop bytes first
+    × ((stated : Stated kind) → ¬ IsAcceptedAs kind either shop bytes stated)
+
+-- the same of a certificate
 abbrev pub IsRefused : Bool → Shop → List ℕ → Fault → Type 0
-IsRefused either shop bytes fault =
-    (first : CheckFault) × (fault ≡ Certificate first) × HasFirstFault shop bytes first
-    × ((value : ℕ) → ¬ IsAccepted either shop bytes value)
+IsRefused either shop bytes fault = IsRefusedAs kinds.Certificate either shop bytes fault
+
+-- what bytes give as a text of the kind as which they are read: one of the shop; or, where that is said, of the
+-- mirrored shop, which is meant only where either is asked for and they are none of the shop
+abbrev pub ShowsText : Bool → Bool → Shop → List ℕ → Bounds → List ℕ → Type 0
+ShowsText either is_mirrored shop bytes bounds jobs =
+    (kind : TextKind) × IsReadAs bytes kind × GivesJobsAs kind is_mirrored shop bytes bounds jobs
+    × IsMirroredOnlyAs kind either shop bytes is_mirrored
+
+-- what bytes tell as a text of the kind as which they are read: one of the shop; or, where that is said, of the
+-- mirrored shop
+abbrev pub TellsText : Bool → Shop → List ℕ → Bounds → List ℕ → Type 0
+TellsText is_mirrored shop bytes bounds jobs =
+    (kind : TextKind) × IsReadAs bytes kind × GivesJobsAs kind is_mirrored shop bytes bounds jobs
+
+-- a fault of bytes that are not accepted as a text of the kind as which they are read
+abbrev pub IsRefusedText : Bool → Shop → List ℕ → Fault → Type 0
+IsRefusedText either shop bytes fault =
+    (kind : TextKind) × IsReadAs bytes kind × IsRefusedAs kind either shop bytes fault
 
 -- What a check reports that was lent arguments with this first fault, and bytes of which another fault may be true: the
 -- number of the fault and its place, that it was done, or that memory ran out. A fault of the arguments comes first.

@@ -1,13 +1,15 @@
 -- Why a call refuses what it is lent, and what it reports.
-use Rattle.std.specs.Prelude.{ℕ, ◌≡◌, ◌⊎◌, nat_le, List, [], ◌∷◌, length, Option, Some, None}
+use Rattle.std.specs.Prelude.{ℕ, ◌≡◌, ◌*◌, ◌⊎◌, nat_le, List, [], ◌∷◌, length, Option, Some, None}
 use Rattle.std.specs.Int.{is_in_range}
 use Rattle.std.specs.Option.{option_map}
-use Rattle.flow_shop.specs.Limits.{least_version, greatest_version}
+use Rattle.flow_limits.specs.Limits.{least_version, greatest_version}
+use Rattle.flow_limits.specs.Limits.{most_width, most_rounds, greatest_seed, most_work}
 use Rattle.flow_shop.specs.Refusals.{fault_unless, first_fault}
 use Rattle.flow_shop.specs.Shop.{Shop}
 use Rattle.flow_shop.specs.Paths.{span}
 use Rattle.flow_shop.specs.InstanceFaults.{instance_fault}
 use Rattle.flow_shop.specs.SequenceFaults.{sequence_fault}
+use Rattle.flow_text.specs.Generator.{generator_fault}
 use Rattle.flow_search.specs.Choices.{Choices, option_fault}
 use Rattle.flow_search.specs.Plans.{Planned, plan_fault}
 use Rattle.flow_search.specs.Outcomes.{first_over_budget}
@@ -15,8 +17,10 @@ use Rattle.flow_search.specs.declared.options.OptionFault.TheVariants.{Version}
 use Rattle.flow_search.specs.declared.verdict.RunFault.TheVariants.{OverBudget}
 use Rattle.flow_cert.specs.PlanCertificates.{certificate_of}
 use Rattle.flow_c.specs.Statuses.{number, place_of, done, memory}
+use Rattle.flow_c.specs.declared.fault.EffortFault.{EffortFault}
+use Rattle.flow_c.specs.declared.fault.EffortFault.TheVariants.{Width, Rounds, Seed, Work}
 use Rattle.flow_c.specs.declared.fault.Fault.{Fault}
-use Rattle.flow_c.specs.declared.fault.Fault.TheVariants.{Room, Instance, Sequence, Choice, Plan, Run}
+use Rattle.flow_c.specs.declared.fault.Fault.TheVariants.{Room, Instance, Sequence, Choice, Effort, Plan, Run}
 
 -- the instance of these numbers
 abbrev pub shop_of : ℕ → ℕ → List ℕ → Shop
@@ -47,6 +51,40 @@ makespan_fault jobs machines times sequence = first_fault (
 abbrev pub instance_room_fault : ℕ → ℕ → List ℕ → ℕ → Option Fault
 instance_room_fault jobs machines times entries = first_fault (
     option_map Instance (instance_fault jobs machines times)
+    ∷ room_fault jobs entries
+    ∷ [])
+
+-- why no instance is generated, or why its times have no room
+abbrev pub generate_fault : ℕ → ℕ → ℕ → ℕ → Option Fault
+generate_fault jobs machines seed entries = first_fault (
+    option_map Instance (generator_fault jobs machines seed)
+    ∷ room_fault (jobs * machines) entries
+    ∷ [])
+
+-- why there is no timetable: the numbers are no instance, the jobs no sequence of it, or the starts or the ends have no
+-- room
+abbrev pub timetable_fault : ℕ → ℕ → List ℕ → List ℕ → ℕ → ℕ → Option Fault
+timetable_fault jobs machines times sequence starts ends = first_fault (
+    makespan_fault jobs machines times sequence
+    ∷ room_fault (jobs * machines) starts
+    ∷ room_fault (jobs * machines) ends
+    ∷ [])
+
+-- why the numbers of an improvement are refused
+abbrev pub effort_fault : ℕ → ℕ → ℕ → ℕ → Option EffortFault
+effort_fault width rounds seed work = first_fault (
+    fault_unless (nat_le width most_width) Width
+    ∷ fault_unless (nat_le rounds most_rounds) Rounds
+    ∷ fault_unless (is_in_range 1 greatest_seed seed) Seed
+    ∷ fault_unless (nat_le work most_work) Work
+    ∷ [])
+
+-- why nothing is improved: the numbers are no instance, the jobs no sequence of it, the other numbers not within their
+-- limits, or a sequence has no room
+abbrev pub improve_fault : ℕ → ℕ → List ℕ → List ℕ → ℕ → ℕ → ℕ → ℕ → ℕ → Option Fault
+improve_fault jobs machines times start width rounds seed work entries = first_fault (
+    makespan_fault jobs machines times start
+    ∷ option_map Effort (effort_fault width rounds seed work)
     ∷ room_fault jobs entries
     ∷ [])
 

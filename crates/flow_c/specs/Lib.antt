@@ -1,4 +1,6 @@
 pub mod Statuses
 pub mod Faults
 pub mod Checks
+pub mod Blocks
+pub mod Certify
 pub mod internal

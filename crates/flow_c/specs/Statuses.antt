@@ -12,9 +12,13 @@ use Rattle.flow_search.specs.declared.verdict.RunFault.{RunFault}
 use Rattle.flow_search.specs.declared.verdict.RunFault.TheVariants as run
 use Rattle.flow_check.specs.declared.fault.CheckFault.{CheckFault}
 use Rattle.flow_check.specs.declared.fault.CheckFault.TheVariants as check
+use Rattle.flow_text.specs.declared.text.fault.TextFault.{TextFault}
+use Rattle.flow_text.specs.declared.text.fault.TextFault.TheVariants as text
+use Rattle.flow_c.specs.declared.fault.EffortFault.{EffortFault}
+use Rattle.flow_c.specs.declared.fault.EffortFault.TheVariants as effort
 use Rattle.flow_c.specs.declared.fault.Fault.{Fault}
-use Rattle.flow_c.specs.declared.fault.Fault.TheVariants.{Memory, Room, Instance, Sequence, Choice, Plan, Run}
-use Rattle.flow_c.specs.declared.fault.Fault.TheVariants.{Certificate}
+use Rattle.flow_c.specs.declared.fault.Fault.TheVariants.{Memory, Room, Instance, Sequence, Choice, Effort, Plan, Run}
+use Rattle.flow_c.specs.declared.fault.Fault.TheVariants.{Certificate, Text, Index}
 
 -- the call was done
 abbrev pub done : ℕ
@@ -62,6 +66,13 @@ of_choice choice.Depth = 31
 of_choice choice.Budget = 32
 of_choice choice.Version = 33
 
+-- the number of a fault of the numbers of an improvement; that of the seed is the generator's too
+abbrev pub of_effort : EffortFault → ℕ
+of_effort effort.Seed = 14
+of_effort effort.Width = 34
+of_effort effort.Rounds = 35
+of_effort effort.Work = 36
+
 -- the number of a fault of a plan
 abbrev pub of_plan : PlanFault → ℕ
 of_plan plan.Memory = memory
@@ -98,6 +109,32 @@ place_of_check (check.Weak line) = line
 place_of_check (check.Low line) = line
 place_of_check fault = 0
 
+-- the number of a fault of a benchmark text
+abbrev pub of_text : TextFault → ℕ
+of_text text.Memory = memory
+of_text text.NoBlock = 70
+of_text (text.Label line) = 71
+of_text (text.Byte line) = 72
+of_text (text.Number line) = 73
+of_text (text.Head line) = 74
+of_text (text.Limits line) = 75
+of_text (text.Times line) = 76
+
+-- the line of a fault of a benchmark text; 0 where it has none
+abbrev pub place_of_text : TextFault → ℕ
+place_of_text text.Memory = 0
+place_of_text text.NoBlock = 0
+place_of_text (text.Label line) = line
+place_of_text (text.Byte line) = line
+place_of_text (text.Number line) = line
+place_of_text (text.Head line) = line
+place_of_text (text.Limits line) = line
+place_of_text (text.Times line) = line
+
+-- the number of a benchmark text that has no block of an index
+abbrev pub index : ℕ
+index = 77
+
 -- the number of a fault
 abbrev pub number : Fault → ℕ
 number Memory = memory
@@ -105,17 +142,23 @@ number (Room needed) = room
 number (Instance fault) = of_instance fault
 number (Sequence fault) = of_sequence fault
 number (Choice fault) = of_choice fault
+number (Effort fault) = of_effort fault
 number (Plan fault) = of_plan fault
 number (Run fault) = of_run fault
 number (Certificate fault) = of_check fault
+number (Text fault) = of_text fault
+number (Index count) = index
 
--- the place of a fault, or the length that a slice needs; 0 where it has none
+-- the place of a fault, the length that a slice needs, or how many blocks a text has; 0 where it has none
 abbrev pub place_of : Fault → ℕ
 place_of Memory = 0
 place_of (Room needed) = needed
 place_of (Instance fault) = place_of_instance fault
 place_of (Sequence fault) = place_of_sequence fault
 place_of (Choice fault) = 0
+place_of (Effort fault) = 0
 place_of (Plan fault) = 0
 place_of (Run fault) = place_of_run fault
 place_of (Certificate fault) = place_of_check fault
+place_of (Text fault) = place_of_text fault
+place_of (Index count) = count

@@ -8,8 +8,21 @@ ghost use Rattle.flow_c.specs.declared.fault.Fault.TheVariants as fault;
 use flow_check::CheckFault;
 use flow_search::{OptionFault, PlanFault, RunFault};
 use flow_shop::{InstanceFault, SequenceFault};
-use flow_text::WriteFault;
+use flow_text::{TextFault, WriteFault};
 use std::alloc::AllocError;
+
+/// Why the numbers of an improvement are refused, in the order of the tests.
+#[derive(Clone, Copy, Debug, PartialEq, Eq)]
+pub enum EffortFault {
+    /// The width is above `MAX_WIDTH`.
+    Width,
+    /// The rounds are above `MAX_ROUNDS`.
+    Rounds,
+    /// The seed is not in `1..=MAX_SEED`.
+    Seed,
+    /// The work is above `MAX_WORK`.
+    Work,
+}
 
 /// Why a call refused.
 #[derive(Clone, Copy, Debug, PartialEq, Eq)]
@@ -24,12 +37,18 @@ pub enum Fault {
     Sequence(SequenceFault),
     /// The numbers are no options.
     Choice(OptionFault),
+    /// The numbers of an improvement are not within their limits.
+    Effort(EffortFault),
     /// The instance and the options have no plan.
     Plan(PlanFault),
     /// A tree is longer than the budget.
     Run(RunFault),
-    /// The bytes are no lawful certificate.
+    /// The bytes are no lawful certificate, or no lawful text of bounds.
     Certificate(CheckFault),
+    /// The bytes are no benchmark text.
+    Text(TextFault),
+    /// A benchmark text has no block of this index; it has this many blocks.
+    Index(usize),
 }
 
 impl From<AllocError> for Fault {
@@ -73,6 +92,14 @@ impl From<OptionFault> for Fault {
     }
 }
 
+impl From<EffortFault> for Fault {
+    ghost from_gives = { λ own given. given ≡ fault.Effort own };
+
+    fn from(fault: EffortFault) -> Fault {
+        Fault::Effort(fault)
+    }
+}
+
 impl From<PlanFault> for Fault {
     ghost from_gives = { λ own given. given ≡ fault.Plan own };
 
@@ -94,6 +121,14 @@ impl From<CheckFault> for Fault {
 
     fn from(fault: CheckFault) -> Fault {
         Fault::Certificate(fault)
+    }
+}
+
+impl From<TextFault> for Fault {
+    ghost from_gives = { λ own given. given ≡ fault.Text own };
+
+    fn from(fault: TextFault) -> Fault {
+        Fault::Text(fault)
     }
 }
 
@@ -132,6 +167,18 @@ fn of_choice(fault: OptionFault) -> u32
         OptionFault::Depth => 31,
         OptionFault::Budget => 32,
         OptionFault::Version => 33,
+    }
+}
+
+/// The number of a fault of the numbers of an improvement.
+fn of_effort(fault: EffortFault) -> u32
+    ensures { result ≡ statuses.of_effort fault }
+{
+    match fault {
+        EffortFault::Seed => 14,
+        EffortFault::Width => 34,
+        EffortFault::Rounds => 35,
+        EffortFault::Work => 36,
     }
 }
 
@@ -174,6 +221,22 @@ fn of_check(fault: CheckFault) -> (u32, usize)
     }
 }
 
+/// The number of a fault of a benchmark text, and its line.
+fn of_text(fault: TextFault) -> (u32, usize)
+    ensures { result ≡ record { 0 = statuses.of_text fault; 1 = statuses.place_of_text fault } }
+{
+    match fault {
+        TextFault::Memory => (1, 0),
+        TextFault::NoBlock => (70, 0),
+        TextFault::Label(line) => (71, line),
+        TextFault::Byte(line) => (72, line),
+        TextFault::Number(line) => (73, line),
+        TextFault::Head(line) => (74, line),
+        TextFault::Limits(line) => (75, line),
+        TextFault::Times(line) => (76, line),
+    }
+}
+
 impl Fault {
     /// The number of the fault, which is not 0, and its place.
     pub(crate) fn status(self) -> (u32, usize)
@@ -185,9 +248,12 @@ impl Fault {
             Fault::Instance(fault) => of_instance(fault),
             Fault::Sequence(fault) => of_sequence(fault),
             Fault::Choice(fault) => (of_choice(fault), 0),
+            Fault::Effort(fault) => (of_effort(fault), 0),
             Fault::Plan(fault) => (of_plan(fault), 0),
             Fault::Run(fault) => of_run(fault),
             Fault::Certificate(fault) => of_check(fault),
+            Fault::Text(fault) => of_text(fault),
+            Fault::Index(count) => (77, count),
         }
     }
 }

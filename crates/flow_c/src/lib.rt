@@ -3,10 +3,17 @@
 //! a status. What a Rust caller proves of its arguments is tested here.
 #![tactic(auto)]
 
+mod block;
+mod certify;
 mod check;
+mod check_bounds;
+mod checked;
 mod fault;
+mod generate;
+mod improve;
 mod makespan;
 mod neh;
 mod report;
 mod room;
 mod solve;
+mod timetable;

@@ -3,7 +3,6 @@
 ghost use Rattle.std.specs.Prelude.{◌≡◌, ◌⊎◌, None, IfOk, OnOk, IfErr};
 ghost use Rattle.flow_shop.specs.InstanceFaults.{instance_fault};
 ghost use Rattle.flow_shop.specs.Paths.{span};
-ghost use Rattle.flow_shop.specs.Sequences.{IsSequence};
 ghost use Rattle.flow_c.specs.Statuses.{number, done, memory};
 ghost use Rattle.flow_c.specs.Faults.{shop_of, makespan_fault, IsFaultOf, Reports};
 

@@ -1,7 +1,8 @@
 //! Slices that the caller lends for results.
 
-ghost use Rattle.std.specs.Prelude.{◌≡◌, ◌≤◌, None, Some, length, take, drop, nat_le, OnOk, IfErr};
+ghost use Rattle.std.specs.Prelude.{◌≡◌, ◌<◌, ◌≤◌, None, Some, length, take, drop, OnOk, IfErr};
 ghost use Rattle.flow_c.specs.Faults.{room_fault};
+ghost use Rattle.flow_c.specs.declared.fault.Fault.TheVariants.{Room};
 
 use crate::fault::Fault;
 
@@ -9,6 +10,7 @@ use crate::fault::Fault;
 pub(crate) fn need(needed: usize, entries: usize) -> Result<(), Fault>
     ensures accepted { OnOk result (room_fault needed entries ≡ None) }
     ensures refused { IfErr result (λ fault. room_fault needed entries ≡ Some fault) }
+    ensures short { IfErr result (λ fault. (fault ≡ Room needed) × (entries < needed)) }
     ensures enough { OnOk result (needed ≤ entries) }
 {
     if needed > entries {

@@ -37,11 +37,11 @@ struct Choice {
     version: u32,
 }
 
-/// The entries of the slices for the sequence and for the certificate.
+/// The entries of the slices for the sequence and for the text.
 #[derive(Clone, Copy, Debug)]
-struct Room {
-    sequence: usize,
-    text: usize,
+pub(crate) struct Room {
+    pub(crate) sequence: usize,
+    pub(crate) text: usize,
 }
 
 /// The options of a run on one thread.
