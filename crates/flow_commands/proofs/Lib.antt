@@ -7,5 +7,4 @@ mod Refused
 mod Scheduled
 mod Small
 mod Solved
-mod Found
 mod Turned

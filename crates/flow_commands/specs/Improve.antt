@@ -1,12 +1,11 @@
 -- What `improve` answers.
-use Rattle.std.specs.Prelude.{◌≡◌, ℕ, ◌-◌, ◌≤◌, nat_le, List, [], ◌∷◌, Option, Some, None, Ok, Err}
+use Rattle.std.specs.Prelude.{◌≡◌, ℕ, ◌-◌, nat_le, List, [], ◌∷◌, Option, Some, None, Ok, Err}
 use Rattle.std.specs.Int.{is_in_range}
 use Rattle.flow_core.specs.Shop.{Shop}
-use Rattle.flow_core.specs.Paths.{span}
-use Rattle.flow_core.specs.Sequences.{IsSequence}
 use Rattle.flow_core.specs.Generator.{modulus}
 use Rattle.flow_core.specs.Limits.{most_rounds, most_width, most_work}
 use Rattle.flow_core.specs.Refusals.{fault_unless, first_fault}
+use Rattle.flow_certify.specs.Tries.{IsNoWorse}
 use Rattle.flow_requests.specs.declared.ImproveRequest.{ImproveRequest}
 use Rattle.flow_commands.specs.Answer.{Answer}
 use Rattle.flow_commands.specs.Printed.{sequence_lines}
@@ -14,10 +13,6 @@ use Rattle.flow_commands.specs.Start.{StartsFrom}
 use Rattle.flow_commands.specs.declared.fault.CommandFault.{CommandFault}
 use Rattle.flow_commands.specs.declared.fault.CommandFault.TheVariants.{Improve}
 use Rattle.flow_commands.specs.declared.fault.ImproveFault.TheVariants.{Rounds, Seed, Width, Work}
-
--- a sequence of a shop, of at most the makespan of another
-abbrev pub IsNoWorse : Shop → List ℕ → List ℕ → Type 0
-IsNoWorse shop start jobs = IsSequence shop.jobs jobs × (span shop jobs ≤ span shop start)
 
 -- why `improve` refuses its numbers, if it does
 abbrev pub improve_fault : ImproveRequest → Option CommandFault

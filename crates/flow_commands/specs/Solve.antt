@@ -82,12 +82,13 @@ WroteCertificate shop sink =
     (certificate : List ℕ) × (value : ℕ) × Took certificate sink
     × IsCertificate shop certificate value × IsLeastMakespan shop value
 
--- a sink took a lawful text of bounds of a shop, and the bounds hold
-abbrev pub WroteBounds : {K : Type 0} → Shop → SinkRun K → Type 0
-WroteBounds shop sink =
-    (text : List ℕ) × (bounds : Bounds) × Took text sink × IsBoundsText shop text bounds × AreBounds shop bounds
+-- a sink took a lawful text of bounds of a shop whose lower one is a number, and the bounds hold
+abbrev pub WroteBounds : {K : Type 0} → ℕ → Shop → SinkRun K → Type 0
+WroteBounds lower shop sink =
+    (text : List ℕ) × (bounds : Bounds) × (bounds.lower ≡ lower) × Took text sink
+    × IsBoundsText shop text bounds × AreBounds shop bounds
 
--- a sink took a lawful certificate; or, where there is a target, a lawful text of bounds
+-- a sink took a lawful certificate; or, where there is a target, a lawful text of bounds whose lower one is its number
 abbrev pub WroteFound : {K : Type 0} → Option ℕ → Shop → SinkRun K → Type 0
 WroteFound None shop sink = WroteCertificate shop sink
-WroteFound (Some number) shop sink = WroteCertificate shop sink ⊎ WroteBounds shop sink
+WroteFound (Some number) shop sink = WroteCertificate shop sink ⊎ WroteBounds number shop sink

@@ -93,7 +93,7 @@ fn kind_among(bytes: &[u8], bounds: bool) -> TextKind
 }
 
 /// The text that is printed of what a text of a kind shows.
-fn text_of(
+fn printed_text(
     alloc: Global,
     kind: TextKind,
     shown: &Shown,
@@ -121,7 +121,7 @@ fn checked_text(
 {
     let kind = kind_among(bytes, request.bounds);
     let shown = checked(alloc, kind, instance, bytes, request)?;
-    Ok(text_of(alloc, kind, &shown, request.sequence)?)
+    Ok(printed_text(alloc, kind, &shown, request.sequence)?)
 }
 
 /// Reads a text of an instance, or, where either is asked for, one of the mirrored instance, and writes what it proves,

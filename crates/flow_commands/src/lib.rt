@@ -18,7 +18,6 @@ mod schedule;
 mod solve;
 mod span;
 mod start;
-mod tries;
 
 pub use certify::run_certify;
 pub use check::{run_check, run_check_as};

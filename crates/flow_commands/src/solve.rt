@@ -42,7 +42,7 @@ fn solve_target<R: Threads + Wait + Sync, G: Gate + Sync, K: Sink>(
     ensures written { OnOk result (Wrote (AnswersBelow (target_of plan.now number))
         (sink_run K.taken out.old out.new)) }
     ensures lawful { OnOk result (WroteCertificate plan.now.shop (sink_run K.taken out.old out.new)
-        ⊎ WroteBounds plan.now.shop (sink_run K.taken out.old out.new)) }
+        ⊎ WroteBounds number plan.now.shop (sink_run K.taken out.old out.new)) }
     ensures ended { IfErr result (EndsAlone (AnswersBelow (target_of plan.now number))
         (sink_run K.taken out.old out.new)) }
     ensures write_device { IsErrOf result (CommandFault.Write write.Device) ↔ (K.has_failed out.new ≡ true) }
@@ -55,7 +55,7 @@ fn solve_target<R: Threads + Wait + Sync, G: Gate + Sync, K: Sink>(
 }
 
 /// Solves a plan, or searches below the target of a number, and writes what it finds.
-fn solve_found<R: Threads + Wait + Sync, G: Gate + Sync, K: Sink>(
+fn solve_or_search<R: Threads + Wait + Sync, G: Gate + Sync, K: Sink>(
     rt: &R,
     alloc: Global,
     plan: &Plan,
@@ -142,7 +142,7 @@ fn solve_instance<R: Threads + Wait + Sync, G: Gate + Sync, K: Sink>(
     ensures reads_nothing { IsErrOf result (CommandFault.Read read.Device) → ⊥ }
 {
     let plan = plan_of(alloc, instance, given, options)?;
-    solve_found(rt, alloc, &plan, target, gate, out)
+    solve_or_search(rt, alloc, &plan, target, gate, out)
 }
 
 /// The options of four numbers; or the first fault, that of the version last.
@@ -270,8 +270,9 @@ pub fn run_solve<R: Threads + Wait + Sync, S: Source, G: Gate + Sync, K: Sink>(
 
 /// Solves the block that an index names as a request says, and writes the certificate of its plan. It starts from the
 /// sequence that a start text gives, or, where there is no such text, from that of Nawaz, Enscore and Ham. Where the
-/// mirrored instance is asked for, it is solved in place of the block, from the reversed sequence of the text. Where
-/// there is a target, only sequences below it are searched for, and where there are none, a text of bounds is written.
+/// mirrored instance is asked for, it is solved in place of the block, from the reversed sequence of the text. With a
+/// target, only sequences below it are searched for; where there are none, and the target is below the makespan of the
+/// start, a text of bounds is written.
 pub fn run_solve_as<R: Threads + Wait + Sync, S: Source, T: Source, G: Gate + Sync, K: Sink>(
     rt: &R,
     alloc: Global,

@@ -147,6 +147,7 @@ const NO_ROUND: ImproveRequest = ImproveRequest {
 const CERTIFY: CertifyRequest = CertifyRequest {
     improve: NO_ROUND,
     version: None,
+    bounds: false,
 };
 
 /// `run_improve` of no round.

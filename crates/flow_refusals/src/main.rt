@@ -35,7 +35,7 @@ const REFUSED: u8 = 1;
 const WRONG: u8 = 2;
 
 /// How many groups of calls there are.
-const GROUPS: usize = 46;
+const GROUPS: usize = 48;
 
 /// Makes all calls: each group, also where one before it did not return what it should.
 fn found<T: Threads + Wait + Sync>(threads: &T, alloc: Global) -> [Result<(), Trouble>; GROUPS] {
@@ -57,6 +57,8 @@ fn found<T: Threads + Wait + Sync>(threads: &T, alloc: Global) -> [Result<(), Tr
         search::plan_starts_as_given(alloc),
         search::outcomes_are_concluded(alloc),
         search::plan_is_solved(alloc),
+        search::certificate_is_found(alloc),
+        search::bound_is_raised(alloc),
         schedules::table_is_made(alloc),
         schedules::picture_is_made(alloc),
         certificates::certificate_is_written(alloc),

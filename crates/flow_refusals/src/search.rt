@@ -1,10 +1,13 @@
 //! Plans, outcomes and verdicts.
 
 use crate::trouble::{Trouble, confirm};
-use flow_core::Sequence;
+use flow_certify::{Searched, find_certificate, raise_bound};
+use flow_core::{Instance, Sequence};
 use flow_examples::{AMPLE, TIGHT, TREES_AT_DEPTH_1, all_outcomes, is_verdict, three_machines};
+use flow_improve::Effort;
 use flow_search::{
-    Options, Outcome, RunFault, Verdict, answer, conclude, prepare, prepare_from, solve_plain,
+    Finding, Options, Outcome, RunFault, Verdict, answer, conclude, prepare, prepare_from,
+    solve_plain,
 };
 use std::alloc::Global;
 
@@ -62,4 +65,43 @@ pub(crate) fn plan_is_solved(alloc: Global) -> Result<(), Trouble> {
         Err(RunFault::Memory) => Err(Trouble::Refused),
         _ => Err(Trouble::Wrong("solve_plain beyond the budget")),
     }
+}
+
+/// Whether `find_certificate` finds the least makespan of the instance with three machines from its start.
+fn finds_least(alloc: Global, instance: &Instance) -> Result<bool, Trouble> {
+    let mirror = instance.mirrored(alloc)?;
+    let start = Sequence::new(alloc, instance, &[2, 1, 3])?;
+    let effort = Effort {
+        width: 0,
+        rounds: 0,
+        seed: 1,
+        work: 0,
+    };
+    match find_certificate(alloc, instance, &mirror, &start, &effort, None)? {
+        Searched::Found(_plan, verdict) => Ok(verdict.value == 12),
+        Searched::Over(_) => Ok(false),
+    }
+}
+
+/// Whether `raise_bound` ends at the least makespan of the instance with three machines.
+fn ends_at_least(alloc: Global, instance: &Instance) -> Result<bool, Trouble> {
+    let mirror = instance.mirrored(alloc)?;
+    let start = Sequence::new(alloc, instance, &[2, 1, 3])?;
+    let proved = raise_bound(alloc, instance, &mirror, &start, 1)?;
+    match &proved.finding {
+        Finding::Least(verdict) => Ok(verdict.value == 12),
+        Finding::Bound { .. } => Ok(false),
+    }
+}
+
+/// `find_certificate`.
+pub(crate) fn certificate_is_found(alloc: Global) -> Result<(), Trouble> {
+    let instance = three_machines(alloc)?;
+    confirm(finds_least(alloc, &instance)?, "find_certificate")
+}
+
+/// `raise_bound`.
+pub(crate) fn bound_is_raised(alloc: Global) -> Result<(), Trouble> {
+    let instance = three_machines(alloc)?;
+    confirm(ends_at_least(alloc, &instance)?, "raise_bound")
 }

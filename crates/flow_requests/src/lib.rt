@@ -39,6 +39,8 @@ pub struct CertifyRequest {
     pub improve: ImproveRequest,
     /// The version of the certificate; where it is left out, that may be either.
     pub version: Option<u32>,
+    /// Whether a text of bounds is written where all trees are over their budgets.
+    pub bounds: bool,
 }
 
 /// Which texts are accepted, and what is printed.

@@ -21,6 +21,7 @@ use std::thread::Threads;
 
 mod better;
 mod bounds;
+mod certified_bounds;
 mod schedule;
 mod sequence;
 
@@ -43,6 +44,11 @@ const ONE_JOB: &[u8] = b"a\n1 1 0 0 0\nb\n0\n";
 /// Six jobs on three machines. All 720 sequences were tried apart from the program: the least makespan is 44, and
 /// that of the starting sequence is 46.
 const SIX_JOBS: &[u8] = b"a\n6 3 0 0 0\nb\n4 7 6 9 5 4\n1 2 9 6 3 9\n4 5 5 5 9 6\n";
+
+/// Fourteen jobs on two machines: thirteen with times 1 and 1, and one with 10 and 10. The mirrored instance has the
+/// same times.
+const ONE_LONG_JOB: &[u8] =
+    b"a\n14 2 0 0 0\nb\n1 1 1 1 1 1 1 1 1 1 1 1 1 10\n1 1 1 1 1 1 1 1 1 1 1 1 1 10\n";
 
 /// What `gen` writes for two jobs, two machines and seed 1.
 const GENERATED: &[u8] =

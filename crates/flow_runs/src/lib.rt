@@ -1,4 +1,5 @@
-//! Tests of `improve`, of its beam and its rounds, and of what the commands write and refuse.
+//! Tests of `improve`, of its beam and its rounds, of the searches of `certify`, and of what the commands write and
+//! refuse.
 #![tactic(auto)]
 
 #[cfg(test)]
@@ -7,5 +8,7 @@ mod beam;
 mod commands;
 #[cfg(test)]
 mod improve;
+#[cfg(test)]
+mod raise;
 #[cfg(test)]
 mod rounds;

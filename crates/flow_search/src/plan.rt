@@ -1,6 +1,6 @@
 //! Plans: an instance, its starting sequence, the options, and the prefixes into which the search is divided.
 
-ghost use Rattle.std.specs.Prelude.{◌≡◌, ℕ, ◌<◌, ◌≤◌, None, Some, length, IfOk, OnOk, IfErr};
+ghost use Rattle.std.specs.Prelude.{◌≡◌, ◌<◌, None, Some, length, IfOk, OnOk, IfErr};
 ghost use Rattle.flow_shop.specs.Rows.{AreRows};
 ghost use Rattle.flow_shop.specs.Paths.{span};
 ghost use Rattle.flow_shop.specs.Sequences.{AreJobs, IsSequence, cut};
@@ -95,6 +95,14 @@ impl<'a> Plan<'a> {
         ensures plan { IsPlan self.now }
     {
         self.options
+    }
+
+    /// The same plan with other options of the same depth.
+    pub fn with_options(self, options: Options) -> Plan<'a>
+        requires { options.depth ≡ self.options.depth }
+        ensures { result ≡ record { shop = self.entry.shop; start = self.entry.start; options = options } }
+    {
+        Plan { options, ..self }
     }
 
     /// How many prefixes there are.

@@ -99,7 +99,7 @@ const WORK: Word = Word {
 
 static BLOCK: [Word; 2] = [FILE, INDEX];
 
-static CERTIFY: [Word; 8] = [
+static CERTIFY: [Word; 9] = [
     FILE,
     INDEX,
     WIDTH,
@@ -110,7 +110,12 @@ static CERTIFY: [Word; 8] = [
     Word {
         name: "certificate",
         kind: Kind::Choice { value: "V" },
-        help: "The version of the certificate, 1 or 2; left out, it is 2 where in version 1 all trees are too long",
+        help: "The version of the text, 1 or 2; left out, a certificate is tried in 1 and then in 2, and bounds are in 1",
+    },
+    Word {
+        name: "bounds",
+        kind: Kind::Flag,
+        help: "Where all trees are too long, writes a text of bounds on the least makespan in the place of refusing",
     },
 ];
 
@@ -188,7 +193,7 @@ static SOLVE: [Word; 9] = [
     Word {
         name: "target",
         kind: Kind::Choice { value: "T" },
-        help: "Searches below this number alone; where nothing is below it, a text of bounds is written",
+        help: "Takes this number for the makespan of the start, if it is smaller; a text of bounds may be written",
     },
 ];
 
@@ -203,12 +208,12 @@ static CHECK: [Word; 5] = [
     Word {
         name: "either",
         kind: Kind::Flag,
-        help: "Accepts a certificate of the mirrored instance too",
+        help: "Accepts a text of the mirrored instance too",
     },
     Word {
         name: "sequence",
         kind: Kind::Flag,
-        help: "Prints a sequence of the instance with that makespan, in the form that neh prints",
+        help: "Prints the sequence of the text for the instance, and its makespan, in the form that neh prints",
     },
 ];
 
@@ -260,9 +265,9 @@ fn with<'a>(
 fn certify_command<'a>(alloc: Global) -> Result<Command<'a>, AllocError> {
     let about =
         "Searches from a starting sequence and from better ones, and writes a certificate of the least makespan \
-of the instance or of the mirrored one";
+of the instance or of the mirrored one, or with --bounds a text of bounds";
     let example =
-        "The certificate may be one of the mirrored instance: check it with --either.\nExample: ./flowshop \
+        "The text may be one of the mirrored instance: check it with --either.\nExample: ./flowshop \
 certify examples/three_machines.txt 1 >certificate";
     command_of(alloc, "certify", about, example, &CERTIFY)
 }
@@ -310,7 +315,7 @@ fn solve_command<'a>(alloc: Global) -> Result<Command<'a>, AllocError> {
 
 fn check_command<'a>(alloc: Global) -> Result<Command<'a>, AllocError> {
     let about = "Checks a certificate or a text of bounds, and prints what it proves";
-    let example = "Example: ./flowshop check examples/three_machines.txt 1 certificate";
+    let example = "Example: ./flowshop check examples/three_machines.txt 1 certificate --either";
     command_of(alloc, "check", about, example, &CHECK)
 }
 

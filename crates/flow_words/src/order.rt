@@ -62,7 +62,7 @@ pub enum Order<'a> {
         /// How the sequence is improved.
         request: ImproveRequest,
     },
-    /// A certificate of the least makespan, searched from better and better sequences.
+    /// A certificate of the least makespan, searched from better and better sequences; or a text of bounds.
     Certify {
         /// The name of the text's file.
         file: &'a str,
@@ -73,15 +73,15 @@ pub enum Order<'a> {
         /// How the block is certified.
         request: CertifyRequest,
     },
-    /// The value that a certificate proves least, or a sequence that has it.
+    /// What a certificate or a text of bounds proves, or its sequence.
     Check {
         /// The name of the text's file.
         file: &'a str,
         /// The block's number in the text.
         index: u32,
-        /// The name of the certificate's file.
+        /// The name of the file of the certificate or of the text of bounds.
         cert: &'a str,
-        /// Which certificates are accepted, and what is printed.
+        /// Which texts are accepted, and what is printed.
         request: CheckRequest,
     },
     /// The times of a sequence, as a table or a picture.
@@ -197,6 +197,7 @@ fn certify_order<'a>(given: &ArgMatches<'a>) -> Option<Order<'a>> {
         request: CertifyRequest {
             improve: improvement_of(given)?,
             version: given.get_one::<u32>("certificate"),
+            bounds: given.get_flag("bounds"),
         },
     })
 }

@@ -670,11 +670,13 @@ fn improvements_are_read(rt: HostRuntime) -> Result<(), Fail> {
                 request: CertifyRequest {
                     improve: usual,
                     version: None,
+                    bounds: false,
                 },
             },
         ),
         (
-            "certify FILE 1 --certificate 7 --work 7 --width 65537 --seed 0 --rounds 4294967295 --start SEQUENCE",
+            "certify FILE 1 --bounds --certificate 7 --work 7 --width 65537 --seed 0 --rounds 4294967295 \
+--start SEQUENCE",
             Order::Certify {
                 file: "FILE",
                 index: 1,
@@ -682,6 +684,7 @@ fn improvements_are_read(rt: HostRuntime) -> Result<(), Fail> {
                 request: CertifyRequest {
                     improve: other,
                     version: Some(7),
+                    bounds: true,
                 },
             },
         ),

@@ -8,7 +8,7 @@ returns-clause-text c = (
     c.in_ok-shown.shown.bounds,
     c.in_ok-shown.shown.sequence,
     c.in_ok-shown.ensures.gives,
-    c.in_ok-text_of.ensures c.args.instance.now c.in_ok-shown.ensures.upper,
+    c.in_ok-printed_text.ensures c.args.instance.now c.in_ok-shown.ensures.upper,
   ),
 )
 
@@ -21,5 +21,5 @@ returns-clause-proved c = (
   c.in_ok-shown.shown.sequence,
   c.in_ok-shown.ensures.each,
   c.in_ok-shown.ensures.upper,
-  c.in_ok-text_of.ensures c.args.instance.now c.in_ok-shown.ensures.upper,
+  c.in_ok-printed_text.ensures c.args.instance.now c.in_ok-shown.ensures.upper,
 )

@@ -6,7 +6,7 @@ use Rattle.flow_commands.specs.Runs.{sink_run}
 use Rattle.flow_commands.specs.Solve.{AnswersBelow}
 use Rattle.flow_commands.proofs.Certified.{wrote-finding}
 use Rattle.flow_commands.proofs.Endings.{ends-alone-in-writing}
-use Rattle.flow_commands.proofs.Solved.{below-ended, is-target}
+use Rattle.flow_commands.proofs.Solved.{below-ended}
 use Rattle.flow_commands.proofs.solve.solve_target.Goals as goal
 
 pub write_finding-requires-clause-finding : goal.write_finding-requires-clause-finding
@@ -14,10 +14,8 @@ write_finding-requires-clause-finding g c = c.in_ok-report.ensures.report.findin
 
 pub returns-clause-lawful : goal.returns-clause-lawful
 returns-clause-lawful g c =
-    let target : Targeted = target_of c.args.plan.now c.args.number in
-    wrote-finding target c.in_ok-report.report.finding
-    (sink_run g.K.Sink.taken c.args.out.now c.write_finding.new.out)
-    (is-target c.args.plan.now c.args.number c.requires.is_plan)
+    wrote-finding c.args.plan.now c.args.number c.in_ok-report.report.finding
+    (sink_run g.K.Sink.taken c.args.out.now c.write_finding.new.out) c.requires.is_plan
     (rw c.new-target.ensures at c.in_ok-report.ensures.report.finding)
     (rw c.new-target.ensures at c.in_ok-write_finding.ensures.ok)
 

@@ -1,0 +1,5 @@
+mod First
+mod Found
+mod Held
+mod Pairs
+mod Raised

@@ -1,0 +1,4 @@
+pub mod Certified
+pub mod Raised
+pub mod Tries
+pub mod internal
