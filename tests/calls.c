@@ -225,7 +225,8 @@ static void certificates(void) {
        FLOWSHOP_ROOM);
     for (size_t short_of = 0; short_of < needed; short_of++)
         is("a text cut short",
-           flowshop_check(3, 3, TIMES, 9, text, short_of, true, found, 3, &least, &mirrored, &place) >= FLOWSHOP_HEADER, 1);
+           flowshop_check(3, 3, TIMES, 9, text, short_of, true, found, 3, &least, &mirrored, &place) >= FLOWSHOP_HEADER,
+           1);
     free(text);
 }
 
@@ -370,8 +371,10 @@ static void *many(void *from) {
         size_t length, place;
         bool mirrored;
         wrong += flowshop_neh(4, 3, times, 12, start, 4, &value, &place) != FLOWSHOP_DONE;
-        wrong += flowshop_solve(4, 3, times, 12, start, 4, 1, 900, 2, best, 4, &least, text, 4096, &length, &place) != FLOWSHOP_DONE;
-        wrong += flowshop_check(4, 3, times, 12, text, length, false, found, 4, &checked, &mirrored, &place) != FLOWSHOP_DONE;
+        wrong += flowshop_solve(4, 3, times, 12, start, 4, 1, 900, 2, best, 4, &least, text, 4096, &length, &place) !=
+                 FLOWSHOP_DONE;
+        wrong += flowshop_check(4, 3, times, 12, text, length, false, found, 4, &checked, &mirrored, &place) !=
+                 FLOWSHOP_DONE;
         wrong += checked != least || least > value || memcmp(found, best, sizeof best) != 0;
         wrong += flowshop_check_bounds(4, 3, times, 12, text, length, false, found, 4, &checked, &upper, &mirrored,
                                        &place) != FLOWSHOP_DONE;

@@ -514,8 +514,12 @@ def compare_certify():
 
 def compare_at_once():
     """Eight threads, each with shops of its own."""
-    threads = [threading.Thread(target=lambda seed=seed: [compare_shop(random.Random(seed * 100 + i)) for i in range(50)])
-               for seed in range(8)]
+
+    def compare_shops(seed):
+        for number in range(50):
+            compare_shop(random.Random(seed * 100 + number))
+
+    threads = [threading.Thread(target=compare_shops, args=[seed]) for seed in range(8)]
     for thread in threads:
         thread.start()
     for thread in threads:

@@ -123,9 +123,9 @@ class Shop:
 
     def __init__(self, times: Sequence[Sequence[int]]) -> None:
         """The shop of these times: a row for each machine, in the order in which jobs visit them, each with the time of
-        each job, that of job 1 first. ValueError where rows differ in length or a number is below 0, TypeError where one
-        is not whole; FlowshopError JOBS, MACHINES or TIME, whose place is counted over all rows, where the shop is not
-        within the limits."""
+        each job, that of job 1 first. ValueError where rows differ in length or a number is below 0, TypeError where
+        one is not whole; FlowshopError JOBS, MACHINES or TIME, whose place is counted over all rows, where the shop is
+        not within the limits."""
         rows = [list(row) for row in times]
         self.machines = len(rows)
         self.jobs = len(rows[0]) if rows else 0
@@ -196,8 +196,8 @@ class Shop:
         return [Operation(*name, start, end) for name, start, end in zip(names, starts, ends)]
 
     def neh(self) -> Start:
-        """The starting sequence of Nawaz, Enscore and Ham (1983): jobs by decreasing total time, of equal ones the lower
-        number first, each put in at the earliest place that gives the least makespan."""
+        """The starting sequence of Nawaz, Enscore and Ham (1983): jobs by decreasing total time, of equal ones the
+        lower number first, each put in at the earliest place that gives the least makespan."""
         sequence, value = (_library.u16 * self.jobs)(), _library.u64(0)
         self._call("neh", sequence, self.jobs, ctypes.byref(value))
         return Start(list(sequence), value.value)
@@ -233,9 +233,9 @@ class Shop:
     ) -> Certificate:
         """The least makespan with its certificate, by a search on this thread from a sequence, or from that of `neh`.
         There is a tree for each list of `depth` jobs, 0 to 3, of at most `budget` bytes, 1 to 100,000,000; `version`, 1
-        or 2, says by which bound the search cuts. FlowshopError OVER_BUDGET where a tree is longer, LENGTH, JOB or TWICE
-        where the start is no sequence, DEPTH, BUDGET, VERSION, PLAN_DEPTH or PLAN_PREFIXES where the numbers are not as
-        said here. The search can take long, and no time limit ends it."""
+        or 2, says by which bound the search cuts. FlowshopError OVER_BUDGET where a tree is longer, LENGTH, JOB or
+        TWICE where the start is no sequence, DEPTH, BUDGET, VERSION, PLAN_DEPTH or PLAN_PREFIXES where the numbers are
+        not as said here. The search can take long, and no time limit ends it."""
         choice = [_option(number) for number in (depth, budget, version)]
         value = _library.u64(0)
         sequence, text = self._written("solve", start, choice, [ctypes.byref(value)])

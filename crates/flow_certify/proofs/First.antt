@@ -1,5 +1,6 @@
 -- The tree below the target 0 is one letter.
-use Rattle.std.proofs.Common.{◌≡◌, sym, ap, subst, ℕ, zero, suc, ◌≤◌, ◌-◌, ◌+◌, nat_le, nat_lt, List, [], ◌∷◌, ◌++◌, length}
+use Rattle.std.proofs.Common.{◌≡◌, sym, ap, subst, ℕ, zero, suc, ◌≤◌, ◌-◌, ◌+◌, nat_le, nat_lt, List, [], ◌∷◌, ◌++◌}
+use Rattle.std.proofs.Common.{length}
 use Rattle.std.proofs.Common.{map, filter, None, Some, IsSome, Bool, true, cond, not, min, arith}
 use Rattle.std.proofs.lemmas.Bool.{le-leb, le-ltb}
 use Rattle.std.specs.List.{find}
@@ -26,7 +27,8 @@ in-force-zero shop prefix node =
     )
 
 -- the first number passes
-find-first : (p : ℕ → Bool) (first count : ℕ) → 1 ≤ count → p first ≡ true → find p (range_with_len first count) ≡ Some first
+find-first : (p : ℕ → Bool) (first count : ℕ) → 1 ≤ count → p first ≡ true →
+  find p (range_with_len first count) ≡ Some first
 find-first p first zero some is = absurd (omega arith)
 find-first p first (suc count) some is =
     ap (λ b. cond b (Some first) (find p (range_with_len (first + 1) count))) is
@@ -69,7 +71,8 @@ pub zero-within : (plan : Planned) → IsPlan plan → plan.options.depth ≡ 0 
     first_over_budget (plan_below (target_of plan 0)) ≡ None
 zero-within plan is depth =
     zero-trees plan.shop (bound_of plan.options.version) plan.options.budget (min 0 plan.start.value)
-    plan.options.depth (omega arith) depth is.option_limits.some_byte is.shop_limits.some_job is.shop_limits.some_machine
+    plan.options.depth (omega arith) depth is.option_limits.some_byte is.shop_limits.some_job
+      is.shop_limits.some_machine
 
 pub never-over : (plan : Planned) → IsPlan plan → plan.options.depth ≡ 0 →
     IsSome (first_over_budget (plan_below (target_of plan 0))) → ⊥

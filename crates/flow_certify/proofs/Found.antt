@@ -1,5 +1,6 @@
 -- What the tries of `certify` find.
-use Rattle.std.proofs.Common.{◌≡◌, ◌∙◌, refl, sym, ap, subst, inl, inr, ℕ, zero, suc, ◌+◌, ◌<◌, ◌≤◌, ◌⊎◌, List, [], ◌∷◌, length}
+use Rattle.std.proofs.Common.{◌≡◌, ◌∙◌, refl, sym, ap, subst, inl, inr, ℕ, zero, suc, ◌+◌, ◌<◌, ◌≤◌, ◌⊎◌, List, []}
+use Rattle.std.proofs.Common.{◌∷◌, length}
 use Rattle.std.proofs.Common.{slice_index_or, reverse, Option, None, Some, IsSome, unwrap_or, is_some, arith}
 use Rattle.std.proofs.Common.{true, false, nat_eq, eqb-true, if◌then◌else◌, Bool}
 use Rattle.std.proofs.lemmas.Bool.{cases_lt, false≢true}
@@ -66,11 +67,13 @@ within-gives : (plan : Planned) (next : Option (List ℕ)) → first_over_budget
 within-gives plan next within = rw (certificate_or, within) refl
 
 -- a plan over its budget gives the next answer
-passes : (first : Option ℕ) (answer next : Option (List ℕ)) → IsSome first → elim first [ None ↦ answer | Some number ↦ next ] ≡ next
+passes : (first : Option ℕ) (answer next : Option (List ℕ)) → IsSome first →
+  elim first [ None ↦ answer | Some number ↦ next ] ≡ next
 passes (Some number) answer next some = refl
 passes None answer next some = absurd (cc some)
 
-over-passes : (plan : Planned) (next : Option (List ℕ)) → IsSome (first_over_budget plan) → certificate_or plan next ≡ next
+over-passes : (plan : Planned) (next : Option (List ℕ)) → IsSome (first_over_budget plan) →
+  certificate_or plan next ≡ next
 over-passes plan next over = passes (first_over_budget plan) (Some (certificate_of plan)) next over
 
 -- one budget gives a certificate
@@ -170,7 +173,8 @@ over-next version shop jobs place back before over k low =
       | inr rest ↦
           let is : place ≡ k = omega arith in
           subst (λ p. IsSome (first_over_budget (tried_from version (slice_index_or budgets p 0) shop (span shop jobs)))
-          × IsSome (first_over_budget (tried_from version (slice_index_or budgets p 0) (mirrored shop) (span shop jobs))))
+          × IsSome (first_over_budget (tried_from version (slice_index_or budgets p 0)
+            (mirrored shop) (span shop jobs))))
           is (over-from version (slice_index_or budgets place 0) shop jobs back over)
     ]
 
@@ -250,7 +254,8 @@ over-first (Some asked) version shop start jobs none is over = absurd (cc none)
 -- what version 2 found
 second-found : (shop : Shop) (start jobs : List ℕ) (budget : ℕ) (plan : Planned) (verdict : Verdict) →
     budget ≡ second_budget shop.machines → IsSearched least_version shop start (Over jobs) →
-    IsEither greatest_version budget shop jobs (Some (plan, verdict)) → FindsCertificate None shop start (Found plan verdict)
+    IsEither greatest_version budget shop jobs (Some (plan, verdict)) → FindsCertificate None shop start
+      (Found plan verdict)
 second-found shop start jobs budget plan verdict own (worse, over) (within, is_plan, is_verdict) = (
   jobs,
   worse,

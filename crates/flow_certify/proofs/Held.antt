@@ -1,5 +1,6 @@
 -- What is held stays found with a greater budget.
-use Rattle.std.proofs.Common.{◌≡◌, sym, ap, subst, inl, inr, ℕ, ◌≤◌, nat_lt, List, [], ◌∷◌, length, reverse, Option, None, Some}
+use Rattle.std.proofs.Common.{◌≡◌, sym, ap, subst, inl, inr, ℕ, ◌≤◌, nat_lt, List, [], ◌∷◌, length, reverse, Option}
+use Rattle.std.proofs.Common.{None, Some}
 use Rattle.std.proofs.Common.{Bool, true, false, cond, not, arith}
 use Rattle.std.specs.List.{position}
 use Rattle.std.proofs.lemmas.Bool.{cases_lt, lt-ltb}

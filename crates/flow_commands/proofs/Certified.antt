@@ -1,5 +1,6 @@
 -- What is written is a lawful certificate or a lawful text of bounds.
-use Rattle.std.proofs.Common.{◌≡◌, ◌⊎◌, ◌<◌, refl, sym, inl, inr, ap, subst, List, length, ℕ, min, Bool, true, false, arith}
+use Rattle.std.proofs.Common.{◌≡◌, ◌⊎◌, ◌<◌, refl, sym, inl, inr, ap, subst, List, length, ℕ, min, Bool, true, false}
+use Rattle.std.proofs.Common.{arith}
 use Rattle.std.proofs.Common.{Option, None, Some, unwrap_or, Ok, Err}
 use Rattle.flow_core.specs.Shop.{Shop}
 use Rattle.flow_core.specs.Mirror.{mirrored}

@@ -1,5 +1,6 @@
 -- Runs of plans, from the plan up to the shop and the options.
-use Rattle.std.proofs.Common.{◌≡◌, refl, inl, inr, subst, None, ℕ, Bool, true, false, List, Option, Some, Result, Ok, Err}
+use Rattle.std.proofs.Common.{◌≡◌, refl, inl, inr, subst, None, ℕ, Bool, true, false, List, Option, Some, Result, Ok}
+use Rattle.std.proofs.Common.{Err}
 use Rattle.std.proofs.Common.{IfSome}
 use Rattle.std.proofs.Math.Nat.{min-le_right}
 use Rattle.flow_core.specs.Shop.{Shop}
@@ -14,7 +15,8 @@ use Rattle.flow_pool.specs.declared.run.solve.SolveFault.{SolveFault}
 use Rattle.flow_pool.specs.declared.run.solve.SolveFault.TheVariants as solve
 use Rattle.flow_commands.specs.Answer.{Answer}
 use Rattle.flow_commands.specs.Runs.{EndsAlone, IsUnwritten, SinkRun, Wrote}
-use Rattle.flow_commands.specs.Solve.{AnswersBelow, AnswersFound, AnswersOptions, AnswersPlan, AnswersRun, mirrored_if, reversed_if}
+use Rattle.flow_commands.specs.Solve.{AnswersBelow, AnswersFound, AnswersOptions, AnswersPlan, AnswersRun}
+use Rattle.flow_commands.specs.Solve.{mirrored_if, reversed_if}
 use Rattle.flow_commands.specs.Start.{StartsFrom}
 use Rattle.flow_commands.specs.declared.fault.CommandFault.{CommandFault}
 use Rattle.flow_commands.specs.declared.fault.CommandFault.TheVariants as command

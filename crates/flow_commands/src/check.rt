@@ -29,8 +29,8 @@ fn ran_out(fault: CheckFault) -> bool
     matches!(fault, CheckFault::Memory)
 }
 
-/// What a text of a kind shows of an instance; or, where either is asked for, what one of the mirrored instance does, its
-/// sequence turned round. A fault is that of the bytes as a text of the instance.
+/// What a text of a kind shows of an instance; or, where either is asked for, what one of the mirrored instance does,
+/// its sequence turned round. A fault is that of the bytes as a text of the instance.
 fn checked(
     alloc: Global,
     kind: TextKind,

@@ -17,10 +17,10 @@ use std::test::Fail;
 /// The times of three jobs on three machines, machine by machine. The least makespan is 12.
 const THREE_MACHINES: [u32; 9] = [4, 0, 0, 0, 8, 2, 4, 0, 1];
 
-/// The times of ten jobs on two machines: nine with times 1 and 1, and one with 10 and 10. All sequences have makespan 29.
-/// With a target from 21 to 29 no list is cut before the long job has its place, but where all others have theirs. There
-/// are 623,530 lists of at most eight short jobs, each with a plus and with a letter for the long job behind it, and
-/// 362,880 lists of nine, each with a letter. So the tree has 1,609,940 bytes, in both directions.
+/// The times of ten jobs on two machines: nine with times 1 and 1, and one with 10 and 10. All sequences have makespan
+/// 29. With a target from 21 to 29 no list is cut before the long job has its place, but where all others have theirs.
+/// There are 623,530 lists of at most eight short jobs, each with a plus and with a letter for the long job behind it,
+/// and 362,880 lists of nine, each with a letter. So the tree has 1,609,940 bytes, in both directions.
 const NINE_SHORT_JOBS: [u32; 20] = [1, 1, 1, 1, 1, 1, 1, 1, 1, 10, 1, 1, 1, 1, 1, 1, 1, 1, 1, 10];
 
 /// The times of fourteen jobs on two machines: thirteen with times 1 and 1, and one with 10 and 10. All sequences have

@@ -23,8 +23,8 @@ at_value plan value = record { plan = plan; value = value }
 abbrev pub target_of : Planned → ℕ → Targeted
 target_of plan number = at_value plan (min number plan.start.value)
 
--- the plan that is searched: the target stands in the place of the makespan of the start. So its trees, its bests and its
--- verdict are those below the target
+-- the plan that is searched: the target stands in the place of the makespan of the start. So its trees, its bests and
+-- its verdict are those below the target
 abbrev pub plan_below : Targeted → Planned
 plan_below target = record {
   shop = target.plan.shop;

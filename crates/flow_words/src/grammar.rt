@@ -110,7 +110,7 @@ static CERTIFY: [Word; 9] = [
     Word {
         name: "certificate",
         kind: Kind::Choice { value: "V" },
-        help: "The version of the text, 1 or 2; left out, a certificate is tried in 1 and then in 2, and bounds are in 1",
+        help: "The version of the text, 1 or 2; left out, a certificate is tried in 1 and then in 2, bounds are in 1",
     },
     Word {
         name: "bounds",

@@ -1,5 +1,6 @@
 -- What the tries from a sequence find.
-use Rattle.std.specs.Prelude.{◌≡◌, ◌⊎◌, ℕ, ◌<◌, Bool, true, List, [], reverse, slice_index_or, Option, None, Some, IsSome}
+use Rattle.std.specs.Prelude.{◌≡◌, ◌⊎◌, ℕ, ◌<◌, Bool, true, List, [], reverse, slice_index_or, Option, None, Some}
+use Rattle.std.specs.Prelude.{IsSome}
 use Rattle.flow_core.specs.Limits.{budgets}
 use Rattle.flow_core.specs.Shop.{Shop}
 use Rattle.flow_core.specs.Mirror.{mirrored}

@@ -33,8 +33,8 @@ const OF_11: &[u8] = b"flowshop bounds 1\n3 3 0\n11 13\n2 1 3\n+BB+AB\nend\n";
 /// The lines of its sequence.
 const LINES: &[u8] = b"sequence 2 1 3\nmakespan 13\n";
 
-/// A text of bounds of its mirrored instance. At the empty list machine 2 has the bound 10 there. In the instance itself
-/// the makespan of 3 1 2 is 12.
+/// A text of bounds of its mirrored instance. At the empty list machine 2 has the bound 10 there. In the instance
+/// itself the makespan of 3 1 2 is 12.
 const OF_THE_MIRROR: &[u8] = b"flowshop bounds 1\n3 3 0\n10 13\n3 1 2\nB\nend\n";
 
 /// A run of `check`.

@@ -70,8 +70,8 @@ fn certify_writes_bounds_where_all_is_over(rt: HostRuntime) -> Result<(), Fail> 
     Ok(())
 }
 
-// All sequences have makespan 34. In the mirrored instance machine 1 has the bound 25 at the empty list. In the instance
-// it has 24, and the tree below 25 has more than one byte.
+// All sequences have makespan 34. In the mirrored instance machine 1 has the bound 25 at the empty list. In the
+// instance it has 24, and the tree below 25 has more than one byte.
 #[test]
 fn certify_writes_bounds_of_the_mirrored_instance(rt: HostRuntime) -> Result<(), Fail> {
     let alloc = rt.alloc();

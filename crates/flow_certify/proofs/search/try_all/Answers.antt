@@ -7,5 +7,6 @@ pub returns : goal.returns
 returns c = (
   c.requires.no_worse,
   over-all c.args.version c.args.instance.now c.args.jobs _ (omega arith)
-      (sequence-reverse c.args.instance.now.jobs c.args.jobs c.requires.no_worse.0) (rw c.in-None.is at c.in_ok-plan.ensures),
+      (sequence-reverse c.args.instance.now.jobs c.args.jobs c.requires.no_worse.0)
+        (rw c.in-None.is at c.in_ok-plan.ensures),
 )

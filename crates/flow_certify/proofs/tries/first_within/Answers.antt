@@ -24,7 +24,8 @@ loop-place-preserved c =
     let pairs =
     next-pair c.args.version c.loop-place.invariant.0.0 budget c.args.instance.now c.args.jobs.now c.loop-place.pair
     c.with_budget-pair.result c.loop-place.invariant.0.1 c.with_budget-pair.ensures.own
-    c.with_budget-pair.ensures.mirrored c.with_budget-pair.ensures.own_plan c.with_budget-pair.ensures.mirrored_plan in (
+    c.with_budget-pair.ensures.mirrored c.with_budget-pair.ensures.own_plan c.with_budget-pair.ensures.mirrored_plan
+      in (
       (budget, pairs),
       over-next c.args.version c.args.instance.now c.args.jobs.now c.loop-place.place
           (sequence-reverse c.args.instance.now.jobs c.args.jobs.now c.requires.is_sequence) c.loop-place.invariant.1

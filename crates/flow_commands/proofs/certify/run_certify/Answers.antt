@@ -20,7 +20,8 @@ returns-clause-written g c =
     (wrote-from (AnswersCertify c.args.request) c.args.index c.in_ok-block.block c.in_ok-block.given
     (source_run g.S.Source.given g.S.Source.has_ended c.args.file.now c.read_inputs.new.file)
     (start_run g.T.Source.given g.T.Source.has_ended c.args.start.now c.read_inputs.new.start)
-    (sink_run g.K.Sink.taken c.args.out.now c.certify_block.new.out) c.in_ok-block.ensures.picked c.in_ok-block.ensures.given)
+    (sink_run g.K.Sink.taken c.args.out.now c.certify_block.new.out) c.in_ok-block.ensures.picked
+      c.in_ok-block.ensures.given)
     c.certify_block.ensures.written
 
 pub returns-clause-ended : goal.returns-clause-ended
@@ -30,7 +31,8 @@ returns-clause-ended g c =
     c.in_ok-block.block c.in_ok-block.given
     (source_run g.S.Source.given g.S.Source.has_ended c.args.file.now c.read_inputs.new.file)
     (start_run g.T.Source.given g.T.Source.has_ended c.args.start.now c.read_inputs.new.start)
-    (sink_run g.K.Sink.taken c.args.out.now c.certify_block.new.out) fault c.in_ok-block.ensures.picked c.in_ok-block.ensures.given)
+    (sink_run g.K.Sink.taken c.args.out.now c.certify_block.new.out) fault c.in_ok-block.ensures.picked
+      c.in_ok-block.ensures.given)
     c.certify_block.ensures.ended
 
 pub returns-clause-lawful : goal.returns-clause-lawful

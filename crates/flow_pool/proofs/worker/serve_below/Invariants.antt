@@ -9,4 +9,5 @@ invariant-loop g l =
     (goal.iterator-loop g).can_next l.iterator' × (goal.iterator-loop g).is_finite l.iterator'
     × (l.ends.tasks.lane ≡ l.fn.ends.tasks.lane)
     × (l.ends.answers.lane ≡ l.fn.ends.answers.lane)
-    × (l.ends.tasks.received ≡ asking (answered l.ends.answers.sent)) × All (IsLawfulAnswer (plan_below l.target)) l.ends.answers.sent
+    × (l.ends.tasks.received ≡ asking (answered l.ends.answers.sent)) × All (IsLawfulAnswer (plan_below l.target))
+      l.ends.answers.sent
