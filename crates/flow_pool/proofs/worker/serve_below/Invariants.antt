@@ -10,4 +10,4 @@ invariant-loop g l =
     × (l.ends.tasks.lane ≡ l.fn.ends.tasks.lane)
     × (l.ends.answers.lane ≡ l.fn.ends.answers.lane)
     × (l.ends.tasks.received ≡ asking (answered l.ends.answers.sent)) × All (IsLawfulAnswer (plan_below l.target))
-      l.ends.answers.sent
+    l.ends.answers.sent

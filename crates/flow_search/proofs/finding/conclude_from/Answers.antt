@@ -23,7 +23,7 @@ returns-in-Some-clause-over c number e =
     ap (first_refusal 0) (sym c.deref.ensures.value) ∙ sym c.refusal_among.ensures ∙ c.in-Some.is
     ∙ ap (λ f. Some f) fault in
     (refusals (plan_below (at_value c.args.plan.now c.args.target)) c.args.outcomes.items size c.requires.lawful).over
-      number first
+    number first
 
 pub returns-clause-within : goal.returns-clause-within
 returns-clause-within c =
@@ -32,7 +32,7 @@ returns-clause-within c =
     let none : first_refusal 0 c.args.outcomes.items ≡ None = ap (first_refusal 0) (sym c.deref.ensures.value)
     ∙ sym c.refusal_among.ensures ∙ c.in_default.is in
     (refusals (plan_below (at_value c.args.plan.now c.args.target)) c.args.outcomes.items size c.requires.lawful).none
-      none
+    none
 
 pub returns-clause-done : goal.returns-clause-done
 returns-clause-done c i other h =
@@ -55,13 +55,13 @@ loop-outcome-preserved-in-Continue-branch-2 c =
     omega (arith, ap length items, length-append at.yielded (o ∷ into_iter_items c.next.new.self)) in
     let here : IsLawful (plan_below (at_value c.args.plan.now c.args.target)) k o =
     subst (IsLawful (plan_below (at_value c.args.plan.now c.args.target)) k)
-      (ap (λ os. slice_index_or os k o) (sym items)
+    (ap (λ os. slice_index_or os k o) (sym items)
     ∙ item-behind at.yielded o (into_iter_items c.next.new.self) o) (c.requires.lawful k o low) in
     let lawful : IsLawful (plan_below (at_value c.args.plan.now c.args.target)) k (Done c.in-Done.best c.in-Done.tree) =
     subst (IsLawful (plan_below (at_value c.args.plan.now c.args.target)) k) c.in-Done.is here in
     let added : IsTally (plan_below (at_value c.args.plan.now c.args.target)) (k + 1) c.add.new.self =
     c.in_ok-add.ensures (plan_below (at_value c.args.plan.now c.args.target)) k (omega (arith, low, size))
-      at.invariant.tally lawful in
+    at.invariant.tally lawful in
     let more : length (at.yielded ++ o ∷ []) ≡ k + 1 = omega (arith, length-append at.yielded (o ∷ [])) in
     record {
       taken = append_assoc at.yielded (o ∷ []) (into_iter_items c.next.new.self) ∙ items;
@@ -71,7 +71,7 @@ loop-outcome-preserved-in-Continue-branch-2 c =
           let short = ap length steps in
           omega (arith, was, gone, short);
       tally =
-        subst (λ n. IsTally (plan_below (at_value c.args.plan.now c.args.target)) n c.add.new.self) (sym more) added;
+          subst (λ n. IsTally (plan_below (at_value c.args.plan.now c.args.target)) n c.add.new.self) (sym more) added;
     }
 
 pub loop-outcome-preserved : goal.loop-outcome-preserved

@@ -10,7 +10,7 @@ returns-in-OverBudget-clause-over c number e =
     omega (arith, c.loop-number-test.true, c.prefixes-count.ensures.value) in
     let same : c.loop-number.number ≡ number = cc in
     first-over (plan_below (at_value c.args.plan.now c.args.target)) c.loop-number.number low
-      c.loop-number.invariant.within c.in-OverBudget.ensures
+    c.loop-number.invariant.within c.in-OverBudget.ensures
     ∙ ap (λ k. Some k) same
 
 pub returns-clause-within : goal.returns-clause-within
@@ -18,7 +18,7 @@ returns-clause-within c =
     let last : c.loop-number.number ≡ length (prefixes_of c.args.plan.now) =
     omega (arith, c.loop-number-test.false, c.prefixes-count.ensures.value) in
     no-over (plan_below (at_value c.args.plan.now c.args.target))
-      (subst (AreWithin (plan_below (at_value c.args.plan.now c.args.target))) last c.loop-number.invariant.within)
+    (subst (AreWithin (plan_below (at_value c.args.plan.now c.args.target))) last c.loop-number.invariant.within)
 
 pub loop-number-preserved : goal.loop-number-preserved
 loop-number-preserved c =

@@ -14,7 +14,7 @@ returns-clause-written g c = (
 pub returns-in_err-run_schedule-clause-ended : goal.returns-in_err-run_schedule-clause-ended
 returns-in_err-run_schedule-clause-ended g c =
     let p = err_from_is_err_and c.from_residual-in_err-run_schedule.result
-      c.from_residual-in_err-run_schedule.ensures.1 in
+    c.from_residual-in_err-run_schedule.ensures.1 in
     rw (p.1, p.2) (inr (
       c.in_ok-text.text,
       c.run_schedule.new.file,
@@ -30,7 +30,7 @@ returns-in_err-run_schedule-clause-ended g c =
 pub returns-in_err-run_schedule-clause-read_device : goal.returns-in_err-run_schedule-clause-read_device
 returns-in_err-run_schedule-clause-read_device g c =
     let p = err_from_is_err_and c.from_residual-in_err-run_schedule.result
-      c.from_residual-in_err-run_schedule.ensures.1 in
+    c.from_residual-in_err-run_schedule.ensures.1 in
     rw (p.1, p.2) (λ named. either-failed _ _ _ _
     (λ failed. (c.in_ok-text.text, c.run_schedule.new.file, c.in_ok-text.ensures.opened, failed))
     (λ failed. (c.in_ok-sequence.sequence, c.run_schedule.new.start, search rules, failed))

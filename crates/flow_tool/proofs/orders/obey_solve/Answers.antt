@@ -15,7 +15,7 @@ returns-clause-written g c = (
 pub returns-in_err-run_solve_as-clause-ended : goal.returns-in_err-run_solve_as-clause-ended
 returns-in_err-run_solve_as-clause-ended g c =
     let p = err_from_is_err_and c.from_residual-in_err-run_solve_as.result
-      c.from_residual-in_err-run_solve_as.ensures.1 in
+    c.from_residual-in_err-run_solve_as.ensures.1 in
     rw (p.1, p.2) (inr (
       c.in_ok-text.text,
       c.run_solve_as.new.file,
@@ -31,7 +31,7 @@ returns-in_err-run_solve_as-clause-ended g c =
 pub returns-in_err-run_solve_as-clause-read_device : goal.returns-in_err-run_solve_as-clause-read_device
 returns-in_err-run_solve_as-clause-read_device g c =
     let p = err_from_is_err_and c.from_residual-in_err-run_solve_as.result
-      c.from_residual-in_err-run_solve_as.ensures.1 in
+    c.from_residual-in_err-run_solve_as.ensures.1 in
     rw (p.1, p.2) (λ named. either-failed _ _ _ _
     (λ failed. (c.in_ok-text.text, c.run_solve_as.new.file, c.in_ok-text.ensures.opened, failed))
     (start-failed (names_of (g.I.Inputs.is_standard c.args.inputs.now) (g.I.Inputs.opened c.args.inputs.now)

@@ -12,7 +12,7 @@ refusal_among-requires g c =
     let directed = c.run_workers-ended.ensures.directed c.in-Complete.is in
     let settled = c.settle_all.ensures in
     let lawful = lawful-outcomes (plan_below c.args.target.now) _ _ _ _ _ _ directed
-      c.run_workers-ended.ensures.ended.served
+    c.run_workers-ended.ensures.ended.served
     settled.tasks settled.answers c.requires.some c.outcomes_of-outcomes.ensures in
     omega (arith, directed.few, c.requires.few, lawful.1, ap length c.as_slice.ensures.value)
 
@@ -22,12 +22,12 @@ returns-in-Some g c =
     let settled = c.settle_all.ensures in
     let outcomes = c.outcomes_of-outcomes.result.items in
     let lawful = lawful-outcomes (plan_below c.args.target.now) _ _ _ _ _ _ directed
-      c.run_workers-ended.ensures.ended.served
+    c.run_workers-ended.ensures.ended.served
     settled.tasks settled.answers c.requires.some c.outcomes_of-outcomes.ensures in
     let first : first_refusal 0 outcomes ≡ Some c.in-Some.fault =
     ap (first_refusal 0) (sym c.as_slice.ensures.value) ∙ (sym c.refusal_among.ensures ∙ c.in-Some.is) in (
       IsRunFault-first (plan_below c.args.target.now) outcomes c.in-Some.fault (omega (arith, lawful.1, directed.few))
-        lawful.0 first,
+          lawful.0 first,
       search rules,
     )
 
@@ -37,7 +37,7 @@ conclude_below-requires-clause-count g c =
     let settled = c.settle_all.ensures in
     let answers = c.run_workers-ended.result.desk.answers.items in
     let lawful = lawful-outcomes (plan_below c.args.target.now) _ _ _ _ _ _ directed
-      c.run_workers-ended.ensures.ended.served
+    c.run_workers-ended.ensures.ended.served
     settled.tasks settled.answers c.requires.some c.outcomes_of-outcomes.ensures in
     let none : first_refusal 0 (map (λ (a : Answer). a.outcome) answers) ≡ None =
     ap (first_refusal 0) (sym (c.as_slice.ensures.value ∙ c.outcomes_of-outcomes.ensures))
