@@ -28,7 +28,7 @@ in-force-zero shop prefix node =
 
 -- the first number passes
 find-first : (p : ℕ → Bool) (first count : ℕ) → 1 ≤ count → p first ≡ true →
-  find p (range_with_len first count) ≡ Some first
+    find p (range_with_len first count) ≡ Some first
 find-first p first zero some is = absurd (omega arith)
 find-first p first (suc count) some is =
     ap (λ b. cond b (Some first) (find p (range_with_len (first + 1) count))) is
@@ -72,7 +72,7 @@ pub zero-within : (plan : Planned) → IsPlan plan → plan.options.depth ≡ 0 
 zero-within plan is depth =
     zero-trees plan.shop (bound_of plan.options.version) plan.options.budget (min 0 plan.start.value)
     plan.options.depth (omega arith) depth is.option_limits.some_byte is.shop_limits.some_job
-      is.shop_limits.some_machine
+    is.shop_limits.some_machine
 
 pub never-over : (plan : Planned) → IsPlan plan → plan.options.depth ≡ 0 →
     IsSome (first_over_budget (plan_below (target_of plan 0))) → ⊥

@@ -4,13 +4,11 @@ use Rattle.std.proofs.Common.{◌∷◌, length}
 use Rattle.std.proofs.Common.{slice_index_or, reverse, Option, None, Some, IsSome, unwrap_or, is_some, arith}
 use Rattle.std.proofs.Common.{true, false, nat_eq, eqb-true, if◌then◌else◌, Bool}
 use Rattle.std.proofs.lemmas.Bool.{cases_lt, false≢true}
-use Rattle.std.proofs.lemmas.List.{reverse-reverse}
 use Rattle.flow_core.specs.Limits.{budgets, greatest_version, least_version}
 use Rattle.flow_core.specs.Mirror.{mirrored}
 use Rattle.flow_core.specs.Paths.{span}
 use Rattle.flow_core.specs.Sequences.{IsSequence}
 use Rattle.flow_core.specs.Shop.{Shop}
-use Rattle.flow_core.proofs.MirrorLemmas.{mirror-lists}
 use Rattle.flow_cert.specs.PlanCertificates.{certificate_of}
 use Rattle.flow_search.specs.Plans.{Planned, IsPlan}
 use Rattle.flow_search.specs.Verdicts.{IsVerdict}
@@ -24,6 +22,7 @@ use Rattle.flow_certify.specs.internal.Tried.{AreAllOver, AreOver, AreOverFirst,
 use Rattle.flow_certify.specs.internal.Tried.{IsOneOf, IsSearched, IsSolved, IsTried, IsWithin, tried_from}
 use Rattle.flow_certify.specs.internal.Pairs.{IsPair, plan_in}
 use Rattle.flow_certify.specs.declared.pair.Pair.{Pair}
+use Rattle.flow_certify.proofs.Pairs.{same-back}
 
 -- the own plan of a pair is within its budget
 pub own-solved : (pair : Pair) (verdict : Verdict) → IsSolved pair.own (Some verdict) →
@@ -68,12 +67,12 @@ within-gives plan next within = rw (certificate_or, within) refl
 
 -- a plan over its budget gives the next answer
 passes : (first : Option ℕ) (answer next : Option (List ℕ)) → IsSome first →
-  elim first [ None ↦ answer | Some number ↦ next ] ≡ next
+    elim first [ None ↦ answer | Some number ↦ next ] ≡ next
 passes (Some number) answer next some = refl
 passes None answer next some = absurd (cc some)
 
 over-passes : (plan : Planned) (next : Option (List ℕ)) → IsSome (first_over_budget plan) →
-  certificate_or plan next ≡ next
+    certificate_or plan next ≡ next
 over-passes plan next over = passes (first_over_budget plan) (Some (certificate_of plan)) next over
 
 -- one budget gives a certificate
@@ -120,11 +119,6 @@ all-pass version shop jobs [] next before = refl
 all-pass version shop jobs (budget ∷ later) next before =
     one-passes version budget shop jobs later next (before 0 (omega arith))
     ∙ all-pass version shop jobs later next (λ k low. before (suc k) (omega arith))
-
--- the reversed sequence has the same makespan on the mirrored shop
-same-back : (shop : Shop) (jobs : List ℕ) → IsSequence shop.jobs (reverse jobs) →
-    span (mirrored shop) (reverse jobs) ≡ span shop jobs
-same-back shop jobs is = mirror-lists shop (reverse jobs) is.each.range ∙ ap (span shop) (reverse-reverse jobs)
 
 -- a tree depends on the makespan of the start alone
 over-from : (version budget : ℕ) (shop : Shop) (jobs : List ℕ) → IsSequence shop.jobs (reverse jobs) →
@@ -174,7 +168,7 @@ over-next version shop jobs place back before over k low =
           let is : place ≡ k = omega arith in
           subst (λ p. IsSome (first_over_budget (tried_from version (slice_index_or budgets p 0) shop (span shop jobs)))
           × IsSome (first_over_budget (tried_from version (slice_index_or budgets p 0)
-            (mirrored shop) (span shop jobs))))
+          (mirrored shop) (span shop jobs))))
           is (over-from version (slice_index_or budgets place 0) shop jobs back over)
     ]
 
@@ -209,11 +203,11 @@ over-of version shop tries value from over is =
     (over-if version shop tries value (nat_eq value tries.value) refl over)
 
 -- what is known after some tries
-pub tried-few : (version : ℕ) (shop : Shop) (jobs : List ℕ) (many : ℕ) (found : Option (Planned × Verdict))
+pub tried-first : (version : ℕ) (shop : Shop) (jobs : List ℕ) (many : ℕ) (found : Option (Planned × Verdict))
     (tries : Tries) → tries.value ≡ span shop jobs → tries.over ≡ many → IsTried version shop jobs many found →
     HaveTried version shop jobs tries found
-tried-few version shop jobs many (Some found) tries value over is = is
-tried-few version shop jobs many None tries value over is =
+tried-first version shop jobs many (Some found) tries value over is = is
+tried-first version shop jobs many None tries value over is =
     subst (AreOverFirst version shop tries.value) (sym over)
     (subst (λ v. AreOverFirst version shop v many) (sym value) is)
 
@@ -255,7 +249,7 @@ over-first (Some asked) version shop start jobs none is over = absurd (cc none)
 second-found : (shop : Shop) (start jobs : List ℕ) (budget : ℕ) (plan : Planned) (verdict : Verdict) →
     budget ≡ second_budget shop.machines → IsSearched least_version shop start (Over jobs) →
     IsEither greatest_version budget shop jobs (Some (plan, verdict)) → FindsCertificate None shop start
-      (Found plan verdict)
+    (Found plan verdict)
 second-found shop start jobs budget plan verdict own (worse, over) (within, is_plan, is_verdict) = (
   jobs,
   worse,

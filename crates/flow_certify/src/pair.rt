@@ -5,7 +5,7 @@ ghost use Rattle.flow_core.specs.Mirror.{mirrored};
 ghost use Rattle.flow_core.specs.Sequences.{IsSequence};
 ghost use Rattle.flow_search.specs.Plans.{IsPlan};
 ghost use Rattle.flow_certify.specs.Tries.{tried, tried_options};
-ghost use Rattle.flow_certify.specs.internal.Pairs.{AreOptions, IsPair, plan_in, tried_or_fault};
+ghost use Rattle.flow_certify.specs.internal.Pairs.{AreOptions, HasBudget, IsPair, plan_in, tried_or_fault};
 
 use flow_core::{Instance, Sequence};
 use flow_search::{OptionFault, Options, Plan, PlanFault, prepare_from};
@@ -43,24 +43,13 @@ impl<'a> Pair<'a> {
     }
 
     /// The same plans with another budget.
-    pub(crate) fn with_budget(self, budget: u32, version: u32) -> Pair<'a>
-        requires are_options { AreOptions version budget }
+    pub(crate) fn with_budget(self, budget: u32) -> Pair<'a>
+        requires are_options { AreOptions self.own.options.version budget }
         requires depth { self.own.options.depth ≡ 0 }
         requires mirrored_depth { self.mirrored.options.depth ≡ 0 }
-        ensures own { result.own ≡ record {
-          shop = self.entry.own.shop;
-          start = self.entry.own.start;
-          options = tried_options version budget;
-        } }
-        ensures mirrored { result.mirrored ≡ record {
-          shop = self.entry.mirrored.shop;
-          start = self.entry.mirrored.start;
-          options = tried_options version budget;
-        } }
-        ensures own_plan { IsPlan result.own }
-        ensures mirrored_plan { IsPlan result.mirrored }
+        ensures { HasBudget budget self.entry result }
     {
-        let options = options_of(budget, version);
+        let options = options_of(budget, self.own.options().version());
         Pair {
             own: self.own.with_options(options),
             mirrored: self.mirrored.with_options(options),

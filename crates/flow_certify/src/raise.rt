@@ -1,15 +1,14 @@
 //! A lower bound, raised by searches below targets.
 
-ghost use Rattle.std.specs.Prelude.{◌≡◌, ◌<◌, ◌≤◌, ℕ, true, IfOk, IfSome, None, Some, Ok, IsSome};
+ghost use Rattle.std.specs.Prelude.{◌≡◌, ◌<◌, ◌≤◌, ℕ, true, IfOk, IfSome, None, Some, Ok};
 ghost use Rattle.std.specs.Int.{is_in_range};
 ghost use Rattle.flow_core.specs.Limits.{least_version, greatest_version};
 ghost use Rattle.flow_core.specs.Mirror.{mirrored};
 ghost use Rattle.flow_core.specs.Sequences.{IsSequence};
-ghost use Rattle.flow_search.specs.Outcomes.{first_over_budget};
 ghost use Rattle.flow_search.specs.Plans.{IsPlan};
-ghost use Rattle.flow_search.specs.Targets.{plan_below, target_of};
-ghost use Rattle.flow_certify.specs.Raised.{IsProved};
-ghost use Rattle.flow_certify.specs.internal.Held.{IsFoundBelow, IsHeld};
+ghost use Rattle.flow_search.specs.Targets.{target_of};
+ghost use Rattle.flow_certify.specs.Raised.{IsOverBelow, IsProved};
+ghost use Rattle.flow_certify.specs.internal.Held.{AreOverBelow, IsFoundBelow, IsHeld, IsRaised, is_below};
 ghost use Rattle.flow_certify.specs.internal.Pairs.{IsPair};
 
 use crate::pair::Pair;
@@ -29,6 +28,15 @@ pub struct Proved<'a> {
     pub finding: Finding,
 }
 
+impl<'a> Proved<'a> {
+    /// The number as the target of the plan.
+    pub fn target<'p>(&'p self) -> Target<'p, 'a>
+        ensures { result ≡ target_of self.now.plan self.now.number }
+    {
+        Target::new(&self.plan, self.number)
+    }
+}
+
 /// The finding of a number as the target of one of two plans.
 #[derive(Drop)]
 struct Held {
@@ -37,10 +45,23 @@ struct Held {
     finding: Finding,
 }
 
+impl Held {
+    /// Whether another number is left between the number and one that is over the budget: not where the least makespan
+    /// is found.
+    fn is_below(&self, over: u64) -> bool
+        ensures { result ≡ is_below self.now over }
+    {
+        match self.finding {
+            Finding::Least(_) => false,
+            Finding::Bound { .. } => over.saturating_sub(self.number) > 1,
+        }
+    }
+}
+
 /// The finding of a number as the target of a plan, where its tree is within the budget.
 fn find_below(alloc: Global, plan: &Plan, number: u64) -> Result<Option<Finding>, AllocError>
     ensures finding { IfOk result (λ found. IfSome found (IsFoundBelow plan.now number)) }
-    ensures over { result ≡ Ok None → IsSome (first_over_budget (plan_below (target_of plan.now number))) }
+    ensures over { result ≡ Ok None → IsOverBelow plan.now number }
 {
     let target = Target::new(plan, number);
     match solve_plain_below(alloc, &target) {
@@ -52,7 +73,9 @@ fn find_below(alloc: Global, plan: &Plan, number: u64) -> Result<Option<Finding>
 
 /// The same of a plan of the instance, and, where its tree is over the budget, of the mirrored instance.
 fn find_either(alloc: Global, pair: &Pair, number: u64) -> Result<Option<Held>, AllocError>
-    ensures { IfOk result (λ found. IfSome found (IsHeld pair.now)) }
+    ensures held { IfOk result (λ found. IfSome found (IsHeld pair.now)) }
+    ensures number { IfOk result (λ found. IfSome found (λ held. held.number ≡ number)) }
+    ensures over { result ≡ Ok None → AreOverBelow pair.now number }
 {
     if let Some(finding) = find_below(alloc, &pair.own, number)? {
         return Ok(Some(Held {
@@ -88,58 +111,33 @@ fn find_first(alloc: Global, pair: &Pair) -> Result<Held, AllocError>
     }
 }
 
-/// Raises the number by 1, 2, 4 and so on until both trees are over the budget. It also gives how often the last step
-/// was doubled.
-fn climb(alloc: Global, pair: &Pair, held: Held) -> Result<(Held, u32), AllocError>
-    requires { IsHeld pair.now held }
-    ensures held { IfOk result (λ climbed. IsHeld pair.now climbed.0) }
-    ensures few { IfOk result (λ climbed. climbed.1 < 64) }
-{
-    let mut held = held;
-    for doublings in 0..64 {
-        if let Finding::Least(_) = held.finding {
-            return Ok((held, 0));
-        }
-        let number = held.number.saturating_add(1 << doublings);
-        match find_either(alloc, pair, number)? {
-            Some(higher) => held = higher,
-            None => return Ok((held, doublings)),
-        }
-    }
-    Ok((held, 0))
-}
-
-/// Raises the number by half of the last step, by a quarter of it, and so on, wherever a tree is within the budget.
-fn close(alloc: Global, pair: &Pair, held: Held, doublings: u32) -> Result<Held, AllocError>
+/// Raises the number until the search of the next one is over the budget on both plans, or the least makespan is found:
+/// by 1, 2, 4 and so on, but by no more than half of the way to a number that is over.
+fn raise(alloc: Global, pair: &Pair, held: Held) -> Result<Held, AllocError>
     requires held { IsHeld pair.now held }
-    requires few { doublings < 64 }
-    ensures { IfOk result (IsHeld pair.now) }
+    requires alike { pair.now.own.start.value ≡ pair.now.mirrored.start.value }
+    ensures held { IfOk result (IsHeld pair.now) }
+    ensures raised { IfOk result (IsRaised pair.now) }
 {
     let mut held = held;
-    for halvings in 0..doublings {
-        if let Finding::Least(_) = held.finding {
-            return Ok(held);
-        }
-        let number = held.number.saturating_add(1 << (doublings - 1 - halvings));
-        if let Some(higher) = find_either(alloc, pair, number)? {
-            held = higher;
+    let mut step = 1u64;
+    let mut over = pair.own.start_value() + 1;
+    while held.is_below(over) {
+        let number = held.number + step.min((over - held.number) / 2);
+        match find_either(alloc, pair, number)? {
+            Some(higher) => {
+                held = higher;
+                step = step.saturating_mul(2);
+            }
+            None => over = number,
         }
     }
     Ok(held)
 }
 
-/// Raises the number as far as the trees are within the budget.
-fn raise(alloc: Global, pair: &Pair, held: Held) -> Result<Held, AllocError>
-    requires { IsHeld pair.now held }
-    ensures { IfOk result (IsHeld pair.now) }
-{
-    let (held, doublings) = climb(alloc, pair, held)?;
-    close(alloc, pair, held, doublings)
-}
-
 /// Searches below greater and greater numbers from a sequence, on the instance and on the mirrored one: first with a
-/// budget of one byte, then of 1,000,000, and then of 10,000,000 bytes. It gives the last finding within the budgets: the
-/// trees that show that no sequence is below the number, or a verdict with the least makespan.
+/// budget of one byte, then of 1,000,000, and then of 10,000,000 bytes. It ends with the least makespan; or with the
+/// trees that show that no sequence is below a number, where those of the next number are over the budget.
 pub fn raise_bound<'a>(
     alloc: Global,
     instance: &'a Instance,
@@ -155,9 +153,9 @@ pub fn raise_bound<'a>(
     let pair = Pair::new(alloc, instance, mirror, jobs, 1, version)?;
     let held = find_first(alloc, &pair)?;
     let held = raise(alloc, &pair, held)?;
-    let pair = pair.with_budget(1_000_000, version);
+    let pair = pair.with_budget(1_000_000);
     let held = raise(alloc, &pair, held)?;
-    let pair = pair.with_budget(10_000_000, version);
+    let pair = pair.with_budget(10_000_000);
     let held = raise(alloc, &pair, held)?;
     Ok(Proved {
         plan: pair.into_plan(held.is_mirrored),

@@ -10,7 +10,7 @@ ghost use Rattle.flow_certify.specs.Certified.{FindsCertificate};
 ghost use Rattle.flow_certify.specs.Tries.{AreInRange, IsNoWorse, second_budget};
 ghost use Rattle.flow_certify.specs.internal.Tried.{AreTried, HaveTried, IsSearched};
 
-use crate::tries::{first_of_one, first_within};
+use crate::tries::{first_within, with_one_budget};
 use flow_bound::taillard_bound;
 use flow_core::{BUDGETS, Instance, MAX_VERSION, MIN_VERSION, Sequence, makespan};
 use flow_improve::{Effort, Reached, beam, rounds_of_both};
@@ -46,8 +46,8 @@ pub enum Searched<'a> {
     Over(Sequence),
 }
 
-/// Tries the first few budgets from a sequence, but for those that are over.
-fn try_few<'a>(
+/// Tries the first budgets from a sequence, but for those that are over.
+fn try_first<'a>(
     alloc: Global,
     instance: &'a Instance,
     mirror: &'a Instance,
@@ -120,28 +120,28 @@ fn search<'a>(
         let jobs = Sequence::of_known(alloc, start.jobs())?;
         return try_all(alloc, instance, mirror, start, jobs, &tries, version);
     }
-    let found = try_few(alloc, instance, mirror, start, &mut tries, 2, version)?;
+    let found = try_first(alloc, instance, mirror, start, &mut tries, 2, version)?;
     if let Some((plan, verdict)) = found {
         return Ok(Searched::Found(plan, verdict));
     }
     let width = effort.width.min(NARROW);
-    let near = beam(alloc, instance, start, width, effort.beam_work())?;
-    if near.whole {
+    let narrow = beam(alloc, instance, start, width, effort.beam_work())?;
+    if narrow.whole {
         return try_all(
             alloc,
             instance,
             mirror,
             start,
-            near.sequence,
+            narrow.sequence,
             &tries,
             version,
         );
     }
-    let found = try_few(
+    let found = try_first(
         alloc,
         instance,
         mirror,
-        &near.sequence,
+        &narrow.sequence,
         &mut tries,
         2,
         version,
@@ -150,7 +150,7 @@ fn search<'a>(
         return Ok(Searched::Found(plan, verdict));
     }
     search_on(
-        alloc, instance, mirror, start, near, effort, &mut tries, version,
+        alloc, instance, mirror, start, narrow, effort, &mut tries, version,
     )
 }
 
@@ -160,21 +160,21 @@ fn search_on<'a>(
     instance: &'a Instance,
     mirror: &'a Instance,
     start: &Sequence,
-    near: Reached,
+    narrow: Reached,
     effort: &Effort,
     tries: &mut Tries,
     version: u32,
 ) -> Result<Searched<'a>, AllocError>
     requires is_mirror { mirror.now ≡ mirrored instance.now }
     requires is_sequence { IsSequence instance.now.jobs start.now }
-    requires no_worse { IsNoWorse instance.now start.now near.sequence }
+    requires no_worse { IsNoWorse instance.now start.now narrow.sequence }
     requires are_tried { AreTried version instance.now tries.old }
     requires seed_from { 1 ≤ effort.now.seed }
     requires seed_to { effort.now.seed < modulus }
     requires version { is_in_range least_version greatest_version version ≡ true }
     ensures { IfOk result (IsSearched version instance.now start.now) }
 {
-    let beamed = widened(alloc, instance, start, near, effort)?;
+    let beamed = widened(alloc, instance, start, narrow, effort)?;
     if beamed.whole {
         return try_all(
             alloc,
@@ -186,7 +186,7 @@ fn search_on<'a>(
             version,
         );
     }
-    let found = try_few(alloc, instance, mirror, &beamed.sequence, tries, 3, version)?;
+    let found = try_first(alloc, instance, mirror, &beamed.sequence, tries, 3, version)?;
     if let Some((plan, verdict)) = found {
         return Ok(Searched::Found(plan, verdict));
     }
@@ -207,15 +207,15 @@ fn widened(
     alloc: Global,
     instance: &Instance,
     start: &Sequence,
-    near: Reached,
+    narrow: Reached,
     effort: &Effort,
 ) -> Result<Reached, AllocError>
     requires is_sequence { IsSequence instance.now.jobs start.now }
-    requires no_worse { IsNoWorse instance.now start.now near.sequence }
+    requires no_worse { IsNoWorse instance.now start.now narrow.sequence }
     ensures { IfOk result (λ reached. IsNoWorse instance.now start.now reached.sequence) }
 {
     if effort.width <= NARROW {
-        return Ok(near);
+        return Ok(narrow);
     }
     beam(alloc, instance, start, effort.width, effort.beam_work())
 }
@@ -259,7 +259,7 @@ pub fn find_certificate<'a>(
         return Ok(Searched::Over(jobs));
     }
     let budget = second_budget(instance.machines());
-    match first_of_one(alloc, instance, mirror, &jobs, budget, MAX_VERSION)? {
+    match with_one_budget(alloc, instance, mirror, &jobs, budget, MAX_VERSION)? {
         Some((plan, verdict)) => Ok(Searched::Found(plan, verdict)),
         None => Ok(Searched::Over(jobs)),
     }

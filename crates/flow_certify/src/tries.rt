@@ -45,7 +45,7 @@ fn solve_either(alloc: Global, pair: &Pair) -> Result<Option<(bool, Verdict)>, A
 
 /// The plan from a sequence with one budget, or that of the mirrored instance, and its verdict: the first whose tree is
 /// within the budget.
-pub(crate) fn first_of_one<'a>(
+pub(crate) fn with_one_budget<'a>(
     alloc: Global,
     instance: &'a Instance,
     mirror: &'a Instance,
@@ -84,7 +84,7 @@ pub(crate) fn first_within<'a>(
 {
     let mut pair = Pair::new(alloc, instance, mirror, jobs, BUDGETS[0], version)?;
     for place in from..to {
-        pair = pair.with_budget(BUDGETS[place], version);
+        pair = pair.with_budget(BUDGETS[place]);
         if let Some((is_mirrored, verdict)) = solve_either(alloc, &pair)? {
             return Ok(Some((pair.into_plan(is_mirrored), verdict)));
         }

@@ -26,7 +26,6 @@ use flow_core::{Instance, MIN_VERSION, Sequence, Sink, Source};
 use flow_improve::Effort;
 use flow_pool::SolveFault;
 use flow_requests::CertifyRequest;
-use flow_search::Target;
 use std::alloc::Global;
 
 /// The effort of a request, where its numbers are within their limits; else the first fault.
@@ -45,8 +44,9 @@ fn tested(request: CertifyRequest) -> Result<Effort, CommandFault>
     Ok(effort)
 }
 
-/// Looks for the greatest bound that it can prove from a sequence, and writes the text of what it found.
-fn write_bounds<K: Sink>(
+/// Raises a bound from a sequence as far as it can be proved, and writes the text of what it found: of bounds, or of the
+/// least makespan.
+fn write_proved<K: Sink>(
     alloc: Global,
     instance: &Instance,
     mirror: &Instance,
@@ -67,8 +67,7 @@ fn write_bounds<K: Sink>(
     ensures reads_nothing { IsErrOf result (CommandFault.Read read.Device) → ⊥ }
 {
     let proved = raise_bound(alloc, instance, mirror, jobs, version)?;
-    let target = Target::new(&proved.plan, proved.number);
-    write_finding(&target, &proved.finding, out)?;
+    write_finding(&proved.target(), &proved.finding, out)?;
     Ok(())
 }
 
@@ -99,7 +98,7 @@ fn certify_block<K: Sink>(
     };
     if request.bounds {
         let version = request.version.unwrap_or(MIN_VERSION);
-        return write_bounds(alloc, instance, &mirror, &jobs, version, out);
+        return write_proved(alloc, instance, &mirror, &jobs, version, out);
     }
     Err(CommandFault::Run(SolveFault::OverBudget(0)))
 }

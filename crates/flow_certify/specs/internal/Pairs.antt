@@ -24,6 +24,12 @@ pub record IsPair (version budget : ℕ) (shop : Shop) (jobs : List ℕ) (pair :
   pub own_plan : IsPlan pair.own
   pub mirrored_plan : IsPlan pair.mirrored
 
+-- the plans are the same, but for their budget
+abbrev pub HasBudget : ℕ → Pair → Pair → Type 0
+HasBudget budget before after =
+    (version was : ℕ) (shop : Shop) (jobs : List ℕ) → IsPair version was shop jobs before →
+    IsPair version budget shop jobs after
+
 -- the plan of the mirrored shop, where that is asked for, or the own one
 abbrev pub plan_in : Pair → Bool → Planned
 plan_in pair is_mirrored = cond is_mirrored pair.mirrored pair.own

@@ -8,5 +8,5 @@ returns c = (
   c.requires.no_worse,
   over-all c.args.version c.args.instance.now c.args.jobs _ (omega arith)
       (sequence-reverse c.args.instance.now.jobs c.args.jobs c.requires.no_worse.0)
-        (rw c.in-None.is at c.in_ok-plan.ensures),
+      (rw c.in-None.is at c.in_ok-plan.ensures),
 )

@@ -2,16 +2,14 @@ use Rattle.std.proofs.Common.{arith, slice_index_or}
 use Rattle.flow_core.specs.Limits.{budgets}
 use Rattle.flow_core.proofs.ReversedSequence.{sequence-reverse}
 use Rattle.flow_certify.proofs.Found.{found-at, none-of, one-of, over-next}
-use Rattle.flow_certify.proofs.Pairs.{next-pair}
 use Rattle.flow_certify.proofs.tries.first_within.Goals as goal
 
 pub returns-in-Some : goal.returns-in-Some
 returns-in-Some c =
     let budget = slice_index_or budgets c.loop-place.place 0 in
     let pairs =
-    next-pair c.args.version c.loop-place.invariant.0.0 budget c.args.instance.now c.args.jobs.now c.loop-place.pair
-    c.with_budget-pair.result c.loop-place.invariant.0.1 c.with_budget-pair.ensures.own
-    c.with_budget-pair.ensures.mirrored c.with_budget-pair.ensures.own_plan c.with_budget-pair.ensures.mirrored_plan in
+    c.with_budget-pair.ensures c.args.version c.loop-place.invariant.0.0 c.args.instance.now c.args.jobs.now
+    c.loop-place.invariant.0.1 in
     found-at c.args.version c.args.instance.now c.args.jobs.now c.loop-place.place _
     (sequence-reverse c.args.instance.now.jobs c.args.jobs.now c.requires.is_sequence) c.loop-place.invariant.1
     (omega (arith, c.loop-place-test.true, c.requires.few))
@@ -22,10 +20,8 @@ pub loop-place-preserved : goal.loop-place-preserved
 loop-place-preserved c =
     let budget = slice_index_or budgets c.loop-place.place 0 in
     let pairs =
-    next-pair c.args.version c.loop-place.invariant.0.0 budget c.args.instance.now c.args.jobs.now c.loop-place.pair
-    c.with_budget-pair.result c.loop-place.invariant.0.1 c.with_budget-pair.ensures.own
-    c.with_budget-pair.ensures.mirrored c.with_budget-pair.ensures.own_plan c.with_budget-pair.ensures.mirrored_plan
-      in (
+    c.with_budget-pair.ensures c.args.version c.loop-place.invariant.0.0 c.args.instance.now c.args.jobs.now
+    c.loop-place.invariant.0.1 in (
       (budget, pairs),
       over-next c.args.version c.args.instance.now c.args.jobs.now c.loop-place.place
           (sequence-reverse c.args.instance.now.jobs c.args.jobs.now c.requires.is_sequence) c.loop-place.invariant.1

@@ -1,5 +1,5 @@
 use Rattle.flow_certify.proofs.Found.{none-of, one-of}
-use Rattle.flow_certify.proofs.tries.first_of_one.Goals as goal
+use Rattle.flow_certify.proofs.tries.with_one_budget.Goals as goal
 
 pub returns-in-Some : goal.returns-in-Some
 returns-in-Some c =

@@ -46,21 +46,21 @@ returns-in_err-write_certificate-in-Found-clause-ended g c =
 
 pub returns-then-request-clause-written : goal.returns-then-request-clause-written
 returns-then-request-clause-written g c =
-    on_ok_weaker c.write_bounds.result
-    (wrote-weaker _ _ (sink_run g.K.Sink.taken c.args.out.now c.write_bounds.new.out)
+    on_ok_weaker c.write_proved.result
+    (wrote-weaker _ _ (sink_run g.K.Sink.taken c.args.out.now c.write_proved.new.out)
     (bounds-answers c.args.request c.args.instance.now c.args.given c.in_ok-start.start c.in-Over.jobs _
     c.in_ok-effort.ensures.accepted c.in_ok-start.ensures.start (rw c.in-Over.is at c.in_ok-plan.ensures)
     c.if-request.true c.unwrap_or-version.ensures))
-    c.write_bounds.ensures.written
+    c.write_proved.ensures.written
 
 pub returns-then-request-clause-ended : goal.returns-then-request-clause-ended
 returns-then-request-clause-ended g c =
-    IfErr-weaker c.write_bounds.result _ _
-    (λ fault. ends-weaker _ _ (sink_run g.K.Sink.taken c.args.out.now c.write_bounds.new.out) fault
+    IfErr-weaker c.write_proved.result _ _
+    (λ fault. ends-weaker _ _ (sink_run g.K.Sink.taken c.args.out.now c.write_proved.new.out) fault
     (bounds-answers c.args.request c.args.instance.now c.args.given c.in_ok-start.start c.in-Over.jobs _
     c.in_ok-effort.ensures.accepted c.in_ok-start.ensures.start (rw c.in-Over.is at c.in_ok-plan.ensures)
     c.if-request.true c.unwrap_or-version.ensures))
-    c.write_bounds.ensures.ended
+    c.write_proved.ensures.ended
 
 pub returns-clause-ended : goal.returns-clause-ended
 returns-clause-ended g c =

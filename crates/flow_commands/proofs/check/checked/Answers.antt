@@ -21,7 +21,7 @@ pub returns-then-not-request-clause-refused : goal.returns-then-not-request-clau
 returns-then-not-request-clause-refused c =
     is-refused c.args.kind c.args.request c.args.instance.now c.args.bytes.now c.in-Err.fault c.in-Err.ensures.fault
     c.in-Err.ensures.none (λ asked stated lawful. absurd (is-not-asked c.args.request.either
-      c.if-not-request.true asked))
+    c.if-not-request.true asked))
 
 pub returns-in-Ok-check_text-clause-gives : goal.returns-in-Ok-check_text-clause-gives
 returns-in-Ok-check_text-clause-gives c =
@@ -36,7 +36,7 @@ returns-in-Ok-check_text-clause-gives c =
 pub returns-in-Ok-check_text-clause-upper : goal.returns-in-Ok-check_text-clause-upper
 returns-in-Ok-check_text-clause-upper c =
     turned-attained c.args.kind c.args.instance.now c.args.bytes.now c.in-Ok-check_text.field-0.sequence
-      c.reversed.result
+    c.reversed.result
     c.in-Ok-check_text.field-0.bounds
     (subst (λ (shop : Shop). GivesAs c.args.kind shop c.args.bytes.now c.in-Ok-check_text.field-0.bounds
     c.in-Ok-check_text.field-0.sequence) c.in_ok-mirror.ensures c.in-Ok-check_text.ensures.text)

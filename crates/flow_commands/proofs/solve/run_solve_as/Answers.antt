@@ -21,7 +21,7 @@ returns-clause-written g c =
     (source_run g.S.Source.given g.S.Source.has_ended c.args.file.now c.read_inputs.new.file)
     (start_run g.T.Source.given g.T.Source.has_ended c.args.start.now c.read_inputs.new.start)
     (sink_run g.K.Sink.taken c.args.out.now c.solve_block.new.out) c.in_ok-block.ensures.picked
-      c.in_ok-block.ensures.given)
+    c.in_ok-block.ensures.given)
     c.solve_block.ensures.written
 
 pub returns-clause-ended : goal.returns-clause-ended
@@ -32,14 +32,14 @@ returns-clause-ended g c =
     (source_run g.S.Source.given g.S.Source.has_ended c.args.file.now c.read_inputs.new.file)
     (start_run g.T.Source.given g.T.Source.has_ended c.args.start.now c.read_inputs.new.start)
     (sink_run g.K.Sink.taken c.args.out.now c.solve_block.new.out) fault c.in_ok-block.ensures.picked
-      c.in_ok-block.ensures.given)
+    c.in_ok-block.ensures.given)
     c.solve_block.ensures.ended
 
 pub returns-clause-lawful : goal.returns-clause-lawful
 returns-clause-lawful g c =
     on_ok_weaker c.solve_block.result
     (came-for c.args.index (λ shop. WroteFound c.args.request.target (mirrored_if c.args.request.mirrored shop)
-      (sink_run g.K.Sink.taken c.args.out.now c.solve_block.new.out))
+    (sink_run g.K.Sink.taken c.args.out.now c.solve_block.new.out))
     c.in_ok-block.block
     (source_run g.S.Source.given g.S.Source.has_ended c.args.file.now c.read_inputs.new.file)
     c.in_ok-block.ensures.picked)
