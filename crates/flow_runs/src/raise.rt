@@ -74,7 +74,7 @@ fn ends_at_bound(
         Finding::Least(_) => Ok(false),
         Finding::Bound { trees } => {
             let one = trees.len() == 1 && trees[0].as_slice() == tree;
-            Ok(one && proved.number == number)
+            Ok(one && proved.number == number && proved.target().value() == number)
         }
     }
 }
