@@ -133,6 +133,16 @@ uint32_t flowshop_timetable(uint32_t jobs, uint32_t machines, const uint32_t *ti
                             const uint16_t *sequence, size_t sequence_count, uint64_t *starts, size_t starts_count,
                             uint64_t *ends, size_t ends_count, size_t *place);
 
+/* The picture of the timetable of a sequence, as SVG text, as the program's `schedule --form svg` draws it: a row for
+ * each machine, and a bar for each job and machine where the time is not 0. The outlined bars are those of a heaviest
+ * staircase path, whose times sum to the makespan; of several such paths it is open which. All bytes are ASCII. The
+ * first `*length` bytes of `text` become the picture, with no byte 0 after it; the rest stays as it was. Where it has
+ * no room, `place` has its length.
+ * Faults in order: JOBS, MACHINES, COUNT, TIME; LENGTH, JOB, TWICE; ROOM. */
+uint32_t flowshop_picture(uint32_t jobs, uint32_t machines, const uint32_t *times, size_t times_count,
+                          const uint16_t *sequence, size_t sequence_count, uint8_t *text, size_t text_count,
+                          size_t *length, size_t *place);
+
 /* The starting sequence of Nawaz, Enscore and Ham, and its makespan. The first `jobs` entries of `sequence` become
  * its jobs; the rest stays as it was.
  * Faults in order: JOBS, MACHINES, COUNT, TIME; ROOM. */

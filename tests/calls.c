@@ -145,6 +145,48 @@ static void timetables(void) {
     is("the rest", starts[9] == 77 && ends[9] == 77, 1);
 }
 
+/* Draws the sequence 2 1 3 of the shop in a slice of so many bytes, and returns the status. */
+static uint32_t draw(size_t room, uint8_t *text, size_t *length, size_t *place) {
+    const uint16_t sequence[3] = {2, 1, 3};
+    return flowshop_picture(3, 3, TIMES, 9, sequence, 3, text, room, length, place);
+}
+
+static void pictures(void) {
+    const char *end = "</g></svg>\n";
+    size_t place = 0, length = 55;
+    is("no room at all", draw(0, (uint8_t[1]){7}, &length, &place), FLOWSHOP_ROOM);
+    const size_t needed = place;
+    for (size_t room = 0; room < needed; room++) {
+        uint8_t *text = malloc(room + 1);
+        memset(text, 7, room + 1);
+        is("a room too short", draw(room, text, &length, &place), FLOWSHOP_ROOM);
+        is("the room needed", place, needed);
+        size_t changed = 0;
+        for (size_t i = 0; i <= room; i++) changed += text[i] != 7;
+        is("a text that is kept", changed, 0);
+        free(text);
+    }
+    uint8_t *text = calloc(needed + 2, 1);
+    text[needed] = 7;
+    const uint16_t twice[3] = {1, 2, 2}, strange[3] = {1, 4, 2};
+    is("a short list", flowshop_picture(3, 3, TIMES, 9, BEST, 2, text, 0, &length, &place), FLOWSHOP_LENGTH);
+    is("a strange job", flowshop_picture(3, 3, TIMES, 9, strange, 3, text, 0, &length, &place), FLOWSHOP_JOB);
+    is("its place", place, 2);
+    is("a job twice", flowshop_picture(3, 3, TIMES, 9, twice, 3, text, 0, &length, &place), FLOWSHOP_TWICE);
+    is("its place", place, 3);
+    is("a count", flowshop_picture(3, 3, TIMES, 8, BEST, 3, text, 0, &length, &place), FLOWSHOP_COUNT);
+    is("what is kept", length == 55 && text[0] == 0, 1);
+    is("a picture", draw(needed + 1, text, &length, &place), FLOWSHOP_DONE);
+    is("its length", length, needed);
+    is("the rest", text[needed], 7);
+    is("its beginning", memcmp(text, "<svg ", 5) == 0, 1);
+    is("its end", memcmp(text + needed - strlen(end), end, strlen(end)) == 0, 1);
+    size_t bars = 0;
+    for (const char *at = (const char *)text; (at = strstr(at, "<rect ")); at++) bars++;
+    is("a bar for each time that is not 0", bars, 5);
+    free(text);
+}
+
 static void starts(void) {
     uint16_t sequence[4] = {9, 9, 9, 9};
     uint64_t value = 77;
@@ -367,7 +409,7 @@ static void *many(void *from) {
         for (uint32_t i = 0; i < 12; i++) times[i] = (seed * 7 + i * i * 31 + (uint32_t)(size_t)from) % 23;
         uint16_t start[4], best[4], found[4];
         uint64_t value, least, checked, better, upper, starts[12], ends[12];
-        uint8_t text[4096];
+        uint8_t text[8192];
         size_t length, place;
         bool mirrored;
         wrong += flowshop_neh(4, 3, times, 12, start, 4, &value, &place) != FLOWSHOP_DONE;
@@ -381,6 +423,8 @@ static void *many(void *from) {
         wrong += checked != least || upper != least || memcmp(found, best, sizeof best) != 0;
         wrong += flowshop_timetable(4, 3, times, 12, start, 4, starts, 12, ends, 12, &place) != FLOWSHOP_DONE;
         wrong += ends[11] != value;
+        wrong += flowshop_picture(4, 3, times, 12, start, 4, text, sizeof text, &length, &place) !=
+                 FLOWSHOP_DONE;
         wrong += flowshop_improve(4, 3, times, 12, start, 4, 4, 4, seed + 1, 1, found, 4, &better,
                                   &place) != FLOWSHOP_DONE;
         wrong += better < least || better > value;
@@ -407,6 +451,7 @@ int main(void) {
     blocks();
     greatest();
     timetables();
+    pictures();
     starts();
     improvements();
     certificates();

@@ -6,7 +6,9 @@ import itertools
 import os
 import random
 import re
+import subprocess
 import sys
+import tempfile
 import threading
 
 TOP = os.path.dirname(os.path.dirname(os.path.abspath(__file__)))
@@ -14,6 +16,7 @@ LIBRARY = ctypes.CDLL(os.environ.get("FLOWSHOP_LIBRARY", os.path.join(TOP, "out"
 HEADER = open(os.path.join(TOP, "library", "flowshop.h"), encoding="ascii").read()
 STATUS = {name: int(number) for name, number in re.findall(r"FLOWSHOP_(\w+) = (\d+)", HEADER)}
 NAMES = {number: name for name, number in STATUS.items() if not name.startswith(("MAX_", "MIN_"))}
+PROGRAM = os.path.join(TOP, "crates", "flow_tool", "out", "flow_tool")
 SHOPS = int(sys.argv[1]) if len(sys.argv) > 1 else 2_000
 
 passed = 0
@@ -109,6 +112,18 @@ def timetable(shop, sequence, rooms=None):
         return outcome(status, place)
     equal("the rest of the starts and ends", {*starts.array[count:], *ends.array[count:]}, {7})
     return list(starts.array[:count]), list(ends.array[:count])
+
+
+def picture(shop, sequence, room=20_000):
+    length, place = ctypes.c_size_t(7), ctypes.c_size_t(0)
+    text = Room(ctypes.c_uint8, room)
+    words = [*shop_words(shop), *slice_of(ctypes.c_uint16, sequence), *text.words()]
+    status = LIBRARY.flowshop_picture(*words, ctypes.byref(length), ctypes.byref(place))
+    if status:
+        equal("what is kept", (length.value, text.untouched()), (7, True))
+        return outcome(status, place)
+    equal("the rest of the text", set(text.array[length.value :]), {7})
+    return bytes(text.array[: length.value])
 
 
 def neh(shop, room=None):
@@ -226,6 +241,65 @@ def plain_timetable(shop, sequence):
     return starts, ends
 
 
+def plain_path(shop, starts, ends):
+    """The bars of the heaviest path that docs/formats.md names, as places of the timetable, from its last bar."""
+    _, machines, _ = shop
+    place, path = len(starts) - 1, set()
+    while place >= 0:
+        path.add(place)
+        before = place - machines
+        place = before if place % machines == 0 or before >= 0 and ends[before] == starts[place] else place - 1
+    return path
+
+
+def plain_frame(shop, value):
+    """A picture up to its bars, by docs/formats.md."""
+    jobs, machines, _ = shop
+    bottom = 4_000 + 3_000 * machines
+    heading = f"makespan {value}, jobs {jobs}, machines {machines}"
+    step = next(lead * 10**power for power in range(19) for lead in (1, 2, 5) if value <= 12 * lead * 10**power)
+    text = (
+        f'<svg xmlns="http://www.w3.org/2000/svg" width="1095" height="{(bottom + 3_400) // 100}" '
+        f'viewBox="0 0 109500 {bottom + 3_400}" font-family="sans-serif" font-size="1200">\n<title>{heading}</title>\n'
+        f'<path d="M0 0H109500V{bottom + 3_400}H0z" fill="#ffffff"/>\n'
+        f'<text x="9000" y="2500" font-size="1600">{heading}</text>\n<text x="105000" y="2500" text-anchor="end">'
+        f"outlined: a heaviest path, whose times sum to the makespan</text>\n"
+    )
+    for time in range(0, value + 1, step):
+        x = 9_000 + time * 96_000 // max(1, value)
+        line = f'x1="{x}" y1="4000" x2="{x}" y2="{bottom + 500}" stroke="#bbbbbb" stroke-width="60"'
+        text += f'<line {line}/><text x="{x}" y="{bottom + 2_000}" text-anchor="middle">{time}</text>\n'
+    text += f'<text x="8000" y="{bottom + 2_000}" text-anchor="end">time</text>\n'
+    for machine in range(1, machines + 1):
+        text += f'<text x="8000" y="{2_950 + 3_000 * machine}" text-anchor="end">machine {machine}</text>\n'
+    return text + '<g text-anchor="middle">\n'
+
+
+COLOURS = "#0072B2 #E69F00 #009E73 #F0E442 #D55E00 #56B4E9 #CC79A7".split()
+
+
+def plain_picture(shop, sequence):
+    """The picture of a sequence, by docs/formats.md."""
+    _, machines, _ = shop
+    starts, ends = plain_timetable(shop, sequence)
+    value, path = ends[-1], plain_path(shop, starts, ends)
+    text = plain_frame(shop, value)
+    for place, (start, end) in enumerate(zip(starts, ends)):
+        if start == end:
+            continue
+        job, machine = sequence[place // machines], place % machines + 1
+        left, right = [9_000 + time * 96_000 // value for time in (start, end)]
+        outline = '" stroke="#000000" stroke-width="160' if place in path else ""
+        text += (
+            f'<rect x="{left}" y="{1_300 + 3_000 * machine}" width="{right - left}" height="2400" '
+            f'fill="{COLOURS[place // machines % 7]}{outline}"><title>job {job}, machine {machine}, '
+            f"start {start}, end {end}</title></rect>\n"
+        )
+        if right - left >= 700 * len(str(job)) + 200:
+            text += f'<text x="{left + (right - left) // 2}" y="{2_950 + 3_000 * machine}">{job}</text>\n'
+    return (text + "</g></svg>\n").encode()
+
+
 def plain_neh(shop):
     jobs, machines, times = shop
     total = {job: sum(times[machine * jobs + job - 1] for machine in range(machines)) for job in range(1, jobs + 1)}
@@ -259,6 +333,7 @@ def compare_shop(draw):
     draw.shuffle(start)
     equal("a makespan", makespan(shop, start), plain_makespan(shop, start))
     equal("a timetable", timetable(shop, start), plain_timetable(shop, start))
+    equal("a picture", picture(shop, start), plain_picture(shop, start))
     least = plain_least(shop)
     better, value = improve(shop, start, draw.choice((0, 1, 16)), draw.choice((0, 9)), draw.randint(1, 2_147_483_646))
     equal("a better sequence", (sorted(better), plain_makespan(shop, better)), (sorted(start), value))
@@ -512,6 +587,54 @@ def compare_certify():
     equal("a check of them for the mirrored shop", check_bounds(mirrored(long), bounds), (turned[::-1], 25, 34, False))
 
 
+def compare_pictures(draw):
+    """Pictures beside the one of docs/ and those of the program, where it is built, and each room that is too short."""
+    for got, wanted in [
+        (picture((0, 1, []), [], 0), ("JOBS", 0)),
+        (picture((3, 27, [1]), [2, 1, 3], 0), ("MACHINES", 0)),
+        (picture((3, 3, [1]), [2, 1], 0), ("COUNT", 0)),
+        (picture((2, 1, [1, 1_000_000]), [2], 0), ("TIME", 2)),
+        (picture(SHOP, [2, 1], 0), ("LENGTH", 0)),
+        (picture(SHOP, [4, 1, 3], 0), ("JOB", 1)),
+        (picture(SHOP, [2, 2, 3], 0), ("TWICE", 2)),
+        (picture((1, 1, [0]), [1]), plain_picture((1, 1, [0]), [1])),
+        (picture((1, 1, [999_999]), [1]), plain_picture((1, 1, [999_999]), [1])),
+    ]:
+        equal("a picture", got, wanted)
+    text = plain_picture(SHOP, [2, 1, 3])
+    for room in range(len(text)):
+        equal("a picture without room", picture(SHOP, [2, 1, 3], room), ("ROOM", len(text)))
+    for room in (len(text), len(text) + 1):
+        equal("a picture with room", picture(SHOP, [2, 1, 3], room), text)
+    with open(os.path.join(TOP, "examples", "taillard_20_5.txt"), "rb") as published:
+        shop = block(published.read(), 1)[0]
+    with open(os.path.join(TOP, "docs", "schedule.svg"), "rb") as drawing:
+        shown = drawing.read()
+    sequence = [int(job) for job in re.findall(rb"job (\d+), machine 1,", shown)]
+    equal("the picture of docs/", picture(shop, sequence), shown)
+    if not os.path.exists(PROGRAM):
+        print("no program is built: its pictures were passed over")
+        return
+    with tempfile.TemporaryDirectory() as folder:
+        for _ in range(100):
+            compare_with_program(draw, folder)
+
+
+def compare_with_program(draw, folder):
+    """The picture of a random shop and sequence beside that of the program."""
+    jobs, machines, times = shop = drawn(draw)
+    sequence = draw.sample(range(1, jobs + 1), jobs)
+    text, start = os.path.join(folder, "shop"), os.path.join(folder, "start")
+    with open(text, "w", encoding="ascii") as file:
+        print(f"a\n{jobs} {machines} 0 0 0\nb\n" + " ".join(map(str, times)), file=file)
+    with open(start, "w", encoding="ascii") as file:
+        print("sequence", *sequence, file=file)
+        print("makespan", plain_makespan(shop, sequence), file=file)
+    words = [PROGRAM, "schedule", text, "1", start, "--form", "svg"]
+    shown = subprocess.run(words, stdout=subprocess.PIPE, check=True).stdout
+    equal("a picture of the program", picture(shop, sequence), shown)
+
+
 def compare_at_once():
     """Eight threads, each with shops of its own."""
 
@@ -532,6 +655,7 @@ compare_certify()
 compare_blocks()
 draw = random.Random(20_261_125)
 compare_generator(draw)
+compare_pictures(draw)
 for _ in range(SHOPS):
     compare_shop(draw)
 compare_at_once()

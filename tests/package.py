@@ -3,8 +3,10 @@
 import doctest
 import os
 import random
+import re
 import sys
 import tempfile
+import xml.etree.ElementTree
 
 import flowshop
 from flowshop import FlowshopError, Shop, _library, read
@@ -55,6 +57,19 @@ equal(
     [(2, 1, 0, 0), (2, 2, 0, 8), (2, 3, 8, 8), (1, 1, 0, 4), (1, 2, 8, 8), (1, 3, 8, 12)]
     + [(3, 1, 4, 4), (3, 2, 8, 10), (3, 3, 12, 13)],
 )
+drawing = shop.gantt([2, 1, 3])
+bars = [bar[0].text for bar in xml.etree.ElementTree.fromstring(drawing).iter("{http://www.w3.org/2000/svg}rect")]
+equal(
+    "a picture",
+    bars,
+    ["job 2, machine 2, start 0, end 8", "job 1, machine 1, start 0, end 4", "job 1, machine 3, start 8, end 12"]
+    + ["job 3, machine 2, start 8, end 10", "job 3, machine 3, start 12, end 13"],
+)
+equal("a picture for a notebook", (drawing._repr_svg_(), type(drawing._repr_svg_())), (drawing, str))
+with tempfile.TemporaryDirectory() as folder:
+    drawing.save(os.path.join(folder, "picture.svg"))
+    with open(os.path.join(folder, "picture.svg"), "rb") as saved:
+        equal("a picture that is saved", saved.read().decode("ascii"), drawing)
 found = shop.solve()
 equal("a least makespan", (found.value, found.sequence, shop.makespan(found.sequence)), (12, [3, 1, 2], 12))
 equal("a check", shop.check(found.text), found)
@@ -94,6 +109,12 @@ with open(os.path.join(TOP, "examples", "taillard_20_5.txt"), encoding="ascii") 
 times = [[int(word) for word in line.split()] for line in lines[3:8]]
 equal("a published shop", Shop.generate(20, 5, 873_654_221).times, times)
 equal("its makespans", Shop.generate(20, 5, 873_654_221).neh(), Shop(times).neh())
+with open(os.path.join(TOP, "docs", "schedule.svg"), encoding="ascii") as saved:
+    shown = saved.read()
+order = [int(job) for job in re.findall(r"job (\d+), machine 1,", shown)]
+equal("the picture of docs/", Shop(times).gantt(order), shown)
+great = Shop.generate(800, 26, 1)
+equal("the greatest picture", great.gantt(great.neh().sequence).count("<rect "), 800 * 26)
 equal("the greatest shop", len(Shop.generate(800, 26, 2_147_483_646).times), 26)
 
 blocks = os.path.join(TOP, "examples", "several_blocks.txt")
@@ -130,6 +151,10 @@ for what, call, wanted in [
     ("a seed below 0", lambda: Shop.generate(1, 1, -1), ("SEED", 0)),
     ("a timetable of a short list", lambda: shop.schedule([1, 2]), ("LENGTH", 0)),
     ("a timetable of a job twice", lambda: shop.schedule([1, 2, 2]), ("TWICE", 3)),
+    ("a picture of a short list", lambda: shop.gantt([1, 2]), ("LENGTH", 0)),
+    ("a picture of a strange job", lambda: shop.gantt([1, 4, 2]), ("JOB", 2)),
+    ("a picture of a job twice", lambda: shop.gantt([1, 2, 2]), ("TWICE", 3)),
+    ("a picture of a job above 16 bits", lambda: shop.gantt([1, 2, 65_536]), ValueError),
     ("a width too great", lambda: shop.improve(width=65_537), ("WIDTH", 0)),
     ("a width below 0", lambda: shop.improve(width=-1), ("WIDTH", 0)),
     ("too many rounds", lambda: shop.improve(rounds=100_000_001), ("ROUNDS", 0)),

@@ -14,11 +14,11 @@ import ctypes
 import os
 from array import array
 from operator import index
-from typing import Any, Iterable, List, NamedTuple, Optional, Sequence, Tuple, Union
+from typing import Any, Callable, Iterable, List, NamedTuple, Optional, Sequence, Tuple, Union
 
 from . import _library
 
-__all__ = ["Block", "Certificate", "FlowshopError", "Operation", "Shop", "Start", "read"]
+__all__ = ["Block", "Certificate", "FlowshopError", "Operation", "Picture", "Shop", "Start", "read"]
 
 _LIBRARY = _library.load()
 # The bytes that a certificate is given room for at first. No memory is used for what is not written.
@@ -55,6 +55,19 @@ class Operation(NamedTuple):
     end: int
 
 
+class Picture(str):
+    """A Gantt chart of a sequence, as SVG text. A notebook shows it as a picture."""
+
+    def _repr_svg_(self) -> str:
+        """The text, for a notebook."""
+        return str(self)
+
+    def save(self, path: Union[str, "os.PathLike[str]"]) -> None:
+        """Writes the text to a file. OSError where that fails."""
+        with open(path, "wb") as file:
+            file.write(self.encode("ascii"))
+
+
 class Certificate(NamedTuple):
     """What a text proves of a shop: no sequence has a makespan below `lower`, in the unit of the times, and `sequence`,
     as job numbers from 1, has `upper`. Both are the least makespan where they are equal, as for every certificate.
@@ -80,11 +93,6 @@ class Certificate(NamedTuple):
         """Writes the text to a file. OSError where that fails."""
         with open(path, "wb") as file:
             file.write(self.text)
-
-
-def _bytes(data: bytes) -> _Buffer:
-    """Bytes as an array for a call, which is never empty, and how many there are."""
-    return (_library.u8 * max(1, len(data))).from_buffer_copy(data or b"\0"), len(data)
 
 
 def _numbers(code: str, kind: Any, numbers: Iterable[int], what: str) -> _Buffer:
@@ -116,6 +124,20 @@ def _call(name: str, *words: Any) -> None:
     status = getattr(_LIBRARY, f"flowshop_{name}")(*words, ctypes.byref(place))
     if status:
         raise _refusal(status, place.value)
+
+
+def _text(room: int, call: Callable[..., None]) -> bytes:
+    """The text that a call writes, with so much room at first; it is made again where the text has no room."""
+    while True:
+        text, length = bytearray(room), _library.size(0)
+        try:
+            call((_library.u8 * room).from_buffer(text), room, ctypes.byref(length))
+        except FlowshopError as error:
+            if error.name != "ROOM":
+                raise
+            room = error.place
+            continue
+        return bytes(memoryview(text)[: length.value])
 
 
 class Shop:
@@ -195,6 +217,14 @@ class Shop:
         names = [(job, machine) for job in jobs for machine in range(1, self.machines + 1)]
         return [Operation(*name, start, end) for name, start, end in zip(names, starts, ends)]
 
+    def gantt(self, sequence: Sequence[int]) -> Picture:
+        """The picture of the timetable of a sequence, as SVG text: a row for each machine, and a bar for each job and
+        machine where the time is not 0. The outlined bars are those of a heaviest path, whose times sum to the
+        makespan. Errors are those of `makespan`."""
+        jobs = _numbers("H", _library.u16, sequence, "sequence")
+        room = 16_384 + 400 * self._count
+        return Picture(_text(room, lambda *written: self._call("picture", *jobs, *written)).decode("ascii"))
+
     def neh(self) -> Start:
         """The starting sequence of Nawaz, Enscore and Ham (1983): jobs by decreasing total time, of equal ones the
         lower number first, each put in at the earliest place that gives the least makespan."""
@@ -269,21 +299,13 @@ class Shop:
     def _written(
         self, name: str, start: Optional[Sequence[int]], choice: List[Any], places: List[Any]
     ) -> Tuple[List[int], bytes]:
-        """The sequence and the text that a call writes; it is made again where the text has no room."""
+        """The sequence and the text that a call writes."""
         jobs = self.neh().sequence if start is None else list(start)
-        room = _ROOM
-        while True:
-            sequence, length, text = (_library.u16 * self.jobs)(), _library.size(0), bytearray(room)
-            begun = _numbers("H", _library.u16, jobs, "start")
-            written = (_library.u8 * room).from_buffer(text), room
-            try:
-                self._call(name, *begun, *choice, sequence, self.jobs, *places, *written, ctypes.byref(length))
-            except FlowshopError as error:
-                if error.name != "ROOM":
-                    raise
-                room = error.place
-                continue
-            return list(sequence), bytes(memoryview(text)[: length.value])
+        begun = _numbers("H", _library.u16, jobs, "start")
+        sequence = (_library.u16 * self.jobs)()
+        words = [*begun, *choice, sequence, self.jobs, *places]
+        text = _text(_ROOM, lambda *written: self._call(name, *words, *written))
+        return list(sequence), text
 
     def check(self, text: bytes, *, either: bool = False) -> Certificate:
         """What a certificate or a text of bounds proves, with the sequence that it states; line 1 tells which of the
@@ -294,7 +316,7 @@ class Shop:
         sequence, mirrored = (_library.u16 * self.jobs)(), _library.flag(False)
         lower, upper = _library.u64(0), _library.u64(0)
         places = [ctypes.byref(number) for number in (lower, upper, mirrored)]
-        self._call("check_bounds", *_bytes(data), bool(either), sequence, self.jobs, *places)
+        self._call("check_bounds", data, len(data), bool(either), sequence, self.jobs, *places)
         return Certificate(lower.value, upper.value, list(sequence), mirrored.value, data)
 
 
@@ -318,5 +340,5 @@ def read(path: Union[str, "os.PathLike[str]"], index: int = 1) -> Block:
     times = (_library.u32 * _library.MOST_TIMES)()
     sizes = ctypes.byref(jobs), ctypes.byref(machines)
     stated = [ctypes.byref(number) for number in (seed, upper, lower)]
-    _call("block", *_bytes(text), _option(index), *sizes, times, _library.MOST_TIMES, *stated)
+    _call("block", text, len(text), _option(index), *sizes, times, _library.MOST_TIMES, *stated)
     return Block(Shop._of(jobs.value, machines.value, times), seed.value, upper.value, lower.value)

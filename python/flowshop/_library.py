@@ -49,17 +49,19 @@ MOST_TIMES = 20_800
 
 u16, u32, u64, u8 = ctypes.c_uint16, ctypes.c_uint32, ctypes.c_uint64, ctypes.c_uint8
 size, flag, out = ctypes.c_size_t, ctypes.c_bool, ctypes.POINTER
+# Bytes that a call reads. They are not copied, and where there are none the pointer is not null.
+data = ctypes.c_char_p
 SHOP = [u32, u32, out(u32), size]
 CALLS = {
     "generate": [u32, u32, u32, out(u32), size, out(size)],
-    "block": [out(u8), size, u32, out(u32), out(u32), out(u32), size] + 3 * [out(u32)] + [out(size)],
+    "block": [data, size, u32, out(u32), out(u32), out(u32), size] + 3 * [out(u32)] + [out(size)],
     "makespan": SHOP + [out(u16), size, out(u64), out(size)],
     "timetable": SHOP + [out(u16), size, out(u64), size, out(u64), size, out(size)],
+    "picture": SHOP + [out(u16), size, out(u8), size, out(size), out(size)],
     "neh": SHOP + [out(u16), size, out(u64), out(size)],
     "improve": SHOP + [out(u16), size, u32, u32, u32, u32, out(u16), size, out(u64), out(size)],
-    "check": SHOP + [out(u8), size, flag, out(u16), size, out(u64), out(flag), out(size)],
-    "check_bounds": SHOP
-    + [out(u8), size, flag, out(u16), size, out(u64), out(u64), out(flag), out(size)],
+    "check": SHOP + [data, size, flag, out(u16), size, out(u64), out(flag), out(size)],
+    "check_bounds": SHOP + [data, size, flag, out(u16), size, out(u64), out(u64), out(flag), out(size)],
     "solve": SHOP
     + [out(u16), size, u32, u32, u32, out(u16), size, out(u64), out(u8), size, out(size), out(size)],
     "certify": SHOP

@@ -3,4 +3,5 @@ pub mod Faults
 pub mod Checks
 pub mod Blocks
 pub mod Certify
+pub mod Pictures
 pub mod internal

@@ -13,6 +13,7 @@ mod generate;
 mod improve;
 mod makespan;
 mod neh;
+mod picture;
 mod report;
 mod room;
 mod solve;
