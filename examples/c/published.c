@@ -45,6 +45,7 @@ int main(int count, char **words) {
                         &place));
     const size_t all = (size_t)jobs * machines;
     done(flowshop_neh(jobs, machines, times, all, start, jobs, &value, &place));
+    /* With the program's own width, rounds, seed and work, in either version, and bounds where nothing else is found. */
     done(flowshop_certify(jobs, machines, times, all, start, jobs, 4096, 10000, 1, 8500, 0, true, best, jobs, &lower,
                           &upper, &mirrored, text, MOST_TEXT, &length, &place));
     done(flowshop_check_bounds(jobs, machines, times, all, text, length, true, best, jobs, &lower, &upper, &mirrored,

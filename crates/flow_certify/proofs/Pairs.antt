@@ -29,7 +29,8 @@ pub has-budget : (budget : ℕ) (pair next : Pair) → next.own ≡ with_budget 
 has-budget budget pair next own back own_plan mirrored_plan version was shop jobs is =
     let same = version-is version was shop jobs pair is in record {
       own = own ∙ (ap (λ v. with_budget v budget pair.own) same ∙ ap (with_budget version budget) is.own);
-      mirrored = back ∙ (ap (λ v. with_budget v budget pair.mirrored) same ∙ ap (with_budget version budget) is.mirrored);
+      mirrored =
+          back ∙ (ap (λ v. with_budget v budget pair.mirrored) same ∙ ap (with_budget version budget) is.mirrored);
       own_plan = own_plan;
       mirrored_plan = mirrored_plan;
     }

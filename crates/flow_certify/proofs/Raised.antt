@@ -34,8 +34,8 @@ last-of version shop jobs pair number (Bound trees) pairs is = (
 )
 
 pub proved-of : (version : ℕ) (shop : Shop) (jobs : List ℕ) (pair : Pair) (held : Held) (plan : Planned) →
-    IsPair version 10000000 shop jobs pair → IsHeld pair held → IsRaised pair held → plan ≡ plan_in pair held.is_mirrored →
-    IsProved version shop jobs plan held.number held.finding
+    IsPair version 10000000 shop jobs pair → IsHeld pair held → IsRaised pair held →
+    plan ≡ plan_in pair held.is_mirrored → IsProved version shop jobs plan held.number held.finding
 proved-of version shop jobs pair held plan pairs is raised same = record {
   is_from = subst (IsFrom version shop jobs) (sym same) (from-in version shop jobs pair held.is_mirrored pairs);
   is_plan = subst IsPlan (sym same) (plan-in version shop jobs pair held.is_mirrored pairs);

@@ -44,8 +44,8 @@ fn tested(request: CertifyRequest) -> Result<Effort, CommandFault>
     Ok(effort)
 }
 
-/// Raises a bound from a sequence as far as it can be proved, and writes the text of what it found: of bounds, or of the
-/// least makespan.
+/// Raises a bound from a sequence as far as it can be proved, and writes the text of what it found: of bounds, or of
+/// the least makespan.
 fn write_proved<K: Sink>(
     alloc: Global,
     instance: &Instance,
