@@ -3,7 +3,8 @@ use Rattle.std.specs.Prelude.{ℕ, ◌≡◌, ◌-◌, ◌*◌, ◌<◌, ◌≤�
 use Rattle.flow_text.specs.Text.{Reads}
 use Rattle.flow_text.specs.TextFaults.{text_fault}
 use Rattle.flow_text.specs.declared.text.block.Block.{Block}
-use Rattle.flow_c.specs.Statuses.{number, place_of, done, memory}
+use Rattle.flow_c.specs.Statuses.{number, done, memory}
+use Rattle.flow_c.specs.Places.{place_of}
 use Rattle.flow_c.specs.declared.fault.Fault.{Fault}
 use Rattle.flow_c.specs.declared.fault.Fault.TheVariants.{Index, Room, Text}
 

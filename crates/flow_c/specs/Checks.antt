@@ -10,7 +10,8 @@ use Rattle.flow_check.specs.declared.bounds.Bounds.{Bounds}
 use Rattle.flow_check.specs.declared.fault.CheckFault.{CheckFault}
 use Rattle.flow_check.specs.declared.kind.TextKind.{TextKind}
 use Rattle.flow_check.specs.declared.kind.TextKind.TheVariants as kinds
-use Rattle.flow_c.specs.Statuses.{number, place_of, done, memory}
+use Rattle.flow_c.specs.Statuses.{number, done, memory}
+use Rattle.flow_c.specs.Places.{place_of}
 use Rattle.flow_c.specs.declared.fault.Fault.{Fault}
 use Rattle.flow_c.specs.declared.fault.Fault.TheVariants.{Certificate}
 

@@ -16,7 +16,8 @@ use Rattle.flow_search.specs.Outcomes.{first_over_budget}
 use Rattle.flow_search.specs.declared.options.OptionFault.TheVariants.{Version}
 use Rattle.flow_search.specs.declared.verdict.RunFault.TheVariants.{OverBudget}
 use Rattle.flow_cert.specs.PlanCertificates.{certificate_of}
-use Rattle.flow_c.specs.Statuses.{number, place_of, done, memory}
+use Rattle.flow_c.specs.Statuses.{number, done, memory}
+use Rattle.flow_c.specs.Places.{place_of}
 use Rattle.flow_c.specs.declared.fault.EffortFault.{EffortFault}
 use Rattle.flow_c.specs.declared.fault.EffortFault.TheVariants.{Width, Rounds, Seed, Work}
 use Rattle.flow_c.specs.declared.fault.Fault.{Fault}

@@ -1,4 +1,5 @@
 pub mod Statuses
+pub mod Places
 pub mod Faults
 pub mod Checks
 pub mod Blocks

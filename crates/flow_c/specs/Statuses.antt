@@ -1,4 +1,4 @@
--- The numbers of statuses, and the places of faults.
+-- The numbers of statuses.
 use Rattle.std.specs.Prelude.{ℕ}
 use Rattle.flow_shop.specs.declared.instance.InstanceFault.{InstanceFault}
 use Rattle.flow_shop.specs.declared.instance.InstanceFault.TheVariants as instance
@@ -41,23 +41,12 @@ of_instance instance.Count = 12
 of_instance (instance.Time place) = 13
 of_instance instance.Seed = 14
 
--- the place of a fault of an instance; 0 where it has none
-abbrev pub place_of_instance : InstanceFault → ℕ
-place_of_instance (instance.Time place) = place
-place_of_instance fault = 0
-
 -- the number of a fault of a sequence
 abbrev pub of_sequence : SequenceFault → ℕ
 of_sequence sequence.Memory = memory
 of_sequence sequence.Length = 20
 of_sequence (sequence.Job place) = 21
 of_sequence (sequence.Twice place) = 22
-
--- the place of a fault of a sequence; 0 where it has none
-abbrev pub place_of_sequence : SequenceFault → ℕ
-place_of_sequence (sequence.Job place) = place
-place_of_sequence (sequence.Twice place) = place
-place_of_sequence fault = 0
 
 -- the number of a fault of options
 abbrev pub of_choice : OptionFault → ℕ
@@ -84,11 +73,6 @@ abbrev pub of_run : RunFault → ℕ
 of_run run.Memory = memory
 of_run (run.OverBudget prefix) = 50
 
--- the prefix of a fault of a run, counted from 0
-abbrev pub place_of_run : RunFault → ℕ
-place_of_run run.Memory = 0
-place_of_run (run.OverBudget prefix) = prefix
-
 -- the number of a fault of a certificate
 abbrev pub of_check : CheckFault → ℕ
 of_check check.Memory = memory
@@ -102,13 +86,6 @@ of_check (check.Weak line) = 66
 of_check (check.Low line) = 67
 of_check check.End = 68
 
--- the line of a fault of a certificate; 0 where its number says the line
-abbrev pub place_of_check : CheckFault → ℕ
-place_of_check (check.Tree line) = line
-place_of_check (check.Weak line) = line
-place_of_check (check.Low line) = line
-place_of_check fault = 0
-
 -- the number of a fault of a benchmark text
 abbrev pub of_text : TextFault → ℕ
 of_text text.Memory = memory
@@ -119,17 +96,6 @@ of_text (text.Number line) = 73
 of_text (text.Head line) = 74
 of_text (text.Limits line) = 75
 of_text (text.Times line) = 76
-
--- the line of a fault of a benchmark text; 0 where it has none
-abbrev pub place_of_text : TextFault → ℕ
-place_of_text text.Memory = 0
-place_of_text text.NoBlock = 0
-place_of_text (text.Label line) = line
-place_of_text (text.Byte line) = line
-place_of_text (text.Number line) = line
-place_of_text (text.Head line) = line
-place_of_text (text.Limits line) = line
-place_of_text (text.Times line) = line
 
 -- the number of a benchmark text that has no block of an index
 abbrev pub index : ℕ
@@ -148,17 +114,3 @@ number (Run fault) = of_run fault
 number (Certificate fault) = of_check fault
 number (Text fault) = of_text fault
 number (Index count) = index
-
--- the place of a fault, the length that a slice needs, or how many blocks a text has; 0 where it has none
-abbrev pub place_of : Fault → ℕ
-place_of Memory = 0
-place_of (Room needed) = needed
-place_of (Instance fault) = place_of_instance fault
-place_of (Sequence fault) = place_of_sequence fault
-place_of (Choice fault) = 0
-place_of (Effort fault) = 0
-place_of (Plan fault) = 0
-place_of (Run fault) = place_of_run fault
-place_of (Certificate fault) = place_of_check fault
-place_of (Text fault) = place_of_text fault
-place_of (Index count) = count

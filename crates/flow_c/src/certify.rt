@@ -320,6 +320,7 @@ pub extern "C" fn flowshop_certify(
     ensures each { result ≡ done → IsSequence jobs (take jobs sequence.new) }
     ensures upper { result ≡ done → span (shop_of jobs machines times.now) (take jobs sequence.new) ≡ upper.new }
     ensures rest { drop jobs sequence.new ≡ drop jobs sequence.old }
+    ensures within { result ≡ done → count.new ≤ length text.old }
     ensures beyond { result ≡ done → drop count.new text.new ≡ drop count.new text.old }
     ensures kept { (result ≡ done) ⊎ ((lower.new ≡ lower.old) × (upper.new ≡ upper.old)
         × (mirrored.new ≡ mirrored.old) × (sequence.new ≡ sequence.old)

@@ -1,8 +1,10 @@
 //! Why a call refused, and the numbers by which C knows it.
 
 ghost use Rattle.std.specs.Prelude.{◌≡◌};
-ghost use Rattle.flow_c.specs.Statuses.{number, place_of};
+ghost use Rattle.flow_c.specs.Statuses.{number};
+ghost use Rattle.flow_c.specs.Places.{place_of};
 ghost use Rattle.flow_c.specs.Statuses as statuses;
+ghost use Rattle.flow_c.specs.Places as places;
 ghost use Rattle.flow_c.specs.declared.fault.Fault.TheVariants as fault;
 
 use flow_check::CheckFault;
@@ -134,7 +136,7 @@ impl From<TextFault> for Fault {
 
 /// The number of a fault of an instance, and its place.
 fn of_instance(fault: InstanceFault) -> (u32, usize)
-    ensures { result ≡ record { 0 = statuses.of_instance fault; 1 = statuses.place_of_instance fault } }
+    ensures { result ≡ record { 0 = statuses.of_instance fault; 1 = places.place_of_instance fault } }
 {
     match fault {
         InstanceFault::Memory => (1, 0),
@@ -148,7 +150,7 @@ fn of_instance(fault: InstanceFault) -> (u32, usize)
 
 /// The number of a fault of a sequence, and its place.
 fn of_sequence(fault: SequenceFault) -> (u32, usize)
-    ensures { result ≡ record { 0 = statuses.of_sequence fault; 1 = statuses.place_of_sequence fault } }
+    ensures { result ≡ record { 0 = statuses.of_sequence fault; 1 = places.place_of_sequence fault } }
 {
     match fault {
         SequenceFault::Memory => (1, 0),
@@ -195,7 +197,7 @@ fn of_plan(fault: PlanFault) -> u32
 
 /// The number of a fault of a run, and its place.
 fn of_run(fault: RunFault) -> (u32, usize)
-    ensures { result ≡ record { 0 = statuses.of_run fault; 1 = statuses.place_of_run fault } }
+    ensures { result ≡ record { 0 = statuses.of_run fault; 1 = places.place_of_run fault } }
 {
     match fault {
         RunFault::Memory => (1, 0),
@@ -205,7 +207,7 @@ fn of_run(fault: RunFault) -> (u32, usize)
 
 /// The number of a fault of a certificate, and its line.
 fn of_check(fault: CheckFault) -> (u32, usize)
-    ensures { result ≡ record { 0 = statuses.of_check fault; 1 = statuses.place_of_check fault } }
+    ensures { result ≡ record { 0 = statuses.of_check fault; 1 = places.place_of_check fault } }
 {
     match fault {
         CheckFault::Memory => (1, 0),
@@ -223,7 +225,7 @@ fn of_check(fault: CheckFault) -> (u32, usize)
 
 /// The number of a fault of a benchmark text, and its line.
 fn of_text(fault: TextFault) -> (u32, usize)
-    ensures { result ≡ record { 0 = statuses.of_text fault; 1 = statuses.place_of_text fault } }
+    ensures { result ≡ record { 0 = statuses.of_text fault; 1 = places.place_of_text fault } }
 {
     match fault {
         TextFault::Memory => (1, 0),

@@ -1,7 +1,8 @@
 //! How a call reports a fault.
 
 ghost use Rattle.std.specs.Prelude.{◌≡◌, ◌<◌};
-ghost use Rattle.flow_c.specs.Statuses.{number, place_of};
+ghost use Rattle.flow_c.specs.Statuses.{number};
+ghost use Rattle.flow_c.specs.Places.{place_of};
 
 use crate::fault::Fault;
 

@@ -1,6 +1,6 @@
 //! The solver, on one thread.
 
-ghost use Rattle.std.specs.Prelude.{◌≡◌, ◌⊎◌, None, Some, IfOk, OnOk, IfErr, length, take, drop};
+ghost use Rattle.std.specs.Prelude.{◌≡◌, ◌⊎◌, ◌≤◌, None, Some, IfOk, OnOk, IfErr, length, take, drop};
 ghost use Rattle.flow_shop.specs.InstanceFaults.{instance_fault};
 ghost use Rattle.flow_shop.specs.Paths.{span};
 ghost use Rattle.flow_shop.specs.Sequences.{IsSequence, IsLeastMakespan};
@@ -90,6 +90,7 @@ fn solve_plan(alloc: Global, plan: &Plan, room: usize) -> Result<Solved, Fault>
     ensures least { IfOk result (λ solved. IsLeastMakespan plan.now.shop solved.value) }
     ensures each { IfOk result (λ solved. IsSequence plan.now.shop.jobs solved.sequence) }
     ensures attained { IfOk result (λ solved. span plan.now.shop solved.sequence ≡ solved.value) }
+    ensures enough { IfOk result (λ solved. length solved.text.bytes ≤ room) }
     ensures accepted { OnOk result (solve_fault plan.now room ≡ None) }
     ensures refused { IfErr result (IsFaultOf (solve_fault plan.now room)) }
 {
@@ -117,6 +118,7 @@ fn solve_from(
     ensures least { IfOk result (λ solved. IsLeastMakespan instance.now solved.value) }
     ensures each { IfOk result (λ solved. IsSequence instance.now.jobs solved.sequence) }
     ensures attained { IfOk result (λ solved. span instance.now solved.sequence ≡ solved.value) }
+    ensures enough { IfOk result (λ solved. length solved.text.bytes ≤ room.text) }
     ensures planned { OnOk result (planning_fault instance.now options room.sequence ≡ None) }
     ensures accepted { OnOk result (solve_fault (plan_of instance.now start options) room.text ≡ None) }
     ensures refused { IfErr result (λ fault. IsFaultOf (planning_fault instance.now options room.sequence) fault
@@ -145,6 +147,7 @@ fn solve_numbers(
     ensures least { IfOk result (λ solved. IsLeastMakespan (shop_of jobs machines times.now) solved.value) }
     ensures each { IfOk result (λ solved. IsSequence jobs solved.sequence) }
     ensures attained { IfOk result (λ solved. span (shop_of jobs machines times.now) solved.sequence ≡ solved.value) }
+    ensures enough { IfOk result (λ solved. length solved.text.bytes ≤ room.text) }
     ensures accepted { OnOk result (certificate_fault jobs machines times.now start.now
         choice.depth choice.budget choice.version room.sequence room.text ≡ None) }
     ensures refused { IfErr result (IsFaultOf (certificate_fault jobs machines times.now start.now
@@ -186,6 +189,7 @@ pub extern "C" fn flowshop_solve(
     ensures each { result ≡ done → IsSequence jobs (take jobs sequence.new) }
     ensures attained { result ≡ done → span (shop_of jobs machines times.now) (take jobs sequence.new) ≡ value.new }
     ensures rest { drop jobs sequence.new ≡ drop jobs sequence.old }
+    ensures within { result ≡ done → count.new ≤ length certificate.old }
     ensures beyond { result ≡ done → drop count.new certificate.new ≡ drop count.new certificate.old }
     ensures kept { (result ≡ done) ⊎ ((value.new ≡ value.old) × (sequence.new ≡ sequence.old)
         × (count.new ≡ count.old) × (certificate.new ≡ certificate.old)) }
