@@ -16,8 +16,8 @@ use Rattle.flow_search.specs.declared.verdict.Verdict.{Verdict}
 use Rattle.flow_search.specs.declared.finding.Finding.{Finding}
 use Rattle.flow_search.specs.declared.finding.Finding.TheVariants.{Least, Bound}
 use Rattle.flow_search.proofs.Findings.{finding_is_least}
-use Rattle.flow_check.specs.Certificate.{IsVersion, Stated, heading, line, ending, numbers_of, spaced, text_of}
-use Rattle.flow_check.specs.Certificate.{upto_sizes, upto_stated, upto_title}
+use Rattle.flow_check.specs.TextLines.{IsVersion, Stated, heading, line, ending, numbers_of, spaced, text_of}
+use Rattle.flow_check.specs.TextLines.{upto_sizes, upto_stated, upto_title}
 use Rattle.flow_check.specs.CertificateFaults.{BeginsWith}
 use Rattle.flow_check.specs.Kinds.{IsReadAs, OpensBounds}
 use Rattle.flow_check.specs.Stated.{GivesAs}

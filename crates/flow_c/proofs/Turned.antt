@@ -8,7 +8,8 @@ use Rattle.flow_shop.specs.Mirror.{mirrored}
 use Rattle.flow_shop.specs.InstanceFaults.{instance_fault}
 use Rattle.flow_shop.proofs.MirrorLemmas.{mirror-keeps-least, mirror-lists}
 use Rattle.flow_shop.proofs.ReversedSequence.{sequence-reverse}
-use Rattle.flow_check.specs.Certificate.{AreBounds, IsLawful, Stated}
+use Rattle.flow_check.specs.Certificate.{AreBounds, IsLawful}
+use Rattle.flow_check.specs.TextLines.{Stated}
 use Rattle.flow_check.specs.Check.{IsFaultAs, IsUnlawfulAs}
 use Rattle.flow_check.specs.Stated.{GivesAs}
 use Rattle.flow_check.specs.declared.bounds.Bounds.{Bounds}

@@ -2,7 +2,8 @@
 use Rattle.std.specs.Prelude.{ℕ, ◌≡◌, ◌⊎◌, Bool, true, false, List, reverse, Option, Some, None}
 use Rattle.flow_shop.specs.Shop.{Shop}
 use Rattle.flow_shop.specs.Mirror.{mirrored}
-use Rattle.flow_check.specs.Certificate.{IsLawful, Stated}
+use Rattle.flow_check.specs.Certificate.{IsLawful}
+use Rattle.flow_check.specs.TextLines.{Stated}
 use Rattle.flow_check.specs.CertificateFaults.{HasFaultAs}
 use Rattle.flow_check.specs.Kinds.{IsReadAs}
 use Rattle.flow_check.specs.Stated.{GivesAs, GivesSequence}

@@ -23,7 +23,8 @@ use Rattle.flow_shop.proofs.Lists.{find-some}
 use Rattle.flow_search.proofs.Lists.{all-weaken}
 use Rattle.flow_search.proofs.Walk.{Fresh, IsLeft, fresh-push, jobs_left-are, extensions-are, range-all}
 use Rattle.flow_search.proofs.LeastVerdict.{cut-fresh, verdict_is_least}
-use Rattle.flow_check.specs.Certificate.{Covers, certificate_text, IsCertificate}
+use Rattle.flow_check.specs.Certificate.{Covers, IsCertificate}
+use Rattle.flow_check.specs.TextLines.{certificate_text}
 use Rattle.flow_cert.specs.PlanCertificates.{certificate_of, text_with, PlanIsCertified, VerdictIsCertified}
 
 concat-map : (f : ℕ → List ℕ) (xs : List ℕ) → flat_map f xs ≡ concat (map f xs)

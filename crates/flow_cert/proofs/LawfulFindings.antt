@@ -3,15 +3,16 @@ use Rattle.std.proofs.Common.{◌≡◌, ℕ, ◌<◌, ◌≤◌, ◌⊎◌, ◌
 use Rattle.std.specs.List.{AllZip}
 use Rattle.flow_limits.specs.Limits.{greatest_version}
 use Rattle.flow_shop.specs.Paths.{span}
+use Rattle.flow_shop.specs.Sequences.{IsLowerBound}
 use Rattle.flow_shop.specs.Bound.{bound_of}
 use Rattle.flow_search.specs.Plans.{Planned, prefixes_of, trees_of}
-use Rattle.flow_search.specs.Targets.{Targeted, IsTarget, plan_below, IsLowerBound}
+use Rattle.flow_search.specs.Targets.{Targeted, IsTarget, plan_below}
 use Rattle.flow_search.specs.Findings.{IsLeast}
 use Rattle.flow_search.specs.declared.verdict.Verdict.{Verdict}
 use Rattle.flow_search.specs.declared.finding.Finding.TheVariants.{Least, Bound}
 use Rattle.flow_search.proofs.Findings.{finding_is_least}
 use Rattle.flow_check.specs.Certificate.{Covers}
-use Rattle.flow_cert.specs.FindingCertificates.{FindingIsCovered, FindingIsLawful, FoundIsCertified}
+use Rattle.flow_cert.specs.FindingCertificates.{FindingIsCovered, FindingIsLawful}
 use Rattle.flow_cert.proofs.Lawful.{trees-cover, span-fits}
 
 -- texts that are the trees below a target cover each number up to the target that no sequence is below
@@ -42,14 +43,14 @@ finding_is_covered target (Least verdict) is of =
 finding_is_covered target (Bound trees) is of =
     texts-cover target target.value (map (λ tree. tree.items) trees.items) is (omega arith) of.2 of.0
 
-pub found_is_certified : FoundIsCertified
-found_is_certified target verdict is of =
+pub finding_is_lawful : FindingIsLawful
+finding_is_lawful target (Least verdict) is of =
     let plan : Planned = target.plan in
     let least : IsLeast plan.shop verdict = finding_is_least target (Least verdict) is of in
     let last : plan.options.version ≤ greatest_version = is.is_plan.option_limits.last_version in (
+      verdict.sequence,
       plan.options.version,
       plan.options.depth,
-      verdict.sequence,
       map (λ tree. tree.items) verdict.trees.items,
       record {
         known = (is.is_plan.option_limits.first_version, omega (arith, last));
@@ -64,15 +65,12 @@ found_is_certified target verdict is of =
       },
       refl,
     )
-
-pub finding_is_lawful : FindingIsLawful
-finding_is_lawful target (Least verdict) is of = found_is_certified target verdict is of
 finding_is_lawful target (Bound trees) is of =
     let plan : Planned = target.plan in
     let last : plan.options.version ≤ greatest_version = is.is_plan.option_limits.last_version in (
+      plan.start.sequence,
       plan.options.version,
       plan.options.depth,
-      plan.start.sequence,
       map (λ tree. tree.items) trees.items,
       record {
         known = (is.is_plan.option_limits.first_version, omega (arith, last));

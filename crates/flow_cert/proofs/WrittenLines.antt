@@ -5,7 +5,7 @@ use Rattle.std.specs.Fmt.{decimal}
 use Rattle.std.specs.List.{flat_map}
 use Rattle.std.proofs.Math.Seq.{split_at}
 use Rattle.std.proofs.lemmas.List.{take_more}
-use Rattle.flow_check.specs.Certificate.{line, spaced}
+use Rattle.flow_check.specs.TextLines.{line, spaced}
 
 -- what stands between some numbers and the next
 abbrev pub gap_behind : List ℕ → List ℕ

@@ -6,10 +6,10 @@ use Rattle.flow_shop.specs.Bound.{bound_of}
 use Rattle.flow_search.specs.Plans.{prefixes_of}
 use Rattle.flow_search.specs.Targets.{Targeted, IsTarget}
 use Rattle.flow_search.specs.Findings.{IsFinding}
-use Rattle.flow_search.specs.declared.verdict.Verdict.{Verdict}
 use Rattle.flow_search.specs.declared.finding.Finding.{Finding}
 use Rattle.flow_search.specs.declared.finding.Finding.TheVariants.{Least, Bound}
-use Rattle.flow_check.specs.Certificate.{Covers, IsCertificate, IsBoundsText, bounds_text}
+use Rattle.flow_check.specs.Certificate.{Covers, IsCertificate, IsBoundsText}
+use Rattle.flow_check.specs.TextLines.{bounds_text}
 use Rattle.flow_check.specs.declared.bounds.Bounds.{Bounds}
 use Rattle.flow_cert.specs.PlanCertificates.{text_with}
 
@@ -30,12 +30,6 @@ FindingIsCovered =
     AllZip (λ prefix tree. Covers target.plan.shop (bound_of target.plan.options.version) (value_of target finding)
     (target.plan.shop.jobs - target.plan.options.depth) prefix tree)
     (prefixes_of target.plan) (trees_in finding)
-
--- the text of a verdict that was found below a target is a lawful certificate of its value
-abbrev pub FoundIsCertified : Type 0
-FoundIsCertified =
-    (target : Targeted) (verdict : Verdict) → IsTarget target → IsFinding target (Least verdict) →
-    IsCertificate target.plan.shop (text_with target.plan verdict) verdict.value
 
 -- the bounds of a target that no sequence is below: the target, and the makespan of the starting sequence
 abbrev pub bounds_at : Targeted → Bounds

@@ -7,7 +7,7 @@ ghost use Rattle.flow_text.specs.Bytes.{AddsProperPrefix};
 ghost use Rattle.flow_search.specs.Findings.{IsFinding};
 ghost use Rattle.flow_search.specs.Plans.{prefixes_of};
 ghost use Rattle.flow_search.specs.Verdicts.{IsVerdict};
-ghost use Rattle.flow_check.specs.Certificate.{line, opening, title};
+ghost use Rattle.flow_check.specs.TextLines.{line, opening, title};
 ghost use Rattle.flow_cert.specs.internal.Gathered.{HandsOn};
 ghost use Rattle.flow_cert.specs.FindingCertificates.{finding_text, HasLawfulText};
 ghost use Rattle.flow_cert.specs.PlanCertificates.{certificate_of, text_with};

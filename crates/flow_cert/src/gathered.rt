@@ -4,7 +4,7 @@ ghost use Rattle.std.specs.Prelude.{◌≡◌, ℕ, ◌+◌, ◌≤◌, false, L
 ghost use Rattle.std.specs.Prelude.{OnOk, OnErr};
 ghost use Rattle.std.specs.Io.KnownBytes.{Appends};
 ghost use Rattle.flow_text.specs.Bytes.{AddsProperPrefix};
-ghost use Rattle.flow_check.specs.Certificate.{line, spaced};
+ghost use Rattle.flow_check.specs.TextLines.{line, spaced};
 ghost use Rattle.flow_cert.specs.internal.Gathered.{HandsOn};
 
 use flow_text::{Sink, WriteFault, put_all};

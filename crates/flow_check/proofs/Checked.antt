@@ -4,10 +4,12 @@ use Rattle.std.proofs.Common.{Result, Ok, Err, ap, subst, sym, ◌∙◌}
 use Rattle.std.specs.Str.{bytes_eq}
 use Rattle.std.proofs.lemmas.List.{take_rest}
 use Rattle.flow_shop.specs.Shop.{Shop, IsWithinLimits}
-use Rattle.flow_check.specs.Certificate.{Stated, stated_bounds, IsLawful, line, ending}
+use Rattle.flow_check.specs.Certificate.{IsLawful}
+use Rattle.flow_check.specs.TextLines.{Stated, stated_bounds, line, ending}
 use Rattle.flow_check.specs.Check.{IsFaultAs, IsUnlawfulAs}
 use Rattle.flow_check.specs.internal.Heading.{IsHeadingOf}
-use Rattle.flow_check.specs.internal.Reading.{text_value, stated_once, end_value}
+use Rattle.flow_check.specs.internal.Reading.{text_value, stated_once}
+use Rattle.flow_check.specs.internal.ReadTrees.{end_value}
 use Rattle.flow_check.specs.internal.Trees.{TreesGive}
 use Rattle.flow_check.specs.declared.bounds.Bounds.{Bounds}
 use Rattle.flow_check.specs.declared.fault.CheckFault.TheVariants.{Memory, Header, Size, Value, Sequence, NotAttained}

@@ -9,8 +9,9 @@ use Rattle.flow_shop.specs.Shop.{Shop, IsWithinLimits}
 use Rattle.flow_shop.specs.Paths.{span}
 use Rattle.flow_shop.specs.Sequences.{IsSequence, cut}
 use Rattle.flow_shop.specs.Bound.{bound_of}
-use Rattle.flow_check.specs.Certificate.{IsVersion, IsDepth, Stated, IsStated, stated_bounds, numbers_of, IsLawful}
-use Rattle.flow_check.specs.Certificate.{line, spaced, upto_title, upto_sizes, upto_stated, heading}
+use Rattle.flow_check.specs.Certificate.{IsLawful}
+use Rattle.flow_check.specs.TextLines.{IsVersion, IsDepth, Stated, IsStated, stated_bounds, numbers_of}
+use Rattle.flow_check.specs.TextLines.{line, spaced, upto_title, upto_sizes, upto_stated, heading}
 use Rattle.flow_check.specs.CertificateFaults.{HasFaultAs, EachTextIsJudged}
 use Rattle.flow_check.specs.internal.Reading.{text_value, header_value, stated_once, after_heading, on_line}
 use Rattle.flow_check.specs.internal.Reading.{FaultIsExact}
@@ -23,7 +24,8 @@ use Rattle.flow_check.proofs.TreeFaults.{lines-read}
 use Rattle.flow_check.proofs.Exact.{after_header, after_size, after_stated, value_is_exact}
 use Rattle.flow_check.proofs.HeadingLines.{title-read, title-refused, size-read, size-refused, stated-read}
 use Rattle.flow_check.proofs.HeadingLines.{stated-refused, sequence-read, sequence-refused}
-use Rattle.flow_check.proofs.FirstFaults.{outer, sizes, TreesHaveFault, first-has}
+use Rattle.flow_check.proofs.FirstFaults.{sizes, TreesHaveFault, first-has}
+use Rattle.flow_check.proofs.TextBegins.{outer}
 
 -- how far a text is read that is lawful up to a line
 

@@ -2,7 +2,7 @@
 use Rattle.std.proofs.Common.{◌≡◌, ◌&&◌, nat_eq, nat_le, ℕ, zero, suc, ◌+◌, ◌-◌, Bool}
 use Rattle.std.proofs.Common.{true, false, cond}
 use Rattle.std.proofs.Common.{List, [], ◌∷◌, ◌++◌, Option, Some, None, Result, Ok, Err, IfErr, refl, ap, sym}
-use Rattle.std.proofs.Common.{subst, ◌∙◌, inl, inr, arith, append_assoc}
+use Rattle.std.proofs.Common.{subst, ◌∙◌, inl, inr, arith}
 use Rattle.std.specs.Option.{option_map_or}
 use Rattle.std.proofs.lemmas.Bool.{eqb-true, leb-true, eq-eqb, false≢true}
 use Rattle.std.proofs.lemmas.Option.{none-some, same_Some}
@@ -15,72 +15,25 @@ use Rattle.flow_shop.specs.SequenceFaults.{sequence_fault}
 use Rattle.flow_shop.specs.Bound.{bound_of}
 use Rattle.flow_shop.specs.declared.sequence.SequenceFault.{SequenceFault}
 use Rattle.flow_shop.proofs.SequenceLemmas.{sequence-fault-none-is, is-fault-none}
-use Rattle.flow_check.specs.Certificate.{Covers, IsVersion, IsDepth, Stated, IsStated, stated_bounds, numbers_of}
-use Rattle.flow_check.specs.Certificate.{line, spaced, title, upto_title, upto_sizes, upto_stated, heading}
+use Rattle.flow_check.specs.Certificate.{Covers}
+use Rattle.flow_check.specs.TextLines.{IsVersion, IsDepth, Stated, IsStated, stated_bounds, numbers_of}
+use Rattle.flow_check.specs.TextLines.{line, spaced, title, upto_title, upto_sizes, upto_stated, heading}
 use Rattle.flow_check.specs.CertificateFaults.{HasFaultAmong, HasTreeFault, HasLineFault, HasFaultAs}
 use Rattle.flow_check.specs.internal.Reading.{text_value, header_value, size_value, sequence_value, stated_by}
-use Rattle.flow_check.specs.internal.Reading.{stated_once, after_heading, cut_value, first_line, on_line, numbers_in}
+use Rattle.flow_check.specs.internal.Reading.{stated_once, after_heading, first_line, on_line, numbers_in}
+use Rattle.flow_check.specs.internal.ReadTrees.{cut_value}
 use Rattle.flow_check.specs.internal.Reading.{version_of}
 use Rattle.flow_check.specs.declared.fault.CheckFault.{CheckFault}
 use Rattle.flow_check.specs.declared.fault.CheckFault.TheVariants.{Memory, Header, Size, Value, Sequence, NotAttained}
 use Rattle.flow_check.specs.declared.fault.CheckFault.TheVariants.{Tree, Weak, Low, End}
 use Rattle.flow_check.specs.declared.kind.TextKind.{TextKind}
-use Rattle.flow_check.proofs.Numbers.{Fit, IsPlain, numbers-sound, numbers-complete, spaced-plain}
+use Rattle.flow_check.proofs.Numbers.{Fit, numbers-sound, numbers-complete, spaced-plain}
 use Rattle.flow_check.proofs.TreeFaults.{lines-have}
-use Rattle.flow_check.proofs.Exact.{LineOf, first-line-is, first-line-complete, title-plain, title-known, known-title}
-use Rattle.flow_check.proofs.Exact.{stated-plain, stated-known, stated-text, numbers-whole, size-true, size-fit}
+use Rattle.flow_check.proofs.ExactLines.{title-plain, title-known, known-title}
+use Rattle.flow_check.proofs.Exact.{numbers-whole, size-true, size-fit}
+use Rattle.flow_check.proofs.ExactLines.{stated-plain, stated-known, stated-text}
 use Rattle.flow_check.proofs.Exact.{sequence-fit, four, after_header, after_size, after_stated}
-use Rattle.flow_check.proofs.HeadingLines.{as-line}
-
--- beginnings of texts
-
-abbrev rest_of : List ℕ → List ℕ
-rest_of [] = []
-rest_of (byte ∷ rest) = rest
-
-cancel : (before xs ys : List ℕ) → before ++ xs ≡ before ++ ys → xs ≡ ys
-cancel [] xs ys e = e
-cancel (byte ∷ before) xs ys e = cancel before xs ys (ap rest_of e)
-
--- what follows a beginning, where the text has one more line
-inner : (text before rest next more : List ℕ) → text ≡ before ++ rest → text ≡ (before ++ next) ++ more →
-    rest ≡ next ++ more
-inner text before rest next more e f = cancel before rest (next ++ more) (sym e ∙ f ∙ append_assoc before next more)
-
-pub outer : (text before rest next more : List ℕ) → text ≡ before ++ rest → rest ≡ next ++ more →
-    text ≡ (before ++ next) ++ more
-outer text before rest next more e f = e ∙ ap (λ r. before ++ r) f ∙ sym (append_assoc before next more)
-
--- the first line of a text that begins with a line
-first-is : (text next more : List ℕ) → IsPlain next → text ≡ line next ++ more → first_line text ≡ Some (next, more)
-first-is text next more plain e = ap first_line (e ∙ append_assoc next (10 ∷ []) more)
-    ∙ first-line-complete next more plain
-
-same-line : (text next more word rest : List ℕ) → first_line text ≡ Some (word, rest) → IsPlain next →
-    text ≡ line next ++ more → word ≡ next
-same-line text next more word rest e plain is =
-    ap (λ r. r.0) (same_Some (word, rest) (next, more) (sym e ∙ first-is text next more plain is))
-
-no-line : (text next more : List ℕ) → first_line text ≡ None → IsPlain next → text ≡ line next ++ more → ⊥
-no-line text next more e plain is = none-some (next, more) (sym e ∙ first-is text next more plain is)
-
--- where a line ends, the text begins with it
-begun : (text word rest next : List ℕ) → first_line text ≡ Some (word, rest) → word ≡ next →
-    text ≡ line next ++ rest
-begun text word rest next e same = as-line text word next rest (subst (LineOf text) e (first-line-is text)) same
-
--- a step of the reading that fails, or goes on
-
-step : {A B : Type 0} (P : CheckFault → Type 0) (fault : CheckFault) (next : A → Result B CheckFault) (o : Option A) →
-    (o ≡ None → P fault) → ((found : A) → o ≡ Some found → IfErr (next found) P) →
-    IfErr (option_map_or next o (Err fault)) P
-step P fault next None none some = none refl
-step P fault next (Some found) none some = some found refl
-
-test : {A : Type 0} (P : CheckFault → Type 0) (fault : CheckFault) (next : Result A CheckFault) (b : Bool) →
-    (b ≡ false → P fault) → (b ≡ true → IfErr next P) → IfErr (cond b next (Err fault)) P
-test P fault next true none some = some refl
-test P fault next false none some = none refl
+use Rattle.flow_check.proofs.TextBegins.{inner, outer, same-line, no-line, begun, step, test}
 
 -- the faults of the trees
 

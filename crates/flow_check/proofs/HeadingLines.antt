@@ -10,7 +10,7 @@ use Rattle.flow_shop.specs.Sequences.{IsSequence}
 use Rattle.flow_shop.specs.SequenceFaults.{sequence_fault}
 use Rattle.flow_shop.specs.declared.sequence.SequenceFault.{SequenceFault}
 use Rattle.flow_shop.proofs.SequenceLemmas.{sequence-fault-none-is, is-fault-none}
-use Rattle.flow_check.specs.Certificate.{IsVersion, Stated, stated_bounds, numbers_of, line, spaced, title}
+use Rattle.flow_check.specs.TextLines.{IsVersion, Stated, stated_bounds, numbers_of, line, spaced, title}
 use Rattle.flow_check.specs.internal.Reading.{header_value, size_value, sequence_value, stated_by, after_heading}
 use Rattle.flow_check.specs.internal.Reading.{first_line, on_line, numbers_in, version_of}
 use Rattle.flow_check.specs.internal.Heading.{BeginsWithSize, BeginsWithStated, BeginsWithSequence}
@@ -18,8 +18,10 @@ use Rattle.flow_check.specs.declared.fault.CheckFault.{CheckFault}
 use Rattle.flow_check.specs.declared.fault.CheckFault.TheVariants.{Header, Size, Value, Sequence, NotAttained}
 use Rattle.flow_check.specs.declared.kind.TextKind.{TextKind}
 use Rattle.flow_check.proofs.Numbers.{Fit, numbers-sound, numbers-complete, spaced-plain}
-use Rattle.flow_check.proofs.Exact.{LineOf, first-line-is, on-line-complete, title-plain, title-known, known-title}
-use Rattle.flow_check.proofs.Exact.{stated-plain, stated-known, stated-text, numbers-whole, size-true}
+use Rattle.flow_check.proofs.ExactLines.{LineOf, first-line-is, on-line-complete, title-plain, title-known}
+use Rattle.flow_check.proofs.ExactLines.{known-title}
+use Rattle.flow_check.proofs.Exact.{numbers-whole, size-true}
+use Rattle.flow_check.proofs.ExactLines.{stated-plain, stated-known, stated-text}
 use Rattle.flow_check.proofs.Exact.{size-fit, sequence-fit, four, after_header, after_size, after_stated}
 
 -- a line that is at fault whatever stands in it

@@ -3,8 +3,10 @@ pub mod TreeBytes
 pub mod TreesExact
 pub mod Numbers
 pub mod Exact
+pub mod ExactLines
 pub mod TreeFaults
 pub mod FirstFaults
+pub mod TextBegins
 pub mod FaultsExact
 pub mod Checked
 pub mod Links

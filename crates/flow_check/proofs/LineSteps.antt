@@ -5,7 +5,7 @@ use Rattle.std.specs.List.{flat_map}
 use Rattle.flow_shop.specs.Shop.{Shop}
 use Rattle.flow_shop.specs.Bound.{bound_of}
 use Rattle.flow_shop.specs.Sequences.{extensions}
-use Rattle.flow_check.specs.internal.Reading.{read_tree, after_tree, trees_value}
+use Rattle.flow_check.specs.internal.ReadTrees.{read_tree, after_tree, trees_value}
 use Rattle.flow_check.specs.internal.Links.{children, IsNext}
 use Rattle.flow_check.specs.internal.Reader.{awaited, TreeGives, LineEnds, LinesGive}
 use Rattle.flow_check.specs.declared.fault.CheckFault.{CheckFault}

@@ -10,7 +10,7 @@ use Rattle.std.proofs.lemmas.List.Splits.{slice_split_none, slice_split_at, join
 use Rattle.std.proofs.lemmas.Fmt.{decimal_is_IsNumeral, decimal_digit, decimal-digits_value, first_decimal}
 use Rattle.std.proofs.lemmas.Str.Parse.{IsNumeralModel, IsDigitsTest, numerals_by_value}
 use Rattle.std.proofs.lemmas.Bool.{leb-true, le-leb, eq-eqb, false≢true, ne_eqb}
-use Rattle.flow_check.specs.Certificate.{spaced}
+use Rattle.flow_check.specs.TextLines.{spaced}
 use Rattle.flow_shop.specs.Digits.{is_digit}
 use Rattle.flow_check.specs.internal.Reading.{is_numeral, numbers_in}
 

@@ -13,7 +13,7 @@ use Rattle.flow_shop.specs.Front.{IsFrontOf}
 use Rattle.flow_shop.specs.JobSet.{contains}
 use Rattle.flow_shop.specs.Sequences.{has, AreDistinct}
 use Rattle.flow_shop.proofs.JobsLeft.{InRange, apart}
-use Rattle.flow_check.specs.Certificate.{line, spaced}
+use Rattle.flow_check.specs.TextLines.{line, spaced}
 use Rattle.flow_check.specs.internal.Heading.{BeginsWithJob, BeginsWithSequence, end_of}
 
 -- numbers, each with the byte that ends it, where so many are still to come

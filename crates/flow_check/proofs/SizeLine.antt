@@ -7,7 +7,7 @@ use Rattle.std.specs.Cmp.Lexicographic.{pointwise}
 use Rattle.std.proofs.lemmas.Bool.Decides.{Decides-eqb}
 use Rattle.std.proofs.lemmas.Slice.Eq.{strip_prefix_is}
 use Rattle.flow_shop.specs.Limits.{greatest_depth}
-use Rattle.flow_check.specs.Certificate.{line, spaced, title, opening}
+use Rattle.flow_check.specs.TextLines.{line, spaced, title, opening}
 use Rattle.flow_check.specs.internal.Heading.{BeginsWithNumber, BeginsWithSize, BeginsWithStated}
 use Rattle.flow_check.specs.declared.bounds.Bounds.{Bounds}
 use Rattle.flow_check.specs.declared.kind.TextKind.{TextKind}

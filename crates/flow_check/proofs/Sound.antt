@@ -12,7 +12,8 @@ use Rattle.flow_shop.specs.Sequences.{has, jobs_left, extensions, IsSequence, Ex
 use Rattle.flow_shop.proofs.JobsLeft.{left-has}
 use Rattle.flow_shop.proofs.Admissible.{bound_is_admissible, released_bound_is_admissible}
 use Rattle.flow_shop.specs.Bound.{bound_at, released_bound_at, bound_of}
-use Rattle.flow_check.specs.Certificate.{Covers, Shows, Stated, stated_bounds, IsLawful, AreBounds, BoundsAreSound}
+use Rattle.flow_check.specs.Certificate.{Covers, Shows, IsLawful, AreBounds, BoundsAreSound}
+use Rattle.flow_check.specs.TextLines.{Stated, stated_bounds}
 use Rattle.flow_check.specs.Certificate.{CertificateIsSound, ValueIsOne}
 use Rattle.flow_check.specs.declared.bounds.Bounds.{Bounds}
 use Rattle.flow_check.specs.declared.kind.TextKind.{TextKind}
@@ -131,7 +132,7 @@ shown-order shop version lower upper depth sequence parts shows =
 -- the bounds that a lawful text states
 pub lawful-bounds : (kind : TextKind) (shop : Shop) (bytes : List ℕ) (stated : Stated kind) →
     IsLawful kind shop bytes stated → AreBounds shop (stated_bounds kind stated)
-lawful-bounds kind shop bytes stated (version, depth, sequence, parts, shows, text) =
+lawful-bounds kind shop bytes stated (sequence, version, depth, parts, shows, text) =
     let bounds : Bounds = stated_bounds kind stated in
     let low = shown-low shop version bounds.lower bounds.upper depth sequence parts shows in
     record {

@@ -4,8 +4,10 @@ use Rattle.std.specs.List.{flat_map}
 use Rattle.flow_shop.specs.Shop.{Shop}
 use Rattle.flow_shop.specs.Paths.{span}
 use Rattle.flow_shop.specs.Sequences.{IsSequence, IsLeastMakespan}
-use Rattle.flow_check.specs.Certificate.{Stated, IsLawful, ending, line, spaced, upto_stated}
-use Rattle.flow_check.specs.Stated.{GivesSequenceAs, GivesSequence}
+use Rattle.flow_check.specs.Certificate.{IsLawful}
+use Rattle.flow_check.specs.TextLines.{Stated, ending, line, spaced, upto_stated}
+use Rattle.flow_check.specs.Certificate.{GivesSequenceAs}
+use Rattle.flow_check.specs.Stated.{GivesSequence}
 use Rattle.flow_check.specs.declared.kind.TextKind.{TextKind}
 use Rattle.flow_check.specs.declared.kind.TextKind.TheVariants.{Certificate}
 use Rattle.flow_check.proofs.SequenceLine.{GoesOn}
@@ -38,8 +40,7 @@ stated-line kind shop bytes stated jobs gives =
 lawful-gives : (kind : TextKind) (shop : Shop) (bytes : List ℕ) (stated : Stated kind) →
     IsLawful kind shop bytes stated →
     (jobs : List ℕ) × GivesSequenceAs kind shop bytes stated jobs × IsSequence shop.jobs jobs
-lawful-gives kind shop bytes stated (version, depth, jobs, trees, shows, is) =
-    (jobs, (version, depth, trees, shows, is), shows.whole)
+lawful-gives kind shop bytes stated (jobs, gives) = (jobs, gives, gives.3.whole)
 
 -- jobs that are those of each sequence that a text gives are its sequence
 pub stated-is : (kind : TextKind) (shop : Shop) (bytes : List ℕ) (stated : Stated kind) (found own : List ℕ) →
@@ -59,5 +60,5 @@ value-gives shop bytes value sequence gives =
     let attained : value ≡ span shop sequence = sym gives.3.attained in (
       subst (λ v. GivesSequenceAs Certificate shop bytes v sequence) attained gives,
       subst (IsLeastMakespan shop) attained
-          (certificate_is_sound shop bytes value (gives.0, gives.1, sequence, gives.2, gives.3, gives.4)),
+          (certificate_is_sound shop bytes value (sequence, gives)),
     )

@@ -5,7 +5,7 @@ use Rattle.std.proofs.lemmas.Bool.{eq-eqb, ne_eqb, le-leb, lt-leb, lt-ltb, le-lt
 use Rattle.flow_shop.specs.Shop.{Shop}
 use Rattle.flow_shop.specs.Paths.{span}
 use Rattle.flow_shop.specs.Sequences.{jobs_left}
-use Rattle.flow_check.specs.internal.Reading.{read_tree, each_tree, cut_fault, leaf_fault, is_letter}
+use Rattle.flow_check.specs.internal.ReadTrees.{read_tree, each_tree, cut_fault, leaf_fault, is_letter}
 use Rattle.flow_check.specs.declared.fault.CheckFault.TheVariants.{Tree, Weak, Low}
 
 -- one byte where jobs are left

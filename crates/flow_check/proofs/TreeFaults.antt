@@ -11,10 +11,12 @@ use Rattle.flow_shop.specs.Shop.{Shop}
 use Rattle.flow_shop.specs.Paths.{span}
 use Rattle.flow_shop.specs.Sequences.{jobs_left}
 use Rattle.flow_shop.specs.Bound.{letter}
-use Rattle.flow_check.specs.Certificate.{Covers, line, ending, point, plus, line_feed}
+use Rattle.flow_shop.specs.Characters.{line_feed}
+use Rattle.flow_check.specs.Certificate.{Covers, point, plus}
+use Rattle.flow_check.specs.TextLines.{line, ending}
 use Rattle.flow_check.specs.CertificateFaults.{BeginsWith, HasFaultAmong, HasTreeFault, HasLineFault}
-use Rattle.flow_check.specs.internal.Reading.{read_tree, each_tree, then_read, leaf_fault, cut_fault, is_letter}
-use Rattle.flow_check.specs.internal.Reading.{after_tree, trees_value}
+use Rattle.flow_check.specs.internal.ReadTrees.{read_tree, each_tree, then_read, leaf_fault, cut_fault, is_letter}
+use Rattle.flow_check.specs.internal.ReadTrees.{after_tree, trees_value}
 use Rattle.flow_check.specs.declared.fault.CheckFault.{CheckFault}
 use Rattle.flow_check.specs.declared.fault.CheckFault.TheVariants.{Tree, Weak, Low, End}
 use Rattle.flow_check.proofs.TreesExact.{tree-sound, tree-complete}

@@ -7,7 +7,7 @@ use Rattle.std.proofs.Math.Seq.{drop-cons}
 use Rattle.flow_shop.specs.Shop.{Shop}
 use Rattle.flow_shop.specs.Bound.{bound_of}
 use Rattle.flow_shop.specs.Sequences.{has, jobs_left}
-use Rattle.flow_check.specs.internal.Reading.{read_tree, each_tree, then_read}
+use Rattle.flow_check.specs.internal.ReadTrees.{read_tree, each_tree, then_read}
 use Rattle.flow_check.specs.internal.Links.{children, AreLinks}
 use Rattle.flow_check.specs.internal.Nodes.{IsNode, IsAt}
 use Rattle.flow_check.specs.internal.Reader.{LetterGives, TreeGives, children_read, path, resume, IsStack, IsReading}

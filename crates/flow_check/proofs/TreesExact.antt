@@ -8,9 +8,10 @@ use Rattle.flow_shop.specs.Shop.{Shop}
 use Rattle.flow_shop.specs.Paths.{span}
 use Rattle.flow_shop.specs.Sequences.{jobs_left}
 use Rattle.flow_shop.specs.Bound.{letter}
-use Rattle.flow_check.specs.Certificate.{Covers, line, ending}
-use Rattle.flow_check.specs.internal.Reading.{read_tree, each_tree, then_read, leaf_fault, cut_fault, is_letter}
-use Rattle.flow_check.specs.internal.Reading.{after_tree, trees_value}
+use Rattle.flow_check.specs.Certificate.{Covers}
+use Rattle.flow_check.specs.TextLines.{line, ending}
+use Rattle.flow_check.specs.internal.ReadTrees.{read_tree, each_tree, then_read, leaf_fault, cut_fault, is_letter}
+use Rattle.flow_check.specs.internal.ReadTrees.{after_tree, trees_value}
 use Rattle.std.specs.Str.{bytes_eq}
 use Rattle.std.specs.Cmp.Lexicographic.{bytes_decides}
 use Rattle.flow_check.specs.declared.fault.CheckFault.{CheckFault}

@@ -5,7 +5,7 @@ use Rattle.std.proofs.lemmas.List.{append-nil}
 use Rattle.flow_shop.specs.Shop.{Shop}
 use Rattle.flow_shop.specs.Bound.{bound_of}
 use Rattle.flow_shop.specs.Sequences.{cut}
-use Rattle.flow_check.specs.internal.Reading.{trees_value, cut_value}
+use Rattle.flow_check.specs.internal.ReadTrees.{trees_value, cut_value}
 use Rattle.flow_check.specs.internal.Trees.{TreesGive}
 use Rattle.flow_check.specs.internal.Reader.{LinesGive}
 use Rattle.flow_check.specs.declared.fault.CheckFault.{CheckFault}

@@ -5,8 +5,11 @@ use Rattle.flow_shop.specs.Shop.{Shop, IsWithinLimits}
 use Rattle.flow_shop.specs.Paths.{span}
 use Rattle.flow_shop.specs.Sequences.{IsSequence, jobs_left, cut}
 use Rattle.flow_shop.specs.Bound.{bound_of, letter}
-use Rattle.flow_check.specs.Certificate.{Covers, IsVersion, IsDepth, IsStated, Stated, stated_bounds, IsLawful, point}
-use Rattle.flow_check.specs.Certificate.{plus, line_feed, line, ending, upto_title, upto_sizes, upto_stated, heading}
+use Rattle.flow_check.specs.Certificate.{Covers, IsLawful, point}
+use Rattle.flow_check.specs.TextLines.{IsVersion, IsDepth, IsStated, Stated, stated_bounds}
+use Rattle.flow_shop.specs.Characters.{line_feed}
+use Rattle.flow_check.specs.Certificate.{plus}
+use Rattle.flow_check.specs.TextLines.{line, ending, upto_title, upto_sizes, upto_stated, heading}
 use Rattle.flow_check.specs.declared.kind.TextKind.{TextKind}
 use Rattle.flow_check.specs.declared.kind.TextKind.TheVariants.{Certificate, OfBounds}
 use Rattle.flow_check.specs.declared.fault.CheckFault.{CheckFault}

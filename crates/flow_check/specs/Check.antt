@@ -1,7 +1,8 @@
 -- What a fault says of a text.
 use Rattle.std.specs.Prelude.{ℕ, List}
 use Rattle.flow_shop.specs.Shop.{Shop}
-use Rattle.flow_check.specs.Certificate.{Stated, IsLawful}
+use Rattle.flow_check.specs.Certificate.{IsLawful}
+use Rattle.flow_check.specs.TextLines.{Stated}
 use Rattle.flow_check.specs.CertificateFaults.{HasFaultAs}
 use Rattle.flow_check.specs.declared.fault.CheckFault.{CheckFault}
 use Rattle.flow_check.specs.declared.fault.CheckFault.TheVariants.{Memory}

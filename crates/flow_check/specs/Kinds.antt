@@ -1,6 +1,6 @@
 -- The kind as which a text is read.
 use Rattle.std.specs.Prelude.{ℕ, List}
-use Rattle.flow_check.specs.Certificate.{IsVersion, upto_title}
+use Rattle.flow_check.specs.TextLines.{IsVersion, upto_title}
 use Rattle.flow_check.specs.CertificateFaults.{BeginsWith}
 use Rattle.flow_check.specs.declared.kind.TextKind.{TextKind}
 use Rattle.flow_check.specs.declared.kind.TextKind.TheVariants.{Certificate, OfBounds}

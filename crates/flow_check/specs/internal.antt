@@ -1,4 +1,5 @@
 pub mod Reading
+pub mod ReadTrees
 pub mod Heading
 pub mod Trees
 pub mod Links

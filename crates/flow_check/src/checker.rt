@@ -4,8 +4,10 @@ ghost use Rattle.std.specs.Prelude.{◌≡◌, ◌⊎◌, ℕ, IfOk, IfErr, Ok, 
 ghost use Rattle.std.specs.Str.{bytes_eq};
 ghost use Rattle.flow_shop.specs.Sequences.{IsLeastMakespan};
 ghost use Rattle.flow_shop.specs.Shop.{IsWithinLimits};
-ghost use Rattle.flow_check.specs.Certificate.{IsCertificate, IsBoundsText, AreBounds, line, ending};
-ghost use Rattle.flow_check.specs.Certificate.{Stated, stated_bounds, IsLawful};
+ghost use Rattle.flow_check.specs.Certificate.{IsCertificate, IsBoundsText, AreBounds};
+ghost use Rattle.flow_check.specs.TextLines.{line, ending};
+ghost use Rattle.flow_check.specs.Certificate.{IsLawful};
+ghost use Rattle.flow_check.specs.TextLines.{Stated, stated_bounds};
 ghost use Rattle.flow_check.specs.Check.{IsFirstFault, IsOfNoValue, IsBoundsFault, IsOfNoBounds};
 ghost use Rattle.flow_check.specs.Check.{IsFaultAs, IsUnlawfulAs};
 ghost use Rattle.flow_check.specs.declared.bounds.Bounds.{Bounds};

@@ -4,7 +4,7 @@ ghost use Rattle.std.specs.Prelude.{◌≡◌, ℕ, ◌+◌, ◌-◌, ◌<◌, �
 ghost use Rattle.std.specs.Option.{IsSomeAnd};
 ghost use Rattle.flow_shop.specs.Shop.{IsWithinLimits};
 ghost use Rattle.flow_shop.specs.Paths.{span};
-ghost use Rattle.flow_check.specs.Certificate.{IsVersion, Stated, stated_bounds, line, title, opening};
+ghost use Rattle.flow_check.specs.TextLines.{IsVersion, Stated, stated_bounds, line, title, opening};
 ghost use Rattle.flow_check.specs.internal.Reading.{text_value};
 ghost use Rattle.flow_check.specs.internal.Heading.{BeginsWithJob, BeginsWithSize, BeginsWithSequence, end_of};
 ghost use Rattle.flow_check.specs.internal.Heading.{BeginsWithStated, IsHeadingOf};

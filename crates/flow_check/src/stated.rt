@@ -4,9 +4,11 @@ ghost use Rattle.std.specs.Prelude.{◌≡◌, ℕ, ◌++◌, List, IfOk, IfErr}
 ghost use Rattle.std.specs.Option.{IsSomeAnd};
 ghost use Rattle.flow_shop.specs.Paths.{span};
 ghost use Rattle.flow_shop.specs.Sequences.{IsLeastMakespan, IsSequence};
-ghost use Rattle.flow_check.specs.Certificate.{AreBounds, IsDepth, IsVersion, IsStated, Stated, upto_stated};
+ghost use Rattle.flow_check.specs.Certificate.{AreBounds};
+ghost use Rattle.flow_check.specs.TextLines.{IsDepth, IsVersion, IsStated, Stated, upto_stated};
 ghost use Rattle.flow_check.specs.Check.{IsFaultAs, IsFirstFault, IsOfNoValue, IsUnlawfulAs};
-ghost use Rattle.flow_check.specs.Stated.{GivesAs, GivesSequence, GivesSequenceAs};
+ghost use Rattle.flow_check.specs.Certificate.{GivesSequenceAs};
+ghost use Rattle.flow_check.specs.Stated.{GivesAs, GivesSequence};
 ghost use Rattle.flow_check.specs.internal.Heading.{BeginsWithSequence};
 
 use crate::bounds::Bounds;

@@ -5,7 +5,8 @@ use Rattle.flow_core.specs.Bytes.{GrowsWithin}
 use Rattle.flow_core.specs.Limits.{most_certificate}
 use Rattle.flow_core.specs.Shop.{Shop}
 use Rattle.flow_core.specs.Mirror.{mirrored}
-use Rattle.flow_check.specs.Certificate.{IsLawful, Stated}
+use Rattle.flow_check.specs.Certificate.{IsLawful}
+use Rattle.flow_check.specs.TextLines.{Stated}
 use Rattle.flow_check.specs.Check.{IsFaultAs, IsUnlawfulAs}
 use Rattle.flow_check.specs.declared.fault.CheckFault.{CheckFault}
 use Rattle.flow_check.specs.declared.fault.CheckFault.TheVariants.{Memory, Header, Size, Value, Sequence, NotAttained}

@@ -7,7 +7,8 @@ use Rattle.flow_core.specs.Paths.{span}
 use Rattle.flow_core.specs.Mirror.{mirrored}
 use Rattle.flow_core.proofs.MirrorLemmas.{mirror-keeps-least, mirror-lists}
 use Rattle.flow_core.proofs.ReversedSequence.{sequence-reverse}
-use Rattle.flow_check.specs.Certificate.{AreBounds, IsLawful, Stated, stated_bounds}
+use Rattle.flow_check.specs.Certificate.{AreBounds, IsLawful}
+use Rattle.flow_check.specs.TextLines.{Stated, stated_bounds}
 use Rattle.flow_check.specs.Stated.{GivesAs}
 use Rattle.flow_check.specs.declared.bounds.Bounds.{Bounds}
 use Rattle.flow_check.specs.declared.kind.TextKind.{TextKind}

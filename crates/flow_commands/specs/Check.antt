@@ -4,7 +4,8 @@ use Rattle.flow_core.specs.Shop.{Shop}
 use Rattle.flow_core.specs.Paths.{span}
 use Rattle.flow_core.specs.Mirror.{mirrored}
 use Rattle.flow_core.specs.Sequences.{IsLeastMakespan, IsSequence}
-use Rattle.flow_check.specs.Certificate.{AreBounds, IsLawful, Stated}
+use Rattle.flow_check.specs.Certificate.{AreBounds, IsLawful}
+use Rattle.flow_check.specs.TextLines.{Stated}
 use Rattle.flow_check.specs.CertificateFaults.{HasFaultAs}
 use Rattle.flow_check.specs.Kinds.{IsReadAs}
 use Rattle.flow_check.specs.Stated.{GivesAs}

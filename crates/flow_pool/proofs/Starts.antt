@@ -60,9 +60,7 @@ IsReport-at_start plan target found report same is has lanes =
       lanes = subst (λ l. AreWholeWork plan l.items) (sym lanes) here.lanes;
       within = here.within;
       verdict = of.0;
-      least = least.least;
-      attained = least.attained;
-      sequence = least.sequence;
+      least = least;
     }
 
 -- a fault of its run is one of the run of the plan

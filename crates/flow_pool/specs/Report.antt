@@ -1,12 +1,10 @@
 -- What the settled lanes of a run have carried, and why a run has no report.
 use Rattle.std.specs.Prelude.{◌≡◌, ℕ, ◌<◌, List, None, Some, length, All, HoldsAt}
-use Rattle.flow_shop.specs.Paths.{span}
-use Rattle.flow_shop.specs.Sequences.{IsSequence, IsLeastMakespan}
 use Rattle.flow_search.specs.Plans.{Planned}
 use Rattle.flow_search.specs.Outcomes.{IsLawful, IsDone, first_over_budget}
 use Rattle.flow_search.specs.Verdicts.{IsVerdict}
 use Rattle.flow_search.specs.Targets.{Targeted, IsTarget, AreAlike, plan_below}
-use Rattle.flow_search.specs.Findings.{IsFinding, HasLeast, AreOne}
+use Rattle.flow_search.specs.Findings.{IsFinding, IsLeast, HasLeast, AreOne}
 use Rattle.flow_search.specs.declared.verdict.RunFault.{RunFault}
 use Rattle.flow_search.specs.declared.verdict.RunFault.TheVariants as run_fault
 use Rattle.flow_lanes.specs.declared.settled.Settled.{Settled}
@@ -42,14 +40,12 @@ pub record AreWholeWork (plan : Planned) (lanes : List (Settled Task × Settled 
   pub each : (worker : ℕ) → worker < plan.options.workers → HoldsAt (IsWholeWork plan worker) lanes worker
 
 -- the report of a whole run: its lanes carried the whole work; no tree is longer than the budget; the verdict is that
--- of the plan, its value is the least makespan, and its sequence is one of the instance and has this makespan
+-- of the plan, and has a sequence of least makespan
 pub record IsReport (plan : Planned) (report : Report) : Type 0 where
   pub lanes : AreWholeWork plan report.lanes.items
   pub within : first_over_budget plan ≡ None
   pub verdict : IsVerdict plan report.verdict
-  pub least : IsLeastMakespan plan.shop report.verdict.value
-  pub attained : span plan.shop report.verdict.sequence ≡ report.verdict.value
-  pub sequence : IsSequence plan.shop.jobs report.verdict.sequence
+  pub least : IsLeast plan.shop report.verdict
 
 -- the report of a whole run below a target: its lanes carried the whole work; no tree is longer than the budget; the
 -- finding is that of the target, and where it has a verdict, the verdict has a sequence of least makespan

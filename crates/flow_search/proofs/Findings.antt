@@ -4,12 +4,12 @@ use Rattle.std.proofs.Common.{refl, arith, unwrap_or, length, Result, Ok, Err, I
 use Rattle.flow_shop.specs.Shop.{Shop}
 use Rattle.flow_shop.specs.Least.{first_least}
 use Rattle.flow_shop.specs.Paths.{span}
-use Rattle.flow_shop.specs.Sequences.{IsSequence, IsLeastMakespan}
+use Rattle.flow_shop.specs.Sequences.{IsSequence, IsLeastMakespan, IsLowerBound}
 use Rattle.flow_shop.specs.Bound.{bound_of}
 use Rattle.flow_search.specs.Search.{Found, verdict, trees}
 use Rattle.flow_search.specs.Plans.{Planned, IsPlan, prefixes_of, verdict_of, trees_of}
 use Rattle.flow_search.specs.Verdicts.{IsVerdict}
-use Rattle.flow_search.specs.Targets.{Targeted, IsTarget, AreAlike, at_value, plan_below, IsLowerBound}
+use Rattle.flow_search.specs.Targets.{Targeted, IsTarget, AreAlike, at_value, plan_below}
 use Rattle.flow_search.specs.Findings.{IsFinding, IsLeast, HasLeast, FindingIsLeast, TargetsAgree}
 use Rattle.flow_search.specs.declared.verdict.Verdict.{Verdict}
 use Rattle.flow_search.specs.declared.finding.Finding.{Finding}

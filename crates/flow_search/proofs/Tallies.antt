@@ -11,6 +11,7 @@ use Rattle.std.proofs.lemmas.Bool.{cond-true, cond-false, cases_Bool, cases_lt, 
 use Rattle.std.proofs.lemmas.Bool.{lt-ltb, le-ltb}
 use Rattle.flow_shop.specs.Least.{first_least}
 use Rattle.flow_shop.specs.Bound.{bound_of}
+use Rattle.flow_shop.specs.Sequences.{IsLowerBound}
 use Rattle.flow_search.specs.Search.{Found, tree, best}
 use Rattle.flow_search.specs.Plans.{Planned, prefixes_of, prefix_of, tree_of, best_of, trees_of, verdict_of}
 use Rattle.flow_search.specs.Outcomes.{IsLawful, AreLawful, IsDone, found_of, first_over_budget}
@@ -24,7 +25,6 @@ use Rattle.flow_search.specs.declared.tally.Tally.{Tally}
 use Rattle.flow_search.specs.declared.verdict.RunFault.{RunFault}
 use Rattle.flow_search.specs.declared.verdict.RunFault.TheVariants.{OverBudget}
 use Rattle.flow_search.proofs.Lists.{all-append}
-use Rattle.flow_search.specs.Targets.{IsLowerBound}
 use Rattle.flow_search.proofs.LeastVerdict.{IsLeastFound, none-below, least-below}
 
 abbrev first : List Found → Option Found

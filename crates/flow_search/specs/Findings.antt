@@ -2,10 +2,10 @@
 use Rattle.std.specs.Prelude.{◌≡◌, ◌<◌, ◌⊎◌, map}
 use Rattle.flow_shop.specs.Shop.{Shop}
 use Rattle.flow_shop.specs.Paths.{span}
-use Rattle.flow_shop.specs.Sequences.{IsSequence, IsLeastMakespan}
+use Rattle.flow_shop.specs.Sequences.{IsSequence, IsLowerBound, IsLeastMakespan}
 use Rattle.flow_search.specs.Plans.{trees_of}
 use Rattle.flow_search.specs.Verdicts.{IsVerdict}
-use Rattle.flow_search.specs.Targets.{Targeted, IsTarget, plan_below, IsLowerBound, AreAlike}
+use Rattle.flow_search.specs.Targets.{Targeted, IsTarget, plan_below, AreAlike}
 use Rattle.flow_search.specs.declared.verdict.Verdict.{Verdict}
 use Rattle.flow_search.specs.declared.finding.Finding.{Finding}
 use Rattle.flow_search.specs.declared.finding.Finding.TheVariants.{Least, Bound}

@@ -1,8 +1,6 @@
 -- Searches below a target, a number that stands in the place of the makespan of the starting sequence.
 use Rattle.std.specs.Prelude.{ℕ, ◌≡◌, ◌≤◌, List, min}
 use Rattle.flow_shop.specs.Shop.{Shop}
-use Rattle.flow_shop.specs.Paths.{span}
-use Rattle.flow_shop.specs.Sequences.{IsSequence}
 use Rattle.flow_search.specs.Plans.{Planned, IsPlan}
 
 -- a plan with a target
@@ -31,10 +29,6 @@ plan_below target = record {
   start = record { value = target.value; sequence = target.plan.start.sequence };
   options = target.plan.options;
 }
-
--- no sequence of an instance has a makespan below a number
-abbrev pub IsLowerBound : Shop → ℕ → Type 0
-IsLowerBound shop value = (sequence : List ℕ) → IsSequence shop.jobs sequence → value ≤ span shop sequence
 
 -- two targets are the same number for one instance, one starting sequence, one depth and one version
 pub record AreAlike (target other : Targeted) : Type 0 where

@@ -41,7 +41,11 @@ extensions n (suc more) jobs = flat_map (λ job. extensions n more (jobs ++ job 
 abbrev pub cut : ℕ → ℕ → List (List ℕ)
 cut n depth = extensions n depth []
 
+-- no sequence of an instance has a makespan below a number
+abbrev pub IsLowerBound : Shop → ℕ → Type 0
+IsLowerBound shop value = (jobs : List ℕ) → IsSequence shop.jobs jobs → value ≤ span shop jobs
+
 -- the least makespan of an instance
 pub record IsLeastMakespan (shop : Shop) (value : ℕ) : Type 0 where
   pub attained : (jobs : List ℕ) × IsSequence shop.jobs jobs × (span shop jobs ≡ value)
-  pub least : (jobs : List ℕ) → IsSequence shop.jobs jobs → value ≤ span shop jobs
+  pub least : IsLowerBound shop value

@@ -3,8 +3,12 @@ pub mod BytesLemmas
 pub mod LineLemmas
 pub mod NumberLemmas
 pub mod TextGrammar
+pub mod RestOfText
 pub mod TextComplete
+pub mod LineNumbers
 pub mod TextFaultLemmas
+pub mod LinesBefore
 pub mod TextAnswers
 pub mod TextWritten
+pub mod RowNumbers
 pub mod StartLemmas

@@ -4,7 +4,8 @@ use Rattle.std.specs.Prelude.{◌≢◌, IfOk, OnOk, IfErr}
 use Rattle.flow_text.specs.Lines.{lines_of}
 use Rattle.flow_text.specs.Text.{Reads}
 use Rattle.flow_text.specs.TextFaults.{text_fault}
-use Rattle.flow_text.specs.internal.TextWalk.{start, walk, TextGives}
+use Rattle.flow_text.specs.internal.TextWalk.{walk, TextGives}
+use Rattle.flow_text.specs.internal.TextState.{start}
 use Rattle.flow_text.specs.declared.text.block.Block.{Block}
 use Rattle.flow_text.specs.declared.text.fault.TextFault.{TextFault}
 use Rattle.flow_text.specs.declared.text.fault.TextFault.TheVariants as text

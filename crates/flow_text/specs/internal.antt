@@ -1,3 +1,4 @@
 pub mod TextWalk
+pub mod TextState
 pub mod StartSteps
 pub mod Codes

@@ -1,7 +1,7 @@
 -- Why no text of an instance was accepted.
 use Rattle.std.specs.Prelude.{ℕ, Bool, true, false, List}
 use Rattle.flow_shop.specs.Shop.{Shop}
-use Rattle.flow_check.specs.Certificate.{Stated}
+use Rattle.flow_check.specs.TextLines.{Stated}
 use Rattle.flow_check.specs.CertificateFaults.{HasFaultAs}
 use Rattle.flow_check.specs.declared.fault.CheckFault.{CheckFault}
 use Rattle.flow_check.specs.declared.fault.CheckFault.TheVariants.{Memory}

@@ -1,7 +1,7 @@
 -- The parts of a text as they are written.
 use Rattle.std.specs.Prelude.{ℕ, List, [], ◌∷◌}
 use Rattle.flow_search.specs.Plans.{Planned}
-use Rattle.flow_check.specs.Certificate.{line, spaced, Stated, numbers_of, heading, text_of}
+use Rattle.flow_check.specs.TextLines.{line, spaced, Stated, numbers_of, heading, text_of}
 use Rattle.flow_check.specs.declared.bounds.Bounds.{Bounds}
 use Rattle.flow_check.specs.declared.kind.TextKind.{TextKind}
 use Rattle.flow_check.specs.declared.kind.TextKind.TheVariants.{Certificate, OfBounds}

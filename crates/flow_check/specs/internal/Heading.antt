@@ -6,8 +6,9 @@ use Rattle.flow_shop.specs.Limits.{greatest_depth}
 use Rattle.flow_shop.specs.Digits.{is_digit}
 use Rattle.flow_shop.specs.Sequences.{IsSequence}
 use Rattle.flow_shop.specs.Shop.{Shop}
-use Rattle.flow_check.specs.Certificate.{line, spaced, Stated, IsStated, stated_bounds, numbers_of}
-use Rattle.flow_check.specs.internal.Reading.{text_value, stated_once, cut_value}
+use Rattle.flow_check.specs.TextLines.{line, spaced, Stated, IsStated, stated_bounds, numbers_of}
+use Rattle.flow_check.specs.internal.Reading.{text_value, stated_once}
+use Rattle.flow_check.specs.internal.ReadTrees.{cut_value}
 use Rattle.flow_check.specs.declared.heading.Heading.{Heading}
 use Rattle.flow_check.specs.declared.kind.TextKind.{TextKind}
 

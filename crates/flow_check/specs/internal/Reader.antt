@@ -5,7 +5,7 @@ use Rattle.std.specs.List.{flat_map}
 use Rattle.flow_shop.specs.Shop.{Shop}
 use Rattle.flow_shop.specs.Bound.{bound_of}
 use Rattle.flow_shop.specs.Sequences.{has, jobs_left, extensions}
-use Rattle.flow_check.specs.internal.Reading.{read_tree, each_tree, then_read, after_tree, trees_value}
+use Rattle.flow_check.specs.internal.ReadTrees.{read_tree, each_tree, then_read, after_tree, trees_value}
 use Rattle.flow_check.specs.internal.Lags.{AreKept, AreUnknown}
 use Rattle.flow_check.specs.internal.Links.{children, IsPlace}
 use Rattle.flow_check.specs.internal.Nodes.{IsNode, IsAt}

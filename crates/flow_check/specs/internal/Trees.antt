@@ -1,7 +1,7 @@
 -- What the reading of a certificate's trees gives.
 use Rattle.std.specs.Prelude.{ℕ, ◌≡◌, ◌≤◌, List, length, drop, Result, Ok, Err}
 use Rattle.flow_shop.specs.Shop.{Shop}
-use Rattle.flow_check.specs.internal.Reading.{cut_value, end_value}
+use Rattle.flow_check.specs.internal.ReadTrees.{cut_value, end_value}
 use Rattle.flow_check.specs.declared.fault.CheckFault.{CheckFault}
 use Rattle.flow_check.specs.declared.fault.CheckFault.TheVariants.{Memory}
 

@@ -42,8 +42,8 @@ pub record IsMade (plan : Planned) (made : Made) : Type 0 where
   pub some : 0 < plan.options.workers
   pub few : prefix_count plan ≤ most_prefixes
   pub workers : vec_len made.ends ≡ plan.options.workers
-  pub start : CanStart made.ends.items made.desk.hubs.items
-  pub collect : CanCollect plan made.desk.hubs.items made.desk.answers
-  pub slots : map hub_slots made.desk.hubs.items ≡ by_worker plan.options.workers (λ _. (run_slots, run_slots))
+  pub start : CanStart made.ends.items made.hub.hubs.items
+  pub collect : CanCollect plan made.hub.hubs.items made.hub.answers
+  pub slots : map hub_slots made.hub.hubs.items ≡ by_worker plan.options.workers (λ _. (run_slots, run_slots))
   pub outcomes : (made.room.items ≡ []) × (prefix_count plan ≤ vec_capacity made.room)
   pub lanes : (made.lanes.items ≡ []) × (plan.options.workers ≤ vec_capacity made.lanes)

@@ -10,7 +10,7 @@ ghost use Rattle.flow_pool.specs.internal.HubSteps.{hub_slots};
 ghost use Rattle.flow_pool.specs.internal.Settling.{IsReadyHub};
 ghost use Rattle.flow_pool.specs.internal.Runs.{IsMade};
 
-use crate::ends::Desk;
+use crate::ends::HubState;
 use crate::settling::LanePair;
 use crate::{HubEnds, WorkerEnds};
 use crossbeam_utils::sync::Parker;
@@ -27,7 +27,7 @@ pub(crate) struct Made {
     /// The workers' ends of all lanes.
     pub ends: Vec<WorkerEnds>,
     /// The hub's ends, room for all answers, and where the hub waits.
-    pub desk: Desk,
+    pub hub: HubState,
     /// Room for all outcomes.
     pub room: Vec<Outcome>,
     /// Room for the settled lanes.
@@ -80,14 +80,14 @@ pub(crate) fn make_run(alloc: Global, target: &Target) -> Result<Made, AllocErro
     let room = Vec::with_capacity(alloc, count)?;
     let lanes = Vec::with_capacity(alloc, workers as usize)?;
     let parker = Parker::new(alloc)?;
-    let desk = Desk {
+    let hub = HubState {
         hubs,
         answers,
         parker,
     };
     Ok(Made {
         ends,
-        desk,
+        hub,
         room,
         lanes,
     })

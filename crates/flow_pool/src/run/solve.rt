@@ -9,7 +9,7 @@ ghost use Rattle.flow_pool.specs.Report.{IsReport, IsFindingReport, IsSolveFault
 ghost use Rattle.flow_pool.specs.internal.Runs.{IsMade, IsRun};
 
 use crate::at_start::{report_with_verdict, target_at_start};
-use crate::ends::Desk;
+use crate::ends::HubState;
 use crate::gate::HubGate;
 use crate::refusal::Refusal;
 use crate::run::make::{Made, make_run};
@@ -129,17 +129,17 @@ fn run_made<R: Threads + Wait + Sync, G: Gate + Sync>(
 {
     let Made {
         ends,
-        desk,
+        hub,
         room,
         mut lanes,
     } = made;
-    let ended = run_workers(rt, alloc, target, gate, starts, ends, desk);
+    let ended = run_workers(rt, alloc, target, gate, starts, ends, hub);
     let Ended {
         start,
         workers,
-        desk,
+        hub,
     } = ended;
-    let Desk { hubs, answers, .. } = desk;
+    let HubState { hubs, answers, .. } = hub;
     settle_all(hubs, workers, &mut lanes);
     match start {
         Start::Complete => {}
@@ -168,7 +168,7 @@ fn run_limited<R: Threads + Wait + Sync, G: Gate + Sync>(
     ensures { IfOk result (λ run. IsRun target.now starts run) }
 {
     let made = make_run(alloc, target)?;
-    let gate = HubGate::new(gate, &made.desk.parker)?;
+    let gate = HubGate::new(gate, &made.hub.parker)?;
     Ok(run_made(rt, alloc, target, &gate, starts, made))
 }
 

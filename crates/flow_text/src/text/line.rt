@@ -6,7 +6,8 @@ ghost use Rattle.std.specs.Char.{digit_value};
 ghost use Rattle.std.specs.Option.{SomeIff};
 ghost use Rattle.flow_text.specs.Lines.{lines_of, is_blank, is_digit, is_plain, after_blanks};
 ghost use Rattle.flow_text.specs.StartText.{behind, ends_word};
-ghost use Rattle.flow_text.specs.internal.TextWalk.{line_numbers, LineGives, first};
+ghost use Rattle.flow_text.specs.internal.TextWalk.{line_numbers, LineGives};
+ghost use Rattle.flow_text.specs.internal.TextState.{first};
 ghost use Rattle.flow_limits.specs.Limits.{greatest_number};
 ghost use Rattle.flow_text.specs.declared.text.fault.LineFault.TheVariants.{Byte, Number};
 

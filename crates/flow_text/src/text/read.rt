@@ -4,7 +4,8 @@ ghost use Rattle.std.specs.Prelude.{◌≡◌, ◌≢◌, List, None, Some, IfOk
 ghost use Rattle.flow_text.specs.Lines.{lines_of};
 ghost use Rattle.flow_text.specs.Text.{Reads};
 ghost use Rattle.flow_text.specs.TextFaults.{text_fault};
-ghost use Rattle.flow_text.specs.internal.TextWalk.{start, walk, TextGives};
+ghost use Rattle.flow_text.specs.internal.TextWalk.{walk, TextGives};
+ghost use Rattle.flow_text.specs.internal.TextState.{start};
 ghost use Rattle.flow_text.specs.declared.text.block.Block.{Block};
 ghost use Rattle.flow_text.specs.declared.text.fault.TextFault.TheVariants.{Memory};
 

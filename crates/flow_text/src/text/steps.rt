@@ -2,9 +2,12 @@
 
 ghost use Rattle.std.specs.Prelude.{◌≡◌, ◌++◌, true, false, length, MatchOption};
 ghost use Rattle.flow_text.specs.TextFaults.{is_head, are_times};
-ghost use Rattle.flow_text.specs.internal.TextWalk.{state_of, start, after_label, after_head_numbers, after_times};
-ghost use Rattle.flow_text.specs.internal.TextWalk.{after_numbers, after_line, at_end, sizes_of, sizes, SizesFit};
-ghost use Rattle.flow_text.specs.internal.TextWalk.{Keeps, LineGives, TextGives};
+ghost use Rattle.flow_text.specs.internal.TextWalk.{after_label, after_head_numbers, after_times};
+ghost use Rattle.flow_text.specs.internal.TextState.{state_of, start};
+ghost use Rattle.flow_text.specs.internal.TextWalk.{after_numbers, after_line, at_end};
+ghost use Rattle.flow_text.specs.internal.TextState.{sizes_of, sizes, SizesFit};
+ghost use Rattle.flow_text.specs.internal.TextWalk.{LineGives, TextGives};
+ghost use Rattle.flow_text.specs.internal.TextState.{Keeps};
 
 use crate::text::block::Block;
 use crate::text::fault::{LineFault, TextFault};

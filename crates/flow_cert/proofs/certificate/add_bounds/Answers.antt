@@ -1,7 +1,7 @@
 use Rattle.std.proofs.Common.{ℕ, List, Option, ◌≡◌, [], ◌∷◌, ◌++◌, decimal, subst, sym}
 use Rattle.std.proofs.lemmas.Result.{on_ok_weaker, on_err_weaker}
 use Rattle.flow_text.specs.Bytes.{AddsProperPrefix}
-use Rattle.flow_check.specs.Certificate.{line}
+use Rattle.flow_check.specs.TextLines.{line}
 use Rattle.flow_check.specs.declared.bounds.Bounds.{Bounds}
 use Rattle.flow_cert.specs.internal.Gathered.{HandsOn}
 use Rattle.flow_cert.specs.internal.HeadingText.{bounds_line}

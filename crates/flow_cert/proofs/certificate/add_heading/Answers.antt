@@ -1,7 +1,7 @@
 use Rattle.std.proofs.Common.{◌++◌, List, ℕ, [], ◌∷◌}
 use Rattle.std.proofs.lemmas.Result.{on_ok_weaker, on_err_weaker}
 use Rattle.flow_search.specs.Plans.{Planned}
-use Rattle.flow_check.specs.Certificate.{line, spaced, title}
+use Rattle.flow_check.specs.TextLines.{line, spaced, title}
 use Rattle.flow_cert.specs.declared.certificate.Claim.{Claim}
 use Rattle.flow_cert.specs.internal.Gathered.{HandsOn}
 use Rattle.flow_cert.specs.internal.HeadingText.{kind_of, size_line, claim_line}

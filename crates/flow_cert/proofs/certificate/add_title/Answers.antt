@@ -1,6 +1,6 @@
 use Rattle.std.proofs.Common.{[], ◌∷◌, decimal, ap, ◌∙◌}
 use Rattle.std.proofs.lemmas.Result.{on_ok_weaker, on_err_weaker}
-use Rattle.flow_check.specs.Certificate.{opening, title}
+use Rattle.flow_check.specs.TextLines.{opening, title}
 use Rattle.flow_cert.specs.internal.Gathered.{HandsOn}
 use Rattle.flow_cert.specs.internal.HeadingText.{kind_of}
 use Rattle.flow_cert.proofs.HandedOn.{on-err, then-hands, then-stops, stops-early}

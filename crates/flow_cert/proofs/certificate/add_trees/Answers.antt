@@ -1,7 +1,7 @@
 use Rattle.std.proofs.Common.{◌<◌, ◌++◌, List, ℕ, [], ◌∷◌, suc, length, map, take, drop, arith, Option, Vec, Global}
 use Rattle.std.specs.List.{flat_map}
 use Rattle.flow_text.specs.Bytes.{AddsProperPrefix}
-use Rattle.flow_check.specs.Certificate.{line}
+use Rattle.flow_check.specs.TextLines.{line}
 use Rattle.flow_cert.proofs.HandedOn.{on-err, then-hands, then-stops, stops-within, stops-early}
 use Rattle.flow_cert.proofs.WrittenLines.{at-line, one-more-line}
 use Rattle.flow_cert.proofs.certificate.add_trees.Goals as goal

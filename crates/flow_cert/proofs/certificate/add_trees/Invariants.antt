@@ -1,6 +1,6 @@
 use Rattle.std.proofs.Common.{◌≡◌, false, take, map}
 use Rattle.std.specs.List.{flat_map}
-use Rattle.flow_check.specs.Certificate.{line}
+use Rattle.flow_check.specs.TextLines.{line}
 use Rattle.flow_cert.specs.internal.Gathered.{HandsOn}
 use Rattle.flow_cert.proofs.certificate.add_trees.Given as goal
 

@@ -1,6 +1,6 @@
 use Rattle.std.proofs.Common.{[], ◌∷◌, decimal, refl}
 use Rattle.std.proofs.lemmas.Result.{on_ok_weaker, on_err_weaker}
-use Rattle.flow_check.specs.Certificate.{line}
+use Rattle.flow_check.specs.TextLines.{line}
 use Rattle.flow_cert.proofs.HandedOn.{on-err, then-hands, then-stops, stops-within}
 use Rattle.flow_cert.proofs.certificate.add_value.Goals as goal
 

@@ -2,7 +2,7 @@ use Rattle.std.proofs.Common.{◌++◌, List, ℕ, [], ◌∷◌, map, Vec, Glob
 use Rattle.std.proofs.lemmas.Result.{on_ok_weaker, on_err_weaker}
 use Rattle.std.specs.List.{flat_map}
 use Rattle.flow_search.specs.Plans.{Planned}
-use Rattle.flow_check.specs.Certificate.{line, ending}
+use Rattle.flow_check.specs.TextLines.{line, ending}
 use Rattle.flow_cert.specs.declared.certificate.Claim.{Claim}
 use Rattle.flow_cert.specs.internal.Gathered.{HandsOn}
 use Rattle.flow_cert.specs.internal.HeadingText.{heading_with}

@@ -1,6 +1,6 @@
 use Rattle.std.proofs.Common.{◌≡◌, ◌++◌, IfSome, subst, sym}
 use Rattle.std.specs.Prelude.{codes}
-use Rattle.flow_check.specs.Certificate.{opening}
+use Rattle.flow_check.specs.TextLines.{opening}
 use Rattle.flow_check.proofs.SizeLine.{stripped}
 use Rattle.flow_check.proofs.heading.after_opening.Goals as goal
 

@@ -1,8 +1,9 @@
 use Rattle.std.proofs.Common.{◌≡◌, ◌≢◌, Bool, true, false, nat_eq, ap, cond, sym, ◌∙◌, Err}
 use Rattle.std.proofs.lemmas.Bool.{eq-eqb, ne_eqb}
 use Rattle.flow_shop.specs.Paths.{span}
-use Rattle.flow_check.specs.Certificate.{stated_bounds}
-use Rattle.flow_check.specs.internal.Reading.{text_value, header_value, after_heading, stated_once, cut_value, on_line}
+use Rattle.flow_check.specs.TextLines.{stated_bounds}
+use Rattle.flow_check.specs.internal.Reading.{text_value, header_value, after_heading, stated_once, on_line}
+use Rattle.flow_check.specs.internal.ReadTrees.{cut_value}
 use Rattle.flow_check.specs.declared.bounds.Bounds.{Bounds}
 use Rattle.flow_check.specs.declared.fault.CheckFault.TheVariants.{Header, Value, Sequence, NotAttained}
 use Rattle.flow_check.proofs.Exact.{after_size, after_stated}

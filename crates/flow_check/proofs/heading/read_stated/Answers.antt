@@ -1,7 +1,7 @@
 use Rattle.std.proofs.Common.{◌≡◌, List, ℕ, IfSome, refl, subst, sym}
 use Rattle.std.specs.Option.{IsSomeAnd}
 use Rattle.std.proofs.lemmas.Option.{IfSome_then}
-use Rattle.flow_check.specs.Certificate.{Stated, stated_bounds}
+use Rattle.flow_check.specs.TextLines.{Stated, stated_bounds}
 use Rattle.flow_check.specs.internal.Heading.{BeginsWithStated}
 use Rattle.flow_check.proofs.heading.read_stated.Goals as goal
 

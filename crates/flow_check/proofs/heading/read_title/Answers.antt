@@ -1,5 +1,5 @@
 use Rattle.std.proofs.Common.{◌++◌, ap, sym, ◌∙◌, arith}
-use Rattle.flow_check.specs.Certificate.{opening}
+use Rattle.flow_check.specs.TextLines.{opening}
 use Rattle.flow_check.proofs.SizeLine.{title-parts}
 use Rattle.flow_check.proofs.heading.read_title.Goals as goal
 

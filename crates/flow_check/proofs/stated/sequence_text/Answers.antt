@@ -1,5 +1,5 @@
 use Rattle.std.proofs.Common.{◌≡◌, ◌∷◌, ◌++◌, ℕ, List, []}
-use Rattle.flow_check.specs.Certificate.{IsDepth, IsVersion, Stated, numbers_of, line, spaced, title, upto_stated}
+use Rattle.flow_check.specs.TextLines.{IsDepth, IsVersion, Stated, numbers_of, line, spaced, title, upto_stated}
 use Rattle.flow_check.proofs.HeadingLines.{is-size}
 use Rattle.flow_check.proofs.StatedLines.{heading-parts}
 use Rattle.flow_check.proofs.stated.sequence_text.Goals as goal

@@ -5,7 +5,7 @@ use Rattle.flow_shop.specs.Sequences.{jobs_left}
 use Rattle.flow_search.specs.internal.Frames.{IsChild}
 use Rattle.flow_search.specs.internal.Lags.{AreLeastLags}
 use Rattle.flow_search.proofs.Nodes.{bound-one, bound-two, members-are}
-use Rattle.flow_search.proofs.Resume.{kid-of}
+use Rattle.flow_search.proofs.NextChild.{kid-of}
 use Rattle.flow_search.proofs.cutting.cutting_child.Goals as goal
 use Rattle.flow_search.proofs.cutting.cutting_child.Goals.{Start, Then-setting-eq2}
 

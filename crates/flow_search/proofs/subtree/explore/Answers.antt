@@ -10,7 +10,7 @@ use Rattle.flow_search.specs.internal.TwoLeast.{second_tail}
 use Rattle.flow_search.specs.internal.Nodes.{IsAt, incumbent_of}
 use Rattle.flow_search.specs.internal.Frames.{IsFrame}
 use Rattle.flow_search.proofs.Nodes.{left-count, machine-is, cut-here}
-use Rattle.flow_search.proofs.Resume.{frame-of}
+use Rattle.flow_search.proofs.NextChild.{frame-of}
 use Rattle.flow_search.proofs.ColumnsWalked.{IsUncut, uncut-found, node-done, node-over}
 use Rattle.flow_search.proofs.subtree.explore.Goals as goal
 use Rattle.flow_search.proofs.subtree.explore.Goals.{After-cutting_node, In_default}

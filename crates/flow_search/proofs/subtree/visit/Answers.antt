@@ -6,7 +6,8 @@ use Rattle.flow_search.specs.internal.Nodes.{IsAt, incumbent_of}
 use Rattle.flow_search.specs.declared.budget.SearchFault.{SearchFault}
 use Rattle.flow_search.specs.declared.budget.SearchFault.TheVariants.{OverBudget}
 use Rattle.flow_search.proofs.Nodes.{machine-is}
-use Rattle.flow_search.proofs.Resume.{cut-done, walk-some}
+use Rattle.flow_search.proofs.Resume.{cut-done}
+use Rattle.flow_search.proofs.NextChild.{walk-some}
 use Rattle.flow_search.proofs.subtree.visit.Goals as goal
 
 pub cutting_child-requires-clause-at : goal.cutting_child-requires-clause-at

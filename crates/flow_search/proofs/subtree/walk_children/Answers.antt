@@ -15,8 +15,10 @@ use Rattle.flow_search.specs.internal.Lags.{AreLeastLags}
 use Rattle.flow_search.specs.declared.budget.SearchFault.{SearchFault}
 use Rattle.flow_search.specs.declared.budget.SearchFault.TheVariants.{OverBudget}
 use Rattle.flow_search.proofs.Nodes.{left-count, within-front}
-use Rattle.flow_search.proofs.Resume.{walk-some, walking-child, walking-whole, walking-over, walking-entered}
-use Rattle.flow_search.proofs.Resume.{walking-down, walking-up, walking-done, moved, reverse-push}
+use Rattle.flow_search.proofs.Resume.{walking-child, walking-whole, walking-over, walking-entered}
+use Rattle.flow_search.proofs.NextChild.{walk-some}
+use Rattle.flow_search.proofs.Resume.{walking-down, walking-up, walking-done}
+use Rattle.flow_search.proofs.NextChild.{moved, reverse-push}
 use Rattle.flow_search.proofs.subtree.walk_children.Goals as goal
 use Rattle.flow_search.proofs.subtree.walk_children.Goals.{After-first_of, In-Some, In-Some-pop, In_ok-visit}
 use Rattle.flow_search.proofs.subtree.walk_children.Goals.{In_ok-enter, After-leave, Then-branch}

@@ -2,7 +2,7 @@ use Rattle.std.proofs.Common.{◌≡◌, ◌<◌, ◌++◌, List, ℕ, [], ◌�
 use Rattle.std.proofs.Common.{append_assoc, refl, sym, subst, ◌∙◌}
 use Rattle.std.proofs.lemmas.List.{take_all}
 use Rattle.std.proofs.lemmas.Result.{on_ok_weaker, on_err_weaker}
-use Rattle.flow_check.specs.Certificate.{line, spaced}
+use Rattle.flow_check.specs.TextLines.{line, spaced}
 use Rattle.flow_cert.specs.internal.Gathered.{HandsOn}
 use Rattle.flow_cert.proofs.HandedOn.{on-err, then-hands, then-stops, stops-within}
 use Rattle.flow_cert.proofs.WrittenLines.{rest_behind, at-number, one-more-number, gap-more}

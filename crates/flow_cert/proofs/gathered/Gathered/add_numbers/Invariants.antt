@@ -1,5 +1,5 @@
 use Rattle.std.proofs.Common.{◌≡◌, false, take}
-use Rattle.flow_check.specs.Certificate.{spaced}
+use Rattle.flow_check.specs.TextLines.{spaced}
 use Rattle.flow_cert.specs.internal.Gathered.{HandsOn}
 use Rattle.flow_cert.proofs.WrittenLines.{gap_behind}
 use Rattle.flow_cert.proofs.gathered.Gathered.add_numbers.Given as goal

@@ -3,7 +3,7 @@ use Rattle.std.proofs.Common.{subst, ◌∙◌, arith}
 use Rattle.std.proofs.lemmas.Grind.{get_or_default_zero}
 use Rattle.flow_shop.specs.Bound.{bound_of}
 use Rattle.flow_shop.specs.Sequences.{extensions}
-use Rattle.flow_check.specs.internal.Reading.{trees_value}
+use Rattle.flow_check.specs.internal.ReadTrees.{trees_value}
 use Rattle.flow_check.specs.internal.Links.{IsNext, IsPlace}
 use Rattle.flow_check.specs.internal.Reader.{Stands, IsBack, Opened, awaited}
 use Rattle.flow_check.proofs.Exits.{exit, no_value}

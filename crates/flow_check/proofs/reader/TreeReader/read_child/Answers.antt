@@ -2,7 +2,7 @@ use Rattle.std.proofs.Common.{◌≡◌, ◌≢◌, ℕ, ◌+◌, ◌<◌, Bool,
 use Rattle.std.proofs.Common.{Ok, Err, true, refl, sym, ap, subst, ◌∙◌, arith}
 use Rattle.std.proofs.lemmas.Grind.{get_or_default_zero}
 use Rattle.flow_shop.specs.Bound.{bound_of}
-use Rattle.flow_check.specs.internal.Reading.{read_tree}
+use Rattle.flow_check.specs.internal.ReadTrees.{read_tree}
 use Rattle.flow_check.specs.internal.Links.{IsPlace}
 use Rattle.flow_check.specs.internal.Nodes.{IsChild}
 use Rattle.flow_check.specs.internal.Reader.{Stands, Opened, LetterGives, TreeGives}

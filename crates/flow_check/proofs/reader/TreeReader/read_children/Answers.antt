@@ -6,7 +6,7 @@ use Rattle.flow_check.specs.internal.Nodes.{IsAt, IsChild}
 use Rattle.flow_check.specs.internal.Reader.{children_read, put_back, path, frame_at, here, Stands, IsStack, Opened}
 use Rattle.flow_check.specs.internal.Reader.{LetterGives}
 use Rattle.flow_shop.specs.Bound.{bound_of}
-use Rattle.flow_check.specs.internal.Reading.{read_tree}
+use Rattle.flow_check.specs.internal.ReadTrees.{read_tree}
 use Rattle.flow_check.proofs.Readers.{above-more, none-kept}
 use Rattle.flow_check.proofs.Exits.{exit}
 use Rattle.flow_check.proofs.ReaderSteps.{Reads, reached, none-above, reads-start, reads-back, reads-open, reads-close}

@@ -3,7 +3,7 @@ use Rattle.std.proofs.Common.{refl, ap, sym, subst, ◌∙◌, arith}
 use Rattle.std.specs.Vec.{with_items}
 use Rattle.std.proofs.lemmas.List.{with_items_is}
 use Rattle.flow_shop.specs.Bound.{bound_of}
-use Rattle.flow_check.specs.internal.Reading.{read_tree}
+use Rattle.flow_check.specs.internal.ReadTrees.{read_tree}
 use Rattle.flow_check.specs.internal.Lags.{AreKept}
 use Rattle.flow_check.specs.internal.Links.{AreLinks}
 use Rattle.flow_check.specs.internal.Nodes.{IsAt, IsChild, grown, left_before, left_here}

@@ -1,7 +1,7 @@
 use Rattle.std.proofs.Common.{suc, ◌+◌, drop, refl, subst, arith}
 use Rattle.flow_check.specs.internal.Reader.{TreeGives, children_read}
 use Rattle.flow_shop.specs.Bound.{bound_of}
-use Rattle.flow_check.specs.internal.Reading.{read_tree}
+use Rattle.flow_check.specs.internal.ReadTrees.{read_tree}
 use Rattle.flow_check.proofs.Exits.{exit}
 use Rattle.flow_check.proofs.TreeReading.{letter-open, letter-whole, plus-gives, tree-fails}
 use Rattle.flow_check.proofs.reader.TreeReader.read_own.Goals as goal

@@ -35,7 +35,7 @@ pub conclude_below-requires-clause-count : goal.conclude_below-requires-clause-c
 conclude_below-requires-clause-count g c =
     let directed = c.run_workers-ended.ensures.directed c.in-Complete.is in
     let settled = c.settle_all.ensures in
-    let answers = c.run_workers-ended.result.desk.answers.items in
+    let answers = c.run_workers-ended.result.hub.answers.items in
     let lawful = lawful-outcomes (plan_below c.args.target.now) _ _ _ _ _ _ directed
     c.run_workers-ended.ensures.ended.served
     settled.tasks settled.answers c.requires.some c.outcomes_of-outcomes.ensures in
@@ -59,7 +59,7 @@ returns-in-Ok g c =
     let settled = c.settle_all.ensures in
     let t = settled.tasks in
     let a = settled.answers in
-    let answers = c.run_workers-ended.result.desk.answers.items in
+    let answers = c.run_workers-ended.result.hub.answers.items in
     let none : first_refusal 0 (map (λ (a : Answer). a.outcome) answers) ≡ None =
     ap (first_refusal 0) (sym (c.as_slice.ensures.value ∙ c.outcomes_of-outcomes.ensures))
     ∙ (sym c.refusal_among.ensures ∙ c.in_default.is) in

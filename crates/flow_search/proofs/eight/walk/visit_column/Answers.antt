@@ -7,7 +7,7 @@ use Rattle.flow_search.specs.internal.Nodes.{incumbent_of}
 use Rattle.flow_search.specs.internal.Columns.{IsUncutCount, child}
 use Rattle.flow_search.specs.declared.budget.SearchFault.{SearchFault}
 use Rattle.flow_search.specs.declared.budget.SearchFault.TheVariants.{OverBudget}
-use Rattle.flow_search.proofs.Resume.{walk-some}
+use Rattle.flow_search.proofs.NextChild.{walk-some}
 use Rattle.flow_search.proofs.UncutFound.{count-found}
 use Rattle.flow_search.proofs.ColumnsWalked.{uncut-here, column-cut}
 use Rattle.flow_search.proofs.eight.walk.visit_column.Goals as goal

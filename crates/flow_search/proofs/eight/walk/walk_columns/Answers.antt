@@ -30,7 +30,7 @@ use Rattle.flow_search.specs.declared.eight.group.ColumnFrame.{ColumnFrame}
 use Rattle.flow_search.specs.declared.budget.SearchFault.{SearchFault}
 use Rattle.flow_search.specs.declared.budget.SearchFault.TheVariants.{OverBudget}
 use Rattle.flow_search.proofs.Nodes.{take-last}
-use Rattle.flow_search.proofs.Resume.{walk-some}
+use Rattle.flow_search.proofs.NextChild.{walk-some}
 use Rattle.flow_search.proofs.ColumnsOpened.{moved-column, tested-moved}
 use Rattle.flow_search.proofs.ColumnsOrder.{columns-count}
 use Rattle.flow_search.proofs.ColumnsLeft.{IsStep, IsMoved, column-next, column-none, columns-start}

@@ -1,5 +1,6 @@
 use Rattle.std.proofs.Common.{◌∙◌, ap, sym, arith}
-use Rattle.flow_text.specs.internal.TextWalk.{state_of, walk}
+use Rattle.flow_text.specs.internal.TextWalk.{walk}
+use Rattle.flow_text.specs.internal.TextState.{state_of}
 use Rattle.flow_text.proofs.TextGrammar.{line-keeps, walk-more}
 use Rattle.flow_text.proofs.text.read.walk_text.Goals as goal
 

@@ -1,6 +1,7 @@
 use Rattle.std.proofs.Common.{◌≡◌, ◌≤◌, ◌+◌, length}
 use Rattle.flow_text.specs.Lines.{lines_of}
-use Rattle.flow_text.specs.internal.TextWalk.{state_of, start, walk, Keeps}
+use Rattle.flow_text.specs.internal.TextWalk.{walk}
+use Rattle.flow_text.specs.internal.TextState.{state_of, start, Keeps}
 use Rattle.flow_text.proofs.text.read.walk_text.Given as goal
 
 -- the answer for the rest is the answer for the text

@@ -1,6 +1,6 @@
 use Rattle.flow_pool.proofs.Starts.{CanCollect-plan, HasDirected-below}
 use Rattle.flow_pool.proofs.Whole.{All-IsCollected}
-use Rattle.flow_pool.proofs.threads.ServersCrew.direct.Goals as goal
+use Rattle.flow_pool.proofs.threads.ServersRoles.direct.Goals as goal
 
 pub collect_by-hubs-requires : goal.collect_by-hubs-requires
 collect_by-hubs-requires g c =
