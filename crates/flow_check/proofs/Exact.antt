@@ -291,6 +291,6 @@ pub value_is_exact : ValueIsExact
 unfolding text_value
 value_is_exact kind shop bytes stated limits = (
   λ e. sound kind shop bytes stated limits e,
-  λ is. ap (on_line Header (header_value kind shop)) is.5
-      ∙ complete kind shop stated is.1 is.2 is.0 is.3 limits is.4,
+  λ is. ap (on_line Header (header_value kind shop)) is.1.4
+      ∙ complete kind shop stated is.1.0 is.1.1 is.0 is.1.2 limits is.1.3,
 )
