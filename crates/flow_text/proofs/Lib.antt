@@ -8,3 +8,5 @@ pub mod TextFaultLemmas
 pub mod TextAnswers
 pub mod TextWritten
 pub mod StartLemmas
+pub mod StartGrammar
+pub mod StartFaultLemmas
