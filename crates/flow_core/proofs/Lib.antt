@@ -24,3 +24,5 @@ pub use Rattle.flow_text.proofs.TextFaultLemmas
 pub use Rattle.flow_text.proofs.TextAnswers
 pub use Rattle.flow_text.proofs.TextWritten
 pub use Rattle.flow_text.proofs.StartLemmas
+pub use Rattle.flow_text.proofs.StartGrammar
+pub use Rattle.flow_text.proofs.StartFaultLemmas

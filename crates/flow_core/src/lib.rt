@@ -21,6 +21,6 @@ pub use flow_shop::{
 };
 pub use flow_text::{
     Block, Claim, MemorySink, MemorySource, ReadFault, Refused, Sink, Source, Start, StartFault,
-    StdSink, StdSource, Taillard, TextFault, WriteFault, block_text, generate, put_all, read_all,
-    read_blocks, read_start, texts_have_no_fault,
+    StdSink, StdSource, Taillard, TextFault, WriteFault, block_text, each_start_is_judged,
+    generate, put_all, read_all, read_blocks, read_start, texts_have_no_fault,
 };

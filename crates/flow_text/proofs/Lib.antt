@@ -12,3 +12,5 @@ pub mod TextAnswers
 pub mod TextWritten
 pub mod RowNumbers
 pub mod StartLemmas
+pub mod StartGrammar
+pub mod StartFaultLemmas

@@ -1,13 +1,12 @@
--- Start text: what a text says as a start, or the line at which it is at fault.
-use Rattle.std.specs.Prelude.{ℕ, ◌+◌, Bool, true, ◌&&◌, nat_lt, nat_le, if◌then◌else◌, List, [], ◌∷◌, length, take}
-use Rattle.std.specs.Prelude.{drop}
-use Rattle.std.specs.Prelude.{Option, None, Some, Result, Ok, Err, codes}
+-- Start text: which texts are starts, what they say, and the first line at fault of any other text.
+use Rattle.std.specs.Prelude.{◌≡◌, ℕ, ◌+◌, ◌⊎◌, Bool, true, ◌&&◌, nat_lt, nat_le, if◌then◌else◌, List, [], ◌∷◌}
+use Rattle.std.specs.Prelude.{◌++◌, length, take, drop, Option, None, Some, codes}
 use Rattle.std.specs.List.{list_all}
 use Rattle.std.specs.Str.{bytes_eq}
 use Rattle.flow_text.specs.Lines.{lines_of, is_blank, is_blank_line, after_blanks, is_plain, numbers_of, are_small}
 use Rattle.flow_text.specs.declared.text.start.Claim.{Claim}
 use Rattle.flow_text.specs.declared.text.start.StartFault.{StartFault}
-use Rattle.flow_text.specs.declared.text.start.StartFault.TheVariants.{Line}
+use Rattle.flow_text.specs.declared.text.start.StartFault.TheVariants.{Line, Memory}
 
 -- the word before the jobs of a sequence
 unfoldable pub sequence_word : List ℕ
@@ -73,36 +72,54 @@ solid_lines number (line ∷ lines) =
     if is_blank_line line then solid_lines (number + 1) lines
     else record { number = number; bytes = line } ∷ solid_lines (number + 1) lines
 
--- the claim, where no line follows; or the fault of the first that does
-abbrev pub claim_before : Claim → List Numbered → Result (Option Claim) StartFault
-claim_before claim [] = Ok (Some claim)
-claim_before claim (line ∷ others) = Err (Line line.number)
-
--- what the lines behind the line of a sequence say: nothing, or its makespan alone
-abbrev pub claim_of : List Numbered → Result (Option Claim) StartFault
-claim_of [] = Ok None
-claim_of (line ∷ others) =
-    elim (makespan_on line.bytes) [
-      | None ↦ Err (Line line.number)
-      | Some makespan ↦ claim_before (record { makespan = makespan; line = line.number }) others
-    ]
+-- the lines of a text that are not blank
+abbrev pub solid_lines_of : List ℕ → List Numbered
+solid_lines_of text = solid_lines 1 (lines_of text)
 
 -- what a start says: jobs in an order, and the makespan that they are said to have, if there is one
 pub record Said : Type 0 where
   pub jobs : List ℕ
   pub claim : Option Claim
 
--- what jobs say with the lines behind them
-abbrev pub said : List ℕ → Result (Option Claim) StartFault → Result Said StartFault
-said jobs (Ok claim) = Ok (record { jobs = jobs; claim = claim })
-said jobs (Err fault) = Err fault
+-- the lines behind that of the jobs, and what they claim: no lines claim nothing, and one line the makespan on it
+abbrev pub AreClaim : List Numbered → Option Claim → Type 0
+AreClaim [] claim = claim ≡ None
+AreClaim (line ∷ []) claim =
+    (makespan : ℕ) × (makespan_on line.bytes ≡ Some makespan)
+    × (claim ≡ Some (record { makespan = makespan; line = line.number }))
+AreClaim lines claim = ⊥
 
--- what lines that are not blank say as a start, where a line behind the last would have this number
-abbrev pub said_by : ℕ → List Numbered → Result Said StartFault
-said_by after [] = Err (Line after)
-said_by after (line ∷ others) =
-    elim (jobs_on line.bytes) [ None ↦ Err (Line line.number) | Some jobs ↦ said jobs (claim_of others) ]
+-- lines that are a start, and what it says: a line of jobs, and behind it the lines of a claim
+abbrev pub AreStart : List Numbered → Said → Type 0
+AreStart [] said = ⊥
+AreStart (line ∷ others) said = (jobs_on line.bytes ≡ Some said.jobs) × AreClaim others said.claim
 
--- what a text says as a start, or its first fault
-abbrev pub start_of : List ℕ → Result Said StartFault
-start_of text = said_by (1 + length (lines_of text)) (solid_lines 1 (lines_of text))
+-- lines with which a start may begin
+abbrev pub BeginStart : List Numbered → Type 0
+BeginStart lines = (others : List Numbered) × (said : Said) × AreStart (lines ++ others) said
+
+-- a text is a start that says this
+abbrev pub IsStart : List ℕ → Said → Type 0
+IsStart text said = AreStart (solid_lines_of text) said
+
+-- the first fault of a text that is no start: the number of the first line that is not blank and with which no start
+-- goes on; or, where the text is only the beginning of a start, the number of the line after the last
+abbrev pub HasStartFault : List ℕ → StartFault → Type 0
+HasStartFault text Memory = ⊥
+HasStartFault text (Line number) =
+    ((before : List Numbered) × (line : Numbered) × (others : List Numbered)
+    × (solid_lines_of text ≡ before ++ line ∷ others) × BeginStart before × (¬ BeginStart (before ++ line ∷ []))
+    × (number ≡ line.number))
+    ⊎ (BeginStart (solid_lines_of text) × ((said : Said) → ¬ IsStart text said)
+    × (number ≡ length (lines_of text) + 1))
+
+-- a text is a start that says one thing, or has one first fault, and not both
+pub record IsJudgedAsStart (text : List ℕ) : Type 0 where
+  pub some : ((said : Said) × IsStart text said) ⊎ ((fault : StartFault) × HasStartFault text fault)
+  pub apart : (said : Said) (fault : StartFault) → IsStart text said → ¬ HasStartFault text fault
+  pub one : (said other : Said) → IsStart text said → IsStart text other → said ≡ other
+  pub one_fault : (fault other : StartFault) → HasStartFault text fault → HasStartFault text other → fault ≡ other
+
+-- each text is judged
+abbrev pub EachStartIsJudged : Type 0
+EachStartIsJudged = (text : List ℕ) → IsJudgedAsStart text

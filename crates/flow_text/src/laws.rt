@@ -3,6 +3,7 @@
 ghost use Rattle.std.specs.Prelude.{◌≡◌, ℕ, List, None};
 ghost use Rattle.flow_text.specs.Text.{Reads};
 ghost use Rattle.flow_text.specs.TextFaults.{text_fault};
+ghost use Rattle.flow_text.specs.StartText.{EachStartIsJudged};
 ghost use Rattle.flow_text.specs.declared.text.block.Block.{Block};
 
 /// A text has no fault exactly where it has a reading, and it has one reading at most.
@@ -11,4 +12,9 @@ pub fn texts_have_no_fault()
     ensures has { (text : List ℕ) (blocks : List Block) → Reads text blocks → text_fault text ≡ None }
     ensures one { (text : List ℕ) (blocks others : List Block) → Reads text blocks → Reads text others →
         blocks ≡ others }
+{}
+
+/// A text is a start that says one thing, or has one first fault, and not both.
+pub fn each_start_is_judged()
+    ensures { EachStartIsJudged }
 {}

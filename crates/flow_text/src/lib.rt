@@ -12,5 +12,5 @@ pub use bytes::{
     put_all, read_all,
 };
 pub use generator::{Taillard, generate};
-pub use laws::texts_have_no_fault;
+pub use laws::{each_start_is_judged, texts_have_no_fault};
 pub use text::{Block, Claim, Start, StartFault, TextFault, block_text, read_blocks, read_start};

@@ -2,8 +2,8 @@
 
 ghost use Rattle.std.specs.Prelude.{◌≡◌, ◌≢◌, ◌+◌, ◌≤◌, ◌^◌, [], ◌∷◌, length, Some, Ok, Err, IfOk, IfErr};
 ghost use Rattle.flow_text.specs.Lines.{lines_of};
-ghost use Rattle.flow_text.specs.StartText.{claim_of, jobs_on, makespan_on, numbers_behind, solid_lines, start_of};
-ghost use Rattle.flow_text.specs.internal.StartSteps.{IsOfLine, numbered, of_start};
+ghost use Rattle.flow_text.specs.StartText.{HasStartFault, IsStart, jobs_on, makespan_on, numbers_behind, solid_lines};
+ghost use Rattle.flow_text.specs.internal.StartSteps.{IsOfLine, claim_of, numbered, of_start};
 ghost use Rattle.flow_text.specs.declared.text.start.StartFault.TheVariants.{Memory};
 
 use crate::text::fault::LineFault;
@@ -188,9 +188,9 @@ fn claim_in(alloc: Global, text: &[u8], from: usize) -> Result<Option<Claim>, St
 
 /// What a text says as a start; or its first fault; or `Memory`.
 pub fn read_start(alloc: Global, text: &[u8]) -> Result<Start, StartFault>
-    ensures value { IfOk result (λ start. start_of text.now
-        ≡ Ok (record { jobs = start.jobs.items; claim = start.claim })) }
-    ensures refused { IfErr result (λ fault. fault ≢ Memory → start_of text.now ≡ Err fault) }
+    ensures value { IfOk result (λ start.
+        IsStart text.now (record { jobs = start.jobs.items; claim = start.claim })) }
+    ensures refused { IfErr result (λ fault. fault ≢ Memory → HasStartFault text.now fault) }
 {
     match first_solid_line(text, 1) {
         Ok(line) => {
