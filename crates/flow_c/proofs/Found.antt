@@ -155,7 +155,7 @@ verdict-found plan verdict is = (
 pub certificate-found : (bounds : Bool) (version : Option ℕ) (shop : Shop) (start : List ℕ) (plan : Planned)
     (verdict : Verdict) → FindsCertificate version shop start (Found plan verdict) →
     IsFoundFor bounds version shop start plan plan.start.value (Least verdict)
-certificate-found bounds version shop start plan verdict (jobs, worse, is, (of, is_plan, is_verdict)) = record {
+certificate-found bounds version shop start plan verdict (jobs, worse, is, (of, is_plan, is_verdict, within)) = record {
   of_either = of;
   is_plan = is_plan;
   is_finding = verdict-found plan verdict is_verdict;

@@ -76,7 +76,8 @@ fn asked(version: u32) -> Result<Option<u32>, OptionFault>
     Ok(if version == 0 { None } else { Some(version) })
 }
 
-/// Looks for a certificate; or, where there is none and bounds are asked for, for the greatest bound that it can prove.
+/// Looks for a certificate; or, where there is none and bounds are asked for, raises a lower bound as long as the next
+/// number can be proved.
 fn find<'a>(
     alloc: Global,
     instance: &'a Instance,

@@ -154,7 +154,7 @@ pub found-at : (version : ℕ) (shop : Shop) (jobs : List ℕ) (place : ℕ) (fo
 found-at version shop jobs place (plan, verdict) back before less (within, is_plan, is_verdict) = (
   λ next. first-at version shop jobs budgets place plan next
       (λ k low. over-to version (slice_index_or budgets k 0) shop jobs back (before k low)) less within,
-  (of-either version (slice_index_or budgets place 0) shop jobs plan within, is_plan, is_verdict),
+  (of-either version (slice_index_or budgets place 0) shop jobs plan within, is_plan, is_verdict, within.1),
 )
 
 -- one budget more is over
@@ -255,7 +255,7 @@ second-found shop start jobs budget plan verdict own (worse, over) (within, is_p
   worse,
   over _ ∙ subst (λ b. first_certificate greatest_version shop jobs (b ∷ []) None ≡ Some (certificate_of plan)) own
       (one-gives greatest_version budget shop jobs [] plan None within),
-  (of-either greatest_version budget shop jobs plan within, is_plan, is_verdict),
+  (of-either greatest_version budget shop jobs plan within, is_plan, is_verdict, within.1),
 )
 
 second-none : (shop : Shop) (start jobs : List ℕ) (budget : ℕ) → budget ≡ second_budget shop.machines →

@@ -129,7 +129,7 @@ certified-of false shop sink wrote = wrote
 pub wrote-either : {K : Type 0} (bounds : Bool) (given : Option ℕ) (shop : Shop) (start : List ℕ) (plan : Planned)
     (verdict : Verdict) (sink : SinkRun K) → FindsCertificate given shop start (Found plan verdict) →
     Took (text_with plan verdict) sink → WroteCertified bounds shop sink
-wrote-either bounds given shop start plan verdict sink (jobs, worse, is, (of, is_plan, is_verdict)) adds =
+wrote-either bounds given shop start plan verdict sink (jobs, worse, is, (of, is_plan, is_verdict, within)) adds =
     certified-of bounds shop sink (wrote-of shop plan verdict sink of is_plan is_verdict adds)
 
 -- a text that is written where bounds are asked for
@@ -141,13 +141,13 @@ wrote-asked bounds shop sink asked wrote = subst (λ b. WroteCertified b shop si
 pub tree-for-each : (given : Option ℕ) (shop : Shop) (start : List ℕ) (plan : Planned) (verdict : Verdict) →
     FindsCertificate given shop start (Found plan verdict) →
     length verdict.trees.items ≡ length (prefixes_of plan)
-tree-for-each given shop start plan verdict (jobs, worse, is, (of, is_plan, is_verdict)) =
+tree-for-each given shop start plan verdict (jobs, worse, is, (of, is_plan, is_verdict, within)) =
     (verdict_is_certified plan verdict is_plan is_verdict).each
 
 -- the text that is written is the certificate of the plan
 pub text-of-found : (given : Option ℕ) (shop : Shop) (start : List ℕ) (plan : Planned) (verdict : Verdict) →
     FindsCertificate given shop start (Found plan verdict) → text_with plan verdict ≡ certificate_of plan
-text-of-found given shop start plan verdict (jobs, worse, is, (of, is_plan, is_verdict)) =
+text-of-found given shop start plan verdict (jobs, worse, is, (of, is_plan, is_verdict, within)) =
     text-of-plan plan verdict is_verdict
 
 -- what is answered where the numbers are accepted

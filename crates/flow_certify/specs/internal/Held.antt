@@ -29,7 +29,7 @@ abbrev pub IsLastOf : Pair → ℕ → Finding → Type 0
 IsLastOf pair number (Least verdict) = Unit {0}
 IsLastOf pair number (Bound trees) = AreOverBelow pair (number + 1)
 
--- no greater number can be held
+-- the number can't be raised by one
 abbrev pub IsRaised : Pair → Held → Type 0
 IsRaised pair held = IsLastOf pair held.number held.finding
 
