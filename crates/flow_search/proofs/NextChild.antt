@@ -15,7 +15,10 @@ use Rattle.flow_search.specs.internal.Walk.{Walk, Incumbent, walk, walk_each}
 use Rattle.flow_search.specs.internal.TwoLeast.{second_tail}
 use Rattle.flow_search.specs.internal.Nodes.{IsAt}
 use Rattle.flow_search.specs.internal.Nodes.{then_walk}
-use Rattle.flow_search.specs.internal.Frames.{
+use Rattle.flow_search.specs.internal.Frames.{IsFrame, IsChild, path, left_from, walk_from, resume}
+use Rattle.flow_search.specs.declared.frame.Frame.{Frame}
+use Rattle.flow_search.proofs.Walk.{answer_of}
+use Rattle.flow_search.proofs.Nodes.{members-are, left-count}
 
 pub reverse-push : {A : Type 0} (xs new : List A) (x : A) → new ≡ xs ++ x ∷ [] → reverse new ≡ x ∷ reverse xs
 reverse-push xs new x e = ap reverse e ∙ reverse-append xs (x ∷ [])

@@ -19,24 +19,14 @@ use Rattle.flow_search.specs.internal.Walk.{Walk, Incumbent, walk, walk_each}
 use Rattle.flow_search.specs.internal.TwoLeast.{second_tail}
 use Rattle.flow_search.specs.internal.Nodes.{IsAt, Wrote, Entered, Left, Gave, Walked, Opens, walked, incumbent_of}
 use Rattle.flow_search.specs.internal.Nodes.{then_walk}
-use Rattle.flow_search.specs.internal.Frames.{
-use Rattle.flow_search.proofs.NextChild.{left-next, left-none, longer-part, resume-next, resume-none, moved}
-use Rattle.flow_search.proofs.NextChild.{moved-frame}
-
-  IsFrame,
-  IsChild,
-  IsStack,
-  IsWalking,
-  path,
-  left_from,
-  walk_from,
-  resume,
-}
+use Rattle.flow_search.specs.internal.Frames.{IsFrame, IsChild, IsStack, IsWalking, path, left_from, walk_from, resume}
 use Rattle.flow_search.specs.declared.frame.Frame.{Frame}
 use Rattle.flow_search.specs.declared.state.SearchState.{SearchState}
 use Rattle.flow_search.proofs.Walk.{answer_of}
 use Rattle.flow_search.proofs.Nodes.{at-child, size-set, members-are, left-count, put-back}
 use Rattle.flow_shop.proofs.Taken.{has-other}
+use Rattle.flow_search.proofs.NextChild.{left-next, left-none, longer-part, resume-next, resume-none, moved}
+use Rattle.flow_search.proofs.NextChild.{moved-frame}
 
 -- a child whose subtree was walked
 child-walk : (shop : Shop) (bound : Bound) (below job : ℕ) (old in_child : SearchState) → Entered job old in_child →

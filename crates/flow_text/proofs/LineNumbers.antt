@@ -89,11 +89,11 @@ not-both l p q = go (after_blanks l) refl p q
 pub small-five : (ns : List ℕ) (ts : List ℕ) → length ns ≡ 5 → IsBlock (block_of (sizes_of ns) ts) →
     (list_all small ns ≡ true) × (is_head ns ≡ true)
 small-five [] ts h w = absurd (omega arith)
-pub small-five (a ∷ []) ts h w = absurd (omega arith)
-pub small-five (a ∷ b ∷ []) ts h w = absurd (omega arith)
-pub small-five (a ∷ b ∷ c ∷ []) ts h w = absurd (omega arith)
-pub small-five (a ∷ b ∷ c ∷ d ∷ []) ts h w = absurd (omega arith)
-pub small-five (a ∷ b ∷ c ∷ d ∷ e ∷ []) ts h w =
+small-five (a ∷ []) ts h w = absurd (omega arith)
+small-five (a ∷ b ∷ []) ts h w = absurd (omega arith)
+small-five (a ∷ b ∷ c ∷ []) ts h w = absurd (omega arith)
+small-five (a ∷ b ∷ c ∷ d ∷ []) ts h w = absurd (omega arith)
+small-five (a ∷ b ∷ c ∷ d ∷ e ∷ []) ts h w =
     let pa : small a ≡ true = grind (arith, nat_tests, w.instance.jobs) in
     let pb : small b ≡ true = grind (arith, nat_tests, w.instance.machines) in
     let pc : small c ≡ true = grind (arith, nat_tests, w.seed) in
@@ -103,4 +103,4 @@ pub small-five (a ∷ b ∷ c ∷ d ∷ e ∷ []) ts h w =
       grind
           (arith, nat_tests, w.instance.some_job, w.instance.jobs, w.instance.some_machine, w.instance.machines),
     )
-pub small-five (a ∷ b ∷ c ∷ d ∷ e ∷ f ∷ ns) ts h w = absurd (omega arith)
+small-five (a ∷ b ∷ c ∷ d ∷ e ∷ f ∷ ns) ts h w = absurd (omega arith)

@@ -74,8 +74,8 @@ is_time t = nat_le t greatest_time
 
 pub bind_ok : {A B E : Type 0} (r : Result A E) (f : A → Result B E) (y : B) → (r >>= f) ≡ Ok y → (x : A) × (r ≡ Ok x)
     × (f x ≡ Ok y)
-pub bind_ok (Ok x) f y e = (x, refl, e)
-pub bind_ok (Err d) f y e = cc
+bind_ok (Ok x) f y e = (x, refl, e)
+bind_ok (Err d) f y e = cc
 
 pub placed_ok : (n : ℕ) (r : Result State LineFault) (t : State) → placed n r ≡ Ok t → r ≡ Ok t
 placed_ok n (Ok s) t e = cc
@@ -89,12 +89,12 @@ chosen false x y z e = inr (refl, e)
 pub five : (ns : List ℕ) → length ns ≡ 5 → ns ≡ slice_index ns 0 ∷ slice_index ns 1 ∷ slice_index ns 2
     ∷ slice_index ns 3 ∷ slice_index ns 4 ∷ []
 five [] h = absurd (omega arith)
-pub five (a ∷ []) h = absurd (omega arith)
-pub five (a ∷ b ∷ []) h = absurd (omega arith)
-pub five (a ∷ b ∷ c ∷ []) h = absurd (omega arith)
-pub five (a ∷ b ∷ c ∷ d ∷ []) h = absurd (omega arith)
-pub five (a ∷ b ∷ c ∷ d ∷ e ∷ []) h = refl
-pub five (a ∷ b ∷ c ∷ d ∷ e ∷ f ∷ ns) h = absurd (omega arith)
+five (a ∷ []) h = absurd (omega arith)
+five (a ∷ b ∷ []) h = absurd (omega arith)
+five (a ∷ b ∷ c ∷ []) h = absurd (omega arith)
+five (a ∷ b ∷ c ∷ d ∷ []) h = absurd (omega arith)
+five (a ∷ b ∷ c ∷ d ∷ e ∷ []) h = refl
+five (a ∷ b ∷ c ∷ d ∷ e ∷ f ∷ ns) h = absurd (omega arith)
 
 pub line_numbers_ok : (l : List ℕ) (ns : List ℕ) → line_numbers l ≡ Ok ns → (is_plain l ≡ true)
     × (list_all small ns ≡ true) × (ns ≡ numbers_of l)

@@ -66,7 +66,7 @@ more_text ns = flat_map (λ m. 32 ∷ decimal m) ns
 
 abbrev pub row_line : List ℕ → List ℕ
 row_line [] = []
-pub row_line (n ∷ ns) = decimal n ++ more_text ns
+row_line (n ∷ ns) = decimal n ++ more_text ns
 
 values-more : (n : ℕ) (ns : List ℕ) → AllByRecursion (λ m. m < 2 ^ 64) ns →
     numbers_after (Some n) (more_text ns) ≡ n ∷ ns
@@ -140,14 +140,14 @@ lines_of-row n ns rest h =
 pub lines_of-piece : (piece rest : List ℕ) → 0 < length piece → AllByRecursion (λ m. m < 2 ^ 64) piece →
     lines_of (row_text piece ++ rest) ≡ row_line piece ∷ lines_of rest
 lines_of-piece [] rest k h = absurd (omega arith)
-pub lines_of-piece (n ∷ ns) rest k h = lines_of-row n ns rest h
+lines_of-piece (n ∷ ns) rest k h = lines_of-row n ns rest h
 
 pub numbers_of-piece : (piece : List ℕ) → 0 < length piece → AllByRecursion (λ m. m < 2 ^ 64) piece →
     numbers_of (row_line piece) ≡ piece
 numbers_of-piece [] k h = absurd (omega arith)
-pub numbers_of-piece (n ∷ ns) k h = numbers_of-row n ns h
+numbers_of-piece (n ∷ ns) k h = numbers_of-row n ns h
 
 pub piece-numbers : (piece : List ℕ) → 0 < length piece → AllByRecursion (λ m. m < 2 ^ 64) piece →
     IsNumbers (row_line piece)
 piece-numbers [] k h = absurd (omega arith)
-pub piece-numbers (n ∷ ns) k h = row-numbers n ns h
+piece-numbers (n ∷ ns) k h = row-numbers n ns h

@@ -1,6 +1,6 @@
 -- The states in which a text is read line by line. Only contracts of private functions speak of them: which blocks a
 -- text reads as stands in Text, and what its first fault is in TextFaults.
-use Rattle.std.specs.Prelude.{◌≡◌, ℕ, ◌+◌, ◌*◌, not, ◌==◌, nat_lt, List, [], ◌∷◌, ◌++◌}
+use Rattle.std.specs.Prelude.{◌≡◌, ℕ, ◌+◌, ◌*◌, if◌then◌else◌, not, ◌==◌, nat_lt, List, [], ◌∷◌, ◌++◌}
 use Rattle.std.specs.Prelude.{length, Result, Ok, Err}
 use Rattle.flow_text.specs.Lines.{after_blanks, is_digit, is_plain, numbers_of, are_small}
 use Rattle.flow_text.specs.TextFaults.{is_head, are_times}
