@@ -19,29 +19,29 @@ use Rattle.flow_text.proofs.RestOfText.{at}
 
 -- what the lines before decide, by its parts
 pub record Facts (earlier : List (List ℕ)) (odd none : Bool) (since : List ℕ) (wanted : ℕ) : Type 0 where
-  odd_is : is_in_head earlier ≡ odd
-  none_is : eqb (labels earlier) 0 ≡ none
-  since_is : numbers_since earlier ≡ since
-  wanted_is : numbers_wanted earlier ≡ wanted
+  pub odd_is : is_in_head earlier ≡ odd
+  pub none_is : eqb (labels earlier) 0 ≡ none
+  pub since_is : numbers_since earlier ≡ since
+  pub wanted_is : numbers_wanted earlier ≡ wanted
 
 pub record FirstTracks (s : State) (e : List (List ℕ)) : Type 0 where
-  since : List ℕ
-  facts : Facts e false (eqb (length s.blocks) 0) since (length since)
+  pub since : List ℕ
+  pub facts : Facts e false (eqb (length s.blocks) 0) since (length since)
 
 pub record HeadTracks (s : State) (e : List (List ℕ)) : Type 0 where
-  facts : Facts e true false s.numbers 5
-  fewer : length s.numbers < 5
+  pub facts : Facts e true false s.numbers 5
+  pub fewer : length s.numbers < 5
 
-record SecondTracks (s : State) (e : List (List ℕ)) : Type 0 where
-  since : List ℕ
-  facts : Facts e true false since 5
-  five : length since ≡ 5
-  head : sizes_of since ≡ s.head
-  some : 0 < s.head.jobs * s.head.machines
+pub record SecondTracks (s : State) (e : List (List ℕ)) : Type 0 where
+  pub since : List ℕ
+  pub facts : Facts e true false since 5
+  pub five : length since ≡ 5
+  pub head : sizes_of since ≡ s.head
+  pub some : 0 < s.head.jobs * s.head.machines
 
 pub record TimesTracks (s : State) (e : List (List ℕ)) : Type 0 where
-  facts : Facts e false false s.numbers (s.head.jobs * s.head.machines)
-  fewer : length s.numbers < s.head.jobs * s.head.machines
+  pub facts : Facts e false false s.numbers (s.head.jobs * s.head.machines)
+  pub fewer : length s.numbers < s.head.jobs * s.head.machines
 
 -- a state is what the lines before it decide
 abbrev pub Tracks : State → List (List ℕ) → Type 0
@@ -178,8 +178,8 @@ fault_in n (Err d) = Some (at_line d n)
 
 -- a line's fault is the reader's, and so is what is wanted after it
 pub record Follows (e : List (List ℕ)) (l : List ℕ) (read : Result State LineFault) : Type 0 where
-  fault : line_fault e l ≡ fault_in (length e + 1) read
-  tracks : (t : State) → read ≡ Ok t → Tracks t (l ∷ e)
+  pub fault : line_fault e l ≡ fault_in (length e + 1) read
+  pub tracks : (t : State) → read ≡ Ok t → Tracks t (l ∷ e)
 
 pub blank-at : (n : ℕ) (odd : Bool) (since : List ℕ) (wanted : ℕ) (l : List ℕ) → is_blank_line l ≡ true →
     fault_at n odd since wanted l ≡ None
