@@ -73,7 +73,11 @@ ended-from Answers index block (Some jobs) text (Some start) sink fault (bytes, 
       short,
       came,
       whole,
-      (block, picks, ended-for-start (λ shop own. Answers shop (Some own)) block.instance jobs start sink fault gave alone),
+      (
+        block,
+        picks,
+        ended-for-start (λ shop own. Answers shop (Some own)) block.instance jobs start sink fault gave alone,
+      ),
     )
 ended-from Answers index block (Some jobs) text None sink fault came gave alone = absurd gave
 ended-from Answers index block None text (Some start) sink fault came gave alone = absurd gave
@@ -100,7 +104,11 @@ stopped-from Answers index text (Some start) sink fault unwritten
       short,
       came,
       whole,
-      (block, picks, inl (unwritten, refused-start (λ shop own. Answers shop (Some own)) block.instance start fault stops)),
+      (
+        block,
+        picks,
+        inl (unwritten, refused-start (λ shop own. Answers shop (Some own)) block.instance start fault stops),
+      ),
     )
 stopped-from Answers index text None sink fault unwritten (inl memory) = inl (unwritten, inl memory)
 stopped-from Answers index text None sink fault unwritten (inr (inl device)) = inl (unwritten, inr (inl device))
