@@ -19,7 +19,6 @@ use Rattle.flow_cert.specs.PlanCertificates.{certificate_of, text_with}
 use Rattle.flow_cert.proofs.Lawful.{text-of-plan, verdict_is_certified}
 use Rattle.flow_certify.specs.Certified.{FindsCertificate}
 use Rattle.flow_certify.specs.Raised.{IsFrom, IsProved}
-use Rattle.flow_certify.specs.Tries.{certified}
 use Rattle.flow_certify.specs.declared.search.Searched.TheVariants.{Found, Over}
 use Rattle.flow_requests.specs.declared.CertifyRequest.{CertifyRequest}
 use Rattle.flow_commands.specs.Answer.{Answer}

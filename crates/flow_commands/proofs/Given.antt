@@ -1,5 +1,5 @@
 -- Runs that read a block, and then a start text where there is one.
-use Rattle.std.proofs.Common.{◌≡◌, refl, inl, inr, ℕ, List, Option, Some, None, Ok, Err}
+use Rattle.std.proofs.Common.{refl, inl, inr, ℕ, List, Option, Some, None, Ok, Err}
 use Rattle.flow_core.specs.Limits.{most_text}
 use Rattle.flow_core.specs.Shop.{Shop}
 use Rattle.flow_core.specs.declared.text.block.Block.{Block}
@@ -8,13 +8,8 @@ use Rattle.flow_commands.specs.Answer.{Answer}
 use Rattle.flow_commands.specs.Block.{Picks}
 use Rattle.flow_commands.specs.Runs.{Came, CameFor, Ends, EndsAlone, EndsFrom, IsUnwritten, SinkRun}
 use Rattle.flow_commands.specs.Runs.{SourceRun, StopsAt, Wrote, WroteFrom}
-use Rattle.flow_commands.specs.Start.{FromText, given_start}
+use Rattle.flow_commands.specs.Start.{FromText, GivesStart}
 use Rattle.flow_commands.specs.internal.Given.{GaveStart, StopsAtInputs}
-
--- for a start text that gives a sequence
-from-text : (Answers : Shop → Option (List ℕ) → Answer → Type 0) (shop : Shop) (jobs text : List ℕ) (answer : Answer) →
-    given_start shop text ≡ Ok jobs → Answers shop (Some jobs) answer → FromText Answers shop text answer
-from-text Answers shop jobs text answer gives answers = rw (FromText, gives) answers
 
 -- where both came, the sink took the answer for them
 pub wrote-from : {S : Type 0} {T : Type 0} {K : Type 0} (Answers : Shop → Option (List ℕ) → Answer → Type 0)
@@ -38,7 +33,7 @@ wrote-from Answers index block (Some jobs) text (Some start) sink (bytes, short,
           own_short,
           own_came,
           own_whole,
-          (answer, from-text Answers block.instance jobs own (Ok answer) gives answers, took),
+          (answer, inl (jobs, gives, answers), took),
         ),
       ),
     )
@@ -46,23 +41,17 @@ wrote-from Answers index block (Some jobs) text None sink came gave wrote = absu
 wrote-from Answers index block None text (Some start) sink came gave wrote = absurd gave
 
 -- how a run ended for the sequence of a start text
-ended-for-start : {T : Type 0} {K : Type 0} (Answers : Shop → Option (List ℕ) → Answer → Type 0) (shop : Shop)
+ended-for-start : {T : Type 0} {K : Type 0} (Answers : Shop → List ℕ → Answer → Type 0) (shop : Shop)
     (jobs : List ℕ) (start : SourceRun T) (sink : SinkRun K) (fault : CommandFault) →
-    Came most_text (λ text. given_start shop text ≡ Ok jobs) start →
-    EndsAlone (Answers shop (Some jobs)) sink fault → Ends most_text (FromText Answers shop) start sink fault
+    Came most_text (λ text. GivesStart shop text (Ok jobs)) start → EndsAlone (Answers shop jobs) sink fault →
+    Ends most_text (FromText Answers shop) start sink fault
 ended-for-start Answers shop jobs start sink fault (own, short, came, whole, gives) (inl (unwritten, inl memory)) =
     inl (unwritten, inl (memory, (own, short, came)))
 ended-for-start Answers shop jobs start sink fault (own, short, came, whole, gives) (inl (unwritten, inr answers)) =
-    inl (
-      unwritten,
-      inr (inr (inr (own, short, came, whole, from-text Answers shop jobs own (Err fault) gives answers))),
-    )
+    inl (unwritten, inr (inr (inr (own, short, came, whole, inl (jobs, gives, answers)))))
 ended-for-start Answers shop jobs start sink fault (own, short, came, whole, gives)
     (inr (writing, (answer, answers, part))) =
-    inr (
-      writing,
-      (own, short, came, whole, (answer, from-text Answers shop jobs own (Ok answer) gives answers, part)),
-    )
+    inr (writing, (own, short, came, whole, (answer, inl (jobs, gives, answers), part)))
 
 -- how a run ended that read both
 pub ended-from : {S : Type 0} {T : Type 0} {K : Type 0} (Answers : Shop → Option (List ℕ) → Answer → Type 0)
@@ -84,20 +73,24 @@ ended-from Answers index block (Some jobs) text (Some start) sink fault (bytes, 
       short,
       came,
       whole,
-      (block, picks, ended-for-start Answers block.instance jobs start sink fault gave alone),
+      (
+        block,
+        picks,
+        ended-for-start (λ shop own. Answers shop (Some own)) block.instance jobs start sink fault gave alone,
+      ),
     )
 ended-from Answers index block (Some jobs) text None sink fault came gave alone = absurd gave
 ended-from Answers index block None text (Some start) sink fault came gave alone = absurd gave
 
--- the fault of a start text is what is answered for it
-refused-start : {T : Type 0} (Answers : Shop → Option (List ℕ) → Answer → Type 0) (shop : Shop) (start : SourceRun T)
-    (fault : CommandFault) → StopsAt most_text (λ own refusal. given_start shop own ≡ Err refusal) start fault →
+-- the fault that a start text gives is what is answered for it
+pub refused-start : {T : Type 0} (Answers : Shop → List ℕ → Answer → Type 0) (shop : Shop) (start : SourceRun T)
+    (fault : CommandFault) → StopsAt most_text (λ own refusal. GivesStart shop own (Err refusal)) start fault →
     StopsAt most_text (λ own refusal. FromText Answers shop own (Err refusal)) start fault
 refused-start Answers shop start fault (inl memory) = inl memory
 refused-start Answers shop start fault (inr (inl device)) = inr (inl device)
 refused-start Answers shop start fault (inr (inr (inl long))) = inr (inr (inl long))
 refused-start Answers shop start fault (inr (inr (inr (own, short, came, whole, gives)))) =
-    inr (inr (inr (own, short, came, whole, rw (FromText, gives) refl)))
+    inr (inr (inr (own, short, came, whole, inr (fault, gives, refl))))
 
 -- how a run ended that stopped at what it reads
 pub stopped-from : {S : Type 0} {T : Type 0} {K : Type 0} (Answers : Shop → Option (List ℕ) → Answer → Type 0)
@@ -111,7 +104,11 @@ stopped-from Answers index text (Some start) sink fault unwritten
       short,
       came,
       whole,
-      (block, picks, inl (unwritten, refused-start Answers block.instance start fault stops)),
+      (
+        block,
+        picks,
+        inl (unwritten, refused-start (λ shop own. Answers shop (Some own)) block.instance start fault stops),
+      ),
     )
 stopped-from Answers index text None sink fault unwritten (inl memory) = inl (unwritten, inl memory)
 stopped-from Answers index text None sink fault unwritten (inr (inl device)) = inl (unwritten, inr (inl device))

@@ -1,6 +1,7 @@
 mod Certified
 mod Endings
 mod Given
+mod Gives
 mod Improved
 mod Least
 mod Refused

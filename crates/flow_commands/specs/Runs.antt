@@ -133,7 +133,8 @@ abbrev pub WroteFrom :
     → SourceRun S → Option (SourceRun T) → SinkRun K → Type 0
 WroteFrom Answers index text None sink =
     WroteFor most_text (AnswersFor index (λ block. Answers block.instance None)) text sink
-WroteFrom Answers index text (Some start) sink = WroteBoth most_text (FromText Answers) index text start sink
+WroteFrom Answers index text (Some start) sink =
+    WroteBoth most_text (FromText (λ shop jobs. Answers shop (Some jobs))) index text start sink
 
 -- how a refused run of these ends
 abbrev pub EndsFrom :
@@ -141,4 +142,5 @@ abbrev pub EndsFrom :
     → SourceRun S → Option (SourceRun T) → SinkRun K → CommandFault → Type 0
 EndsFrom Answers index text None sink fault =
     Ends most_text (AnswersFor index (λ block. Answers block.instance None)) text sink fault
-EndsFrom Answers index text (Some start) sink fault = EndsBoth most_text (FromText Answers) index text start sink fault
+EndsFrom Answers index text (Some start) sink fault =
+    EndsBoth most_text (FromText (λ shop jobs. Answers shop (Some jobs))) index text start sink fault

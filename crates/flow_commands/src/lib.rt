@@ -2,7 +2,7 @@
 //!
 //! Each command has a file of its word, and what it answers is said in the file of that name in `specs/`. (`gen` is a
 //! word of the language, so its files are `generate`.) What it is asked for stands in flow_requests; a fault of a new
-//! kind stands in `fault`.
+//! kind stands in `fault`, a law of the definitions in `laws`.
 #![tactic(auto)]
 
 mod block;
@@ -11,6 +11,7 @@ mod check;
 mod fault;
 mod generate;
 mod improve;
+mod laws;
 mod mirror;
 mod neh;
 mod printed;
@@ -25,6 +26,7 @@ pub use fault::{CommandFault, ImproveFault, ToolFault};
 pub use flow_requests::{CertifyRequest, CheckRequest, ImproveRequest, ScheduleForm, SolveRequest};
 pub use generate::run_gen;
 pub use improve::run_improve;
+pub use laws::each_start_gives_one;
 pub use mirror::run_mirror;
 pub use neh::run_neh;
 pub use schedule::run_schedule;

@@ -8,7 +8,7 @@ ghost use Rattle.flow_core.specs.declared.bytes.fault.ReadFault.TheVariants as r
 ghost use Rattle.flow_core.specs.declared.bytes.fault.WriteFault.TheVariants as write;
 ghost use Rattle.flow_commands.specs.Block.{Picks};
 ghost use Rattle.flow_commands.specs.Runs.{Came, HasFailed, Stands, StopsAt, source_run, start_run};
-ghost use Rattle.flow_commands.specs.Start.{StartsFrom, given_start};
+ghost use Rattle.flow_commands.specs.Start.{GivesStart, StartsFrom};
 ghost use Rattle.flow_commands.specs.internal.Given.{GaveStart, StopsAtInputs, StopsAtStart};
 ghost use Rattle.flow_core.specs.Limits.{most_text};
 
@@ -23,10 +23,10 @@ use std::alloc::{AllocError, Global};
 /// The sequence that a start text gives for an instance; or the first fault of the text, of its jobs, or of its
 /// makespan.
 fn given_sequence(alloc: Global, instance: &Instance, text: &[u8]) -> Result<Sequence, CommandFault>
-    ensures value { IfOk result (λ sequence. given_start instance.now text.now ≡ Ok sequence) }
+    ensures value { IfOk result (λ sequence. GivesStart instance.now text.now (Ok sequence)) }
     ensures each { IfOk result (λ sequence. IsSequence instance.now.jobs sequence) }
     ensures refused { IfErr result (λ fault. (fault ≡ CommandFault.Memory)
-        ⊎ (given_start instance.now text.now ≡ Err fault)) }
+        ⊎ GivesStart instance.now text.now (Err fault)) }
     ensures reads_nothing { IsErrOf result (CommandFault.Read read.Device) → ⊥ }
     ensures writes_nothing { IsErrOf result (CommandFault.Write write.Device) → ⊥ }
 {
@@ -47,11 +47,11 @@ pub(crate) fn read_sequence<T: Source>(
     start: &mut T,
 ) -> Result<Sequence, CommandFault>
     requires { T.has_failed start.old ≡ false }
-    ensures given { IfOk result (λ sequence. Came most_text (λ text. given_start instance.now text ≡ Ok sequence)
+    ensures given { IfOk result (λ sequence. Came most_text (λ text. GivesStart instance.now text (Ok sequence))
         (source_run T.given T.has_ended start.old start.new)) }
     ensures each { IfOk result (λ sequence. IsSequence instance.now.jobs sequence) }
     ensures refused { IfErr result (λ fault. StopsAt most_text
-        (λ text refusal. given_start instance.now text ≡ Err refusal)
+        (λ text refusal. GivesStart instance.now text (Err refusal))
         (source_run T.given T.has_ended start.old start.new) fault) }
     ensures device { IsErrOf result (CommandFault.Read read.Device) ↔ (T.has_failed start.new ≡ true) }
     ensures writes_nothing { IsErrOf result (CommandFault.Write write.Device) → ⊥ }

@@ -1,0 +1,8 @@
+//! Laws of the definitions: each contract is a theorem, and no body does anything.
+
+ghost use Rattle.flow_commands.specs.Start.{EachStartGivesOne};
+
+/// For each shop, each text gives one sequence as a start, or one fault.
+pub fn each_start_gives_one()
+    ensures { EachStartGivesOne }
+{}
