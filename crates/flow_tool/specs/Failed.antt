@@ -8,7 +8,7 @@ use Rattle.flow_tool.specs.declared.inputs.Text.{Text}
 -- the name stands for a text, and a text of that kind has refused to be read; that it is this one is not said
 abbrev pub FailedText : {A : Type 0} → {B : Type 0} → Names A B → List ℕ → Type 0
 FailedText {A} {B} names name =
-    (text : Text A B) × (after : Text A B) × IsText names.is_standard names.opened name text
+    (text : Text A B) × (after : Text A B) × IsText names name text
     × (shown names.of_standard.has_failed names.of_file.has_failed after ≡ true)
 
 -- the same of a file that the name opened
