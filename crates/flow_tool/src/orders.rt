@@ -3,11 +3,9 @@
 //!
 //! Each keeps a frame of its own: one frame for all commands would not fit on the stack of a small thread.
 
-ghost use Rattle.std.specs.Prelude.{◌≡◌, ◌↔◌, false, true, OnOk, IfErr, IfOk, IsErrOf};
+ghost use Rattle.std.specs.Prelude.{◌≡◌, ◌↔◌, false, true, OnOk, IfErr, IfOk};
 ghost use Rattle.std.specs.Option.{ForSome};
 ghost use Rattle.flow_core.specs.Limits.{most_certificate, most_text};
-ghost use Rattle.flow_core.specs.declared.bytes.fault.ReadFault.TheVariants as read;
-ghost use Rattle.flow_core.specs.declared.bytes.fault.WriteFault.TheVariants as write;
 ghost use Rattle.flow_commands.specs.Certify.{AnswersCertify};
 ghost use Rattle.flow_commands.specs.Check.{AnswersCheck};
 ghost use Rattle.flow_commands.specs.Generate.{AnswersGen};
@@ -19,7 +17,7 @@ ghost use Rattle.flow_commands.specs.Schedule.{AnswersSchedule};
 ghost use Rattle.flow_commands.specs.Solve.{AnswersSolve};
 ghost use Rattle.flow_commands.specs.Span.{AnswersSpan};
 ghost use Rattle.flow_tool.specs.Asked.{EndsAsked, StopsIn, WroteAsked, from_start, of_both, of_text};
-ghost use Rattle.flow_tool.specs.Failed.{FailedAsked};
+ghost use Rattle.flow_tool.specs.Failed.{FailedAsked, IsReadFault, IsWriteFault};
 ghost use Rattle.flow_tool.specs.Inputs.{IsStart, RefusedStart};
 
 use crate::inputs::{Inputs, open_text};
@@ -60,9 +58,8 @@ pub(crate) fn obey_gen<K: Sink>(
     ensures written { OnOk result (Wrote (AnswersGen jobs machines seed) (sink_run K.taken out.old out.new)) }
     ensures ended { IfErr result (StopsIn (EndsAlone (AnswersGen jobs machines seed)
         (sink_run K.taken out.old out.new))) }
-    ensures read_device { IsErrOf result (Stop.Fault (CommandFault.Read read.Device)) → ⊥ }
-    ensures write_device { IsErrOf result (Stop.Fault (CommandFault.Write write.Device))
-        ↔ (K.has_failed out.new ≡ true) }
+    ensures read_device { IsReadFault result → ⊥ }
+    ensures write_device { IsWriteFault result ↔ (K.has_failed out.new ≡ true) }
 {
     Ok(run_gen(alloc, jobs, machines, seed, out)?)
 }
@@ -82,11 +79,9 @@ pub(crate) fn obey_span<I: Inputs, K: Sink>(
         (of_text file.now (AnswersSpan index jobs.now)) (sink_run K.taken out.old out.new)) }
     ensures ended { IfErr result (EndsAsked (I.names inputs.now)
         (of_text file.now (AnswersSpan index jobs.now)) (sink_run K.taken out.old out.new)) }
-    ensures read_device { IsErrOf result (Stop.Fault (CommandFault.Read read.Device)) → FailedAsked
-        (I.names inputs.now)
+    ensures read_device { IsReadFault result → FailedAsked (I.names inputs.now)
         (of_text file.now (AnswersSpan index jobs.now)) }
-    ensures write_device { IsErrOf result (Stop.Fault (CommandFault.Write write.Device))
-        ↔ (K.has_failed out.new ≡ true) }
+    ensures write_device { IsWriteFault result ↔ (K.has_failed out.new ≡ true) }
 {
     let mut text = open_text(inputs, file)?;
     Ok(run_span(alloc, &mut text, index, jobs, out)?)
@@ -106,11 +101,8 @@ pub(crate) fn obey_neh<I: Inputs, K: Sink>(
         (of_text file.now (AnswersNeh index)) (sink_run K.taken out.old out.new)) }
     ensures ended { IfErr result (EndsAsked (I.names inputs.now)
         (of_text file.now (AnswersNeh index)) (sink_run K.taken out.old out.new)) }
-    ensures read_device { IsErrOf result (Stop.Fault (CommandFault.Read read.Device)) → FailedAsked
-        (I.names inputs.now)
-        (of_text file.now (AnswersNeh index)) }
-    ensures write_device { IsErrOf result (Stop.Fault (CommandFault.Write write.Device))
-        ↔ (K.has_failed out.new ≡ true) }
+    ensures read_device { IsReadFault result → FailedAsked (I.names inputs.now) (of_text file.now (AnswersNeh index)) }
+    ensures write_device { IsWriteFault result ↔ (K.has_failed out.new ≡ true) }
 {
     let mut text = open_text(inputs, file)?;
     Ok(run_neh(alloc, &mut text, index, out)?)
@@ -130,11 +122,9 @@ pub(crate) fn obey_mirror<I: Inputs, K: Sink>(
         (of_text file.now (AnswersMirror index)) (sink_run K.taken out.old out.new)) }
     ensures ended { IfErr result (EndsAsked (I.names inputs.now)
         (of_text file.now (AnswersMirror index)) (sink_run K.taken out.old out.new)) }
-    ensures read_device { IsErrOf result (Stop.Fault (CommandFault.Read read.Device)) → FailedAsked
-        (I.names inputs.now)
+    ensures read_device { IsReadFault result → FailedAsked (I.names inputs.now)
         (of_text file.now (AnswersMirror index)) }
-    ensures write_device { IsErrOf result (Stop.Fault (CommandFault.Write write.Device))
-        ↔ (K.has_failed out.new ≡ true) }
+    ensures write_device { IsWriteFault result ↔ (K.has_failed out.new ≡ true) }
 {
     let mut text = open_text(inputs, file)?;
     Ok(run_mirror(alloc, &mut text, index, out)?)
@@ -157,11 +147,9 @@ pub(crate) fn obey_solve<R: Threads + Wait + Sync, I: Inputs, K: Sink>(
         (from_start file.now index start.entry (AnswersSolve request)) (sink_run K.taken out.old out.new)) }
     ensures ended { IfErr result (EndsAsked (I.names inputs.now)
         (from_start file.now index start.entry (AnswersSolve request)) (sink_run K.taken out.old out.new)) }
-    ensures read_device { IsErrOf result (Stop.Fault (CommandFault.Read read.Device)) → FailedAsked
-        (I.names inputs.now)
+    ensures read_device { IsReadFault result → FailedAsked (I.names inputs.now)
         (from_start file.now index start.entry (AnswersSolve request)) }
-    ensures write_device { IsErrOf result (Stop.Fault (CommandFault.Write write.Device))
-        ↔ (K.has_failed out.new ≡ true) }
+    ensures write_device { IsWriteFault result ↔ (K.has_failed out.new ≡ true) }
 {
     let mut text = open_text(inputs, file)?;
     let mut start = open_start(inputs, start)?;
@@ -184,11 +172,9 @@ pub(crate) fn obey_improve<I: Inputs, K: Sink>(
         (from_start file.now index start.entry (AnswersImprove request)) (sink_run K.taken out.old out.new)) }
     ensures ended { IfErr result (EndsAsked (I.names inputs.now)
         (from_start file.now index start.entry (AnswersImprove request)) (sink_run K.taken out.old out.new)) }
-    ensures read_device { IsErrOf result (Stop.Fault (CommandFault.Read read.Device)) → FailedAsked
-        (I.names inputs.now)
+    ensures read_device { IsReadFault result → FailedAsked (I.names inputs.now)
         (from_start file.now index start.entry (AnswersImprove request)) }
-    ensures write_device { IsErrOf result (Stop.Fault (CommandFault.Write write.Device))
-        ↔ (K.has_failed out.new ≡ true) }
+    ensures write_device { IsWriteFault result ↔ (K.has_failed out.new ≡ true) }
 {
     let mut text = open_text(inputs, file)?;
     let mut start = open_start(inputs, start)?;
@@ -211,11 +197,9 @@ pub(crate) fn obey_certify<I: Inputs, K: Sink>(
         (from_start file.now index start.entry (AnswersCertify request)) (sink_run K.taken out.old out.new)) }
     ensures ended { IfErr result (EndsAsked (I.names inputs.now)
         (from_start file.now index start.entry (AnswersCertify request)) (sink_run K.taken out.old out.new)) }
-    ensures read_device { IsErrOf result (Stop.Fault (CommandFault.Read read.Device)) → FailedAsked
-        (I.names inputs.now)
+    ensures read_device { IsReadFault result → FailedAsked (I.names inputs.now)
         (from_start file.now index start.entry (AnswersCertify request)) }
-    ensures write_device { IsErrOf result (Stop.Fault (CommandFault.Write write.Device))
-        ↔ (K.has_failed out.new ≡ true) }
+    ensures write_device { IsWriteFault result ↔ (K.has_failed out.new ≡ true) }
 {
     let mut text = open_text(inputs, file)?;
     let mut start = open_start(inputs, start)?;
@@ -238,11 +222,9 @@ pub(crate) fn obey_check<I: Inputs, K: Sink>(
         (of_both file.now index cert.now most_certificate (AnswersCheck request)) (sink_run K.taken out.old out.new)) }
     ensures ended { IfErr result (EndsAsked (I.names inputs.now)
         (of_both file.now index cert.now most_certificate (AnswersCheck request)) (sink_run K.taken out.old out.new)) }
-    ensures read_device { IsErrOf result (Stop.Fault (CommandFault.Read read.Device)) → FailedAsked
-        (I.names inputs.now)
+    ensures read_device { IsReadFault result → FailedAsked (I.names inputs.now)
         (of_both file.now index cert.now most_certificate (AnswersCheck request)) }
-    ensures write_device { IsErrOf result (Stop.Fault (CommandFault.Write write.Device))
-        ↔ (K.has_failed out.new ≡ true) }
+    ensures write_device { IsWriteFault result ↔ (K.has_failed out.new ≡ true) }
 {
     let mut text = open_text(inputs, file)?;
     let mut cert = inputs.open(cert).ok_or(Stop::Open)?;
@@ -265,11 +247,9 @@ pub(crate) fn obey_schedule<I: Inputs, K: Sink>(
         (of_both file.now index sequence.now most_text (AnswersSchedule form)) (sink_run K.taken out.old out.new)) }
     ensures ended { IfErr result (EndsAsked (I.names inputs.now)
         (of_both file.now index sequence.now most_text (AnswersSchedule form)) (sink_run K.taken out.old out.new)) }
-    ensures read_device { IsErrOf result (Stop.Fault (CommandFault.Read read.Device)) → FailedAsked
-        (I.names inputs.now)
+    ensures read_device { IsReadFault result → FailedAsked (I.names inputs.now)
         (of_both file.now index sequence.now most_text (AnswersSchedule form)) }
-    ensures write_device { IsErrOf result (Stop.Fault (CommandFault.Write write.Device))
-        ↔ (K.has_failed out.new ≡ true) }
+    ensures write_device { IsWriteFault result ↔ (K.has_failed out.new ≡ true) }
 {
     let mut text = open_text(inputs, file)?;
     let mut sequence = inputs.open(sequence).ok_or(Stop::Open)?;
