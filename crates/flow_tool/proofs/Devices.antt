@@ -19,7 +19,7 @@ read-failed fault Failed iff named = iff.0 (cc named)
 -- a start that failed is one that was named
 pub start-failed : {A : Type 0} {B : Type 0} (names : Names A B)
     (name : Option (Bor (List ℕ))) (before after : Option B) →
-    IsStart names.opened name before →
+    IsStart names name before →
     HasFailed names.of_file.has_failed (start_run names.of_file.given names.of_file.has_ended before after) →
     FailedStart names name
 start-failed names None None after is failed = absurd failed

@@ -62,7 +62,7 @@ abbrev pub EndsAtText :
     {A : Type 0} → {B : Type 0} → {K : Type 0} → Names A B → List ℕ → (SourceRun (Text A B) → Stop → Type 0)
     → SinkRun K → Stop → Type 0
 EndsAtText names name EndsBy sink stop =
-    (RefusedText names.refused name stop × IsUnwritten sink) ⊎ RunOfText names name (λ text. EndsBy text stop)
+    (RefusedText names name stop × IsUnwritten sink) ⊎ RunOfText names name (λ text. EndsBy text stop)
 
 -- how a run ends whose second file could not be opened, and nothing was read or written
 abbrev pub StopsAtOpen : {T : Type 0} → {K : Type 0} → (Stop → Type 0) → SourceRun T → SinkRun K → Stop → Type 0
@@ -74,7 +74,7 @@ EndsAsked names (alone Answers) sink stop = StopsIn (EndsAlone Answers sink) sto
 EndsAsked names (of_text name Answers) sink stop =
     EndsAtText names name (λ text. StopsIn (Ends most_text Answers text sink)) sink stop
 EndsAsked names (from_start name index start Answers) sink stop =
-    EndsAtText names name (λ text over. StopsAtOpen (RefusedStart names.refused start) text sink over
+    EndsAtText names name (λ text over. StopsAtOpen (RefusedStart names start) text sink over
     ⊎ RunOfStart names start (λ run. StopsIn (EndsFrom Answers index text run sink) over)) sink stop
 EndsAsked names (of_both name index second limit Answers) sink stop =
     EndsAtText names name (λ text over. StopsAtOpen (λ at. (at ≡ Open) × names.refused second) text sink over

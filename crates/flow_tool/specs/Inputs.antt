@@ -24,13 +24,12 @@ pub record Names (A : Type 0) (B : Type 0) : Type 1 where
   pub of_standard : Views A
   pub of_file : Views B
 
-abbrev pub names_of :
-    {A : Type 0} → {B : Type 0} → (A → Type 0) → (List ℕ → B → Type 0) → (List ℕ → Type 0) → Views A → Views B
-    → Names A B
-names_of is_standard opened refused of_standard of_file = record {
-  is_standard = is_standard;
-  opened = opened;
-  refused = refused;
+-- names of which it is not known what they stand for
+abbrev pub unknown_names : {A : Type 0} → {B : Type 0} → Views A → Views B → Names A B
+unknown_names of_standard of_file = record {
+  is_standard = λ _. Unit {0};
+  opened = λ _ _. Unit {0};
+  refused = λ _. Unit {0};
   of_standard = of_standard;
   of_file = of_file;
 }
@@ -41,30 +40,30 @@ shown of_standard of_file (Standard source) = of_standard source
 shown of_standard of_file (File file) = of_file file
 
 -- a name stands for this text: for standard input the word of it, and for a file its own name, as it was opened
-abbrev pub IsText : {A : Type 0} → {B : Type 0} → (A → Type 0) → (List ℕ → B → Type 0) → List ℕ → Text A B → Type 0
-IsText is_standard opened name (Standard source) = (name ≡ codes "stdin") × is_standard source
-IsText is_standard opened name (File file) = (name ≢ codes "stdin") × opened name file
+abbrev pub IsText : {A : Type 0} → {B : Type 0} → Names A B → List ℕ → Text A B → Type 0
+IsText names name (Standard source) = (name ≡ codes "stdin") × names.is_standard source
+IsText names name (File file) = (name ≢ codes "stdin") × names.opened name file
 
 -- a name stands for no text: its file could not be opened
-abbrev pub RefusedText : (List ℕ → Type 0) → List ℕ → Stop → Type 0
-RefusedText refused name stop = (stop ≡ Open) × (name ≢ codes "stdin") × refused name
+abbrev pub RefusedText : {A : Type 0} → {B : Type 0} → Names A B → List ℕ → Stop → Type 0
+RefusedText names name stop = (stop ≡ Open) × (name ≢ codes "stdin") × names.refused name
 
 -- the name of a start opened this file; or there is neither
-abbrev pub IsStart : {F : Type 0} → (List ℕ → F → Type 0) → Option (Bor (List ℕ)) → Option F → Type 0
-IsStart opened None None = Unit {0}
-IsStart opened (Some name) (Some file) = opened name.now file
-IsStart opened name file = ⊥
+abbrev pub IsStart : {A : Type 0} → {B : Type 0} → Names A B → Option (Bor (List ℕ)) → Option B → Type 0
+IsStart names None None = Unit {0}
+IsStart names (Some name) (Some file) = names.opened name.now file
+IsStart names name file = ⊥
 
 -- the file of a start could not be opened
-abbrev pub RefusedStart : (List ℕ → Type 0) → Option (Bor (List ℕ)) → Stop → Type 0
-RefusedStart refused None stop = ⊥
-RefusedStart refused (Some name) stop = (stop ≡ Open) × refused name.now
+abbrev pub RefusedStart : {A : Type 0} → {B : Type 0} → Names A B → Option (Bor (List ℕ)) → Stop → Type 0
+RefusedStart names None stop = ⊥
+RefusedStart names (Some name) stop = (stop ≡ Open) × names.refused name.now
 
 -- this fact holds of the run of a text that the name stands for
 abbrev pub RunOfText :
     {A : Type 0} → {B : Type 0} → Names A B → List ℕ → (SourceRun (Text A B) → Type 0) → Type 0
 RunOfText {A} {B} names name Holds =
-    (text : Text A B) × (after : Text A B) × IsText names.is_standard names.opened name text
+    (text : Text A B) × (after : Text A B) × IsText names name text
     × Holds (source_run (shown names.of_standard.given names.of_file.given)
     (shown names.of_standard.has_ended names.of_file.has_ended) text after)
 
@@ -78,5 +77,5 @@ RunOfFile {A} {B} names name Holds =
 abbrev pub RunOfStart :
     {A : Type 0} → {B : Type 0} → Names A B → Option (Bor (List ℕ)) → (Option (SourceRun B) → Type 0) → Type 0
 RunOfStart {A} {B} names name Holds =
-    (file : Option B) × (after : Option B) × IsStart names.opened name file
+    (file : Option B) × (after : Option B) × IsStart names name file
     × Holds (start_run names.of_file.given names.of_file.has_ended file after)

@@ -1,12 +1,9 @@
 //! Which words of a command line run which command, and on which files.
 
-ghost use Rattle.std.specs.Prelude.{◌≡◌, ◌↔◌, false, true, OnOk, IfErr, IsErrOf};
-ghost use Rattle.flow_core.specs.declared.bytes.fault.ReadFault.TheVariants as read;
-ghost use Rattle.flow_core.specs.declared.bytes.fault.WriteFault.TheVariants as write;
+ghost use Rattle.std.specs.Prelude.{◌≡◌, ◌↔◌, false, true, OnOk, IfErr};
 ghost use Rattle.flow_commands.specs.Runs.{sink_run};
 ghost use Rattle.flow_tool.specs.Asked.{EndsAsked, WroteAsked, asked};
-ghost use Rattle.flow_tool.specs.Failed.{FailedAsked};
-ghost use Rattle.flow_tool.specs.Inputs.{names_of, views};
+ghost use Rattle.flow_tool.specs.Failed.{FailedAsked, IsReadFault, IsWriteFault};
 
 use crate::inputs::Inputs;
 use crate::orders::{
@@ -67,21 +64,12 @@ fn obey<R: Threads + Wait + Sync, I: Inputs, K: Sink>(
     out: &mut K,
 ) -> Result<(), Stop>
     requires { K.has_failed out.old ≡ false }
-    ensures written { OnOk result (WroteAsked (names_of (I.is_standard inputs.now) (I.opened inputs.now)
-        (I.refused inputs.now) (views I.Standard.given I.Standard.has_ended I.Standard.has_failed)
-        (views I.File.given I.File.has_ended I.File.has_failed))
-        (asked order.now) (sink_run K.taken out.old out.new)) }
-    ensures ended { IfErr result (EndsAsked (names_of (I.is_standard inputs.now) (I.opened inputs.now)
-        (I.refused inputs.now) (views I.Standard.given I.Standard.has_ended I.Standard.has_failed)
-        (views I.File.given I.File.has_ended I.File.has_failed))
-        (asked order.now) (sink_run K.taken out.old out.new)) }
-    ensures read_device { IsErrOf result (Stop.Fault (CommandFault.Read read.Device)) → FailedAsked
-        (names_of (I.is_standard inputs.now) (I.opened inputs.now)
-        (I.refused inputs.now) (views I.Standard.given I.Standard.has_ended I.Standard.has_failed)
-        (views I.File.given I.File.has_ended I.File.has_failed))
-        (asked order.now) }
-    ensures write_device { IsErrOf result (Stop.Fault (CommandFault.Write write.Device))
-        ↔ (K.has_failed out.new ≡ true) }
+    ensures written { OnOk result (WroteAsked (I.names inputs.now) (asked order.now)
+        (sink_run K.taken out.old out.new)) }
+    ensures ended { IfErr result (EndsAsked (I.names inputs.now) (asked order.now)
+        (sink_run K.taken out.old out.new)) }
+    ensures read_device { IsReadFault result → FailedAsked (I.names inputs.now) (asked order.now) }
+    ensures write_device { IsWriteFault result ↔ (K.has_failed out.new ≡ true) }
 {
     match order {
         Order::Gen {

@@ -1,7 +1,7 @@
 //! The inputs that a command line names: standard input, and files.
 
-ghost use Rattle.std.specs.Prelude.{◌≡◌, ℕ, List, false, IfNone, IfSome, IfOk, IfErr};
-ghost use Rattle.flow_tool.specs.Inputs.{IsText, RefusedText, shown};
+ghost use Rattle.std.specs.Prelude.{◌≡◌, false, IfNone, IfSome, IfOk, IfErr, refl};
+ghost use Rattle.flow_tool.specs.Inputs.{IsText, Names, RefusedText, shown, unknown_names, views};
 
 use crate::stop::Stop;
 use flow_core::{Refused, Source, StdSource};
@@ -17,25 +17,27 @@ pub(crate) trait Inputs {
     /// The source that reads a file.
     type File: Source + Drop;
 
-    // This is standard input, of which no byte was read.
-    ghost is_standard: { Self → Self.Standard → Type 0 };
-
-    // This is the file of this name as it was opened, of which no byte was read.
-    ghost opened: { Self → List ℕ → Self.File → Type 0 };
-
-    // The file of this name could not be opened.
-    ghost refused: { Self → List ℕ → Type 0 };
+    // What names stand for.
+    ghost names: { Self → Names Self.Standard Self.File };
 
     /// Standard input, of which no byte was read.
     fn standard(&self) -> Self::Standard
         ensures works { Self.Standard.has_failed result ≡ false }
-        ensures standard { is_standard self.now result };
+        ensures standard { (names self.now).is_standard result };
 
     /// The file of this name, opened for reading; none where it can't be opened.
     fn open(&self, name: &str) -> Option<Self::File>
         ensures works { IfSome result (λ file. Self.File.has_failed file ≡ false) }
-        ensures opened { IfSome result (λ file. opened self.now name.now file) }
-        ensures refused { IfNone result (refused self.now name.now) };
+        ensures opened { IfSome result (λ file. (names self.now).opened name.now file) }
+        ensures refused { IfNone result ((names self.now).refused name.now) };
+
+    // What standard input shows is what its source shows.
+    ghost views_standard: { (s : Self) → (names s).of_standard
+        ≡ views Self.Standard.given Self.Standard.has_ended Self.Standard.has_failed };
+
+    // What a file shows is what its source shows.
+    ghost views_file: { (s : Self) → (names s).of_file
+        ≡ views Self.File.given Self.File.has_ended Self.File.has_failed };
 }
 
 /// The word that stands for standard input in the place of a text's file.
@@ -78,8 +80,8 @@ pub(crate) fn open_text<I: Inputs>(
     name: &str,
 ) -> Result<Text<I::Standard, I::File>, Stop>
     ensures works { IfOk result (λ text. shown I.Standard.has_failed I.File.has_failed text ≡ false) }
-    ensures opened { IfOk result (IsText (I.is_standard inputs.now) (I.opened inputs.now) name.now) }
-    ensures refused { IfErr result (RefusedText (I.refused inputs.now) name.now) }
+    ensures opened { IfOk result (IsText (I.names inputs.now) name.now) }
+    ensures refused { IfErr result (RefusedText (I.names inputs.now) name.now) }
 {
     if name == STANDARD {
         return Ok(Text::Standard(inputs.standard()));
@@ -111,11 +113,13 @@ impl<'a, R: Input + Files> Inputs for StdInputs<'a, R> {
     type File = StdSource<R::File>;
 
     // Of what the system has open nothing is known.
-    ghost is_standard = { λ _ _. Unit {0} };
+    ghost names = { λ _. unknown_names
+        (let s = ⟦<StdSource<R::Reader> as Source>⟧ in views s.given s.has_ended s.has_failed)
+        (let s = ⟦<StdSource<R::File> as Source>⟧ in views s.given s.has_ended s.has_failed) };
 
-    ghost opened = { λ _ _ _. Unit {0} };
+    ghost views_standard = { λ _. refl };
 
-    ghost refused = { λ _ _. Unit {0} };
+    ghost views_file = { λ _. refl };
 
     fn standard(&self) -> StdSource<R::Reader> {
         StdSource::new(self.rt.reader())

@@ -3,11 +3,9 @@
 //!
 //! Each keeps a frame of its own: one frame for all commands would not fit on the stack of a small thread.
 
-ghost use Rattle.std.specs.Prelude.{◌≡◌, ◌↔◌, false, true, OnOk, IfErr, IfOk, IsErrOf};
+ghost use Rattle.std.specs.Prelude.{◌≡◌, ◌↔◌, false, true, OnOk, IfErr, IfOk};
 ghost use Rattle.std.specs.Option.{ForSome};
 ghost use Rattle.flow_core.specs.Limits.{most_certificate, most_text};
-ghost use Rattle.flow_core.specs.declared.bytes.fault.ReadFault.TheVariants as read;
-ghost use Rattle.flow_core.specs.declared.bytes.fault.WriteFault.TheVariants as write;
 ghost use Rattle.flow_commands.specs.Certify.{AnswersCertify};
 ghost use Rattle.flow_commands.specs.Check.{AnswersCheck};
 ghost use Rattle.flow_commands.specs.Generate.{AnswersGen};
@@ -19,8 +17,8 @@ ghost use Rattle.flow_commands.specs.Schedule.{AnswersSchedule};
 ghost use Rattle.flow_commands.specs.Solve.{AnswersSolve};
 ghost use Rattle.flow_commands.specs.Span.{AnswersSpan};
 ghost use Rattle.flow_tool.specs.Asked.{EndsAsked, StopsIn, WroteAsked, from_start, of_both, of_text};
-ghost use Rattle.flow_tool.specs.Failed.{FailedAsked};
-ghost use Rattle.flow_tool.specs.Inputs.{IsStart, RefusedStart, names_of, views};
+ghost use Rattle.flow_tool.specs.Failed.{FailedAsked, IsReadFault, IsWriteFault};
+ghost use Rattle.flow_tool.specs.Inputs.{IsStart, RefusedStart};
 
 use crate::inputs::{Inputs, open_text};
 use crate::stop::Stop;
@@ -38,8 +36,8 @@ use std::thread::Threads;
 /// The file of a starting sequence, opened for reading, where one is named.
 fn open_start<I: Inputs>(inputs: &I, name: Option<&str>) -> Result<Option<I::File>, Stop>
     ensures works { IfOk result (λ start. ForSome start (λ file. I.File.has_failed file ≡ false)) }
-    ensures opened { IfOk result (IsStart (I.opened inputs.now) name.entry) }
-    ensures refused { IfErr result (RefusedStart (I.refused inputs.now) name.entry) }
+    ensures opened { IfOk result (IsStart (I.names inputs.now) name.entry) }
+    ensures refused { IfErr result (RefusedStart (I.names inputs.now) name.entry) }
 {
     match name {
         Some(name) => Ok(Some(inputs.open(name).ok_or(Stop::Open)?)),
@@ -60,9 +58,8 @@ pub(crate) fn obey_gen<K: Sink>(
     ensures written { OnOk result (Wrote (AnswersGen jobs machines seed) (sink_run K.taken out.old out.new)) }
     ensures ended { IfErr result (StopsIn (EndsAlone (AnswersGen jobs machines seed)
         (sink_run K.taken out.old out.new))) }
-    ensures read_device { IsErrOf result (Stop.Fault (CommandFault.Read read.Device)) → ⊥ }
-    ensures write_device { IsErrOf result (Stop.Fault (CommandFault.Write write.Device))
-        ↔ (K.has_failed out.new ≡ true) }
+    ensures read_device { IsReadFault result → ⊥ }
+    ensures write_device { IsWriteFault result ↔ (K.has_failed out.new ≡ true) }
 {
     Ok(run_gen(alloc, jobs, machines, seed, out)?)
 }
@@ -78,21 +75,13 @@ pub(crate) fn obey_span<I: Inputs, K: Sink>(
     out: &mut K,
 ) -> Result<(), Stop>
     requires { K.has_failed out.old ≡ false }
-    ensures written { OnOk result (WroteAsked (names_of (I.is_standard inputs.now) (I.opened inputs.now)
-        (I.refused inputs.now) (views I.Standard.given I.Standard.has_ended I.Standard.has_failed)
-        (views I.File.given I.File.has_ended I.File.has_failed))
+    ensures written { OnOk result (WroteAsked (I.names inputs.now)
         (of_text file.now (AnswersSpan index jobs.now)) (sink_run K.taken out.old out.new)) }
-    ensures ended { IfErr result (EndsAsked (names_of (I.is_standard inputs.now) (I.opened inputs.now)
-        (I.refused inputs.now) (views I.Standard.given I.Standard.has_ended I.Standard.has_failed)
-        (views I.File.given I.File.has_ended I.File.has_failed))
+    ensures ended { IfErr result (EndsAsked (I.names inputs.now)
         (of_text file.now (AnswersSpan index jobs.now)) (sink_run K.taken out.old out.new)) }
-    ensures read_device { IsErrOf result (Stop.Fault (CommandFault.Read read.Device)) → FailedAsked
-        (names_of (I.is_standard inputs.now) (I.opened inputs.now)
-        (I.refused inputs.now) (views I.Standard.given I.Standard.has_ended I.Standard.has_failed)
-        (views I.File.given I.File.has_ended I.File.has_failed))
+    ensures read_device { IsReadFault result → FailedAsked (I.names inputs.now)
         (of_text file.now (AnswersSpan index jobs.now)) }
-    ensures write_device { IsErrOf result (Stop.Fault (CommandFault.Write write.Device))
-        ↔ (K.has_failed out.new ≡ true) }
+    ensures write_device { IsWriteFault result ↔ (K.has_failed out.new ≡ true) }
 {
     let mut text = open_text(inputs, file)?;
     Ok(run_span(alloc, &mut text, index, jobs, out)?)
@@ -108,21 +97,12 @@ pub(crate) fn obey_neh<I: Inputs, K: Sink>(
     out: &mut K,
 ) -> Result<(), Stop>
     requires { K.has_failed out.old ≡ false }
-    ensures written { OnOk result (WroteAsked (names_of (I.is_standard inputs.now) (I.opened inputs.now)
-        (I.refused inputs.now) (views I.Standard.given I.Standard.has_ended I.Standard.has_failed)
-        (views I.File.given I.File.has_ended I.File.has_failed))
+    ensures written { OnOk result (WroteAsked (I.names inputs.now)
         (of_text file.now (AnswersNeh index)) (sink_run K.taken out.old out.new)) }
-    ensures ended { IfErr result (EndsAsked (names_of (I.is_standard inputs.now) (I.opened inputs.now)
-        (I.refused inputs.now) (views I.Standard.given I.Standard.has_ended I.Standard.has_failed)
-        (views I.File.given I.File.has_ended I.File.has_failed))
+    ensures ended { IfErr result (EndsAsked (I.names inputs.now)
         (of_text file.now (AnswersNeh index)) (sink_run K.taken out.old out.new)) }
-    ensures read_device { IsErrOf result (Stop.Fault (CommandFault.Read read.Device)) → FailedAsked
-        (names_of (I.is_standard inputs.now) (I.opened inputs.now)
-        (I.refused inputs.now) (views I.Standard.given I.Standard.has_ended I.Standard.has_failed)
-        (views I.File.given I.File.has_ended I.File.has_failed))
-        (of_text file.now (AnswersNeh index)) }
-    ensures write_device { IsErrOf result (Stop.Fault (CommandFault.Write write.Device))
-        ↔ (K.has_failed out.new ≡ true) }
+    ensures read_device { IsReadFault result → FailedAsked (I.names inputs.now) (of_text file.now (AnswersNeh index)) }
+    ensures write_device { IsWriteFault result ↔ (K.has_failed out.new ≡ true) }
 {
     let mut text = open_text(inputs, file)?;
     Ok(run_neh(alloc, &mut text, index, out)?)
@@ -138,21 +118,13 @@ pub(crate) fn obey_mirror<I: Inputs, K: Sink>(
     out: &mut K,
 ) -> Result<(), Stop>
     requires { K.has_failed out.old ≡ false }
-    ensures written { OnOk result (WroteAsked (names_of (I.is_standard inputs.now) (I.opened inputs.now)
-        (I.refused inputs.now) (views I.Standard.given I.Standard.has_ended I.Standard.has_failed)
-        (views I.File.given I.File.has_ended I.File.has_failed))
+    ensures written { OnOk result (WroteAsked (I.names inputs.now)
         (of_text file.now (AnswersMirror index)) (sink_run K.taken out.old out.new)) }
-    ensures ended { IfErr result (EndsAsked (names_of (I.is_standard inputs.now) (I.opened inputs.now)
-        (I.refused inputs.now) (views I.Standard.given I.Standard.has_ended I.Standard.has_failed)
-        (views I.File.given I.File.has_ended I.File.has_failed))
+    ensures ended { IfErr result (EndsAsked (I.names inputs.now)
         (of_text file.now (AnswersMirror index)) (sink_run K.taken out.old out.new)) }
-    ensures read_device { IsErrOf result (Stop.Fault (CommandFault.Read read.Device)) → FailedAsked
-        (names_of (I.is_standard inputs.now) (I.opened inputs.now)
-        (I.refused inputs.now) (views I.Standard.given I.Standard.has_ended I.Standard.has_failed)
-        (views I.File.given I.File.has_ended I.File.has_failed))
+    ensures read_device { IsReadFault result → FailedAsked (I.names inputs.now)
         (of_text file.now (AnswersMirror index)) }
-    ensures write_device { IsErrOf result (Stop.Fault (CommandFault.Write write.Device))
-        ↔ (K.has_failed out.new ≡ true) }
+    ensures write_device { IsWriteFault result ↔ (K.has_failed out.new ≡ true) }
 {
     let mut text = open_text(inputs, file)?;
     Ok(run_mirror(alloc, &mut text, index, out)?)
@@ -171,21 +143,13 @@ pub(crate) fn obey_solve<R: Threads + Wait + Sync, I: Inputs, K: Sink>(
     out: &mut K,
 ) -> Result<(), Stop>
     requires { K.has_failed out.old ≡ false }
-    ensures written { OnOk result (WroteAsked (names_of (I.is_standard inputs.now) (I.opened inputs.now)
-        (I.refused inputs.now) (views I.Standard.given I.Standard.has_ended I.Standard.has_failed)
-        (views I.File.given I.File.has_ended I.File.has_failed))
+    ensures written { OnOk result (WroteAsked (I.names inputs.now)
         (from_start file.now index start.entry (AnswersSolve request)) (sink_run K.taken out.old out.new)) }
-    ensures ended { IfErr result (EndsAsked (names_of (I.is_standard inputs.now) (I.opened inputs.now)
-        (I.refused inputs.now) (views I.Standard.given I.Standard.has_ended I.Standard.has_failed)
-        (views I.File.given I.File.has_ended I.File.has_failed))
+    ensures ended { IfErr result (EndsAsked (I.names inputs.now)
         (from_start file.now index start.entry (AnswersSolve request)) (sink_run K.taken out.old out.new)) }
-    ensures read_device { IsErrOf result (Stop.Fault (CommandFault.Read read.Device)) → FailedAsked
-        (names_of (I.is_standard inputs.now) (I.opened inputs.now)
-        (I.refused inputs.now) (views I.Standard.given I.Standard.has_ended I.Standard.has_failed)
-        (views I.File.given I.File.has_ended I.File.has_failed))
+    ensures read_device { IsReadFault result → FailedAsked (I.names inputs.now)
         (from_start file.now index start.entry (AnswersSolve request)) }
-    ensures write_device { IsErrOf result (Stop.Fault (CommandFault.Write write.Device))
-        ↔ (K.has_failed out.new ≡ true) }
+    ensures write_device { IsWriteFault result ↔ (K.has_failed out.new ≡ true) }
 {
     let mut text = open_text(inputs, file)?;
     let mut start = open_start(inputs, start)?;
@@ -204,21 +168,13 @@ pub(crate) fn obey_improve<I: Inputs, K: Sink>(
     out: &mut K,
 ) -> Result<(), Stop>
     requires { K.has_failed out.old ≡ false }
-    ensures written { OnOk result (WroteAsked (names_of (I.is_standard inputs.now) (I.opened inputs.now)
-        (I.refused inputs.now) (views I.Standard.given I.Standard.has_ended I.Standard.has_failed)
-        (views I.File.given I.File.has_ended I.File.has_failed))
+    ensures written { OnOk result (WroteAsked (I.names inputs.now)
         (from_start file.now index start.entry (AnswersImprove request)) (sink_run K.taken out.old out.new)) }
-    ensures ended { IfErr result (EndsAsked (names_of (I.is_standard inputs.now) (I.opened inputs.now)
-        (I.refused inputs.now) (views I.Standard.given I.Standard.has_ended I.Standard.has_failed)
-        (views I.File.given I.File.has_ended I.File.has_failed))
+    ensures ended { IfErr result (EndsAsked (I.names inputs.now)
         (from_start file.now index start.entry (AnswersImprove request)) (sink_run K.taken out.old out.new)) }
-    ensures read_device { IsErrOf result (Stop.Fault (CommandFault.Read read.Device)) → FailedAsked
-        (names_of (I.is_standard inputs.now) (I.opened inputs.now)
-        (I.refused inputs.now) (views I.Standard.given I.Standard.has_ended I.Standard.has_failed)
-        (views I.File.given I.File.has_ended I.File.has_failed))
+    ensures read_device { IsReadFault result → FailedAsked (I.names inputs.now)
         (from_start file.now index start.entry (AnswersImprove request)) }
-    ensures write_device { IsErrOf result (Stop.Fault (CommandFault.Write write.Device))
-        ↔ (K.has_failed out.new ≡ true) }
+    ensures write_device { IsWriteFault result ↔ (K.has_failed out.new ≡ true) }
 {
     let mut text = open_text(inputs, file)?;
     let mut start = open_start(inputs, start)?;
@@ -237,21 +193,13 @@ pub(crate) fn obey_certify<I: Inputs, K: Sink>(
     out: &mut K,
 ) -> Result<(), Stop>
     requires { K.has_failed out.old ≡ false }
-    ensures written { OnOk result (WroteAsked (names_of (I.is_standard inputs.now) (I.opened inputs.now)
-        (I.refused inputs.now) (views I.Standard.given I.Standard.has_ended I.Standard.has_failed)
-        (views I.File.given I.File.has_ended I.File.has_failed))
+    ensures written { OnOk result (WroteAsked (I.names inputs.now)
         (from_start file.now index start.entry (AnswersCertify request)) (sink_run K.taken out.old out.new)) }
-    ensures ended { IfErr result (EndsAsked (names_of (I.is_standard inputs.now) (I.opened inputs.now)
-        (I.refused inputs.now) (views I.Standard.given I.Standard.has_ended I.Standard.has_failed)
-        (views I.File.given I.File.has_ended I.File.has_failed))
+    ensures ended { IfErr result (EndsAsked (I.names inputs.now)
         (from_start file.now index start.entry (AnswersCertify request)) (sink_run K.taken out.old out.new)) }
-    ensures read_device { IsErrOf result (Stop.Fault (CommandFault.Read read.Device)) → FailedAsked
-        (names_of (I.is_standard inputs.now) (I.opened inputs.now)
-        (I.refused inputs.now) (views I.Standard.given I.Standard.has_ended I.Standard.has_failed)
-        (views I.File.given I.File.has_ended I.File.has_failed))
+    ensures read_device { IsReadFault result → FailedAsked (I.names inputs.now)
         (from_start file.now index start.entry (AnswersCertify request)) }
-    ensures write_device { IsErrOf result (Stop.Fault (CommandFault.Write write.Device))
-        ↔ (K.has_failed out.new ≡ true) }
+    ensures write_device { IsWriteFault result ↔ (K.has_failed out.new ≡ true) }
 {
     let mut text = open_text(inputs, file)?;
     let mut start = open_start(inputs, start)?;
@@ -270,21 +218,13 @@ pub(crate) fn obey_check<I: Inputs, K: Sink>(
     out: &mut K,
 ) -> Result<(), Stop>
     requires { K.has_failed out.old ≡ false }
-    ensures written { OnOk result (WroteAsked (names_of (I.is_standard inputs.now) (I.opened inputs.now)
-        (I.refused inputs.now) (views I.Standard.given I.Standard.has_ended I.Standard.has_failed)
-        (views I.File.given I.File.has_ended I.File.has_failed))
+    ensures written { OnOk result (WroteAsked (I.names inputs.now)
         (of_both file.now index cert.now most_certificate (AnswersCheck request)) (sink_run K.taken out.old out.new)) }
-    ensures ended { IfErr result (EndsAsked (names_of (I.is_standard inputs.now) (I.opened inputs.now)
-        (I.refused inputs.now) (views I.Standard.given I.Standard.has_ended I.Standard.has_failed)
-        (views I.File.given I.File.has_ended I.File.has_failed))
+    ensures ended { IfErr result (EndsAsked (I.names inputs.now)
         (of_both file.now index cert.now most_certificate (AnswersCheck request)) (sink_run K.taken out.old out.new)) }
-    ensures read_device { IsErrOf result (Stop.Fault (CommandFault.Read read.Device)) → FailedAsked
-        (names_of (I.is_standard inputs.now) (I.opened inputs.now)
-        (I.refused inputs.now) (views I.Standard.given I.Standard.has_ended I.Standard.has_failed)
-        (views I.File.given I.File.has_ended I.File.has_failed))
+    ensures read_device { IsReadFault result → FailedAsked (I.names inputs.now)
         (of_both file.now index cert.now most_certificate (AnswersCheck request)) }
-    ensures write_device { IsErrOf result (Stop.Fault (CommandFault.Write write.Device))
-        ↔ (K.has_failed out.new ≡ true) }
+    ensures write_device { IsWriteFault result ↔ (K.has_failed out.new ≡ true) }
 {
     let mut text = open_text(inputs, file)?;
     let mut cert = inputs.open(cert).ok_or(Stop::Open)?;
@@ -303,21 +243,13 @@ pub(crate) fn obey_schedule<I: Inputs, K: Sink>(
     out: &mut K,
 ) -> Result<(), Stop>
     requires { K.has_failed out.old ≡ false }
-    ensures written { OnOk result (WroteAsked (names_of (I.is_standard inputs.now) (I.opened inputs.now)
-        (I.refused inputs.now) (views I.Standard.given I.Standard.has_ended I.Standard.has_failed)
-        (views I.File.given I.File.has_ended I.File.has_failed))
+    ensures written { OnOk result (WroteAsked (I.names inputs.now)
         (of_both file.now index sequence.now most_text (AnswersSchedule form)) (sink_run K.taken out.old out.new)) }
-    ensures ended { IfErr result (EndsAsked (names_of (I.is_standard inputs.now) (I.opened inputs.now)
-        (I.refused inputs.now) (views I.Standard.given I.Standard.has_ended I.Standard.has_failed)
-        (views I.File.given I.File.has_ended I.File.has_failed))
+    ensures ended { IfErr result (EndsAsked (I.names inputs.now)
         (of_both file.now index sequence.now most_text (AnswersSchedule form)) (sink_run K.taken out.old out.new)) }
-    ensures read_device { IsErrOf result (Stop.Fault (CommandFault.Read read.Device)) → FailedAsked
-        (names_of (I.is_standard inputs.now) (I.opened inputs.now)
-        (I.refused inputs.now) (views I.Standard.given I.Standard.has_ended I.Standard.has_failed)
-        (views I.File.given I.File.has_ended I.File.has_failed))
+    ensures read_device { IsReadFault result → FailedAsked (I.names inputs.now)
         (of_both file.now index sequence.now most_text (AnswersSchedule form)) }
-    ensures write_device { IsErrOf result (Stop.Fault (CommandFault.Write write.Device))
-        ↔ (K.has_failed out.new ≡ true) }
+    ensures write_device { IsWriteFault result ↔ (K.has_failed out.new ≡ true) }
 {
     let mut text = open_text(inputs, file)?;
     let mut sequence = inputs.open(sequence).ok_or(Stop::Open)?;

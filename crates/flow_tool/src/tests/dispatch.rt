@@ -1,11 +1,14 @@
 //! What the words of command lines come to, over inputs and a sink in memory.
 
+ghost use Rattle.std.specs.Prelude.{refl};
+ghost use Rattle.flow_tool.specs.Inputs.{unknown_names, views};
+
 use crate::dispatch::run_words;
 use crate::inputs::Inputs;
 use crate::stop::Stop;
 use clap::error::ErrorKind;
 use flow_commands::CommandFault;
-use flow_core::{MemorySink, MemorySource, WriteFault};
+use flow_core::{MemorySink, MemorySource, Source, WriteFault};
 use flow_requests::{CertifyRequest, CheckRequest, ImproveRequest, SolveRequest};
 use flow_words::{Order, make_command, order_of};
 use std::alloc::{AllocError, Global};
@@ -91,11 +94,13 @@ impl Inputs for Named {
 
     type File = MemorySource<'static>;
 
-    ghost is_standard = { λ _ _. Unit {0} };
+    ghost names = { λ _. unknown_names
+        (let s = ⟦<MemorySource<'static> as Source>⟧ in views s.given s.has_ended s.has_failed)
+        (let s = ⟦<MemorySource<'static> as Source>⟧ in views s.given s.has_ended s.has_failed) };
 
-    ghost opened = { λ _ _ _. Unit {0} };
+    ghost views_standard = { λ _. refl };
 
-    ghost refused = { λ _ _. Unit {0} };
+    ghost views_file = { λ _. refl };
 
     fn standard(&self) -> MemorySource<'static> {
         MemorySource::new(BOTH, 7, None)

@@ -1,22 +1,22 @@
 use Rattle.std.proofs.Common.{inl, inr, refl}
 use Rattle.std.proofs.lemmas.Result.{err_from_is_err_and}
 use Rattle.flow_tool.proofs.Devices.{either-failed, read-failed, start-failed}
-use Rattle.flow_tool.specs.Inputs.{names_of, views}
 use Rattle.flow_tool.proofs.orders.obey_improve.Goals as goal
 
 pub returns-clause-written : goal.returns-clause-written
-returns-clause-written g c = (
-  c.in_ok-text.text,
-  c.run_improve.new.file,
-  c.in_ok-text.ensures.opened,
-  (c.in_ok-start.start, c.run_improve.new.start, c.in_ok-start.ensures.opened, c.in_ok-run_improve.ensures.written),
-)
+returns-clause-written g c =
+    rw (g.met.I.Inputs.views_standard c.args.inputs.now, g.met.I.Inputs.views_file c.args.inputs.now) (
+      c.in_ok-text.text,
+      c.run_improve.new.file,
+      c.in_ok-text.ensures.opened,
+      (c.in_ok-start.start, c.run_improve.new.start, c.in_ok-start.ensures.opened, c.in_ok-run_improve.ensures.written),
+    )
 
 pub returns-in_err-run_improve-clause-ended : goal.returns-in_err-run_improve-clause-ended
 returns-in_err-run_improve-clause-ended g c =
     let p =
     err_from_is_err_and c.from_residual-in_err-run_improve.result c.from_residual-in_err-run_improve.ensures.1 in
-    rw (p.1, p.2) (inr (
+    rw (p.1, p.2, g.met.I.Inputs.views_standard c.args.inputs.now, g.met.I.Inputs.views_file c.args.inputs.now) (inr (
       c.in_ok-text.text,
       c.run_improve.new.file,
       c.in_ok-text.ensures.opened,
@@ -32,19 +32,17 @@ pub returns-in_err-run_improve-clause-read_device : goal.returns-in_err-run_impr
 returns-in_err-run_improve-clause-read_device g c =
     let p =
     err_from_is_err_and c.from_residual-in_err-run_improve.result c.from_residual-in_err-run_improve.ensures.1 in
-    rw (p.1, p.2) (λ named. either-failed _ _ _ _
+    rw (p.1, p.2, g.met.I.Inputs.views_standard c.args.inputs.now, g.met.I.Inputs.views_file c.args.inputs.now)
+    (λ named. either-failed _ _ _ _
     (λ failed. (c.in_ok-text.text, c.run_improve.new.file, c.in_ok-text.ensures.opened, failed))
-    (start-failed (names_of (g.I.Inputs.is_standard c.args.inputs.now) (g.I.Inputs.opened c.args.inputs.now)
-    (g.I.Inputs.refused c.args.inputs.now)
-    (views g.I.Standard.Source.given g.I.Standard.Source.has_ended g.I.Standard.Source.has_failed)
-    (views g.I.File.Source.given g.I.File.Source.has_ended g.I.File.Source.has_failed))
-    c.args.start c.in_ok-start.start c.run_improve.new.start c.in_ok-start.ensures.opened)
+    (λ failed. start-failed (g.I.Inputs.names c.args.inputs.now) c.args.start c.in_ok-start.start
+    c.run_improve.new.start c.in_ok-start.ensures.opened (rw (g.met.I.Inputs.views_file c.args.inputs.now) failed))
     (read-failed c.in_err-run_improve.field-0.0 _ c.in_err-run_improve.ensures.read_device named))
 
 pub returns-in_err-start-clause-ended : goal.returns-in_err-start-clause-ended
 returns-in_err-start-clause-ended g c =
     let p = err_from_is_err_and c.from_residual-in_err-start.result c.from_residual-in_err-start.ensures.1 in
-    rw (p.1, p.2) (inr (
+    rw (p.1, p.2, g.met.I.Inputs.views_standard c.args.inputs.now, g.met.I.Inputs.views_file c.args.inputs.now) (inr (
       c.in_ok-text.text,
       c.in_ok-text.text,
       c.in_ok-text.ensures.opened,

@@ -5,12 +5,13 @@ use Rattle.flow_tool.proofs.orders.obey_neh.Goals as goal
 
 pub returns-clause-written : goal.returns-clause-written
 returns-clause-written g c =
+    rw (g.met.I.Inputs.views_standard c.args.inputs.now, g.met.I.Inputs.views_file c.args.inputs.now)
     (c.in_ok-text.text, c.run_neh.new.file, c.in_ok-text.ensures.opened, c.in_ok-run_neh.ensures.written)
 
 pub returns-in_err-run_neh-clause-ended : goal.returns-in_err-run_neh-clause-ended
 returns-in_err-run_neh-clause-ended g c =
     let p = err_from_is_err_and c.from_residual-in_err-run_neh.result c.from_residual-in_err-run_neh.ensures.1 in
-    rw (p.1, p.2) (inr (
+    rw (p.1, p.2, g.met.I.Inputs.views_standard c.args.inputs.now, g.met.I.Inputs.views_file c.args.inputs.now) (inr (
       c.in_ok-text.text,
       c.run_neh.new.file,
       c.in_ok-text.ensures.opened,
@@ -20,7 +21,8 @@ returns-in_err-run_neh-clause-ended g c =
 pub returns-in_err-run_neh-clause-read_device : goal.returns-in_err-run_neh-clause-read_device
 returns-in_err-run_neh-clause-read_device g c =
     let p = err_from_is_err_and c.from_residual-in_err-run_neh.result c.from_residual-in_err-run_neh.ensures.1 in
-    rw (p.1, p.2) (λ named. (
+    rw (p.1, p.2, g.met.I.Inputs.views_standard c.args.inputs.now, g.met.I.Inputs.views_file c.args.inputs.now)
+    (λ named. (
       c.in_ok-text.text,
       c.run_neh.new.file,
       c.in_ok-text.ensures.opened,

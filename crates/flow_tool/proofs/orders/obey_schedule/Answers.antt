@@ -4,18 +4,19 @@ use Rattle.flow_tool.proofs.Devices.{either-failed, read-failed}
 use Rattle.flow_tool.proofs.orders.obey_schedule.Goals as goal
 
 pub returns-clause-written : goal.returns-clause-written
-returns-clause-written g c = (
-  c.in_ok-text.text,
-  c.run_schedule.new.file,
-  c.in_ok-text.ensures.opened,
-  (c.in_ok-sequence.sequence, c.run_schedule.new.start, search rules, c.in_ok-run_schedule.ensures.written),
-)
+returns-clause-written g c =
+    rw (g.met.I.Inputs.views_standard c.args.inputs.now, g.met.I.Inputs.views_file c.args.inputs.now) (
+      c.in_ok-text.text,
+      c.run_schedule.new.file,
+      c.in_ok-text.ensures.opened,
+      (c.in_ok-sequence.sequence, c.run_schedule.new.start, search rules, c.in_ok-run_schedule.ensures.written),
+    )
 
 pub returns-in_err-run_schedule-clause-ended : goal.returns-in_err-run_schedule-clause-ended
 returns-in_err-run_schedule-clause-ended g c =
     let p = err_from_is_err_and c.from_residual-in_err-run_schedule.result
     c.from_residual-in_err-run_schedule.ensures.1 in
-    rw (p.1, p.2) (inr (
+    rw (p.1, p.2, g.met.I.Inputs.views_standard c.args.inputs.now, g.met.I.Inputs.views_file c.args.inputs.now) (inr (
       c.in_ok-text.text,
       c.run_schedule.new.file,
       c.in_ok-text.ensures.opened,
@@ -31,7 +32,8 @@ pub returns-in_err-run_schedule-clause-read_device : goal.returns-in_err-run_sch
 returns-in_err-run_schedule-clause-read_device g c =
     let p = err_from_is_err_and c.from_residual-in_err-run_schedule.result
     c.from_residual-in_err-run_schedule.ensures.1 in
-    rw (p.1, p.2) (λ named. either-failed _ _ _ _
+    rw (p.1, p.2, g.met.I.Inputs.views_standard c.args.inputs.now, g.met.I.Inputs.views_file c.args.inputs.now)
+    (λ named. either-failed _ _ _ _
     (λ failed. (c.in_ok-text.text, c.run_schedule.new.file, c.in_ok-text.ensures.opened, failed))
     (λ failed. (c.in_ok-sequence.sequence, c.run_schedule.new.start, search rules, failed))
     (read-failed c.in_err-run_schedule.field-0.0 _ c.in_err-run_schedule.ensures.read_device named))
@@ -39,7 +41,7 @@ returns-in_err-run_schedule-clause-read_device g c =
 pub returns-in_err-sequence-clause-ended : goal.returns-in_err-sequence-clause-ended
 returns-in_err-sequence-clause-ended g c =
     let p = err_from_is_err_and c.from_residual-in_err-sequence.result c.from_residual-in_err-sequence.ensures.1 in
-    rw (p.1, p.2) (inr (
+    rw (p.1, p.2, g.met.I.Inputs.views_standard c.args.inputs.now, g.met.I.Inputs.views_file c.args.inputs.now) (inr (
       c.in_ok-text.text,
       c.in_ok-text.text,
       c.in_ok-text.ensures.opened,
