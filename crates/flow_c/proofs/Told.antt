@@ -17,8 +17,8 @@ use Rattle.flow_c.proofs.Turned.{bounds-turned, turned-attained, upper-attained}
 -- the bounds of a text hold
 given-bounds : (kind : TextKind) (shop : Shop) (bytes jobs : List ℕ) (bounds : Bounds) →
     GivesAs kind shop bytes bounds jobs → AreBounds shop bounds
-given-bounds kind shop bytes jobs bounds (stated, is, (version, depth, trees, shows, text)) =
-    subst (AreBounds shop) (sym is) (lawful-bounds kind shop bytes stated (version, depth, jobs, trees, shows, text))
+given-bounds kind shop bytes jobs bounds (stated, is, gives) =
+    subst (AreBounds shop) (sym is) (lawful-bounds kind shop bytes stated (jobs, gives))
 
 pub told-bounds : (is_mirrored : Bool) (shop : Shop) (bytes jobs : List ℕ) (bounds : Bounds) →
     TellsText is_mirrored shop bytes bounds jobs → AreBounds shop bounds

@@ -156,20 +156,22 @@ plan_is_certified plan is =
     let v = verdict_is_least shop start depth short (is.is_sequence, sym is.is_span) in
     let low : value ≤ start.value =
     subst (λ n. value ≤ n) (sym is.is_span) (v.1.least start.sequence is.is_sequence) in (
-      plan.options.version,
-      depth,
       (verdict_of plan).sequence,
-      trees_of plan,
-      record {
-        known = (first, omega (arith, last));
-        jobs_enough = short;
-        shallow = is.option_limits.depth;
-        fits = subst (λ n. n < 2 ^ 64) v.0.1 (span-fits shop (verdict_of plan).sequence is.shop_limits v.0.0);
-        whole = v.0.0;
-        attained = v.0.1;
-        covered = trees-cover shop plan.options.version value start.value depth short low v.1.least;
-      },
-      refl,
+      (
+        plan.options.version,
+        depth,
+        trees_of plan,
+        record {
+          known = (first, omega (arith, last));
+          jobs_enough = short;
+          shallow = is.option_limits.depth;
+          fits = subst (λ n. n < 2 ^ 64) v.0.1 (span-fits shop (verdict_of plan).sequence is.shop_limits v.0.0);
+          whole = v.0.0;
+          attained = v.0.1;
+          covered = trees-cover shop plan.options.version value start.value depth short low v.1.least;
+        },
+        refl,
+      ),
     )
 
 -- the text with the verdict of a plan

@@ -49,39 +49,43 @@ finding_is_lawful target (Least verdict) is of =
     let least : IsLeast plan.shop verdict = finding_is_least target (Least verdict) is of in
     let last : plan.options.version ≤ greatest_version = is.is_plan.option_limits.last_version in (
       verdict.sequence,
-      plan.options.version,
-      plan.options.depth,
-      map (λ tree. tree.items) verdict.trees.items,
-      record {
-        known = (is.is_plan.option_limits.first_version, omega (arith, last));
-        jobs_enough = is.is_plan.deep;
-        shallow = is.is_plan.option_limits.depth;
-        fits =
-            subst (λ n. n < 2 ^ 64) least.attained
-            (span-fits plan.shop verdict.sequence is.is_plan.shop_limits least.sequence);
-        whole = least.sequence;
-        attained = least.attained;
-        covered = finding_is_covered target (Least verdict) is of;
-      },
-      refl,
+      (
+        plan.options.version,
+        plan.options.depth,
+        map (λ tree. tree.items) verdict.trees.items,
+        record {
+          known = (is.is_plan.option_limits.first_version, omega (arith, last));
+          jobs_enough = is.is_plan.deep;
+          shallow = is.is_plan.option_limits.depth;
+          fits =
+              subst (λ n. n < 2 ^ 64) least.attained
+              (span-fits plan.shop verdict.sequence is.is_plan.shop_limits least.sequence);
+          whole = least.sequence;
+          attained = least.attained;
+          covered = finding_is_covered target (Least verdict) is of;
+        },
+        refl,
+      ),
     )
 finding_is_lawful target (Bound trees) is of =
     let plan : Planned = target.plan in
     let last : plan.options.version ≤ greatest_version = is.is_plan.option_limits.last_version in (
       plan.start.sequence,
-      plan.options.version,
-      plan.options.depth,
-      map (λ tree. tree.items) trees.items,
-      record {
-        known = (is.is_plan.option_limits.first_version, omega (arith, last));
-        jobs_enough = is.is_plan.deep;
-        shallow = is.is_plan.option_limits.depth;
-        fits =
-            subst (λ n. n < 2 ^ 64) (sym is.is_plan.is_span)
-            (span-fits plan.shop plan.start.sequence is.is_plan.shop_limits is.is_plan.is_sequence);
-        whole = is.is_plan.is_sequence;
-        attained = sym is.is_plan.is_span;
-        covered = finding_is_covered target (Bound trees) is of;
-      },
-      refl,
+      (
+        plan.options.version,
+        plan.options.depth,
+        map (λ tree. tree.items) trees.items,
+        record {
+          known = (is.is_plan.option_limits.first_version, omega (arith, last));
+          jobs_enough = is.is_plan.deep;
+          shallow = is.is_plan.option_limits.depth;
+          fits =
+              subst (λ n. n < 2 ^ 64) (sym is.is_plan.is_span)
+              (span-fits plan.shop plan.start.sequence is.is_plan.shop_limits is.is_plan.is_sequence);
+          whole = is.is_plan.is_sequence;
+          attained = sym is.is_plan.is_span;
+          covered = finding_is_covered target (Bound trees) is of;
+        },
+        refl,
+      ),
     )

@@ -192,27 +192,29 @@ sound kind shop bytes s limits e =
     let t = trees-sound shop (bound_of version) lower (shop.jobs - depth) (cut shop.jobs depth) 5 l4.1 once.0 once.1 in
     let is : IsLawful kind shop bytes s3.0 = (
       s4.0,
-      version,
-      depth,
-      t.0.0,
-      record {
-        known = titled.0;
-        jobs_enough = s2.2;
-        shallow = s2.3;
-        fits = upper-fits kind s3.0 third.0;
-        whole = s4.2;
-        attained = s4.3;
-        covered
-            = t.0.2;
-      },
-      chain bytes (title kind version) (spaced (shop.jobs ∷ shop.machines ∷ depth
-          ∷ [])) (spaced (numbers_of kind s3.0)) (spaced s4.0) (flat_map line t.0.0)
-          (line ending) l1.0 l2.0 l3.0 l4.0 l1.1 l2.1 l3.1 l4.1
-          l1.2 titled.1
-          l2.2 (numbers-sound l2.0 (shop.jobs ∷ shop.machines ∷ depth ∷ []) s2.1 (size-fit shop depth limits s2.3))
-          l3.2 third.1
-          l4.2 (numbers-sound l4.0 s4.0 s4.1 (sequence-fit shop.jobs s4.0 limits.jobs s4.2))
-          t.0.1,
+      (
+        version,
+        depth,
+        t.0.0,
+        record {
+          known = titled.0;
+          jobs_enough = s2.2;
+          shallow = s2.3;
+          fits = upper-fits kind s3.0 third.0;
+          whole = s4.2;
+          attained = s4.3;
+          covered
+              = t.0.2;
+        },
+        chain bytes (title kind version) (spaced (shop.jobs ∷ shop.machines ∷ depth
+            ∷ [])) (spaced (numbers_of kind s3.0)) (spaced s4.0) (flat_map line t.0.0)
+            (line ending) l1.0 l2.0 l3.0 l4.0 l1.1 l2.1 l3.1 l4.1
+            l1.2 titled.1
+            l2.2 (numbers-sound l2.0 (shop.jobs ∷ shop.machines ∷ depth ∷ []) s2.1 (size-fit shop depth limits s2.3))
+            l3.2 third.1
+            l4.2 (numbers-sound l4.0 s4.0 s4.1 (sequence-fit shop.jobs s4.0 limits.jobs s4.2))
+            t.0.1,
+      ),
     ) in
     subst (IsLawful kind shop bytes) once.2 is
   where

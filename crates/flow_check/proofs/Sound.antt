@@ -132,7 +132,7 @@ shown-order shop version lower upper depth sequence parts shows =
 -- the bounds that a lawful text states
 pub lawful-bounds : (kind : TextKind) (shop : Shop) (bytes : List ℕ) (stated : Stated kind) →
     IsLawful kind shop bytes stated → AreBounds shop (stated_bounds kind stated)
-lawful-bounds kind shop bytes stated (sequence, version, depth, parts, shows, text) =
+lawful-bounds kind shop bytes stated (sequence, (version, depth, parts, shows, text)) =
     let bounds : Bounds = stated_bounds kind stated in
     let low = shown-low shop version bounds.lower bounds.upper depth sequence parts shows in
     record {
