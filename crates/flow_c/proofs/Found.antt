@@ -20,10 +20,11 @@ use Rattle.flow_check.specs.TextLines.{IsVersion, Stated, heading, line, ending,
 use Rattle.flow_check.specs.TextLines.{upto_sizes, upto_stated, upto_title}
 use Rattle.flow_check.specs.CertificateFaults.{BeginsWith}
 use Rattle.flow_check.specs.Kinds.{IsReadAs, OpensBounds}
-use Rattle.flow_check.specs.Stated.{GivesAs}
+use Rattle.flow_check.specs.Stated.{GivesAs, GivesSequence, GivesSequenceAs}
 use Rattle.flow_check.specs.declared.kind.TextKind.{TextKind}
 use Rattle.flow_check.specs.declared.kind.TextKind.TheVariants.{Certificate, OfBounds}
 use Rattle.flow_cert.specs.FindingCertificates.{bounds_at, finding_text}
+use Rattle.flow_cert.specs.PlanCertificates.{certificate_of, text_with}
 use Rattle.flow_cert.proofs.Lawful.{span-fits, text-of-plan}
 use Rattle.flow_cert.proofs.LawfulFindings.{finding_is_covered}
 use Rattle.flow_certify.specs.Certified.{FindsCertificate}
@@ -150,6 +151,16 @@ verdict-found plan verdict is = (
   }) verdict) (sym (same-least plan.start.value)) is,
   inr (same-least plan.start.value),
 )
+
+-- the certificate of a plan gives the sequence of its verdict
+pub verdict-given : (plan : Planned) (verdict : Verdict) → IsPlan plan → IsVerdict plan verdict →
+    GivesSequence plan.shop (certificate_of plan) verdict.sequence
+verdict-given plan verdict is of =
+    let given = is-given (target_of plan plan.start.value) (Least verdict) (is-target plan plan.start.value is)
+    (verdict-found plan verdict of) in
+    subst (λ text. GivesSequence plan.shop text verdict.sequence) (text-of-plan plan verdict of)
+    (subst (λ v. GivesSequenceAs Certificate plan.shop (text_with plan verdict) v verdict.sequence)
+    (sym given.2.3.attained) given.2)
 
 -- a certificate that was found
 pub certificate-found : (bounds : Bool) (version : Option ℕ) (shop : Shop) (start : List ℕ) (plan : Planned)

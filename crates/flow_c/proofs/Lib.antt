@@ -3,3 +3,4 @@ mod Tested
 mod Told
 mod Found
 mod Asked
+mod Ended

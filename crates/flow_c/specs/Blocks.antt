@@ -3,8 +3,9 @@ use Rattle.std.specs.Prelude.{ℕ, ◌≡◌, ◌-◌, ◌*◌, ◌<◌, ◌≤�
 use Rattle.flow_text.specs.Text.{Reads}
 use Rattle.flow_text.specs.TextFaults.{text_fault}
 use Rattle.flow_text.specs.declared.text.block.Block.{Block}
-use Rattle.flow_c.specs.Statuses.{number, done, memory}
+use Rattle.flow_c.specs.Statuses.{number, done}
 use Rattle.flow_c.specs.Places.{place_of}
+use Rattle.flow_c.specs.Faults.{RanOut}
 use Rattle.flow_c.specs.declared.fault.Fault.{Fault}
 use Rattle.flow_c.specs.declared.fault.Fault.TheVariants.{Index, Room, Text}
 
@@ -30,5 +31,5 @@ IsBlockFault text index entries fault = IsPickFault text index fault
 -- What is reported for a block: that it is given, that memory ran out, or why it is not given.
 abbrev pub ReportsBlock : List ℕ → ℕ → ℕ → ℕ → ℕ → Type 0
 ReportsBlock text index entries status place =
-    (status ≡ done) ⊎ (status ≡ memory)
+    (status ≡ done) ⊎ RanOut status place
     ⊎ ((fault : Fault) × IsBlockFault text index entries fault × (status ≡ number fault) × (place ≡ place_of fault))

@@ -11,8 +11,9 @@ use Rattle.flow_check.specs.declared.bounds.Bounds.{Bounds}
 use Rattle.flow_check.specs.declared.fault.CheckFault.{CheckFault}
 use Rattle.flow_check.specs.declared.kind.TextKind.{TextKind}
 use Rattle.flow_check.specs.declared.kind.TextKind.TheVariants as kinds
-use Rattle.flow_c.specs.Statuses.{number, done, memory}
+use Rattle.flow_c.specs.Statuses.{number, done}
 use Rattle.flow_c.specs.Places.{place_of}
+use Rattle.flow_c.specs.Faults.{RanOut}
 use Rattle.flow_c.specs.declared.fault.Fault.{Fault}
 use Rattle.flow_c.specs.declared.fault.Fault.TheVariants.{Certificate}
 
@@ -83,7 +84,7 @@ IsRefusedText either shop bytes fault =
 -- number of the fault and its place, that it was done, or that memory ran out. A fault of the arguments comes first.
 abbrev pub ReportsCheck : Option Fault → (Fault → Type 0) → ℕ → ℕ → Type 0
 ReportsCheck (Some fault) IsOfBytes status place =
-    ((status ≡ number fault) × (place ≡ place_of fault)) ⊎ (status ≡ memory)
+    ((status ≡ number fault) × (place ≡ place_of fault)) ⊎ RanOut status place
 ReportsCheck None IsOfBytes status place =
-    (status ≡ done) ⊎ (status ≡ memory)
+    (status ≡ done) ⊎ RanOut status place
     ⊎ ((fault : Fault) × IsOfBytes fault × (status ≡ number fault) × (place ≡ place_of fault))

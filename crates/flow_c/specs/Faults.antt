@@ -31,11 +31,15 @@ shop_of jobs machines times = record { jobs = jobs; machines = machines; times =
 abbrev pub IsFaultOf : Option Fault → Fault → Type 0
 IsFaultOf first fault = (first ≡ Some fault) ⊎ (number fault ≡ memory)
 
+-- a call reports that memory ran out, which has no place
+abbrev pub RanOut : ℕ → ℕ → Type 0
+RanOut status place = (status ≡ memory) × (place ≡ 0)
+
 -- What a call reports that was lent arguments with this first fault: the number of the fault and its place, or that
 -- memory ran out. Where there is no fault it reports that it was done, or that memory ran out.
 abbrev pub Reports : Option Fault → ℕ → ℕ → Type 0
-Reports (Some fault) status place = ((status ≡ number fault) × (place ≡ place_of fault)) ⊎ (status ≡ memory)
-Reports None status place = (status ≡ done) ⊎ (status ≡ memory)
+Reports (Some fault) status place = ((status ≡ number fault) × (place ≡ place_of fault)) ⊎ RanOut status place
+Reports None status place = (status ≡ done) ⊎ RanOut status place
 
 -- the fault of a slice for results that has fewer entries than are needed
 abbrev pub room_fault : ℕ → ℕ → Option Fault

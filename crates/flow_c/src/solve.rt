@@ -7,6 +7,7 @@ ghost use Rattle.flow_shop.specs.Sequences.{IsSequence, IsLeastMakespan};
 ghost use Rattle.flow_search.specs.Plans.{IsPlan, plan_fault, but_memory};
 ghost use Rattle.flow_search.specs.Verdicts.{IsVerdict};
 ghost use Rattle.flow_check.specs.Certificate.{IsCertificate};
+ghost use Rattle.flow_check.specs.Stated.{GivesSequence};
 ghost use Rattle.flow_cert.specs.PlanCertificates.{certificate_of};
 ghost use Rattle.flow_c.specs.Statuses.{number, done, memory};
 ghost use Rattle.flow_c.specs.Faults.{shop_of, options_of, plan_of, choice_fault, planning_fault, solve_fault};
@@ -87,6 +88,7 @@ fn solve_plan(alloc: Global, plan: &Plan, room: usize) -> Result<Solved, Fault>
     requires { IsPlan plan.now }
     ensures text { IfOk result (λ solved. solved.text.bytes ≡ certificate_of plan.now) }
     ensures lawful { IfOk result (λ solved. IsCertificate plan.now.shop solved.text.bytes solved.value) }
+    ensures gives { IfOk result (λ solved. GivesSequence plan.now.shop solved.text.bytes solved.sequence) }
     ensures least { IfOk result (λ solved. IsLeastMakespan plan.now.shop solved.value) }
     ensures each { IfOk result (λ solved. IsSequence plan.now.shop.jobs solved.sequence) }
     ensures attained { IfOk result (λ solved. span plan.now.shop solved.sequence ≡ solved.value) }
@@ -115,6 +117,7 @@ fn solve_from(
     requires { IsSequence instance.now.jobs start }
     ensures text { IfOk result (λ solved. solved.text.bytes ≡ certificate_of (plan_of instance.now start options)) }
     ensures lawful { IfOk result (λ solved. IsCertificate instance.now solved.text.bytes solved.value) }
+    ensures gives { IfOk result (λ solved. GivesSequence instance.now solved.text.bytes solved.sequence) }
     ensures least { IfOk result (λ solved. IsLeastMakespan instance.now solved.value) }
     ensures each { IfOk result (λ solved. IsSequence instance.now.jobs solved.sequence) }
     ensures attained { IfOk result (λ solved. span instance.now solved.sequence ≡ solved.value) }
@@ -144,6 +147,8 @@ fn solve_numbers(
         start.now (options_of choice.depth choice.budget choice.version))) }
     ensures lawful { IfOk result (λ solved. IsCertificate (shop_of jobs machines times.now) solved.text.bytes
         solved.value) }
+    ensures gives { IfOk result (λ solved. GivesSequence (shop_of jobs machines times.now) solved.text.bytes
+        solved.sequence) }
     ensures least { IfOk result (λ solved. IsLeastMakespan (shop_of jobs machines times.now) solved.value) }
     ensures each { IfOk result (λ solved. IsSequence jobs solved.sequence) }
     ensures attained { IfOk result (λ solved. span (shop_of jobs machines times.now) solved.sequence ≡ solved.value) }
@@ -185,6 +190,8 @@ pub extern "C" fn flowshop_solve(
         ≡ certificate_of (plan_of (shop_of jobs machines times.now) start.now (options_of depth budget version)) }
     ensures lawful { result ≡ done →
         IsCertificate (shop_of jobs machines times.now) (take count.new certificate.new) value.new }
+    ensures gives { result ≡ done → GivesSequence (shop_of jobs machines times.now) (take count.new certificate.new)
+        (take jobs sequence.new) }
     ensures least { result ≡ done → IsLeastMakespan (shop_of jobs machines times.now) value.new }
     ensures each { result ≡ done → IsSequence jobs (take jobs sequence.new) }
     ensures attained { result ≡ done → span (shop_of jobs machines times.now) (take jobs sequence.new) ≡ value.new }

@@ -7,6 +7,9 @@ use Rattle.flow_c.proofs.solve.solve_numbers.Goals as goal
 pub returns-clause-lawful : goal.returns-clause-lawful
 returns-clause-lawful c = rw c.in_ok-instance.ensures.value at c.solve_from.ensures.lawful
 
+pub returns-clause-gives : goal.returns-clause-gives
+returns-clause-gives c = rw c.in_ok-instance.ensures.value at c.solve_from.ensures.gives
+
 pub returns-clause-refused : goal.returns-clause-refused
 returns-clause-refused c =
     let a = c.args in
