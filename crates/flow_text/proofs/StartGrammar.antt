@@ -42,8 +42,9 @@ claim-is (line ∷ others) claim e = go (makespan_on line.bytes) refl e
     go None is h = absurd (cc h)
     go (Some makespan) is h = last others h
       where
-        last : (rest : List Numbered) → claim_before (record { makespan = makespan; line = line.number }) rest ≡ Ok claim
-            → AreClaim (line ∷ rest) claim
+        last : (rest : List Numbered) →
+            claim_before (record { makespan = makespan; line = line.number }) rest ≡ Ok claim →
+            AreClaim (line ∷ rest) claim
         last [] k =
             let same : Some (record { makespan = makespan; line = line.number }) ≡ claim = cc k in
             (makespan, is, sym same)
