@@ -20,7 +20,8 @@ use Rattle.flow_check.specs.TextLines.{IsVersion, Stated, heading, line, ending,
 use Rattle.flow_check.specs.TextLines.{upto_sizes, upto_stated, upto_title}
 use Rattle.flow_check.specs.CertificateFaults.{BeginsWith}
 use Rattle.flow_check.specs.Kinds.{IsReadAs, OpensBounds}
-use Rattle.flow_check.specs.Stated.{GivesAs, GivesSequence, GivesSequenceAs}
+use Rattle.flow_check.specs.Certificate.{GivesSequenceAs}
+use Rattle.flow_check.specs.Stated.{GivesAs, GivesSequence}
 use Rattle.flow_check.specs.declared.kind.TextKind.{TextKind}
 use Rattle.flow_check.specs.declared.kind.TextKind.TheVariants.{Certificate, OfBounds}
 use Rattle.flow_cert.specs.FindingCertificates.{bounds_at, finding_text}

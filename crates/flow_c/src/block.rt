@@ -68,6 +68,7 @@ pub extern "C" fn flowshop_block(
       instance = shop_of jobs.new machines.new (take (jobs.new * machines.new) times.new);
     }) }
     ensures rest { drop (jobs.new * machines.new) times.new ≡ drop (jobs.new * machines.new) times.old }
+    ensures stays { result ≡ done → place.new ≡ place.old }
     ensures kept { (result ≡ done) ⊎ ((jobs.new ≡ jobs.old) × (machines.new ≡ machines.old)
         × (times.new ≡ times.old) × (seed.new ≡ seed.old) × (upper.new ≡ upper.old) × (lower.new ≡ lower.old)) }
 {

@@ -323,6 +323,7 @@ pub extern "C" fn flowshop_certify(
     ensures rest { drop jobs sequence.new ≡ drop jobs sequence.old }
     ensures within { result ≡ done → count.new ≤ length text.old }
     ensures beyond { result ≡ done → drop count.new text.new ≡ drop count.new text.old }
+    ensures stays { result ≡ done → place.new ≡ place.old }
     ensures kept { (result ≡ done) ⊎ ((lower.new ≡ lower.old) × (upper.new ≡ upper.old)
         × (mirrored.new ≡ mirrored.old) × (sequence.new ≡ sequence.old)
         × (count.new ≡ count.old) × (text.new ≡ text.old)) }

@@ -41,6 +41,7 @@ pub extern "C" fn flowshop_check(
     ensures each { result ≡ done → IsSequence jobs (take jobs sequence.new) }
     ensures value { result ≡ done → value.new ≡ span (shop_of jobs machines times.now) (take jobs sequence.new) }
     ensures rest { drop jobs sequence.new ≡ drop jobs sequence.old }
+    ensures stays { result ≡ done → place.new ≡ place.old }
     ensures kept { (result ≡ done)
         ⊎ ((value.new ≡ value.old) × (mirrored.new ≡ mirrored.old) × (sequence.new ≡ sequence.old)) }
 {

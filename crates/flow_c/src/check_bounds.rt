@@ -45,6 +45,7 @@ pub extern "C" fn flowshop_check_bounds(
     ensures each { result ≡ done → IsSequence jobs (take jobs sequence.new) }
     ensures upper { result ≡ done → span (shop_of jobs machines times.now) (take jobs sequence.new) ≡ upper.new }
     ensures rest { drop jobs sequence.new ≡ drop jobs sequence.old }
+    ensures stays { result ≡ done → place.new ≡ place.old }
     ensures kept { (result ≡ done) ⊎ ((lower.new ≡ lower.old) × (upper.new ≡ upper.old)
         × (mirrored.new ≡ mirrored.old) × (sequence.new ≡ sequence.old)) }
 {

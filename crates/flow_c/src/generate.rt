@@ -48,6 +48,7 @@ pub extern "C" fn flowshop_generate(
     ensures memory { result ≡ memory → generator_fault jobs machines seed ≡ None }
     ensures times { result ≡ done → take (jobs * machines) times.new ≡ (generated jobs machines seed).times }
     ensures rest { drop (jobs * machines) times.new ≡ drop (jobs * machines) times.old }
+    ensures stays { result ≡ done → place.new ≡ place.old }
     ensures kept { (result ≡ done) ⊎ (times.new ≡ times.old) }
 {
     match times_of_seed(alloc, jobs, machines, seed, times.len()) {

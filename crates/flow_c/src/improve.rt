@@ -90,6 +90,7 @@ pub extern "C" fn flowshop_improve(
     ensures value { result ≡ done → value.new ≡ span (shop_of jobs machines times.now) (take jobs sequence.new) }
     ensures least { result ≡ done → value.new ≤ span (shop_of jobs machines times.now) start.now }
     ensures rest { drop jobs sequence.new ≡ drop jobs sequence.old }
+    ensures stays { result ≡ done → place.new ≡ place.old }
     ensures kept { (result ≡ done) ⊎ ((value.new ≡ value.old) × (sequence.new ≡ sequence.old)) }
 {
     let effort = Effort {

@@ -43,6 +43,7 @@ pub extern "C" fn flowshop_makespan(
     ensures status { Reports (makespan_fault jobs machines times.now sequence.now) result place.new }
     ensures memory { result ≡ memory → instance_fault jobs machines times.now ≡ None }
     ensures value { result ≡ done → value.new ≡ span (shop_of jobs machines times.now) sequence.now }
+    ensures stays { result ≡ done → place.new ≡ place.old }
     ensures kept { (result ≡ done) ⊎ (value.new ≡ value.old) }
 {
     match makespan_of(alloc, jobs, machines, times, sequence) {

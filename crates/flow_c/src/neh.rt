@@ -53,6 +53,7 @@ pub extern "C" fn flowshop_neh(
     ensures each { result ≡ done → IsSequence jobs (take jobs sequence.new) }
     ensures value { result ≡ done → value.new ≡ span (shop_of jobs machines times.now) (take jobs sequence.new) }
     ensures rest { drop jobs sequence.new ≡ drop jobs sequence.old }
+    ensures stays { result ≡ done → place.new ≡ place.old }
     ensures kept { (result ≡ done) ⊎ ((value.new ≡ value.old) × (sequence.new ≡ sequence.old)) }
 {
     match start_of(alloc, jobs, machines, times, sequence.len()) {

@@ -78,6 +78,7 @@ pub extern "C" fn flowshop_picture(
         IsPicture (shop_of jobs machines times.now) sequence.now (take count.new text.new) }
     ensures within { result ≡ done → count.new ≤ length text.old }
     ensures beyond { result ≡ done → drop count.new text.new ≡ drop count.new text.old }
+    ensures stays { result ≡ done → place.new ≡ place.old }
     ensures kept { (result ≡ done) ⊎ ((count.new ≡ count.old) × (text.new ≡ text.old)) }
 {
     match picture_of(alloc, jobs, machines, times, sequence, text.len()) {

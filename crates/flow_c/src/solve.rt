@@ -198,6 +198,7 @@ pub extern "C" fn flowshop_solve(
     ensures rest { drop jobs sequence.new ≡ drop jobs sequence.old }
     ensures within { result ≡ done → count.new ≤ length certificate.old }
     ensures beyond { result ≡ done → drop count.new certificate.new ≡ drop count.new certificate.old }
+    ensures stays { result ≡ done → place.new ≡ place.old }
     ensures kept { (result ≡ done) ⊎ ((value.new ≡ value.old) × (sequence.new ≡ sequence.old)
         × (count.new ≡ count.old) × (certificate.new ≡ certificate.old)) }
 {

@@ -88,6 +88,7 @@ pub extern "C" fn flowshop_timetable(
         ≡ map (λ (operation : Operation). operation.end) (timetable (shop_of jobs machines times.now) sequence.now) }
     ensures rest { (drop (jobs * machines) starts.new ≡ drop (jobs * machines) starts.old)
         × (drop (jobs * machines) ends.new ≡ drop (jobs * machines) ends.old) }
+    ensures stays { result ≡ done → place.new ≡ place.old }
     ensures kept { (result ≡ done) ⊎ ((starts.new ≡ starts.old) × (ends.new ≡ ends.old)) }
 {
     match spans_of(

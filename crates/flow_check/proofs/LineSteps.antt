@@ -7,7 +7,8 @@ use Rattle.flow_shop.specs.Bound.{bound_of}
 use Rattle.flow_shop.specs.Sequences.{extensions}
 use Rattle.flow_check.specs.internal.ReadTrees.{read_tree, after_tree, trees_value}
 use Rattle.flow_check.specs.internal.Links.{children, IsNext}
-use Rattle.flow_check.specs.internal.Reader.{awaited, TreeGives, LineEnds, LinesGive}
+use Rattle.flow_check.specs.internal.Reader.{awaited}
+use Rattle.flow_check.specs.internal.PartsGive.{TreeGives, LineEnds, LinesGive}
 use Rattle.flow_check.specs.declared.fault.CheckFault.{CheckFault}
 use Rattle.flow_check.specs.declared.fault.CheckFault.TheVariants.{Memory, Header, Size, Value, Sequence, NotAttained}
 use Rattle.flow_check.specs.declared.fault.CheckFault.TheVariants.{Tree, Weak, Low, End}

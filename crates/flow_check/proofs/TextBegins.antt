@@ -51,8 +51,8 @@ begun text word rest next e same = as-line text word next rest (subst (LineOf te
 
 -- a step of the reading that fails, or goes on
 
-pub step : {A B : Type 0} (P : CheckFault → Type 0) (fault : CheckFault) (next : A → Result B CheckFault) (o : Option A) →
-    (o ≡ None → P fault) → ((found : A) → o ≡ Some found → IfErr (next found) P) →
+pub step : {A B : Type 0} (P : CheckFault → Type 0) (fault : CheckFault) (next : A → Result B CheckFault)
+    (o : Option A) → (o ≡ None → P fault) → ((found : A) → o ≡ Some found → IfErr (next found) P) →
     IfErr (option_map_or next o (Err fault)) P
 step P fault next None none some = none refl
 step P fault next (Some found) none some = some found refl

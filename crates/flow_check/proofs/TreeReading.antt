@@ -10,7 +10,8 @@ use Rattle.flow_shop.specs.Sequences.{has, jobs_left}
 use Rattle.flow_check.specs.internal.ReadTrees.{read_tree, each_tree, then_read}
 use Rattle.flow_check.specs.internal.Links.{children, AreLinks}
 use Rattle.flow_check.specs.internal.Nodes.{IsNode, IsAt}
-use Rattle.flow_check.specs.internal.Reader.{LetterGives, TreeGives, children_read, path, resume, IsStack, IsReading}
+use Rattle.flow_check.specs.internal.Reader.{children_read, path, resume, IsStack, IsReading}
+use Rattle.flow_check.specs.internal.PartsGive.{LetterGives, TreeGives}
 use Rattle.flow_check.specs.declared.fault.CheckFault.{CheckFault}
 use Rattle.flow_check.specs.declared.fault.CheckFault.TheVariants.{Memory, Header, Size, Value, Sequence, NotAttained}
 use Rattle.flow_check.specs.declared.fault.CheckFault.TheVariants.{Tree, Weak, Low, End}

@@ -7,7 +7,7 @@ use Rattle.flow_shop.specs.Bound.{bound_of}
 use Rattle.flow_shop.specs.Sequences.{cut}
 use Rattle.flow_check.specs.internal.ReadTrees.{trees_value, cut_value}
 use Rattle.flow_check.specs.internal.Trees.{TreesGive}
-use Rattle.flow_check.specs.internal.Reader.{LinesGive}
+use Rattle.flow_check.specs.internal.PartsGive.{LinesGive}
 use Rattle.flow_check.specs.declared.fault.CheckFault.{CheckFault}
 use Rattle.flow_check.specs.declared.fault.CheckFault.TheVariants.{Memory, Header, Size, Value, Sequence, NotAttained}
 use Rattle.flow_check.specs.declared.fault.CheckFault.TheVariants.{Tree, Weak, Low, End}

@@ -6,4 +6,5 @@ pub mod Links
 pub mod Nodes
 pub mod Lags
 pub mod Reader
+pub mod PartsGive
 pub mod Gives

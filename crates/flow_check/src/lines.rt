@@ -4,7 +4,8 @@ ghost use Rattle.std.specs.Prelude.{◌≢◌, ℕ, suc, ◌+◌, ◌-◌, ◌�
 ghost use Rattle.flow_shop.specs.Sequences.{extensions};
 ghost use Rattle.flow_check.specs.internal.Links.{IsPlace};
 ghost use Rattle.flow_check.specs.internal.Gives.{IsSpotOf, GivesLines};
-ghost use Rattle.flow_check.specs.internal.Reader.{Stands, IsBack, LineEnds};
+ghost use Rattle.flow_check.specs.internal.Reader.{Stands, IsBack};
+ghost use Rattle.flow_check.specs.internal.PartsGive.{LineEnds};
 
 use crate::fault::CheckFault;
 use crate::reader::{Spot, TreeReader};

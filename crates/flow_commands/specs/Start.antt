@@ -13,7 +13,7 @@ use Rattle.flow_commands.specs.declared.fault.CommandFault.{CommandFault}
 use Rattle.flow_commands.specs.declared.fault.CommandFault.TheVariants.{Sequence, Start}
 
 -- what a start text gives for a shop: its jobs, which are a sequence with the makespan that they are said to have; or
--- the first fault: of the jobs; or of the text, or the line of the claim where their makespan is another one
+-- the first fault: of the text; of its jobs; or the line of the claim, where their makespan is another one
 abbrev pub GivesStart : Shop → List ℕ → Result (List ℕ) CommandFault → Type 0
 GivesStart shop text (Ok jobs) =
     (claim : Option Claim) × IsStart text (record { jobs = jobs; claim = claim }) × IsSequence shop.jobs jobs

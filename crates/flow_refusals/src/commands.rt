@@ -1,4 +1,4 @@
-//! The commands, over sources and sinks in memory.
+//! The commands that start no thread, over sources and sinks in memory.
 
 ghost use Rattle.std.specs.Prelude.{◌≡◌, false, None};
 
@@ -6,19 +6,16 @@ use crate::schedules::{LAST_BAR, TABLE};
 use crate::trouble::{Trouble, confirm};
 use flow_check::CheckFault;
 use flow_commands::{
-    CertifyRequest, CheckRequest, CommandFault, ImproveRequest, ScheduleForm, SolveRequest,
-    run_certify, run_check, run_check_as, run_gen, run_improve, run_mirror, run_neh, run_schedule,
-    run_solve, run_solve_as, run_span,
+    CertifyRequest, CheckRequest, CommandFault, ImproveRequest, ScheduleForm, run_certify,
+    run_check, run_check_as, run_gen, run_improve, run_mirror, run_neh, run_schedule, run_span,
 };
-use flow_core::{MemorySink, MemorySource, StartFault};
+use flow_core::{MemorySink, MemorySource};
 use flow_examples::{
-    AMPLE, CERTIFICATE_AT_DEPTH_0, GENERATED_TEXT, THREE_MACHINES_TEXT, TIGHT, TWO_MACHINES_TEXT,
+    CERTIFICATE_AT_DEPTH_0, GENERATED_TEXT, THREE_MACHINES_TEXT, TWO_MACHINES_TEXT,
     WEAK_CERTIFICATE,
 };
-use flow_pool::{Open, SolveFault};
+use flow_pool::SolveFault;
 use std::alloc::Global;
-use std::sync::Wait;
-use std::thread::Threads;
 
 /// What `mirror` writes for the instance with two machines.
 const MIRRORED_TEXT: &[u8] =
@@ -26,15 +23,12 @@ const MIRRORED_TEXT: &[u8] =
 3 2 0 0 0\nprocessing times :\n2 4 2\n3 1 2\n";
 
 /// A start of the instance with three machines.
-const START: &[u8] = b"sequence 1 2 3\nmakespan 15\n";
+pub(crate) const START: &[u8] = b"sequence 1 2 3\nmakespan 15\n";
 
 /// The certificate of the mirrored instance of three machines at depth 0, in version 2. It was computed apart from the
 /// program, by the definitions.
-const MIRRORED_CERTIFICATE: &[u8] = b"flowshop certificate 2\n3 3 0\n12\n2 1 3\n+BC+AB\nend\n";
-
-/// The certificate of the mirrored instance of three machines at depth 0 from the reversed start `1 2 3`. It was
-/// computed apart from the program, by the definitions.
-const STARTED_CERTIFICATE: &[u8] = b"flowshop certificate 1\n3 3 0\n12\n2 1 3\n+++.B++.B+AB\nend\n";
+pub(crate) const MIRRORED_CERTIFICATE: &[u8] =
+    b"flowshop certificate 2\n3 3 0\n12\n2 1 3\n+BC+AB\nend\n";
 
 /// An instance with nine jobs on four machines, which `gen` makes of seed 50.
 const FOUR_MACHINES_TEXT: &[u8] =
@@ -51,21 +45,21 @@ const FOUR_MACHINES_CERTIFICATE: &[u8] = b"flowshop certificate 1\n9 4 0\n742\n5
 +DDDD+D++DDDDDDD++DDDDDD++D+DD++.DDDDDDDDDDDDDDDDDDDDD+DDDDDDDDDD\nend\n";
 
 /// A source of all these bytes.
-fn all_of(bytes: &[u8]) -> MemorySource
+pub(crate) fn all_of(bytes: &[u8]) -> MemorySource
     ensures { result.failed ≡ false }
 {
     MemorySource::new(bytes, 7, None)
 }
 
 /// A sink with room for any output here.
-fn room(alloc: Global) -> MemorySink
+pub(crate) fn room(alloc: Global) -> MemorySink
     ensures { result.failed ≡ false }
 {
     MemorySink::new(alloc, 1_000)
 }
 
 /// `Ok` where a command wrote this text. Where memory ran out it wrote nothing, or in its sink a proper prefix.
-fn confirm_written(
+pub(crate) fn confirm_written(
     ran: Result<(), CommandFault>,
     out: &MemorySink,
     text: &[u8],
@@ -87,7 +81,7 @@ fn confirm_written(
 }
 
 /// `Ok` where a command refused by this fault. It never writes anything.
-fn confirm_refused(
+pub(crate) fn confirm_refused(
     ran: Result<(), CommandFault>,
     out: &MemorySink,
     fault: CommandFault,
@@ -129,7 +123,7 @@ pub(crate) fn neh_is_run(alloc: Global) -> Result<(), Trouble> {
 }
 
 /// No start text.
-fn no_start() -> Option<MemorySource<'static>>
+pub(crate) fn no_start() -> Option<MemorySource<'static>>
     ensures { result ≡ None }
 {
     None
@@ -194,143 +188,6 @@ pub(crate) fn mirror_is_run(alloc: Global) -> Result<(), Trouble> {
     let mut out = room(alloc);
     let ran = run_mirror(alloc, &mut all_of(TWO_MACHINES_TEXT), 1, &mut out);
     confirm_written(ran, &out, MIRRORED_TEXT, "run_mirror")
-}
-
-/// `run_solve`, within a budget.
-pub(crate) fn solve_is_run<T: Threads + Wait + Sync>(
-    threads: &T,
-    alloc: Global,
-) -> Result<(), Trouble> {
-    let mut out = room(alloc);
-    let mut file = all_of(THREE_MACHINES_TEXT);
-    let ran = run_solve(
-        threads, alloc, &mut file, 1, 2, 0, AMPLE, 1, &Open, &mut out,
-    );
-    confirm_written(ran, &out, &CERTIFICATE_AT_DEPTH_0, "run_solve")
-}
-
-/// `run_solve`, beyond a budget.
-pub(crate) fn solve_is_refused<T: Threads + Wait + Sync>(
-    threads: &T,
-    alloc: Global,
-) -> Result<(), Trouble> {
-    let mut out = room(alloc);
-    let mut file = all_of(THREE_MACHINES_TEXT);
-    let ran = run_solve(
-        threads, alloc, &mut file, 1, 2, 1, TIGHT, 1, &Open, &mut out,
-    );
-    let fault = CommandFault::Run(SolveFault::OverBudget(2));
-    confirm_refused(ran, &out, fault, "run_solve beyond the budget")
-}
-
-/// `solve` of the mirrored instance with two workers at depth 0, in a version.
-fn mirrored(version: u32) -> SolveRequest {
-    SolveRequest {
-        workers: 2,
-        depth: 0,
-        budget: AMPLE,
-        version,
-        mirrored: true,
-        target: None,
-    }
-}
-
-/// `run_solve_as` of the mirrored instance, in version 2.
-pub(crate) fn mirrored_is_solved<T: Threads + Wait + Sync>(
-    threads: &T,
-    alloc: Global,
-) -> Result<(), Trouble> {
-    let mut out = room(alloc);
-    let mut file = all_of(THREE_MACHINES_TEXT);
-    let ran = run_solve_as(
-        threads,
-        alloc,
-        &mut file,
-        1,
-        &mut no_start(),
-        mirrored(2),
-        &Open,
-        &mut out,
-    );
-    confirm_written(
-        ran,
-        &out,
-        MIRRORED_CERTIFICATE,
-        "run_solve_as of the mirrored instance",
-    )
-}
-
-/// `run_solve_as` of two workers, where no sequence is below the target.
-pub(crate) fn bounds_are_solved<T: Threads + Wait + Sync>(
-    threads: &T,
-    alloc: Global,
-) -> Result<(), Trouble> {
-    let request = SolveRequest {
-        mirrored: false,
-        target: Some(11),
-        ..mirrored(1)
-    };
-    let mut out = room(alloc);
-    let mut file = all_of(THREE_MACHINES_TEXT);
-    let ran = run_solve_as(
-        threads,
-        alloc,
-        &mut file,
-        1,
-        &mut no_start(),
-        request,
-        &Open,
-        &mut out,
-    );
-    confirm_written(ran, &out, BOUNDS_OF_11, "run_solve_as below a target")
-}
-
-/// `run_solve_as` of the mirrored instance from a start.
-pub(crate) fn start_is_solved<T: Threads + Wait + Sync>(
-    threads: &T,
-    alloc: Global,
-) -> Result<(), Trouble> {
-    let mut out = room(alloc);
-    let mut file = all_of(THREE_MACHINES_TEXT);
-    let mut start = Some(all_of(START));
-    let ran = run_solve_as(
-        threads,
-        alloc,
-        &mut file,
-        1,
-        &mut start,
-        mirrored(1),
-        &Open,
-        &mut out,
-    );
-    confirm_written(ran, &out, STARTED_CERTIFICATE, "run_solve_as from a start")
-}
-
-/// `run_solve_as` from a start with another makespan.
-pub(crate) fn start_is_refused<T: Threads + Wait + Sync>(
-    threads: &T,
-    alloc: Global,
-) -> Result<(), Trouble> {
-    let mut out = room(alloc);
-    let mut file = all_of(THREE_MACHINES_TEXT);
-    let mut start = Some(all_of(b"sequence 1 2 3\nmakespan 14\n"));
-    let ran = run_solve_as(
-        threads,
-        alloc,
-        &mut file,
-        1,
-        &mut start,
-        mirrored(1),
-        &Open,
-        &mut out,
-    );
-    let fault = CommandFault::Start(StartFault::Line(2));
-    confirm_refused(
-        ran,
-        &out,
-        fault,
-        "run_solve_as from a start with another makespan",
-    )
 }
 
 /// `run_check` of a certificate.
@@ -420,7 +277,7 @@ pub(crate) fn mirrored_sequence_is_checked(alloc: Global) -> Result<(), Trouble>
 }
 
 /// A text of bounds of the text with three machines.
-const BOUNDS_OF_11: &[u8] = b"flowshop bounds 1\n3 3 0\n11 13\n2 1 3\n+BB+AB\nend\n";
+pub(crate) const BOUNDS_OF_11: &[u8] = b"flowshop bounds 1\n3 3 0\n11 13\n2 1 3\n+BB+AB\nend\n";
 
 /// `run_check_as` of a text of bounds.
 pub(crate) fn bounds_are_checked(alloc: Global) -> Result<(), Trouble> {

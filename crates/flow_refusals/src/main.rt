@@ -17,6 +17,7 @@ mod instances;
 mod lanes;
 mod schedules;
 mod search;
+mod solve;
 mod texts;
 mod trouble;
 mod workers;
@@ -74,12 +75,12 @@ fn found<T: Threads + Wait + Sync>(threads: &T, alloc: Global) -> [Result<(), Tr
         commands::certify_is_run(alloc),
         commands::certify_is_run_from(alloc),
         commands::mirror_is_run(alloc),
-        commands::solve_is_run(threads, alloc),
-        commands::solve_is_refused(threads, alloc),
-        commands::mirrored_is_solved(threads, alloc),
-        commands::bounds_are_solved(threads, alloc),
-        commands::start_is_solved(threads, alloc),
-        commands::start_is_refused(threads, alloc),
+        solve::solve_is_run(threads, alloc),
+        solve::solve_is_refused(threads, alloc),
+        solve::mirrored_is_solved(threads, alloc),
+        solve::bounds_are_solved(threads, alloc),
+        solve::start_is_solved(threads, alloc),
+        solve::start_is_refused(threads, alloc),
         commands::check_is_run(alloc),
         commands::check_is_refused(alloc),
         commands::mirrored_is_checked(alloc),

@@ -19,9 +19,9 @@ use std::sync::atomic::{AtomicBool, AtomicU32, Ordering};
 use std::test::Fail;
 use std::thread::Threads;
 
-mod better;
 mod bounds;
 mod certified_bounds;
+mod improved;
 mod schedule;
 mod sequence;
 

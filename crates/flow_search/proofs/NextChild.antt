@@ -126,8 +126,8 @@ pub then-assoc : (a : Walk) (f g : Incumbent → Walk) → then_walk (then_walk 
     (λ st. then_walk (f st) g)
 then-assoc a f g = ap (λ t. (t, (g (f a.1).1).1)) (append_assoc a.0 (f a.1).0 (g (f a.1).1).0)
 
-pub resume-next : (shop : Shop) (bound : Bound) (root : List ℕ) (left job : ℕ) (here later : Frame) (fs : List Frame) (st
-    : Incumbent) →
+pub resume-next : (shop : Shop) (bound : Bound) (root : List ℕ) (left job : ℕ) (here later : Frame) (fs : List Frame)
+    (st : Incumbent) →
     left_from shop.jobs (path root fs) here.next ≡ job ∷ left_from shop.jobs (path root fs) (job + 1) →
     later.next ≡ job + 1 →
     resume shop bound root left (here ∷ fs) st

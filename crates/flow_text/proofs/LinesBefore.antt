@@ -163,8 +163,8 @@ blank-after (b ∷ l) e = blank-step b l (is_blank b) refl e (blank-after l)
 blank-numbers : (l : List ℕ) → after_blanks l ≡ [] → numbers_of l ≡ []
 blank-numbers l e = numbers_of-after l ∙ blank-after l e
 
-pub facts-blank : (e : List (List ℕ)) (l : List ℕ) (odd none : Bool) (since : List ℕ) (wanted : ℕ) → after_blanks l ≡ [] →
-    Facts e odd none since wanted → Facts (l ∷ e) odd none since wanted
+pub facts-blank : (e : List (List ℕ)) (l : List ℕ) (odd none : Bool) (since : List ℕ) (wanted : ℕ) →
+    after_blanks l ≡ [] → Facts e odd none since wanted → Facts (l ∷ e) odd none since wanted
 facts-blank e l odd none since wanted p f =
     let more = facts-other e l odd none since wanted (rw (p, is_label_line) refl) f in
     let same : since ++ numbers_of l ≡ since = ap (λ x. since ++ x) (blank-numbers l p) ∙ append-nil since in

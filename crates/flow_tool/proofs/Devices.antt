@@ -6,7 +6,7 @@ use Rattle.flow_commands.specs.Runs.{HasFailed, start_run}
 use Rattle.flow_commands.specs.declared.fault.CommandFault.{CommandFault}
 use Rattle.flow_commands.specs.declared.fault.CommandFault.TheVariants.{Read}
 use Rattle.flow_tool.specs.Failed.{FailedStart}
-use Rattle.flow_tool.specs.Inputs.{IsStart, Names}
+use Rattle.flow_tool.specs.Inputs.{IsStartFile, Names}
 use Rattle.flow_tool.specs.declared.stop.Stop.{Stop}
 use Rattle.flow_tool.specs.declared.stop.Stop.TheVariants.{Fault}
 
@@ -19,7 +19,7 @@ read-failed fault Failed iff named = iff.0 (cc named)
 -- a start that failed is one that was named
 pub start-failed : {A : Type 0} {B : Type 0} (names : Names A B)
     (name : Option (Bor (List ℕ))) (before after : Option B) →
-    IsStart names name before →
+    IsStartFile names name before →
     HasFailed names.of_file.has_failed (start_run names.of_file.given names.of_file.has_ended before after) →
     FailedStart names name
 start-failed names None None after is failed = absurd failed

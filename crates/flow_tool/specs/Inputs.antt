@@ -13,6 +13,7 @@ pub record Views (S : Type 0) : Type 0 where
   pub has_ended : S → Bool
   pub has_failed : S → Bool
 
+-- such views, made of them one by one
 abbrev pub views : {S : Type 0} → (S → Option (List ℕ)) → (S → Bool) → (S → Bool) → Views S
 views given has_ended has_failed = record { given = given; has_ended = has_ended; has_failed = has_failed }
 
@@ -49,17 +50,17 @@ abbrev pub RefusedText : {A : Type 0} → {B : Type 0} → Names A B → List �
 RefusedText names name stop = (stop ≡ Open) × (name ≢ codes "stdin") × names.refused name
 
 -- the name of a start opened this file; or there is neither
-abbrev pub IsStart : {A : Type 0} → {B : Type 0} → Names A B → Option (Bor (List ℕ)) → Option B → Type 0
-IsStart names None None = Unit {0}
-IsStart names (Some name) (Some file) = names.opened name.now file
-IsStart names name file = ⊥
+abbrev pub IsStartFile : {A : Type 0} → {B : Type 0} → Names A B → Option (Bor (List ℕ)) → Option B → Type 0
+IsStartFile names None None = Unit {0}
+IsStartFile names (Some name) (Some file) = names.opened name.now file
+IsStartFile names name file = ⊥
 
 -- the file of a start could not be opened
 abbrev pub RefusedStart : {A : Type 0} → {B : Type 0} → Names A B → Option (Bor (List ℕ)) → Stop → Type 0
 RefusedStart names None stop = ⊥
 RefusedStart names (Some name) stop = (stop ≡ Open) × names.refused name.now
 
--- this fact holds of the run of a text that the name stands for
+-- this fact holds of a run of a text that the name stands for
 abbrev pub RunOfText :
     {A : Type 0} → {B : Type 0} → Names A B → List ℕ → (SourceRun (Text A B) → Type 0) → Type 0
 RunOfText {A} {B} names name Holds =
@@ -67,15 +68,15 @@ RunOfText {A} {B} names name Holds =
     × Holds (source_run (shown names.of_standard.given names.of_file.given)
     (shown names.of_standard.has_ended names.of_file.has_ended) text after)
 
--- the same of a file that the name opened
+-- the same of a run of a file that the name opened
 abbrev pub RunOfFile : {A : Type 0} → {B : Type 0} → Names A B → List ℕ → (SourceRun B → Type 0) → Type 0
 RunOfFile {A} {B} names name Holds =
     (file : B) × (after : B) × names.opened name file
     × Holds (source_run names.of_file.given names.of_file.has_ended file after)
 
--- the same of the start, whose name may be left out
+-- the same of a run of the start, whose name may be left out
 abbrev pub RunOfStart :
     {A : Type 0} → {B : Type 0} → Names A B → Option (Bor (List ℕ)) → (Option (SourceRun B) → Type 0) → Type 0
 RunOfStart {A} {B} names name Holds =
-    (file : Option B) × (after : Option B) × IsStart names name file
+    (file : Option B) × (after : Option B) × IsStartFile names name file
     × Holds (start_run names.of_file.given names.of_file.has_ended file after)

@@ -18,7 +18,7 @@ ghost use Rattle.flow_commands.specs.Solve.{AnswersSolve};
 ghost use Rattle.flow_commands.specs.Span.{AnswersSpan};
 ghost use Rattle.flow_tool.specs.Asked.{EndsAsked, StopsIn, WroteAsked, from_start, of_both, of_text};
 ghost use Rattle.flow_tool.specs.Failed.{FailedAsked, IsReadFault, IsWriteFault};
-ghost use Rattle.flow_tool.specs.Inputs.{IsStart, RefusedStart};
+ghost use Rattle.flow_tool.specs.Inputs.{IsStartFile, RefusedStart};
 
 use crate::inputs::{Inputs, open_text};
 use crate::stop::Stop;
@@ -36,7 +36,7 @@ use std::thread::Threads;
 /// The file of a starting sequence, opened for reading, where one is named.
 fn open_start<I: Inputs>(inputs: &I, name: Option<&str>) -> Result<Option<I::File>, Stop>
     ensures works { IfOk result (λ start. ForSome start (λ file. I.File.has_failed file ≡ false)) }
-    ensures opened { IfOk result (IsStart (I.names inputs.now) name.entry) }
+    ensures opened { IfOk result (IsStartFile (I.names inputs.now) name.entry) }
     ensures refused { IfErr result (RefusedStart (I.names inputs.now) name.entry) }
 {
     match name {

@@ -2,7 +2,8 @@
 use Rattle.std.specs.Prelude.{ℕ, ◌+◌, ◌≤◌, Bool, List, length, drop, Result}
 use Rattle.flow_shop.specs.Bound.{bound_of}
 use Rattle.flow_check.specs.internal.ReadTrees.{read_tree}
-use Rattle.flow_check.specs.internal.Reader.{LetterGives, TreeGives, LinesGive, children_read}
+use Rattle.flow_check.specs.internal.Reader.{children_read}
+use Rattle.flow_check.specs.internal.PartsGive.{LetterGives, TreeGives, LinesGive}
 use Rattle.flow_check.specs.declared.fault.CheckFault.{CheckFault}
 use Rattle.flow_check.specs.declared.reader.Spot.{Spot}
 use Rattle.flow_check.specs.declared.trees_text.TreesText.{TreesText}

@@ -6,6 +6,7 @@ use Rattle.flow_shop.specs.Limits.{greatest_depth}
 use Rattle.flow_shop.specs.Digits.{is_digit}
 use Rattle.flow_shop.specs.Sequences.{IsSequence}
 use Rattle.flow_shop.specs.Shop.{Shop}
+use Rattle.flow_shop.specs.Characters.{line_feed, space}
 use Rattle.flow_check.specs.TextLines.{line, spaced, Stated, IsStated, stated_bounds, numbers_of}
 use Rattle.flow_check.specs.internal.Reading.{text_value, stated_once}
 use Rattle.flow_check.specs.internal.ReadTrees.{cut_value}
@@ -37,7 +38,7 @@ BeginsWithSequence n text jobs rest = IsSequence n jobs × (text ≡ line (space
 
 -- the byte that ends a number of a line where so many are still to come, with this one
 abbrev pub end_of : ℕ → ℕ
-end_of left = cond (nat_eq left 1) 10 32
+end_of left = cond (nat_eq left 1) line_feed space
 
 -- a text begins with the third line of a kind
 abbrev pub BeginsWithStated : (kind : TextKind) → List ℕ → Stated kind → List ℕ → Type 0

@@ -1,20 +1,18 @@
 -- Where a reader of trees stands, and what the text that it reads gives.
-use Rattle.std.specs.Prelude.{ℕ, zero, suc, ◌≡◌, ◌+◌, ◌-◌, ◌≤◌, ◌<◌, Bool, true, false, List, [], ◌∷◌, ◌++◌, length}
-use Rattle.std.specs.Prelude.{drop, slice_index, slice_index_or, slice_set, Result, Ok, Err}
+use Rattle.std.specs.Prelude.{ℕ, zero, suc, ◌≡◌, ◌+◌, ◌-◌, ◌≤◌, ◌<◌, false, List, [], ◌∷◌, ◌++◌, length}
+use Rattle.std.specs.Prelude.{drop, slice_index, slice_index_or, slice_set, Result, Ok}
 use Rattle.std.specs.List.{flat_map}
 use Rattle.flow_shop.specs.Shop.{Shop}
 use Rattle.flow_shop.specs.Bound.{bound_of}
 use Rattle.flow_shop.specs.Sequences.{has, jobs_left, extensions}
-use Rattle.flow_check.specs.internal.ReadTrees.{read_tree, each_tree, then_read, after_tree, trees_value}
+use Rattle.flow_check.specs.internal.ReadTrees.{read_tree, each_tree, then_read}
 use Rattle.flow_check.specs.internal.Lags.{AreKept, AreUnknown}
 use Rattle.flow_check.specs.internal.Links.{children, IsPlace}
 use Rattle.flow_check.specs.internal.Nodes.{IsNode, IsAt}
 use Rattle.flow_check.specs.declared.fault.CheckFault.{CheckFault}
-use Rattle.flow_check.specs.declared.fault.CheckFault.TheVariants.{Memory, Tree}
 use Rattle.flow_check.specs.declared.node.Node.{Node}
 use Rattle.flow_check.specs.declared.reader.Frame.{Frame}
 use Rattle.flow_check.specs.declared.reader.TreeReader.{TreeReader}
-use Rattle.flow_check.specs.declared.reader.Spot.{Spot}
 
 -- the frame at a place; any frame past the end
 abbrev pub frame_at : List Frame → ℕ → Frame
@@ -61,41 +59,6 @@ pub record Closed (frame : Frame) (old new : TreeReader) : Type 0 where
   pub links : new.links.items ≡ slice_set old.links.items frame.last frame.job
   pub frames : new.frames.items ≡ old.frames.items
   pub lags : AreUnknown new.lags.items
-
--- what the byte at a place says: that the trees of the children follow, or that the tree is whole, or its fault
-abbrev pub LetterGives : Shop → ℕ → ℕ → ℕ → ℕ → List ℕ → ℕ → List ℕ → Result Bool CheckFault → Type 0
-LetterGives shop version value line left list at bytes (Ok true) =
-    (0 < left) × (at < length bytes) × (drop at bytes ≡ 43 ∷ drop (at + 1) bytes)
-LetterGives shop version value line left list at bytes (Ok false) =
-    (at < length bytes) × (read_tree shop (bound_of version) value line left list (drop at bytes)
-    ≡ Ok (drop (at + 1) bytes))
-LetterGives shop version value line left list at bytes (Err fault) =
-    read_tree shop (bound_of version) value line left list (drop at bytes) ≡ Err fault
-
--- the place after what was read from a place on, or its fault
-abbrev pub TreeGives : ℕ → List ℕ → Result ℕ CheckFault → Result (List ℕ) CheckFault → Type 0
-TreeGives from bytes (Ok end) read = (read ≡ Ok (drop end bytes)) × (from ≤ end) × (end ≤ length bytes)
-TreeGives from bytes (Err Memory) read = Unit {0}
-TreeGives from bytes (Err fault) read = read ≡ Err fault
-
--- what the trees of some prefixes give, whatever prefixes follow them
-abbrev pub LinesGive : Shop → ℕ → ℕ → ℕ → List (List ℕ) → ℕ → ℕ → List ℕ → Result Spot CheckFault → Type 0
-LinesGive shop version value left prefixes line from bytes (Ok spot) =
-    (rest : List (List ℕ)) → trees_value shop (bound_of version) value left (prefixes ++ rest) line (drop from bytes)
-    ≡ trees_value shop (bound_of version) value left rest spot.line (drop spot.at bytes)
-LinesGive shop version value left prefixes line from bytes (Err Memory) = Unit {0}
-LinesGive shop version value left prefixes line from bytes (Err fault) =
-    (rest : List (List ℕ)) → trees_value shop (bound_of version) value left (prefixes ++ rest) line (drop from bytes)
-    ≡ Err fault
-
--- what the byte after a tree says: that the line ends, or its fault
-abbrev pub LineEnds : Spot → List ℕ → Result Spot CheckFault → Type 0
-LineEnds spot bytes (Ok next) =
-    (drop spot.at bytes ≡ 10 ∷ drop next.at bytes) × (next.line ≡ spot.line + 1) × (next.at ≡ spot.at + 1)
-    × (next.at ≤ length bytes)
-LineEnds spot bytes (Err fault) =
-    (fault ≡ Tree spot.line)
-    × ((next : List ℕ → Result ℕ CheckFault) → after_tree spot.line next (Ok (drop spot.at bytes)) ≡ Err fault)
 
 -- the list that a stack of children, the deepest first, leads to
 abbrev pub path : List ℕ → List Frame → List ℕ

@@ -1,4 +1,4 @@
--- How a start text is read, line by line. Only contracts of private functions speak of it.
+-- How a start text is read, line by line. Only contracts of private functions and proofs speak of it.
 use Rattle.std.specs.Prelude.{◌≡◌, ◌≢◌, ℕ, ◌+◌, List, [], ◌∷◌, length, Option, None, Some, Result, Ok, Err}
 use Rattle.flow_text.specs.Lines.{lines_of}
 use Rattle.flow_text.specs.StartText.{Numbered, Said, jobs_on, makespan_on, solid_lines_of}

@@ -5,7 +5,8 @@ use Rattle.flow_shop.specs.Bound.{bound_of}
 use Rattle.flow_check.specs.internal.ReadTrees.{read_tree}
 use Rattle.flow_check.specs.internal.Links.{IsPlace}
 use Rattle.flow_check.specs.internal.Nodes.{IsChild}
-use Rattle.flow_check.specs.internal.Reader.{Stands, Opened, LetterGives, TreeGives}
+use Rattle.flow_check.specs.internal.Reader.{Stands, Opened}
+use Rattle.flow_check.specs.internal.PartsGive.{LetterGives, TreeGives}
 use Rattle.flow_check.specs.declared.fault.CheckFault.{CheckFault}
 use Rattle.flow_check.proofs.Exits.{exit}
 use Rattle.flow_check.proofs.Links.{next-some}

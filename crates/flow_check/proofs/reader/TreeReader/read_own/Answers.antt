@@ -1,5 +1,6 @@
 use Rattle.std.proofs.Common.{suc, ◌+◌, drop, refl, subst, arith}
-use Rattle.flow_check.specs.internal.Reader.{TreeGives, children_read}
+use Rattle.flow_check.specs.internal.Reader.{children_read}
+use Rattle.flow_check.specs.internal.PartsGive.{TreeGives}
 use Rattle.flow_shop.specs.Bound.{bound_of}
 use Rattle.flow_check.specs.internal.ReadTrees.{read_tree}
 use Rattle.flow_check.proofs.Exits.{exit}
