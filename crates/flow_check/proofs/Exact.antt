@@ -91,7 +91,7 @@ no-fault None next s e = (refl, e)
 no-fault (Some fault) next s e = absurd (fault-value Sequence s e)
 
 -- the value of what was read; another one where it failed
-abbrev worth : {A : Type 0} → A → Result A CheckFault → A
+abbrev pub worth : {A : Type 0} → A → Result A CheckFault → A
 worth other (Ok value) = value
 worth other (Err fault) = other
 
@@ -119,7 +119,7 @@ sequence-sound kind shop version depth stated rest (Some jobs) s e =
     (jobs, refl, sequence-fault-none-is shop.jobs jobs p.0, eqb-true (span shop jobs) upper q.0, q.1)
 
 -- the lines in a row
-glue : (a b c d f e : List ℕ) → a ++ 10 ∷ (b ++ 10 ∷ (c ++ 10 ∷ (d ++ 10 ∷ (f ++ e))))
+pub glue : (a b c d f e : List ℕ) → a ++ 10 ∷ (b ++ 10 ∷ (c ++ 10 ∷ (d ++ 10 ∷ (f ++ e))))
     ≡ ((((line a ++ line b) ++ line c) ++ line d) ++ f) ++ e
 glue a b c d f e = sym (
     append_assoc (((line a ++ line b) ++ line c) ++ line d) f e

@@ -4,6 +4,7 @@ pub mod TreesExact
 pub mod Numbers
 pub mod Exact
 pub mod ExactLines
+pub mod OneSequence
 pub mod TreeFaults
 pub mod FirstFaults
 pub mod TextBegins

@@ -4,7 +4,7 @@
 use Rattle.std.specs.Prelude.{ℕ, zero, suc, ◌≡◌, ◌-◌, ◌^◌, ◌<◌, ◌≤◌, ◌⊎◌, List, [], ◌∷◌, ◌++◌}
 use Rattle.std.specs.List.{AllZip, concat}
 use Rattle.flow_shop.specs.Limits.{greatest_depth}
-use Rattle.flow_shop.specs.Shop.{Shop}
+use Rattle.flow_shop.specs.Shop.{Shop, IsWithinLimits}
 use Rattle.flow_shop.specs.Paths.{span}
 use Rattle.flow_shop.specs.Sequences.{IsSequence, IsLowerBound, IsLeastMakespan, jobs_left, cut}
 use Rattle.flow_shop.specs.Bound.{bound_of, letter}
@@ -84,3 +84,11 @@ ValueIsOne =
 abbrev pub BoundsAreSound : Type 0
 BoundsAreSound =
     (shop : Shop) (bytes : List ℕ) (bounds : Bounds) → IsBoundsText shop bytes bounds → AreBounds shop bounds
+
+-- a text of a kind states one value, or one pair of bounds, and one sequence
+abbrev pub StatesOne : Type 0
+StatesOne =
+    (kind : TextKind) (shop : Shop) (bytes : List ℕ) (stated other : Stated kind) (one another : List ℕ) →
+    IsWithinLimits shop →
+    GivesSequenceAs kind shop bytes stated one → GivesSequenceAs kind shop bytes other another →
+    (stated ≡ other) × (one ≡ another)

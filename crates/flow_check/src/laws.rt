@@ -1,6 +1,6 @@
 //! Laws of the definitions: each contract is a theorem, and no body does anything.
 
-ghost use Rattle.flow_check.specs.Certificate.{BoundsAreSound, CertificateIsSound, ValueIsOne};
+ghost use Rattle.flow_check.specs.Certificate.{BoundsAreSound, CertificateIsSound, StatesOne, ValueIsOne};
 ghost use Rattle.flow_check.specs.CertificateFaults.{EachTextIsJudged};
 ghost use Rattle.flow_check.specs.internal.Reading.{ValueIsExact, FaultIsExact};
 
@@ -14,6 +14,11 @@ pub fn certificate_is_sound()
 /// upper one as its makespan, and the least makespan is between them.
 pub fn bounds_are_sound()
     ensures { BoundsAreSound }
+{}
+
+/// A lawful text of a kind states one value, or one pair of bounds, and one sequence.
+pub fn text_states_one()
+    ensures { StatesOne }
 {}
 
 /// A text is read as what it states exactly where it is a lawful one of its kind.

@@ -24,5 +24,7 @@ pub use bounds::Bounds;
 pub use checker::{check, check_bounds};
 pub use fault::CheckFault;
 pub use kind::{TextKind, kind_of};
-pub use laws::{bounds_are_sound, certificate_is_sound, fault_is_exact, value_is_exact};
+pub use laws::{
+    bounds_are_sound, certificate_is_sound, fault_is_exact, text_states_one, value_is_exact,
+};
 pub use stated::{Shown, check_sequence, check_text};
