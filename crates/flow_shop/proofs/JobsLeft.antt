@@ -1,6 +1,7 @@
 -- The jobs that a list leaves, and sums over them.
 use Rattle.std.proofs.Common.{◌⊎◌, ◌≡◌, ℕ, zero, suc, ◌+◌, ◌-◌, ◌*◌, ◌<◌, ◌≤◌, Bool, true, false, cond, not, ◌||◌}
-use Rattle.std.proofs.Common.{nat_eq, List, [], ◌∷◌, ◌++◌, length, map, refl, ap, sym, ◌∙◌, inl, inr, arith}
+use Rattle.std.proofs.Common.{nat_eq, List, [], ◌∷◌, ◌++◌, length, map, refl, ap, sym, ◌∙◌, subst, inl, inr, arith}
+use Rattle.std.proofs.Common.{length-append}
 use Rattle.std.specs.List.{filter, range_with_len, sum_by, AllByRecursion}
 use Rattle.std.proofs.lemmas.List.{append-nil}
 use Rattle.std.proofs.lemmas.List.Elements.{filter-append, recursion_from_All}
@@ -11,6 +12,7 @@ use Rattle.std.proofs.lemmas.Bool.Decides.{eqb_tells}
 use Rattle.flow_shop.specs.Shop.{numbers}
 use Rattle.flow_shop.specs.Least.{least}
 use Rattle.flow_shop.specs.Sequences.{has, jobs_left, AreDistinct, IsSequence}
+use Rattle.flow_shop.proofs.Lists.{all-push}
 use Rattle.flow_shop.proofs.Recurrence.{range-more}
 
 pub bool_cases : (b : Bool) → (b ≡ true) ⊎ (b ≡ false)
@@ -190,6 +192,18 @@ pub InRange-rest : (n : ℕ) (jobs rest : List ℕ) → InRange n (jobs ++ rest)
 InRange-rest n [] rest r = r
 InRange-rest n (j ∷ js) rest r = InRange-rest n js rest r.1
 
+pub InRange-first : (n : ℕ) (jobs rest : List ℕ) → InRange n (jobs ++ rest) → InRange n jobs
+InRange-first n [] rest range = tt
+InRange-first n (j ∷ js) rest range = (range.0, InRange-first n js rest range.1)
+
+-- one more job
+pub range-push : (n : ℕ) (jobs : List ℕ) (job : ℕ) → InRange n jobs → 1 ≤ job → job ≤ n → InRange n (jobs ++ job ∷ [])
+range-push n jobs job range low high = all-push (λ job. (1 ≤ job) × (job ≤ n)) jobs job range (low, high)
+
+-- the jobs of a sequence
+pub in-range : (n : ℕ) (jobs : List ℕ) → IsSequence n jobs → InRange n jobs
+in-range n jobs is = recursion_from_All (λ job. (1 ≤ job) × (job ≤ n)) jobs is.each.range
+
 pub distinct-rest : (jobs rest : List ℕ) → AreDistinct (jobs ++ rest) → AreDistinct rest
 distinct-rest [] rest d = d
 distinct-rest (j ∷ js) rest d = distinct-rest js rest d.1
@@ -197,6 +211,13 @@ distinct-rest (j ∷ js) rest d = distinct-rest js rest d.1
 pub or_false : (a b : Bool) → (a || b) ≡ false → (a ≡ false) × (b ≡ false)
 or_false true b h = absurd (false≢true (sym h))
 or_false false b h = (refl, h)
+
+pub distinct-first : (jobs rest : List ℕ) → AreDistinct (jobs ++ rest) → AreDistinct jobs
+distinct-first [] rest distinct = tt
+distinct-first (j ∷ js) rest distinct = (
+  (or_false (has js j) (has rest j) (sym (list_any-append (nat_eq j) js rest) ∙ distinct.0)).0,
+  distinct-first js rest distinct.1,
+)
 
 -- no job of the first part stands in the rest
 pub apart : (jobs rest : List ℕ) (k : ℕ) → AreDistinct (jobs ++ rest) → has jobs k ≡ true → has rest k ≡ false
@@ -265,3 +286,28 @@ pub left-has : (n : ℕ) (jobs rest : List ℕ) (k : ℕ) → IsSequence n (jobs
     has (jobs_left n jobs) k ≡ true
 left-has n jobs rest k is pass low high = ap (λ xs. has xs k) (jobs_left-is n jobs rest is)
     ∙ has-filter (has rest) n k pass low high
+
+-- a fact of each job that a list leaves
+pub each-left : (P : ℕ → Type 0) (list : List ℕ) (a len : ℕ) →
+    ((job : ℕ) → a ≤ job → job < a + len → has list job ≡ false → P job) →
+    AllByRecursion P (filter (λ job. not (has list job)) (range_with_len a len))
+each-left P list a zero h = tt
+each-left P list a (suc len) h =
+    let rest : List ℕ = filter (λ job. not (has list job)) (range_with_len (a + 1) len) in
+    let more : AllByRecursion P rest =
+    each-left P list (a + 1) len (λ job low high fresh. h job (omega arith) (omega (arith, high)) fresh) in
+    elim (bool_cases (has list a)) [
+      | inl there ↦ subst (AllByRecursion P) (sym (ap (λ b. cond (not b) (a ∷ rest) rest) there)) more
+      | inr fresh ↦ subst (AllByRecursion P) (sym (ap (λ b. cond (not b) (a ∷ rest) rest) fresh))
+          (h a (omega arith) (omega arith) fresh, more)
+    ]
+
+-- the empty list leaves all
+pub none-has : (n : ℕ) → length (jobs_left n []) ≡ n
+none-has zero = refl
+none-has (suc n) = omega (
+  arith,
+  ap length (filter-more (λ job. true) n),
+  length-append (filter (λ job. true) (numbers 1 n)) (suc n ∷ []),
+  none-has n,
+)

@@ -5,13 +5,13 @@ use Rattle.std.specs.List.{range_with_len}
 use Rattle.std.proofs.lemmas.Bool.{cases_lt, false≢true}
 use Rattle.std.proofs.lemmas.Bool.Decides.{eqb_tells}
 use Rattle.std.proofs.lemmas.List.FromFn.{length-range_with_len}
-use Rattle.std.proofs.lemmas.List.Elements.{recursion_from_All, All-from_recursion}
+use Rattle.std.proofs.lemmas.List.Elements.{All-from_recursion}
 use Rattle.flow_shop.specs.Shop.{Shop, numbers}
 use Rattle.flow_shop.specs.Paths.{span}
 use Rattle.flow_shop.specs.Sequences.{has, AreDistinct, IsSequence, IsLeastMakespan}
 use Rattle.flow_shop.specs.SequenceFaults.{sequence_fault}
 use Rattle.flow_shop.specs.declared.sequence.SequenceFault.{SequenceFault}
-use Rattle.flow_shop.proofs.JobsLeft.{InRange}
+use Rattle.flow_shop.proofs.JobsLeft.{InRange, in-range}
 use Rattle.flow_shop.proofs.SequenceLemmas.{sequence-fault-none-is, is-fault-none}
 
 -- no list of so many numbers from 1 to n passes a test
@@ -172,9 +172,6 @@ test_sequence n jobs = is_sound (sequence_fault n jobs)
 
 passes-if-sequence : (n : ℕ) (jobs : List ℕ) → IsSequence n jobs → test_sequence n jobs ≡ true
 passes-if-sequence n jobs is = ap is_sound (is-fault-none n jobs is)
-
-in-range : (n : ℕ) (jobs : List ℕ) → IsSequence n jobs → InRange n jobs
-in-range n jobs is = recursion_from_All (λ job. (1 ≤ job) × (job ≤ n)) jobs is.each.range
 
 some-least : (shop : Shop) → Searched shop.jobs shop.jobs (test_sequence shop.jobs) (span shop) →
     (value : ℕ) × IsLeastMakespan shop value

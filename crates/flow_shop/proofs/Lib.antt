@@ -15,3 +15,9 @@ pub mod ReversedSequence
 pub mod MirrorLemmas
 pub mod Lists
 pub mod LeastFound
+pub mod NodeJobs
+pub mod NodeLists
+pub mod EndBounds
+pub mod EndSteps
+pub mod DirectionsSound
+pub mod DirectionsOne

@@ -6,7 +6,8 @@ use Rattle.std.proofs.lemmas.List.{reverse-reverse, reverse-append}
 use Rattle.std.proofs.lemmas.List.Sums.{sum_by-cons, sum_by_push}
 use Rattle.flow_shop.specs.Shop.{Shop, time, time_between}
 use Rattle.flow_shop.specs.Paths.{IsPath, weight, completion}
-use Rattle.flow_shop.proofs.Recurrence.{after, completed, completion-is, completion-attained, weight-le-completion}
+use Rattle.flow_shop.proofs.Lists.{all-push}
+use Rattle.flow_shop.proofs.Recurrence.{completion-is, completion-attained, weight-le-completion, completed-zero}
 use Rattle.flow_shop.proofs.Recurrence.{range-more, path-up}
 
 -- a sum over a range, read backwards
@@ -87,16 +88,12 @@ module _ (m : ℕ) (one other : Shop) where
         whole.3 ∙ omega arith,
       )
 
-no-machine : (shop : Shop) (free : ℕ → ℕ) (jobs : List ℕ) → free 0 ≡ 0 → completed shop free jobs 0 ≡ 0
-no-machine shop free [] none = none
-no-machine shop free (j ∷ js) none = no-machine shop (after shop free j) js refl
-
 -- so no list of jobs takes longer than it does backwards
 le-backwards : (m : ℕ) (one other : Shop) (jobs : List ℕ) → AllByRecursion (Mirrors m one other) jobs →
     completion one jobs m ≤ completion other (reverse jobs) m
 le-backwards m one other [] mirrors = omega (arith, completion-is one [] m)
 le-backwards zero one other (j ∷ js) mirrors =
-    omega (arith, completion-is one (j ∷ js) 0, no-machine one (λ _. 0) (j ∷ js) refl)
+    omega (arith, completion-is one (j ∷ js) 0, completed-zero one (λ _. 0) (j ∷ js) refl)
 le-backwards (suc m) one other (j ∷ js) mirrors =
     let path = completion-attained one (j ∷ js) (suc m) (omega arith) (omega arith) in
     let back = path-backwards (suc m) one other (j ∷ js) path.0 mirrors path.1 path.2 in
@@ -107,10 +104,6 @@ mirrors-back : (m : ℕ) (one other : Shop) (jobs : List ℕ) → AllByRecursion
 mirrors-back m one other [] mirrors = tt
 mirrors-back m one other (j ∷ js) mirrors =
     (λ x y from to e. sym (mirrors.0 y x to from (omega arith)), mirrors-back m one other js mirrors.1)
-
-all-push : (P : ℕ → Type 0) (xs : List ℕ) (x : ℕ) → AllByRecursion P xs → P x → AllByRecursion P (xs ++ x ∷ [])
-all-push P [] x all here = (here, tt)
-all-push P (y ∷ ys) x all here = (all.0, all-push P ys x all.1 here)
 
 pub all-reverse : (P : ℕ → Type 0) (xs : List ℕ) → AllByRecursion P xs → AllByRecursion P (reverse xs)
 all-reverse P [] all = tt

@@ -210,7 +210,7 @@ greatest-path-le value (suc jobs) a k bound h =
     let all = through-all value jobs a k in
     omega (arith, each, all)
 
-completed-zero : (shop : Shop) (free : ℕ → ℕ) (jobs : List ℕ) → free 0 ≡ 0 → completed shop free jobs 0 ≡ 0
+pub completed-zero : (shop : Shop) (free : ℕ → ℕ) (jobs : List ℕ) → free 0 ≡ 0 → completed shop free jobs 0 ≡ 0
 completed-zero shop free [] z = z
 completed-zero shop free (j ∷ js) z = completed-zero shop (after shop free j) js refl
 

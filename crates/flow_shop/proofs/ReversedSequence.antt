@@ -21,7 +21,7 @@ has-reverse (j ∷ js) k =
     swapped false true = refl
     swapped false false = refl
 
-not_eq-sym : (a b : ℕ) → nat_eq a b ≡ false → nat_eq b a ≡ false
+pub not_eq-sym : (a b : ℕ) → nat_eq a b ≡ false → nat_eq b a ≡ false
 not_eq-sym a b h = grind (arith, nat_tests)
 
 distinct-push : (jobs : List ℕ) (job : ℕ) → AreDistinct jobs → has jobs job ≡ false → AreDistinct (jobs ++ job ∷ [])

@@ -4,6 +4,8 @@ pub mod Least
 pub mod Paths
 pub mod Sequences
 pub mod Bound
+pub mod Ends
+pub mod Directions
 pub mod Front
 pub mod Rows
 pub mod TwoLeast

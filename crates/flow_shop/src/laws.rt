@@ -7,6 +7,8 @@ ghost use Rattle.flow_shop.specs.Sequences.{IsSequence, IsLeastMakespan};
 ghost use Rattle.flow_shop.specs.InstanceFaults.{instance_fault};
 ghost use Rattle.flow_shop.specs.SequenceFaults.{sequence_fault};
 ghost use Rattle.flow_shop.specs.Bound.{BoundIsAdmissible, ReleasedBoundIsAdmissible, ReleasedBoundIsStronger};
+ghost use Rattle.flow_shop.specs.Ends.{BackByRecurrence, EndBoundIsAdmissible, EndBoundIsExact, FrontByRecurrence};
+ghost use Rattle.flow_shop.specs.Directions.{DirectionsAreOne, DirectionsAreSound, ProvedIsLowerBound};
 
 /// A completion time is the weight of a heaviest staircase path.
 pub fn completion_is_greatest()
@@ -39,6 +41,34 @@ pub fn released_bound_is_admissible()
 /// The released bound of a list is at least its machine bound.
 pub fn released_bound_is_stronger()
     ensures { ReleasedBoundIsStronger }
+{}
+
+/// Fronts and backs are computed job by job and machine by machine, from the heads and the tails of empty lists.
+pub fn ends_by_recurrence()
+    ensures front { FrontByRecurrence }
+    ensures back { BackByRecurrence }
+{}
+
+/// No sequence of a node is below the node's bound.
+pub fn end_bound_is_admissible()
+    ensures { EndBoundIsAdmissible }
+{}
+
+/// Where no job is left, the bound of a node is the makespan of its one sequence.
+pub fn end_bound_is_exact()
+    ensures { EndBoundIsExact }
+{}
+
+/// No sequence of a node is below a number that directions prove for the node. No sequence of an instance is below a
+/// number that directions prove.
+pub fn directions_are_sound()
+    ensures node { DirectionsAreSound }
+    ensures all { ProvedIsLowerBound }
+{}
+
+/// A text begins with at most one string of directions that prove a number for a node.
+pub fn directions_are_one()
+    ensures { DirectionsAreOne }
 {}
 
 /// An instance has a least makespan, and only one.

@@ -1,6 +1,7 @@
 //! The permutation flow shop: instances, sequences, completion times and bounds.
 #![tactic(auto)]
 
+mod end;
 mod front;
 mod instance;
 mod job_set;
@@ -9,13 +10,15 @@ mod mirror;
 mod row;
 mod sequence;
 
+pub use end::End;
 pub use front::{Front, front_push, makespan};
 pub use instance::{Instance, InstanceFault};
 pub use job_set::JobSet;
 pub use laws::{
-    bound_is_admissible, completion_by_recurrence, completion_is_greatest, instances_have_no_fault,
-    least_makespan_is_one, released_bound_is_admissible, released_bound_is_stronger,
-    sequences_have_no_fault,
+    bound_is_admissible, completion_by_recurrence, completion_is_greatest, directions_are_one,
+    directions_are_sound, end_bound_is_admissible, end_bound_is_exact, ends_by_recurrence,
+    instances_have_no_fault, least_makespan_is_one, released_bound_is_admissible,
+    released_bound_is_stronger, sequences_have_no_fault,
 };
 pub use mirror::{mirror_keeps_makespans, mirror_turns_back};
 pub use row::{Row, rows};

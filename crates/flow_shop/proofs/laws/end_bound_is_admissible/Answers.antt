@@ -1,0 +1,5 @@
+use Rattle.flow_shop.proofs.EndBounds.{end_bound_is_admissible}
+use Rattle.flow_shop.proofs.laws.end_bound_is_admissible.Goals as goal
+
+pub returns : goal.returns
+returns c = end_bound_is_admissible

@@ -1,0 +1,67 @@
+-- Strings of directions that prove a number. At each node whose bound is below the number a job is put at one end, and
+-- the string says at which: a plus for the front, a minus for the back.
+use Rattle.std.specs.Prelude.{ℕ, zero, suc, ◌≡◌, ◌<◌, ◌≤◌, ◌⊎◌, List, [], ◌∷◌, ◌++◌, length}
+use Rattle.std.specs.List.{AllZip, concat}
+use Rattle.flow_shop.specs.Shop.{Shop}
+use Rattle.flow_shop.specs.Paths.{span}
+use Rattle.flow_shop.specs.Sequences.{jobs_left, IsSequence, IsLowerBound}
+use Rattle.flow_shop.specs.Ends.{end_bound}
+use Rattle.flow_shop.specs.declared.end.End.{End}
+use Rattle.flow_shop.specs.declared.end.End.TheVariants.{Front, Back}
+
+-- the byte of an end: `+` or `-`
+abbrev pub sign : End → ℕ
+sign Front = 43
+sign Back = 45
+
+-- the first list of a node once a job is put at an end
+abbrev pub first_with : End → List ℕ → ℕ → List ℕ
+first_with Front first job = first ++ job ∷ []
+first_with Back first job = first
+
+-- the last list of a node once a job is put at an end
+abbrev pub last_with : End → List ℕ → ℕ → List ℕ
+last_with Front last job = last
+last_with Back last job = job ∷ last
+
+-- directions prove a number for a node with so many jobs left in two cases: they are empty, and the node's bound is at
+-- least the number; or the bound is below it and some job is left, and they are the sign of an end, and then, one after
+-- another, directions that prove it for the node's children at that end, in increasing order of the job put there
+abbrev pub ProvesWith : Shop → ℕ → ℕ → List ℕ → List ℕ → List ℕ → Type 0
+ProvesWith shop number zero first last text = (text ≡ []) × (number ≤ end_bound shop first last)
+ProvesWith shop number (suc left) first last text =
+    ((text ≡ []) × (number ≤ end_bound shop first last))
+    ⊎ ((end : End) × (parts : List (List ℕ)) × (end_bound shop first last < number)
+    × (text ≡ sign end ∷ concat parts)
+    × AllZip (λ job part. ProvesWith shop number left (first_with end first job) (last_with end last job) part)
+    (jobs_left shop.jobs (first ++ last)) parts)
+
+-- directions prove a number for a node
+abbrev pub ProvesFrom : Shop → ℕ → List ℕ → List ℕ → List ℕ → Type 0
+ProvesFrom shop number first last text =
+    ProvesWith shop number (length (jobs_left shop.jobs (first ++ last))) first last text
+
+-- directions prove a number: they do so for the node of two empty lists
+abbrev pub Proves : Shop → ℕ → List ℕ → Type 0
+Proves shop number text = ProvesFrom shop number [] [] text
+
+-- a number is above the makespan of some sequence
+abbrev pub IsAbove : Shop → ℕ → Type 0
+IsAbove shop number = (sequence : List ℕ) × IsSequence shop.jobs sequence × (span shop sequence < number)
+
+-- no sequence of a node is below a number that directions prove for it
+abbrev pub DirectionsAreSound : Type 0
+DirectionsAreSound =
+    (shop : Shop) (number : ℕ) (first between last text : List ℕ) → ProvesFrom shop number first last text →
+    IsSequence shop.jobs (first ++ between ++ last) → number ≤ span shop (first ++ between ++ last)
+
+-- no sequence of the instance is below a number that directions prove
+abbrev pub ProvedIsLowerBound : Type 0
+ProvedIsLowerBound = (shop : Shop) (number : ℕ) (text : List ℕ) → Proves shop number text → IsLowerBound shop number
+
+-- a text begins with at most one string of directions that prove a number for a node: so the string needs no end mark
+abbrev pub DirectionsAreOne : Type 0
+DirectionsAreOne =
+    (shop : Shop) (number : ℕ) (first last one other rest others : List ℕ) →
+    ProvesFrom shop number first last one → ProvesFrom shop number first last other →
+    one ++ rest ≡ other ++ others → (one ≡ other) × (rest ≡ others)
