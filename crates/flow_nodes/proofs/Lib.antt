@@ -1,0 +1,5 @@
+pub mod LaneSteps
+pub mod NodeSteps
+pub mod KeptNodes
+pub mod ChildSteps
+pub mod GroupSteps

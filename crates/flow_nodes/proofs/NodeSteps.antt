@@ -1,0 +1,123 @@
+-- What the code of a node computes, machine by machine and job by job.
+use Rattle.std.proofs.Common.{◌≡◌, ◌≢◌, ℕ, zero, suc, ◌+◌, ◌-◌, ◌<◌, ◌≤◌, min, max, List, [], ◌∷◌, ◌++◌, length}
+use Rattle.std.proofs.Common.{map, slice_index, set, refl, ap, sym, ◌∙◌, subst, inl, inr, arith, length-append}
+use Rattle.std.proofs.lemmas.Bool.{cases_lt}
+use Rattle.std.proofs.lemmas.List.{get_or-set_same, get_or-set_other}
+use Rattle.flow_limits.specs.Limits.{most_jobs, most_machines, greatest_completion}
+use Rattle.flow_shop.specs.Shop.{Shop, IsWithinLimits, numbers, time, time_between}
+use Rattle.flow_shop.specs.Least.{least, greatest}
+use Rattle.flow_shop.proofs.Recurrence.{completion-is, after-first, time_between-more}
+use Rattle.flow_shop.proofs.Extremes.{greatest-append, map-map-append}
+use Rattle.flow_shop.proofs.JobsLeft.{InRange, numbers-more}
+use Rattle.flow_shop.proofs.Fronts.{completion-small, tail-small}
+use Rattle.flow_shop.specs.Ends.{front, back}
+use Rattle.flow_shop.proofs.EndBounds.{head-le, tail-le, through}
+
+pub time-last : (shop : Shop) (job from k : ℕ) → 1 ≤ k → from ≤ k →
+    time_between shop job from (k + 1 - 1) ≡ time_between shop job from (k - 1) + time shop job k
+time-last shop job from zero low high = absurd (omega arith)
+time-last shop job from (suc k) low high =
+    let next : suc k + 1 - 1 ≡ suc k = omega arith in
+    let e : k ≡ suc k - 1 = omega arith in
+    ap (time_between shop job from) next
+    ∙ time_between-more shop job from k high ∙ ap (λ n. time_between shop job from n + time shop job (suc k)) e
+
+least-push : (xs : List ℕ) (x : ℕ) → 0 < length xs → least (xs ++ x ∷ []) ≡ min (least xs) x
+least-push [] x some = absurd (omega arith)
+least-push (y ∷ []) x some = refl
+least-push (y ∷ z ∷ zs) x some = omega (arith, least-push (z ∷ zs) x (omega arith))
+
+greatest-push : (xs : List ℕ) (x : ℕ) → greatest (xs ++ x ∷ []) ≡ max (greatest xs) x
+greatest-push xs x = omega (arith, greatest-append xs (x ∷ []))
+
+length-map : (f : ℕ → ℕ) (xs : List ℕ) → length (map f xs) ≡ length xs
+length-map f [] = refl
+length-map f (x ∷ xs) = ap suc (length-map f xs)
+
+some-numbers : (n : ℕ) → 0 < length (numbers 1 (suc n))
+some-numbers n = omega (arith, ap length (numbers-more n), length-append (numbers 1 n) (suc n ∷ []))
+
+numbers-step : (k : ℕ) → 1 ≤ k → numbers 1 (k + 1 - 1) ≡ numbers 1 (k - 1) ++ k ∷ []
+numbers-step zero low = absurd (omega arith)
+numbers-step (suc n) low =
+    let next : suc n + 1 - 1 ≡ suc n = omega arith in
+    let e : n ≡ suc n - 1 = omega arith in
+    ap (numbers 1) next ∙ numbers-more n ∙ ap (λ i. numbers 1 i ++ suc n ∷ []) e
+
+pub greatest-step : (f : ℕ → ℕ) (k : ℕ) → 1 ≤ k →
+    greatest (map f (numbers 1 (k + 1 - 1))) ≡ max (greatest (map f (numbers 1 (k - 1)))) (f k)
+greatest-step f k low =
+    ap (λ xs. greatest (map f xs)) (numbers-step k low)
+    ∙ ap greatest (map-map-append f (numbers 1 (k - 1)) (k ∷ []))
+    ∙ greatest-push (map f (numbers 1 (k - 1))) (f k)
+
+pub least-step : (f : ℕ → ℕ) (k : ℕ) → 2 ≤ k →
+    least (map f (numbers 1 (k + 1 - 1))) ≡ min (least (map f (numbers 1 (k - 1)))) (f k)
+least-step f zero low = absurd (omega arith)
+least-step f (suc zero) low = absurd (omega arith)
+least-step f (suc (suc n)) low =
+    let e : suc n ≡ suc (suc n) - 1 = omega arith in
+    let some : 0 < length (map f (numbers 1 (suc (suc n) - 1))) = omega (
+      arith,
+      length-map f (numbers 1 (suc (suc n) - 1)),
+      some-numbers n,
+      ap (λ i. length (numbers 1 i)) e,
+    ) in
+    ap (λ xs. least (map f xs)) (numbers-step (suc (suc n)) (omega arith))
+    ∙ ap least (map-map-append f (numbers 1 (suc (suc n) - 1)) (suc (suc n) ∷ []))
+    ∙ least-push (map f (numbers 1 (suc (suc n) - 1))) (f (suc (suc n))) some
+
+-- one more place of a table, from the last one on
+pub filled-down : (P : ℕ → ℕ → Type 0) (xs : List ℕ) (machine value : ℕ) → 1 ≤ machine → machine - 1 < length xs →
+    P machine value → (most : ℕ) → ((k : ℕ) → machine < k → k ≤ most → P k (slice_index xs (k - 1))) → (k : ℕ) →
+    machine - 1 < k → k ≤ most → P k (slice_index (set xs (machine - 1) value) (k - 1))
+filled-down P xs machine value from within here most before k low high =
+    elim (cases_lt machine k) [
+      | inl above ↦
+          let other : k - 1 ≢ machine - 1 = omega arith in
+          subst (P k) (sym (get_or-set_other xs (machine - 1) (k - 1) value 0 other)) (before k above high)
+      | inr below ↦
+          let e : machine ≡ k = omega arith in
+          let there : slice_index (set xs (machine - 1) value) (k - 1) ≡ value =
+          ap (λ i. slice_index (set xs (machine - 1) value) (i - 1)) (sym e)
+          ∙ get_or-set_same xs (machine - 1) value 0 within in
+          subst (P k) (sym there) (subst (λ i. P i value) e here)
+    ]
+
+-- fronts, backs and heads fit
+pub front-small : (shop : Shop) (first : List ℕ) (k : ℕ) → IsWithinLimits shop → length first ≤ shop.jobs →
+    k ≤ shop.machines → front shop first k ≤ greatest_completion
+front-small shop [] k limits short high =
+    let some : 1 ≤ shop.jobs = limits.some_job in
+    let most : shop.machines ≤ most_machines = limits.machines in
+    omega (
+      arith,
+      head-le shop 1 k (omega arith) some,
+      after-first shop 1 (k - 1),
+      completion-is shop (1 ∷ []) (k - 1),
+      completion-small shop (1 ∷ []) (k - 1) limits,
+    )
+front-small shop (j ∷ js) k limits short high =
+    let jobs : shop.jobs ≤ most_jobs = limits.jobs in
+    let most : shop.machines ≤ most_machines = limits.machines in
+    omega (arith, completion-small shop (j ∷ js) k limits)
+
+pub back-small : (shop : Shop) (last : List ℕ) (k : ℕ) → IsWithinLimits shop → length last ≤ shop.jobs →
+    InRange shop.jobs last → 1 ≤ k → k ≤ shop.machines → back shop last k ≤ greatest_completion
+back-small shop [] k limits short range low high =
+    let some : 1 ≤ shop.jobs = limits.some_job in
+    let most : shop.machines ≤ most_machines = limits.machines in
+    omega (
+      arith,
+      tail-le shop 1 k (omega arith) some,
+      tail-small shop 1 (shop.machines - k) k limits (omega (arith, high)),
+    )
+back-small shop (j ∷ js) k limits short range low high =
+    let jobs : shop.jobs ≤ most_jobs = limits.jobs in
+    let most : shop.machines ≤ most_machines = limits.machines in
+    omega (
+      arith,
+      through shop (λ _. 0) j js k low high range,
+      completion-is shop (j ∷ js) shop.machines,
+      completion-small shop (j ∷ js) shop.machines limits,
+    )

@@ -1,0 +1,7 @@
+use Rattle.std.proofs.Common.{w16, arith}
+use Rattle.flow_nodes.proofs.LaneSteps.{is-below}
+use Rattle.flow_nodes.proofs.lanes.U16x16Lanes.below.Goals as goal
+
+pub returns : goal.returns
+returns c lane value x =
+    is-below w16 65535 16 c.args.self lane value c.args.number (omega arith) c.requires x

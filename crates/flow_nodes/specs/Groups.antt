@@ -1,0 +1,22 @@
+-- Groups: jobs side by side, one for each lane, and the children of a node that put them at an end.
+use Rattle.std.specs.Prelude.{ℕ, ◌≡◌, ◌-◌, ◌<◌, ◌≤◌, List, length, slice_index, slice_index_or}
+use Rattle.flow_shop.specs.Shop.{Shop, time}
+use Rattle.flow_shop.specs.Ends.{end_bound}
+use Rattle.flow_shop.specs.Directions.{first_with, last_with}
+use Rattle.flow_shop.specs.declared.end.End.{End}
+use Rattle.flow_nodes.specs.Lanes.{HasLane}
+use Rattle.flow_nodes.specs.Nodes.{IsJob}
+
+-- a group of jobs, one for each lane: for each machine, lanes that have their times there
+pub record IsGroup {V : Type 0} (list : V → List ℕ) (cap width : ℕ) (shop : Shop) (jobs : List ℕ)
+    (group : List V) : Type 0 where
+  pub count : length jobs ≡ width
+  pub each : (lane : ℕ) → lane < width → IsJob shop (slice_index jobs lane)
+  pub machines : length group ≡ shop.machines
+  pub times : (machine lane : ℕ) (none : V) → 1 ≤ machine → machine ≤ shop.machines → lane < width →
+      HasLane cap width (list (slice_index_or group (machine - 1) none)) lane
+      (time shop (slice_index jobs lane) machine)
+
+-- the bound of the child that puts a job at an end
+abbrev pub child_bound : Shop → End → List ℕ → List ℕ → ℕ → ℕ
+child_bound shop end first last job = end_bound shop (first_with end first job) (last_with end last job)

@@ -1,0 +1,4 @@
+pub mod Lanes
+pub mod Nodes
+pub mod Groups
+pub mod internal

@@ -1,0 +1,41 @@
+//! Groups: the times of jobs side by side, for each machine a vector with a lane for each job.
+
+ghost use Rattle.std.specs.Prelude.{◌≡◌, ℕ, ◌<◌, ◌≤◌, List, length, slice_index};
+ghost use Rattle.flow_shop.specs.Shop.{time};
+ghost use Rattle.flow_nodes.specs.Nodes.{IsJob, IsMachine};
+ghost use Rattle.flow_nodes.specs.Groups.{IsGroup};
+
+use crate::lanes::Lanes;
+use flow_shop::Instance;
+
+/// The most lanes.
+const MOST_LANES: usize = 64;
+
+/// Writes the times of some jobs on a machine.
+fn write_times(instance: &Instance, jobs: &[u16], machine: u16, times: &mut [u32; MOST_LANES])
+    requires few { length jobs.now ≤ 64 }
+    requires each { (lane : ℕ) → lane < length jobs.now → IsJob instance.now (slice_index jobs.now lane) }
+    requires machine { IsMachine instance.now machine }
+    ensures length { length times.new ≡ 64 }
+    ensures each { (lane : ℕ) → lane < length jobs.now →
+        slice_index times.new lane ≡ time instance.now (slice_index jobs.now lane) machine }
+{
+    for lane in 0..jobs.len() {
+        times[lane] = instance.time(jobs[lane], machine);
+    }
+}
+
+/// Writes the group of some jobs, one for each lane. A job may stand in several lanes.
+pub fn write_group<V: Lanes>(instance: &Instance, jobs: &[u16], group: &mut [V])
+    requires jobs { length jobs.now ≡ V.WIDTH }
+    requires each { (lane : ℕ) → lane < V.WIDTH → IsJob instance.now (slice_index jobs.now lane) }
+    requires machines { length group.old ≡ instance.now.machines }
+    ensures { IsGroup V.list V.CAP V.WIDTH instance.now jobs.now group.new }
+{
+    let machines = instance.machines();
+    let mut times = [0; MOST_LANES];
+    for machine in 1..machines + 1 {
+        write_times(instance, jobs, machine, &mut times);
+        group[machine as usize - 1] = V::load(&times[..jobs.len()]);
+    }
+}

@@ -1,0 +1,198 @@
+//! Lanes: numbers side by side.
+
+ghost use Rattle.std.specs.Prelude.{◌≡◌, ℕ, ◌+◌, ◌<◌, ◌≤◌, ◌↔◌, max, List, length, slice_index, IsBitSet};
+ghost use Rattle.std.proofs.Common.{rules};
+ghost use Rattle.flow_nodes.specs.Lanes.{capped, HasLane};
+
+use std::simd::prelude::*;
+
+/// Numbers side by side. A lane has its number, or the cap where that is less: so a number is below one that is no
+/// greater than the cap exactly where its lane is.
+pub trait Lanes: Copy {
+    /// The cap.
+    const CAP: u32;
+
+    ghost CAP: { ℕ };
+
+    /// How many lanes there are.
+    const WIDTH: usize;
+
+    ghost WIDTH: { ℕ };
+
+    /// The lanes as a list.
+    ghost list: { Self → List ℕ };
+
+    /// The same number in all lanes.
+    fn all(number: u64) -> Self
+        ensures { (lane : ℕ) → lane < WIDTH → HasLane CAP WIDTH (list result) lane number };
+
+    /// In each lane the greater of two numbers.
+    fn at_least(self, other: Self) -> Self
+        ensures { (lane one two : ℕ) → HasLane CAP WIDTH (list self) lane one →
+            HasLane CAP WIDTH (list other) lane two → HasLane CAP WIDTH (list result) lane (max one two) };
+
+    /// In each lane the sum of two numbers.
+    fn plus(self, other: Self) -> Self
+        ensures { (lane one two : ℕ) → HasLane CAP WIDTH (list self) lane one →
+            HasLane CAP WIDTH (list other) lane two → HasLane CAP WIDTH (list result) lane (one + two) };
+
+    /// The lanes below a number, a bit for each.
+    fn below(self, number: u32) -> u64
+        requires { number ≤ CAP }
+        ensures { (lane value : ℕ) → HasLane CAP WIDTH (list self) lane value →
+            IsBitSet result lane ↔ (value < number) };
+
+    /// The number of a lane.
+    fn at(self, lane: usize) -> u32
+        requires { lane < WIDTH }
+        ensures { (value : ℕ) → HasLane CAP WIDTH (list self) lane value → result ≡ capped CAP value };
+
+    /// The numbers of a list, one for each lane.
+    fn load(numbers: &[u32]) -> Self
+        requires { length numbers.now ≡ WIDTH }
+        ensures { (lane : ℕ) → lane < WIDTH →
+            HasLane CAP WIDTH (list result) lane (slice_index numbers.now lane) };
+
+    /// A machine word has a bit for each lane.
+    ghost narrow: { WIDTH ≤ 64 };
+}
+
+impl Lanes for u16x16 {
+    const CAP: u32 = 65_535;
+
+    ghost CAP = { 65535 };
+
+    const WIDTH: usize = 16;
+
+    ghost WIDTH = { 16 };
+
+    ghost list = { λ lanes. lanes };
+
+    #[inline(always)]
+    fn all(number: u64) -> u16x16 {
+        u16x16::splat(number.min(65_535) as u16)
+    }
+
+    #[inline(always)]
+    fn at_least(self, other: u16x16) -> u16x16 {
+        self.simd_max(other)
+    }
+
+    #[inline(always)]
+    fn plus(self, other: u16x16) -> u16x16 {
+        self.saturating_add(other)
+    }
+
+    #[inline(always)]
+    fn below(self, number: u32) -> u64 {
+        self.simd_lt(u16x16::splat(number as u16)).to_bitmask()
+    }
+
+    #[inline(always)]
+    fn at(self, lane: usize) -> u32 {
+        u32::from(self.to_array()[lane])
+    }
+
+    #[inline(always)]
+    fn load(numbers: &[u32]) -> u16x16 {
+        let mut lanes = [0; 16];
+        for lane in 0..16 {
+            lanes[lane] = numbers[lane].min(65_535) as u16;
+        }
+        u16x16::from_array(lanes)
+    }
+
+    ghost narrow = { Prim.search rules };
+}
+
+impl Lanes for u16x32 {
+    const CAP: u32 = 65_535;
+
+    ghost CAP = { 65535 };
+
+    const WIDTH: usize = 32;
+
+    ghost WIDTH = { 32 };
+
+    ghost list = { λ lanes. lanes };
+
+    #[inline(always)]
+    fn all(number: u64) -> u16x32 {
+        u16x32::splat(number.min(65_535) as u16)
+    }
+
+    #[inline(always)]
+    fn at_least(self, other: u16x32) -> u16x32 {
+        self.simd_max(other)
+    }
+
+    #[inline(always)]
+    fn plus(self, other: u16x32) -> u16x32 {
+        self.saturating_add(other)
+    }
+
+    #[inline(always)]
+    fn below(self, number: u32) -> u64 {
+        self.simd_lt(u16x32::splat(number as u16)).to_bitmask()
+    }
+
+    #[inline(always)]
+    fn at(self, lane: usize) -> u32 {
+        u32::from(self.to_array()[lane])
+    }
+
+    #[inline(always)]
+    fn load(numbers: &[u32]) -> u16x32 {
+        let mut lanes = [0; 32];
+        for lane in 0..32 {
+            lanes[lane] = numbers[lane].min(65_535) as u16;
+        }
+        u16x32::from_array(lanes)
+    }
+
+    ghost narrow = { Prim.search rules };
+}
+
+impl Lanes for u32x16 {
+    const CAP: u32 = 4_294_967_295;
+
+    ghost CAP = { 4294967295 };
+
+    const WIDTH: usize = 16;
+
+    ghost WIDTH = { 16 };
+
+    ghost list = { λ lanes. lanes };
+
+    #[inline(always)]
+    fn all(number: u64) -> u32x16 {
+        u32x16::splat(number.min(4_294_967_295) as u32)
+    }
+
+    #[inline(always)]
+    fn at_least(self, other: u32x16) -> u32x16 {
+        self.simd_max(other)
+    }
+
+    #[inline(always)]
+    fn plus(self, other: u32x16) -> u32x16 {
+        self.saturating_add(other)
+    }
+
+    #[inline(always)]
+    fn below(self, number: u32) -> u64 {
+        self.simd_lt(u32x16::splat(number)).to_bitmask()
+    }
+
+    #[inline(always)]
+    fn at(self, lane: usize) -> u32 {
+        self.to_array()[lane]
+    }
+
+    #[inline(always)]
+    fn load(numbers: &[u32]) -> u32x16 {
+        u32x16::from_slice(numbers)
+    }
+
+    ghost narrow = { Prim.search rules };
+}

@@ -1,0 +1,14 @@
+//! Nodes of two lists, the first of which begins a sequence and the last of which ends it; and the bounds of all
+//! children of a node at an end, side by side.
+#![tactic(auto)]
+
+mod bounds;
+mod group;
+mod lanes;
+mod node;
+#[cfg(test)]
+mod tests;
+
+pub use group::write_group;
+pub use lanes::Lanes;
+pub use node::Node;
