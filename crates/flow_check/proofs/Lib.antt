@@ -24,3 +24,17 @@ pub mod TreeReading
 pub mod ReaderSteps
 pub mod LineSteps
 pub mod TreesGiven
+pub mod MarkSteps
+pub mod NodeBounds
+pub mod OpenSteps
+pub mod DirectionSteps
+pub mod FrameSteps
+pub mod WalkSteps
+pub mod DirectionsRead
+pub mod DirectionFaults
+pub mod TwoEndedReading
+pub mod TwoEndedFound
+pub mod TwoEndedLaws
+pub mod DirectionsGiven
+pub mod TwoEndedLines
+pub mod TwoEndedChecked

@@ -101,20 +101,21 @@ goes-on-at-first n text some jobs after h = let none : n - 0 ≡ n = omega arith
 )
 
 -- at the first place nothing was read
+pub none-done : (shop : Shop) (text : List ℕ) (set : List Bool) (front : List ℕ) → 1 ≤ shop.jobs →
+    IsFrontOf shop [] front → ((job : ℕ) → contains set job ≡ false) → IsDone shop text 1 set front text []
+none-done shop text set front some times empty = record {
+  count = refl;
+  range = tt;
+  distinct = tt;
+  times = times;
+  members = λ job low high. empty job;
+  read = refl;
+  only = goes-on-at-first shop.jobs text some;
+}
+
 pub begins : (shop : Shop) (text : List ℕ) (set : List Bool) (front : List ℕ) → 1 ≤ shop.jobs →
     IsFrontOf shop [] front → ((job : ℕ) → contains set job ≡ false) → IsReadTo shop text 1 set front text
-begins shop text set front some times empty = (
-  [],
-  record {
-    count = refl;
-    range = tt;
-    distinct = tt;
-    times = times;
-    members = λ job low high. empty job;
-    read = refl;
-    only = goes-on-at-first shop.jobs text some;
-  },
-)
+begins shop text set front some times empty = ([], none-done shop text set front some times empty)
 
 -- a sequence in whose line the text goes on has a next job at a place that is not after the last
 next-job : (n : ℕ) (text rest done : List ℕ) → GoesOn n text rest done → length done < n → (jobs after : List ℕ) →

@@ -1,5 +1,5 @@
 -- A text that begins with another one, and steps of a reading that fail or go on.
-use Rattle.std.proofs.Common.{◌≡◌, ℕ, ◌+◌, ◌-◌, Bool}
+use Rattle.std.proofs.Common.{◌≡◌, ℕ, Bool}
 use Rattle.std.proofs.Common.{true, false, cond}
 use Rattle.std.proofs.Common.{List, [], ◌∷◌, ◌++◌, Option, Some, None, Result, Err, IfErr, refl, ap, sym}
 use Rattle.std.proofs.Common.{subst, ◌∙◌, append_assoc}
@@ -18,7 +18,7 @@ abbrev rest_of : List ℕ → List ℕ
 rest_of [] = []
 rest_of (byte ∷ rest) = rest
 
-cancel : (before xs ys : List ℕ) → before ++ xs ≡ before ++ ys → xs ≡ ys
+pub cancel : (before xs ys : List ℕ) → before ++ xs ≡ before ++ ys → xs ≡ ys
 cancel [] xs ys e = e
 cancel (byte ∷ before) xs ys e = cancel before xs ys (ap rest_of e)
 
@@ -32,7 +32,7 @@ pub outer : (text before rest next more : List ℕ) → text ≡ before ++ rest 
 outer text before rest next more e f = e ∙ ap (λ r. before ++ r) f ∙ sym (append_assoc before next more)
 
 -- the first line of a text that begins with a line
-first-is : (text next more : List ℕ) → IsPlain next → text ≡ line next ++ more → first_line text ≡ Some (next, more)
+pub first-is : (text next more : List ℕ) → IsPlain next → text ≡ line next ++ more → first_line text ≡ Some (next, more)
 first-is text next more plain e = ap first_line (e ∙ append_assoc next (10 ∷ []) more)
     ∙ first-line-complete next more plain
 

@@ -32,20 +32,20 @@ abbrev rest_of : List ℕ → List ℕ
 rest_of [] = []
 rest_of (byte ∷ rest) = rest
 
-abbrev IsSome : List ℕ → Type 0
+abbrev pub IsSome : List ℕ → Type 0
 IsSome [] = ⊥
 IsSome (byte ∷ rest) = Unit {0}
 
-nothing-begins : (byte : ℕ) → BeginsWith [] (byte ∷ []) → ⊥
+pub nothing-begins : (byte : ℕ) → BeginsWith [] (byte ∷ []) → ⊥
 nothing-begins byte h = subst IsSome (sym h.1) tt
 
-begins-is : (byte start : ℕ) (rest : List ℕ) → BeginsWith (byte ∷ rest) (start ∷ []) → byte ≡ start
+pub begins-is : (byte start : ℕ) (rest : List ℕ) → BeginsWith (byte ∷ rest) (start ∷ []) → byte ≡ start
 begins-is byte start rest h = ap first_of h.1
 
-is-begun : (byte start : ℕ) (rest : List ℕ) → byte ≡ start → BeginsWith (byte ∷ rest) (start ∷ [])
+pub is-begun : (byte start : ℕ) (rest : List ℕ) → byte ≡ start → BeginsWith (byte ∷ rest) (start ∷ [])
 is-begun byte start rest e = (rest, ap (λ b. b ∷ rest) e)
 
-off-where : (b : Bool) → (b ≡ true → ⊥) → b ≡ false
+pub off-where : (b : Bool) → (b ≡ true → ⊥) → b ≡ false
 off-where true h = absurd (h refl)
 off-where false h = refl
 
@@ -63,10 +63,10 @@ cut-has P true true place rest tree weak = tt
 cut-has P true false place rest tree weak = weak refl refl
 cut-has P false h place rest tree weak = tree refl
 
-abbrev Reader : Type 0
+abbrev pub Reader : Type 0
 Reader = ℕ → List ℕ → Result (List ℕ) CheckFault
 
-abbrev IsSound : Reader → (ℕ → List ℕ → Type 0) → Type 0
+abbrev pub IsSound : Reader → (ℕ → List ℕ → Type 0) → Type 0
 IsSound read lawful = (job : ℕ) (text rest : List ℕ) → read job text ≡ Ok rest →
     (part : List ℕ) × (text ≡ part ++ rest) × lawful job part
 
@@ -82,7 +82,7 @@ among-step read lawful faulty job jobs text sound later (Ok rest) e bad =
     (λ fault. HasFaultAmong lawful faulty (job ∷ jobs) text fault)
     (λ fault h. inr (is.0, rest, is.1, is.2, h)) (later rest)
 
-among-has : (read : Reader) (lawful : ℕ → List ℕ → Type 0) (faulty : ℕ → List ℕ → CheckFault → Type 0) →
+pub among-has : (read : Reader) (lawful : ℕ → List ℕ → Type 0) (faulty : ℕ → List ℕ → CheckFault → Type 0) →
     IsSound read lawful → ((job : ℕ) (text : List ℕ) → IfErr (read job text) (λ fault. faulty job text fault)) →
     (jobs text : List ℕ) → IfErr (each_tree read jobs text) (λ fault. HasFaultAmong lawful faulty jobs text fault)
 among-has read lawful faulty sound bad [] text = tt
@@ -165,10 +165,10 @@ tree-has shop bound value place (suc left) node (byte ∷ rest) =
 
 -- a fault that a text has is the one that is read
 
-abbrev refused : CheckFault → Result (List ℕ) CheckFault
+abbrev pub refused : CheckFault → Result (List ℕ) CheckFault
 refused fault = Err fault
 
-among-read : (read : Reader) (lawful : ℕ → List ℕ → Type 0) (faulty : ℕ → List ℕ → CheckFault → Type 0) →
+pub among-read : (read : Reader) (lawful : ℕ → List ℕ → Type 0) (faulty : ℕ → List ℕ → CheckFault → Type 0) →
     ((job : ℕ) (part rest : List ℕ) → lawful job part → read job (part ++ rest) ≡ Ok rest) →
     ((job : ℕ) (text : List ℕ) (fault : CheckFault) → faulty job text fault → read job text ≡ Err fault) →
     (jobs text : List ℕ) (fault : CheckFault) → HasFaultAmong lawful faulty jobs text fault →

@@ -29,10 +29,10 @@ got (Err e) = []
 err-ok : (f : CheckFault) (r : List ℕ) → Err f ≡ Ok r → ⊥
 err-ok f r e = subst OkOnly (sym e) tt
 
-abbrev okay : List ℕ → Result (List ℕ) CheckFault
+abbrev pub okay : List ℕ → Result (List ℕ) CheckFault
 okay r = Ok r
 
-ok-same : (a b : List ℕ) → okay a ≡ okay b → a ≡ b
+pub ok-same : (a b : List ℕ) → okay a ≡ okay b → a ≡ b
 ok-same a b e = ap got e
 
 leaf-ok : (p h : Bool) (place : ℕ) (after rest : List ℕ) → leaf_fault p h place after ≡ Ok rest → (p ≡ true)
@@ -52,11 +52,11 @@ both true b e = (refl, e)
 both false b e = absurd (false≢true e)
 
 -- what a reader of trees gives
-abbrev Sound : (ℕ → List ℕ → Result (List ℕ) CheckFault) → (ℕ → List ℕ → Type 0) → Type 0
+abbrev pub Sound : (ℕ → List ℕ → Result (List ℕ) CheckFault) → (ℕ → List ℕ → Type 0) → Type 0
 Sound read c = (job : ℕ) (bytes rest : List ℕ) → read job bytes ≡ Ok rest → (part : List ℕ) × (bytes ≡ part ++ rest)
     × c job part
 
-abbrev Parts : (ℕ → List ℕ → Type 0) → List ℕ → List ℕ → List ℕ → Type 0
+abbrev pub Parts : (ℕ → List ℕ → Type 0) → List ℕ → List ℕ → List ℕ → Type 0
 Parts c jobs bytes rest = (parts : List (List ℕ)) × (bytes ≡ concat parts ++ rest) × AllZip c jobs parts
 
 each-step : (c : ℕ → List ℕ → Type 0) (next : List ℕ →
@@ -71,7 +71,7 @@ each-step c next job jobs bytes rest more (Ok mid) first e =
     let k = more mid e in
     (h.0 ∷ k.0, h.1 ∙ ap (λ xs. h.0 ++ xs) k.1 ∙ sym (append_assoc h.0 (concat k.0) rest), (h.2, k.2))
 
-each-sound : (read : ℕ → List ℕ → Result (List ℕ) CheckFault) (c : ℕ → List ℕ → Type 0) → Sound read c →
+pub each-sound : (read : ℕ → List ℕ → Result (List ℕ) CheckFault) (c : ℕ → List ℕ → Type 0) → Sound read c →
     (jobs bytes rest : List ℕ) → each_tree read jobs bytes ≡ Ok rest → Parts c jobs bytes rest
 each-sound read c sound [] bytes rest e = ([], ok-same bytes rest e, tt)
 each-sound read c sound (job ∷ jobs) bytes rest e =
@@ -124,7 +124,7 @@ tree-sound shop bound value place (suc left) node (byte ∷ after) rest e =
           )
     ]
 
-each-complete : (read : ℕ → List ℕ → Result (List ℕ) CheckFault) (c : ℕ → List ℕ → Type 0) →
+pub each-complete : (read : ℕ → List ℕ → Result (List ℕ) CheckFault) (c : ℕ → List ℕ → Type 0) →
     ((job : ℕ) (part rest : List ℕ) → c job part → read job (part ++ rest) ≡ Ok rest) →
     (jobs : List ℕ) (parts : List (List ℕ)) (rest : List ℕ) → AllZip c jobs parts →
     each_tree read jobs (concat parts ++ rest) ≡ Ok rest

@@ -4,4 +4,6 @@ pub mod Check
 pub mod Kinds
 pub mod Stated
 pub mod TextLines
+pub mod TwoEnded
+pub mod TwoEndedFaults
 pub mod internal

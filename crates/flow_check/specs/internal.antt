@@ -8,3 +8,7 @@ pub mod Lags
 pub mod Reader
 pub mod PartsGive
 pub mod Gives
+pub mod ReadDirections
+pub mod Marks
+pub mod Frames
+pub mod TwoEndedLines

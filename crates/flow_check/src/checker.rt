@@ -25,7 +25,7 @@ use std::alloc::Global;
 const ENDING: &[u8] = b"end\n";
 
 /// Whether a text is the last line alone.
-fn is_ending(text: &[u8]) -> bool
+pub(crate) fn is_ending(text: &[u8]) -> bool
     ensures { result ≡ bytes_eq text.now (line ending) }
 {
     text == ENDING

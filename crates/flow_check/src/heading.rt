@@ -92,7 +92,7 @@ fn read_value(text: &[u8]) -> Option<(Bounds, &[u8])>
 }
 
 /// The bounds in the line with which a text begins, and the text after that line.
-fn read_bounds(text: &[u8]) -> Option<(Bounds, &[u8])>
+pub(crate) fn read_bounds(text: &[u8]) -> Option<(Bounds, &[u8])>
     ensures found { IfSome result (λ r. BeginsWithStated OfBounds text.now r.0 r.1.now) }
     ensures only { (bounds : Bounds) (rest : List ℕ) → BeginsWithStated OfBounds text.now bounds rest →
         IsSomeAnd result (λ r. (r.0 ≡ bounds) × (r.1.now ≡ rest)) }

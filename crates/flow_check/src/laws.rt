@@ -2,6 +2,8 @@
 
 ghost use Rattle.flow_check.specs.Certificate.{BoundsAreSound, CertificateIsSound, StatesOne, ValueIsOne};
 ghost use Rattle.flow_check.specs.CertificateFaults.{EachTextIsJudged};
+ghost use Rattle.flow_check.specs.TwoEnded.{TwoEndedIsSound, TwoEndedStatesOne};
+ghost use Rattle.flow_check.specs.TwoEndedFaults.{EachTwoEndedIsJudged};
 ghost use Rattle.flow_check.specs.internal.Reading.{ValueIsExact, FaultIsExact};
 
 /// The value of a lawful certificate, whoever made it, is the least makespan. No text is a certificate of two values.
@@ -31,4 +33,20 @@ pub fn value_is_exact()
 pub fn fault_is_exact()
     ensures judged { EachTextIsJudged }
     ensures exact { FaultIsExact }
+{}
+
+/// The bounds of a lawful two-ended certificate, whoever made it, hold. Where they are the same, they are the least
+/// makespan.
+pub fn two_ended_is_sound()
+    ensures { TwoEndedIsSound }
+{}
+
+/// A lawful two-ended certificate states one pair of bounds, one sequence and one string of directions.
+pub fn two_ended_states_one()
+    ensures { TwoEndedStatesOne }
+{}
+
+/// A text is a lawful two-ended certificate of some bounds, with a sequence, or has one first fault, and not both.
+pub fn two_ended_fault_is_exact()
+    ensures { EachTwoEndedIsJudged }
 {}

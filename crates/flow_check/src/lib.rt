@@ -1,6 +1,7 @@
 //! The checker: reads a certificate, and returns the value that it proves least; reads a text of bounds, and returns
-//! the bounds that it proves; or returns the sequence of either text beside. It stands on flow_limits and flow_shop
-//! alone, and computes its bounds of lists by code of its own.
+//! the bounds that it proves; or returns the sequence of either text beside. Reads a two-ended certificate, and returns
+//! its bounds and its sequence. It uses nothing of a solver, and computes its bounds of lists by code of its own; those
+//! of the nodes of a two-ended certificate are flow_nodes'.
 #![tactic(auto)]
 
 mod bounds;
@@ -19,12 +20,15 @@ mod stated;
 mod tree;
 mod trees;
 mod trees_text;
+mod two_ended;
 
 pub use bounds::Bounds;
 pub use checker::{check, check_bounds};
 pub use fault::CheckFault;
 pub use kind::{TextKind, kind_of};
 pub use laws::{
-    bounds_are_sound, certificate_is_sound, fault_is_exact, text_states_one, value_is_exact,
+    bounds_are_sound, certificate_is_sound, fault_is_exact, text_states_one,
+    two_ended_fault_is_exact, two_ended_is_sound, two_ended_states_one, value_is_exact,
 };
 pub use stated::{Shown, check_sequence, check_text};
+pub use two_ended::check_two_ended;

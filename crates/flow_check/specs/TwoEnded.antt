@@ -1,0 +1,73 @@
+-- Two-ended certificates: texts that prove bounds by a string of directions. Such a text states a lower bound, an upper
+-- bound and a sequence. Where both bounds are the same, they are the least makespan.
+use Rattle.std.specs.Prelude.{ℕ, ◌≡◌, ◌^◌, ◌<◌, List, [], ◌∷◌, ◌++◌, codes}
+use Rattle.flow_shop.specs.Shop.{Shop, IsWithinLimits}
+use Rattle.flow_shop.specs.Paths.{span}
+use Rattle.flow_shop.specs.Sequences.{IsSequence, IsLeastMakespan}
+use Rattle.flow_shop.specs.Directions.{Proves}
+use Rattle.flow_check.specs.TextLines.{line, spaced, ending}
+use Rattle.flow_check.specs.Certificate.{AreBounds}
+use Rattle.flow_check.specs.declared.bounds.Bounds.{Bounds}
+
+-- the first line
+abbrev pub two_ended_title : List ℕ
+two_ended_title = codes "flowshop two-ended 1"
+
+-- a text up to its first line
+abbrev pub title_line : List ℕ
+title_line = line two_ended_title
+
+-- up to the line of the jobs and machines
+abbrev pub size_lines : Shop → List ℕ
+size_lines shop = title_line ++ line (spaced (shop.jobs ∷ shop.machines ∷ []))
+
+-- up to the line of the bounds
+abbrev pub bounds_lines : Shop → Bounds → List ℕ
+bounds_lines shop bounds = size_lines shop ++ line (spaced (bounds.lower ∷ bounds.upper ∷ []))
+
+-- up to the line of the sequence
+abbrev pub sequence_lines : Shop → Bounds → List ℕ → List ℕ
+sequence_lines shop bounds sequence = bounds_lines shop bounds ++ line (spaced sequence)
+
+-- a whole text, with its directions
+abbrev pub two_ended_text : Shop → Bounds → List ℕ → List ℕ → List ℕ
+two_ended_text shop bounds sequence directions =
+    sequence_lines shop bounds sequence ++ line directions ++ line ending
+
+-- what a text shows: a sequence whose makespan is the upper bound, and directions that prove the lower bound
+pub record ShowsBounds (shop : Shop) (bounds : Bounds) (sequence directions : List ℕ) : Type 0 where
+  pub lower_fits : bounds.lower < 2 ^ 64
+  pub upper_fits : bounds.upper < 2 ^ 64
+  pub whole : IsSequence shop.jobs sequence
+  pub attained : span shop sequence ≡ bounds.upper
+  pub proved : Proves shop bounds.lower directions
+
+-- a text is a lawful two-ended certificate of these bounds, with this sequence
+pub record IsTwoEnded (shop : Shop) (bytes : List ℕ) (bounds : Bounds) (sequence : List ℕ) : Type 0 where
+  pub directions : List ℕ
+  pub shows : ShowsBounds shop bounds sequence directions
+  pub text : bytes ≡ two_ended_text shop bounds sequence directions
+
+-- bounds that are proved: they hold, and where they are the same they are the least makespan
+pub record AreProved (shop : Shop) (bounds : Bounds) : Type 0 where
+  pub hold : AreBounds shop bounds
+  pub least : bounds.lower ≡ bounds.upper → IsLeastMakespan shop bounds.lower
+
+-- two statements are one: the same bounds, sequence and directions
+pub record AreOne (bounds other : Bounds) (sequence jobs directions signs : List ℕ) : Type 0 where
+  pub bounds_same : bounds ≡ other
+  pub sequence_same : sequence ≡ jobs
+  pub directions_same : directions ≡ signs
+
+-- the bounds of a lawful text, whoever made it, are proved
+abbrev pub TwoEndedIsSound : Type 0
+TwoEndedIsSound =
+    (shop : Shop) (bytes : List ℕ) (bounds : Bounds) (sequence : List ℕ) → IsTwoEnded shop bytes bounds sequence →
+    AreProved shop bounds
+
+-- a text states one pair of bounds, one sequence and one string of directions
+abbrev pub TwoEndedStatesOne : Type 0
+TwoEndedStatesOne =
+    (shop : Shop) (bytes : List ℕ) (bounds other : Bounds) (sequence jobs : List ℕ) → IsWithinLimits shop →
+    (one : IsTwoEnded shop bytes bounds sequence) (another : IsTwoEnded shop bytes other jobs) →
+    AreOne bounds other sequence jobs one.directions another.directions

@@ -1,0 +1,64 @@
+-- What is kept of the nodes whose children are read.
+use Rattle.std.specs.Prelude.{ℕ, ◌≡◌, ◌+◌, ◌*◌, ◌/◌, ◌<◌, ◌≤◌, false, List, [], ◌∷◌, ◌++◌, length, slice_index}
+use Rattle.std.specs.Prelude.{slice_index_or}
+use Rattle.std.specs.Global.{Vec}
+use Rattle.flow_shop.specs.Shop.{Shop, IsWithinLimits}
+use Rattle.flow_shop.specs.Sequences.{has}
+use Rattle.flow_shop.specs.Directions.{first_with, last_with}
+use Rattle.flow_shop.specs.declared.end.End.{End}
+use Rattle.flow_nodes.specs.Nodes.{IsNode}
+use Rattle.flow_nodes.specs.Groups.{IsGroup, child_bound}
+use Rattle.flow_check.specs.internal.Marks.{mark}
+use Rattle.flow_check.specs.declared.two_ended.marks.Marks.{Marks}
+use Rattle.flow_check.specs.declared.two_ended.walk.Frame.{Frame}
+
+-- a group, whose lanes have sixteen jobs in increasing order, up to the last job of the instance
+pub record IsGroupFrom {V : Type 0} (list : V → List ℕ) (cap width : ℕ) (shop : Shop) (before : ℕ) (group : List V) :
+    Type 0 where
+  pub names : List ℕ
+  pub is_group : IsGroup list cap width shop names group
+  pub each : (lane : ℕ) → lane < 16 → before + lane + 1 ≤ shop.jobs → slice_index names lane ≡ before + lane + 1
+
+-- the groups of all jobs, sixteen to a group
+pub record AreGroups {V : Type 0} (list : V → List ℕ) (cap width : ℕ) (shop : Shop) (groups : List (Vec V)) :
+    Type 0 where
+  pub limits : IsWithinLimits shop
+  pub count : length groups ≡ (shop.jobs + 15) / 16
+  pub each : (group : ℕ) (none : Vec V) → group < length groups →
+      IsGroupFrom list cap width shop (group * 16) (slice_index_or groups group none).items
+
+-- the jobs in neither list of a node are marked, and no others
+pub record AreLeft (shop : Shop) (first last : List ℕ) (marks : Marks) : Type 0 where
+  pub all : (job : ℕ) → 1 ≤ job → job ≤ shop.jobs → has (first ++ last) job ≡ false → mark marks job ≡ 1
+  pub only : (job : ℕ) → 1 ≤ job → mark marks job ≡ 1 → (job ≤ shop.jobs) × (has (first ++ last) job ≡ false)
+
+-- the jobs left whose children at an end are below a number are marked, and no others
+pub record AreOpen (shop : Shop) (number : ℕ) (end : End) (first last : List ℕ) (marks : Marks) : Type 0 where
+  pub all : (job : ℕ) → 1 ≤ job → job ≤ shop.jobs → has (first ++ last) job ≡ false →
+      child_bound shop end first last job < number → mark marks job ≡ 1
+  pub only : (job : ℕ) → 1 ≤ job → mark marks job ≡ 1 →
+      (job ≤ shop.jobs) × (has (first ++ last) job ≡ false) × (child_bound shop end first last job < number)
+
+-- the frame of a node
+pub record IsFrame (shop : Shop) (number : ℕ) (first last : List ℕ) (frame : Frame) : Type 0 where
+  pub is_node : IsNode shop first last frame.node
+  pub are_left : AreLeft shop first last frame.left
+  pub are_open : AreOpen shop number frame.end first last frame.below
+  pub job : frame.job ≤ shop.jobs
+
+-- the first list to which frames lead, that of the root first
+abbrev pub first_of : List ℕ → List Frame → List ℕ
+first_of first [] = first
+first_of first (frame ∷ frames) = first_of (first_with frame.end first frame.job) frames
+
+-- the last list to which they lead
+abbrev pub last_of : List ℕ → List Frame → List ℕ
+last_of last [] = last
+last_of last (frame ∷ frames) = last_of (last_with frame.end last frame.job) frames
+
+-- the frames of a node, of its child that is read, and so on
+abbrev pub AreFrames : Shop → ℕ → List ℕ → List ℕ → List Frame → Type 0
+AreFrames shop number first last [] = Unit {0}
+AreFrames shop number first last (frame ∷ frames) =
+    IsFrame shop number first last frame
+    × AreFrames shop number (first_with frame.end first frame.job) (last_with frame.end last frame.job) frames
