@@ -1,15 +1,13 @@
 //! The work of `flowshop` in plain safe Rust, with no proofs and no other crates: a program to measure beside.
 //!
 //! It is written apart from the proved crates, from the rules of docs/formats.md, and writes the same texts. Each
-//! bound is computed anew at each node, each insertion's makespan from heads and tails, and a certificate or a text of
-//! bounds is read in one pass with a stack. Of workers, prefix `i` belongs to worker `i mod k`.
+//! bound is computed anew at each node, and each insertion's makespan from heads and tails. Of workers, prefix `i`
+//! belongs to worker `i mod k`. It checks no texts: second_checker does.
 //!
 //! Build it with `rustc --edition 2024 -O bench/plain.rs`.
 
 #[path = "plain/blocks.rs"]
 mod blocks;
-#[path = "plain/check.rs"]
-mod check;
 #[path = "plain/fault.rs"]
 mod fault;
 #[path = "plain/search.rs"]
@@ -18,7 +16,6 @@ mod search;
 mod shop;
 
 use blocks::{Block, push_line, read_blocks};
-use check::check;
 use fault::{Fault, command_line, failed, refused};
 use search::{Request, numbers_from_one, solve};
 use shop::{Instance, MAX_JOBS, MAX_MACHINES, generated};
@@ -28,7 +25,6 @@ use std::io::{self, Read, Write};
 use std::process::ExitCode;
 
 const MAX_TEXT: u64 = 16_777_216;
-const MAX_CERTIFICATE: u64 = 1_000_000_000;
 
 fn open(name: &str) -> Result<Box<dyn Read>, Fault> {
     if name == "stdin" {
@@ -120,18 +116,6 @@ fn run_solve(file: impl Read, index: u32, request: &Request) -> Result<Vec<u8>, 
     solve(&instance, &options)
 }
 
-/// Checks a text of the instance; where either is asked for, it may be one of the mirrored instance.
-fn run_check(file: impl Read, index: u32, cert: impl Read, either: bool) -> Result<Vec<u8>, Fault> {
-    let instance = read_instance(file, index)?;
-    let text = read_all(cert, MAX_CERTIFICATE)?;
-    let checked = check(&instance, &text);
-    let proved = match checked {
-        Err(fault) if either => check(&instance.mirrored(), &text).or(Err(fault)),
-        _ => checked,
-    }?;
-    Ok(format!("{proved}\n").into_bytes())
-}
-
 fn argument<T: std::str::FromStr>(word: &str) -> Result<T, Fault> {
     word.parse().map_err(|_| command_line())
 }
@@ -179,12 +163,6 @@ fn output(words: &[&str]) -> Result<Vec<u8>, Fault> {
         ["solve", file, index, rest @ ..] => {
             let (index, request) = (argument(index)?, request(rest)?);
             run_solve(open(file)?, index, &request)
-        }
-        ["check", file, index, cert] | ["check", file, index, cert, "--either"] => {
-            let index = argument(index)?;
-            let file = open(file)?;
-            let cert = File::open(cert).map_err(|_| failed("open"))?;
-            run_check(file, index, cert, words.len() == 5)
         }
         _ => Err(command_line()),
     }

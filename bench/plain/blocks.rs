@@ -170,7 +170,7 @@ fn push_numbers(numbers: &mut Vec<u32>, line: &[u8], number: usize) -> Result<()
         match (byte, value) {
             (b'0'..=b'9', _) => {
                 let digit = u64::from(byte - b'0');
-                value = Some(value.map_or(digit, |high: u64| high.saturating_mul(10) + digit));
+                value = Some(value.map_or(digit, |high: u64| high.saturating_mul(10).saturating_add(digit)));
             }
             (b' ' | b'\t' | b'\r', Some(whole)) => {
                 let fitting = u32::try_from(whole);

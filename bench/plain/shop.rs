@@ -82,15 +82,6 @@ impl Instance {
         }
     }
 
-    /// The instance with its machines in reverse order.
-    pub fn mirrored(&self) -> Instance {
-        let rows = (0..self.machines).rev();
-        let times: Vec<u32> = rows
-            .flat_map(|machine| self.jobs.iter().map(move |job| job.times[machine]))
-            .collect();
-        Instance::new(self.jobs.len(), self.machines, &times)
-    }
-
     /// Puts a job behind those of a front.
     pub fn push(&self, front: &mut Front, job: usize) {
         let mut free = 0;

@@ -1,0 +1,178 @@
+//! A second checker of certificates, of texts of bounds and of two-ended texts of permutation flow shops.
+//!
+//! It is a program of its own, in plain safe Rust. It was written apart from the proved checker of `flowshop`, by the
+//! same authors, from the rules of the texts alone. It is not proved, and shares no source file with a solver.
+//!
+//! Build it with any rustc from 1.63 on: `rustc --edition 2021 -O second_checker/main.rs -o second`.
+//!
+//! - `shop.rs`: the shop, and the two recurrences;
+//! - `blocks.rs`: the benchmark text;
+//! - `heading.rs`: lines 1 to 4 of a text, which say what it claims;
+//! - `trees.rs`: the trees of a certificate or of a text of bounds;
+//! - `directions.rs`: the directions of a two-ended text;
+//! - `files.rs`, `fault.rs`: files, and the lines of refused runs.
+//!
+//! Jobs and machines count from 0 in the program, and from 1 in texts. A run holds the text that it checks, and little
+//! beside: no call is deeper than a list of all jobs is long.
+
+#![forbid(unsafe_code)]
+
+mod blocks;
+mod directions;
+mod fault;
+mod files;
+mod heading;
+mod shop;
+mod trees;
+
+use fault::Fault;
+use heading::{Claim, Kind};
+use shop::Shop;
+use std::env;
+use std::ffi::OsString;
+use std::io::{self, Write};
+use std::process::ExitCode;
+
+const HELP: &str = "\
+Checks a text that says what the least makespan of a permutation flow shop is, or between which bounds it is.
+
+Usage: second check FILE INDEX CERT [--either] [--sequence] [--optimal]
+
+  FILE        The file of the benchmark text, or stdin for standard input
+  INDEX       The number of the block in the text, from 1
+  CERT        The file of the certificate, of the text of bounds or of the two-ended text; /dev/stdin for a pipe
+  --either    Accepts a text of the mirrored instance too
+  --sequence  Prints the sequence of the text for the instance, and its makespan
+  --optimal   Refuses a text whose bounds differ
+  --help      Prints this
+
+It prints `optimal V` where V is the least makespan, or `bounds L U` where no sequence has a makespan below L and that
+of the text has the makespan U. Otherwise it prints one line on standard error, and ends with a status that is not 0.
+
+This checker was written apart from the proved one of flowshop, by the same authors. It is not proved.
+";
+
+/// What the command line asks for.
+struct Request<'a> {
+    file: &'a str,
+    index: u32,
+    cert: &'a str,
+    either: bool,
+    sequence: bool,
+    optimal: bool,
+}
+
+/// Reads the command line: the word `check`, and behind it three names, and each option at most once, in any order.
+fn request_of(words: &[String]) -> Option<Request<'_>> {
+    let (mut either, mut sequence, mut optimal) = (false, false, false);
+    let mut names = Vec::new();
+    let (command, words) = words.split_first()?;
+    for word in words {
+        let option = match word.as_str() {
+            "--either" => &mut either,
+            "--sequence" => &mut sequence,
+            "--optimal" => &mut optimal,
+            other if other.starts_with('-') => return None,
+            other => {
+                names.push(other);
+                continue;
+            }
+        };
+        if *option {
+            return None;
+        }
+        *option = true;
+    }
+    match names[..] {
+        [file, index, cert] if command == "check" => Some(Request {
+            file,
+            index: index.parse().ok()?,
+            cert,
+            either,
+            sequence,
+            optimal,
+        }),
+        _ => None,
+    }
+}
+
+/// Checks a whole text of a shop: what it claims, or its first fault.
+fn check(shop: &Shop, text: &[u8]) -> Result<Claim, Fault> {
+    let (claim, rest) = heading::read(shop, text)?;
+    let rest = match claim.kind {
+        Kind::TwoEnded => directions::check(shop, claim.lower, rest)?,
+        Kind::Certificate(bound) | Kind::Bounds(bound) => {
+            trees::check(shop, bound, claim.lower, claim.depth, rest)?
+        }
+    };
+    // The last line is `end` with its LF, and nothing follows.
+    if rest != b"end\n" {
+        return Err(Fault::Certificate("End"));
+    }
+    Ok(claim)
+}
+
+/// Checks a text of a shop or, where that fails, of the mirrored shop.
+///
+/// The mirrored shop has the machines in reverse order. A sequence has the makespan there that the reversed one has
+/// here, so both have the same least makespan. Where neither check succeeds, the fault is that of the shop itself.
+fn check_either(shop: &Shop, text: &[u8]) -> Result<Claim, Fault> {
+    let fault = match check(shop, text) {
+        Ok(claim) => return Ok(claim),
+        Err(fault) => fault,
+    };
+    match check(&shop.mirrored(), text) {
+        Ok(mut claim) => {
+            claim.sequence.reverse();
+            Ok(claim)
+        }
+        Err(_) => Err(fault),
+    }
+}
+
+/// What the run prints on standard output.
+fn output(request: &Request) -> Result<String, Fault> {
+    // Both files are opened before the first byte is read, and the benchmark text is read first.
+    let file = files::open_text(request.file)?;
+    let cert = files::open(request.cert)?;
+    let shop = blocks::read(&files::read_text(file)?, request.index)?;
+    let text = files::read_certificate(cert)?;
+    let claim = if request.either {
+        check_either(&shop, &text)?
+    } else {
+        check(&shop, &text)?
+    };
+    if request.optimal && claim.lower != claim.upper {
+        return Err(Fault::Bounds(claim.lower, claim.upper));
+    }
+    Ok(if request.sequence {
+        claim.sequence_lines()
+    } else {
+        claim.line()
+    })
+}
+
+/// Does what the words of the command line ask for.
+fn run() -> Result<(), Fault> {
+    let words: Result<Vec<_>, _> = env::args_os().skip(1).map(OsString::into_string).collect();
+    let words = words.map_err(|_| Fault::CommandLine)?;
+    let text = if words.iter().any(|word| word == "--help") {
+        HELP.to_string()
+    } else {
+        output(&request_of(&words).ok_or(Fault::CommandLine)?)?
+    };
+    let mut out = io::stdout();
+    let written = out.write_all(text.as_bytes()).and_then(|()| out.flush());
+    written.map_err(|_| Fault::Write)
+}
+
+fn main() -> ExitCode {
+    match run() {
+        Ok(()) => ExitCode::SUCCESS,
+        Err(fault) => {
+            // Where standard error is closed the status alone is left to tell.
+            let _ = writeln!(io::stderr(), "{fault}");
+            ExitCode::from(fault.status())
+        }
+    }
+}
