@@ -5,9 +5,10 @@ ghost use Rattle.flow_core.specs.Front.{IsWithinFront};
 ghost use Rattle.flow_core.specs.JobSet.{contains, members};
 
 use crate::instances::{three_machines, two_machines};
+use crate::shops::{Shop, made};
 use flow_bound::{Rest, bound, insertion_spans, neh, released_bound, taillard_bound};
-use flow_core::{Front, Instance, JobSet, Sequence, front_push, generate};
-use std::alloc::{AllocError, Global};
+use flow_core::{Front, Instance, JobSet, Sequence, front_push};
+use std::alloc::Global;
 use std::test::Fail;
 
 /// The front of a list, and the jobs that it leaves.
@@ -35,126 +36,104 @@ fn node(instance: &Instance, jobs: &[u16]) -> Result<(Front, JobSet), Fail>
     Ok((front, left))
 }
 
-/// The completion time and the bound of each machine.
-fn times_and_bounds(
-    alloc: Global,
-    instance: &Instance,
-    front: &Front,
-    left: &JobSet,
-) -> Result<Vec<(u64, u64)>, AllocError>
-    requires some { 0 < length (members left.now) }
-    requires left { (job : ℕ) → instance.now.jobs < job → contains left.now job ≡ false }
-    requires within { IsWithinFront instance.now front.now }
-{
-    let mut found = Vec::new(alloc);
-    for machine in 1..instance.machines() + 1 {
-        found.push((front.at(machine), bound(instance, front, left, machine)))?;
-    }
-    Ok(found)
-}
+/// One job on one machine.
+const ONE_JOB: Shop = Shop::Seed(1, 1, 2_147_483_646);
 
-/// The completion time and the bound of each machine, at a list.
-fn table_row(alloc: Global, instance: &Instance, jobs: &[u16]) -> Result<Vec<(u64, u64)>, Fail> {
-    let (front, left) = node(instance, jobs)?;
-    Ok(times_and_bounds(alloc, instance, &front, &left)?)
+/// Lists, and for each machine the completion time and the bound.
+static BOUNDS: [(Shop, &[u16], &[(u64, u64)]); 15] = [
+    (Shop::Three, &[], &[(0, 7), (0, 10), (0, 5)]),
+    (Shop::Three, &[1], &[(4, 7), (4, 14), (8, 9)]),
+    (Shop::Three, &[2], &[(0, 7), (8, 11), (8, 13)]),
+    (Shop::Three, &[3], &[(0, 8), (2, 10), (3, 7)]),
+    (Shop::Three, &[1, 2], &[(4, 7), (12, 15), (12, 13)]),
+    (Shop::Three, &[1, 3], &[(4, 12), (6, 14), (9, 9)]),
+    (Shop::Three, &[2, 1], &[(4, 7), (8, 11), (12, 13)]),
+    (Shop::Three, &[2, 3], &[(0, 8), (10, 14), (11, 15)]),
+    (Shop::Three, &[3, 1], &[(4, 12), (4, 12), (8, 8)]),
+    (Shop::Three, &[3, 2], &[(0, 8), (10, 14), (10, 14)]),
+    (Shop::Two, &[], &[(0, 8), (0, 8)]),
+    (Shop::Two, &[1], &[(3, 8), (5, 11)]),
+    (Shop::Two, &[2], &[(1, 8), (5, 9)]),
+    (Shop::Two, &[3], &[(2, 8), (4, 10)]),
+    (ONE_JOB, &[], &[(0, 99)]),
+];
+
+/// Whether each machine has this completion time and this bound at a list.
+fn has_bounds(alloc: Global, shop: Shop, jobs: &[u16], row: &[(u64, u64)]) -> Result<bool, Fail> {
+    let instance = made(alloc, shop)?;
+    let (front, left) = node(&instance, jobs)?;
+    if row.len() != instance.machines() as usize {
+        return Ok(false);
+    }
+    for machine in 1..instance.machines() + 1 {
+        let found = (front.at(machine), bound(&instance, &front, &left, machine));
+        if row.get(machine as usize - 1) != Some(&found) {
+            return Ok(false);
+        }
+    }
+    Ok(true)
 }
 
 #[test]
 fn bounds_are_the_worked_ones(rt: HostRuntime) -> Result<(), Fail> {
-    let alloc = rt.alloc();
-    let three = three_machines(alloc)?;
-    let two = two_machines(alloc)?;
-    let rows: [(&Instance, &[u16], &[(u64, u64)]); 14] = [
-        (&three, &[], &[(0, 7), (0, 10), (0, 5)]),
-        (&three, &[1], &[(4, 7), (4, 14), (8, 9)]),
-        (&three, &[2], &[(0, 7), (8, 11), (8, 13)]),
-        (&three, &[3], &[(0, 8), (2, 10), (3, 7)]),
-        (&three, &[1, 2], &[(4, 7), (12, 15), (12, 13)]),
-        (&three, &[1, 3], &[(4, 12), (6, 14), (9, 9)]),
-        (&three, &[2, 1], &[(4, 7), (8, 11), (12, 13)]),
-        (&three, &[2, 3], &[(0, 8), (10, 14), (11, 15)]),
-        (&three, &[3, 1], &[(4, 12), (4, 12), (8, 8)]),
-        (&three, &[3, 2], &[(0, 8), (10, 14), (10, 14)]),
-        (&two, &[], &[(0, 8), (0, 8)]),
-        (&two, &[1], &[(3, 8), (5, 11)]),
-        (&two, &[2], &[(1, 8), (5, 9)]),
-        (&two, &[3], &[(2, 8), (4, 10)]),
-    ];
-    for (instance, jobs, row) in rows {
-        let found = table_row(alloc, instance, jobs)?;
-        assert_eq!(rt; found.as_slice(), row, "at {jobs:?}");
+    for &(shop, jobs, row) in BOUNDS.iter() {
+        let holds = has_bounds(rt.alloc(), shop, jobs, row)?;
+        assert!(rt; holds, "at {jobs:?}");
     }
     Ok(())
 }
 
-/// The released bound of each machine, and that of the rest of the jobs left.
-fn released_bounds(
-    alloc: Global,
-    instance: &Instance,
-    front: &Front,
-    left: &JobSet,
-) -> Result<Vec<(u64, u64)>, AllocError>
-    requires some { 0 < length (members left.now) }
-    requires left { (job : ℕ) → instance.now.jobs < job → contains left.now job ≡ false }
-    requires within { IsWithinFront instance.now front.now }
-{
-    let rest = Rest::of(instance, left);
-    let mut found = Vec::new(alloc);
-    for machine in 1..instance.machines() + 1 {
-        found.push((
-            released_bound(instance, front, left, machine),
-            rest.released_bound(front, machine),
-        ))?;
-    }
-    Ok(found)
-}
+/// Lists, and the released bound of each machine.
+static RELEASED_BOUNDS: [(Shop, &[u16], &[u64]); 4] = [
+    (Shop::Two, &[], &[8, 9]),
+    (Shop::Three, &[], &[7, 10, 7]),
+    (Shop::Three, &[3], &[8, 10, 8]),
+    (Shop::Three, &[3, 1], &[12, 12, 12]),
+];
 
-/// The released bounds at a list.
-fn released_row(alloc: Global, instance: &Instance, jobs: &[u16]) -> Result<Vec<(u64, u64)>, Fail> {
-    let (front, left) = node(instance, jobs)?;
-    Ok(released_bounds(alloc, instance, &front, &left)?)
+/// Whether each machine has this released bound at a list, by the jobs left and by the rest that they are.
+fn has_released(alloc: Global, shop: Shop, jobs: &[u16], row: &[u64]) -> Result<bool, Fail> {
+    let instance = made(alloc, shop)?;
+    let (front, left) = node(&instance, jobs)?;
+    let rest = Rest::of(&instance, &left);
+    if row.len() != instance.machines() as usize {
+        return Ok(false);
+    }
+    for machine in 1..instance.machines() + 1 {
+        let found = released_bound(&instance, &front, &left, machine);
+        let of_rest = rest.released_bound(&front, machine);
+        if found != of_rest || row.get(machine as usize - 1) != Some(&found) {
+            return Ok(false);
+        }
+    }
+    Ok(true)
 }
 
 #[test]
 fn released_bounds_are_the_worked_ones(rt: HostRuntime) -> Result<(), Fail> {
-    let alloc = rt.alloc();
-    let two = two_machines(alloc)?;
-    let three = three_machines(alloc)?;
-    let rows: [(&Instance, &[u16], &[(u64, u64)]); 4] = [
-        (&two, &[], &[(8, 8), (9, 9)]),
-        (&three, &[], &[(7, 7), (10, 10), (7, 7)]),
-        (&three, &[3], &[(8, 8), (10, 10), (8, 8)]),
-        (&three, &[3, 1], &[(12, 12), (12, 12), (12, 12)]),
-    ];
-    for (instance, jobs, row) in rows {
-        assert_eq!(rt;
-            released_row(alloc, instance, jobs)?.as_slice(),
-            row,
-            "at {jobs:?}"
-        );
+    for &(shop, jobs, row) in RELEASED_BOUNDS.iter() {
+        let holds = has_released(rt.alloc(), shop, jobs, row)?;
+        assert!(rt; holds, "at {jobs:?}");
     }
     Ok(())
 }
 
-/// For each machine, a rest's sum and least tail, and its bound behind a front.
-fn sums_tails_and_bounds(
-    alloc: Global,
-    instance: &Instance,
-    rest: &Rest,
-    front: &Front,
-) -> Result<Vec<(u32, u32, u64)>, AllocError>
+/// Whether each machine has this sum and least tail in a rest, and this bound behind a front.
+fn has_rest(instance: &Instance, rest: &Rest, front: &Front, row: &[(u32, u32, u64)]) -> bool
     requires machines { rest.now.loads.machines ≡ instance.now.machines }
     requires within { IsWithinFront instance.now front.now }
 {
-    let mut found = Vec::new(alloc);
-    for machine in 1..instance.machines() + 1 {
-        found.push((
-            rest.sum(machine),
-            rest.tail(machine),
-            rest.bound(front, machine),
-        ))?;
+    if row.len() != instance.machines() as usize {
+        return false;
     }
-    Ok(found)
+    for machine in 1..instance.machines() + 1 {
+        let bound = rest.bound(front, machine);
+        let found = (rest.sum(machine), rest.tail(machine), bound);
+        if row.get(machine as usize - 1) != Some(&found) {
+            return false;
+        }
+    }
+    true
 }
 
 /// The rest of a set with one job more, and the rest of the set by a step from it.
@@ -178,34 +157,25 @@ fn rests(instance: &Instance, after: &JobSet, job: u16) -> Result<(Rest, Rest), 
 
 #[test]
 fn rests_of_three_machines_are_the_worked_ones(rt: HostRuntime) -> Result<(), Fail> {
-    let alloc = rt.alloc();
-    let instance = three_machines(alloc)?;
+    let instance = three_machines(rt.alloc())?;
     let (empty, _left) = node(&instance, &[])?;
     let (front, left) = node(&instance, &[3])?;
-    let (all, rest) = rests(&instance, &left, 3)?;
-    let row = sums_tails_and_bounds(alloc, &instance, &all, &empty)?;
-    assert_eq!(rt;
-        row.as_slice(),
-        [(4, 3, 7), (10, 0, 10), (5, 0, 5)].as_slice()
-    );
-    let row = sums_tails_and_bounds(alloc, &instance, &rest, &front)?;
-    assert_eq!(rt;
-        row.as_slice(),
-        [(4, 4, 8), (8, 0, 10), (4, 0, 7)].as_slice()
-    );
-    let again = sums_tails_and_bounds(alloc, &instance, &Rest::of(&instance, &left), &front)?;
-    assert_eq!(rt; row.as_slice(), again.as_slice());
+    let (all, step) = rests(&instance, &left, 3)?;
+    let of_all = [(4, 3, 7), (10, 0, 10), (5, 0, 5)];
+    assert!(rt; has_rest(&instance, &all, &empty, &of_all));
+    let behind = [(4, 4, 8), (8, 0, 10), (4, 0, 7)];
+    assert!(rt; has_rest(&instance, &step, &front, &behind));
+    assert!(rt; has_rest(&instance, &Rest::of(&instance, &left), &front, &behind));
     Ok(())
 }
 
 #[test]
 fn two_jobs_end_sooner_with_the_second_first(rt: HostRuntime) -> Result<(), Fail> {
     let instance = two_machines(rt.alloc())?;
-    let rows: [(&[u16], u64); 2] = [(&[2, 1], 7), (&[1, 2], 9)];
-    for (jobs, end) in rows {
-        let (front, _left) = node(&instance, jobs)?;
-        assert_eq!(rt; front.at(2), end, "at {jobs:?}");
-    }
+    let (front, _left) = node(&instance, &[2, 1])?;
+    assert_eq!(rt; front.at(2), 7);
+    let (front, _left) = node(&instance, &[1, 2])?;
+    assert_eq!(rt; front.at(2), 9);
     Ok(())
 }
 
@@ -223,64 +193,68 @@ fn spans_with_next(
     Ok(insertion_spans(alloc, instance, &jobs[..count], jobs[count])?)
 }
 
+/// Whether these are the makespans for jobs of the instance with three machines.
+fn has_spans(alloc: Global, jobs: &[u16], count: usize, spans: &[u64]) -> Result<bool, Fail> {
+    let instance = three_machines(alloc)?;
+    let sequence = Sequence::new(alloc, &instance, jobs)?;
+    let found = spans_with_next(alloc, &instance, &sequence, count)?;
+    Ok(found.as_slice() == spans)
+}
+
+/// The first jobs of sequences of three jobs, how many they are, and the makespans with the next job put in.
+static INSERTIONS: [(&[u16], usize, &[u64]); 3] = [
+    (&[2, 1, 3], 2, &[14, 15, 13]),
+    (&[1, 2, 3], 1, &[12, 12]),
+    (&[1, 2, 3], 0, &[8]),
+];
+
 #[test]
 fn insertions_are_the_worked_ones(rt: HostRuntime) -> Result<(), Fail> {
-    let alloc = rt.alloc();
-    let instance = three_machines(alloc)?;
-    let rows: [(&[u16], usize, &[u64]); 3] = [
-        (&[2, 1, 3], 2, &[14, 15, 13]),
-        (&[1, 2, 3], 1, &[12, 12]),
-        (&[1, 2, 3], 0, &[8]),
-    ];
-    for (jobs, count, spans) in rows {
-        let sequence = Sequence::new(alloc, &instance, jobs)?;
-        let found = spans_with_next(alloc, &instance, &sequence, count)?;
-        assert_eq!(rt; found.as_slice(), spans, "{count} jobs of {jobs:?}");
+    for &(jobs, count, spans) in INSERTIONS.iter() {
+        let holds = has_spans(rt.alloc(), jobs, count, spans)?;
+        assert!(rt; holds, "{count} of {jobs:?}");
     }
     Ok(())
+}
+
+/// Starting sequences and their makespans.
+static STARTS: [(Shop, &[u16], u64); 4] = [
+    (Shop::Three, &[2, 1, 3], 13),
+    (Shop::Two, &[2, 3, 1], 9),
+    (Shop::Seed(2, 2, 1), &[1, 2], 122),
+    (ONE_JOB, &[1], 99),
+];
+
+/// Whether the starting sequence of an instance has these jobs and this makespan.
+fn starts_with(alloc: Global, shop: Shop, jobs: &[u16], value: u64) -> Result<bool, Fail> {
+    let instance = made(alloc, shop)?;
+    let (sequence, makespan) = neh(alloc, &instance)?;
+    Ok(sequence.jobs() == jobs && makespan == value)
 }
 
 #[test]
 fn starting_sequences_are_the_worked_ones(rt: HostRuntime) -> Result<(), Fail> {
-    let alloc = rt.alloc();
-    let rows: [(Instance, &[u16], u64); 3] = [
-        (three_machines(alloc)?, &[2, 1, 3], 13),
-        (two_machines(alloc)?, &[2, 3, 1], 9),
-        (generate(alloc, 2, 2, 1)?, &[1, 2], 122),
-    ];
-    for (instance, jobs, value) in &rows {
-        let (sequence, makespan) = neh(alloc, instance)?;
-        assert_eq!(rt; sequence.jobs(), *jobs);
-        assert_eq!(rt; makespan, *value);
+    for &(shop, jobs, value) in STARTS.iter() {
+        let holds = starts_with(rt.alloc(), shop, jobs, value)?;
+        assert!(rt; holds, "at {jobs:?}");
     }
     Ok(())
 }
 
-#[test]
-fn taillard_bounds_are_the_worked_ones(rt: HostRuntime) -> Result<(), Fail> {
-    let alloc = rt.alloc();
-    assert_eq!(rt; taillard_bound(&three_machines(alloc)?), 10);
-    assert_eq!(rt; taillard_bound(&two_machines(alloc)?), 9);
-    assert_eq!(rt; taillard_bound(&generate(alloc, 2, 2, 1)?), 122);
-    // The lower bound that was published with this instance.
-    assert_eq!(rt;
-        taillard_bound(&generate(alloc, 20, 5, 873_654_221)?),
-        1_232
-    );
-    Ok(())
-}
+/// Instances and their bounds. That of the last was published with the instance.
+static TAILLARD_BOUNDS: [(Shop, u64); 5] = [
+    (Shop::Three, 10),
+    (Shop::Two, 9),
+    (Shop::Seed(2, 2, 1), 122),
+    (ONE_JOB, 99),
+    (Shop::Seed(20, 5, 873_654_221), 1_232),
+];
 
 #[test]
-fn one_job_on_one_machine_takes_its_time(rt: HostRuntime) -> Result<(), Fail> {
-    let alloc = rt.alloc();
-    let instance = generate(alloc, 1, 1, 2_147_483_646)?;
-    let (sequence, makespan) = neh(alloc, &instance)?;
-    assert_eq!(rt; sequence.jobs(), [1].as_slice());
-    assert_eq!(rt; makespan, 99);
-    assert_eq!(rt; taillard_bound(&instance), 99);
-    assert_eq!(rt;
-        table_row(alloc, &instance, &[])?.as_slice(),
-        [(0, 99)].as_slice()
-    );
+fn taillard_bounds_are_the_worked_ones(rt: HostRuntime) -> Result<(), Fail> {
+    for &(shop, bound) in TAILLARD_BOUNDS.iter() {
+        let instance = made(rt.alloc(), shop)?;
+        assert_eq!(rt; taillard_bound(&instance), bound);
+    }
     Ok(())
 }

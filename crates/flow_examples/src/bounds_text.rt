@@ -4,7 +4,7 @@ ghost use Rattle.std.specs.Prelude.{◌≡◌, false};
 
 use crate::instances::{CERTIFICATE_AT_DEPTH_0, three_machines};
 use flow_cert::write_finding;
-use flow_check::{Bounds, CheckFault, Shown, TextKind, check, check_bounds, check_text, kind_of};
+use flow_check::{Bounds, CheckFault, TextKind, check, check_bounds, check_text, kind_of};
 use flow_core::{Instance, MemorySink, WriteFault};
 use flow_search::{Options, Target, prepare, solve_plain_below};
 use std::alloc::Global;
@@ -30,85 +30,130 @@ fn write(
     Ok(write_finding(&target, &finding, sink))
 }
 
-#[test]
-fn text_of_bounds_is_written_for_each_target_up_to_the_least_makespan(
-    rt: HostRuntime,
-) -> Result<(), Fail> {
-    let alloc = rt.alloc();
+/// What is written for the target 12. At the empty list the bounds are 7, 10 and 5. At 1, 2 and 3 they are 7, 14 and 9;
+/// 7, 11 and 13; 8, 10 and 7. At 3 1 machine 1 has the bound 12, and at 3 2 machine 1 has 8 and machine 2 has 14.
+const TEXT_OF_12: &[u8] = b"flowshop bounds 1\n3 3 0\n12 13\n2 1 3\n+BC+AB\nend\n";
+
+/// What is written for the target 10.
+const TEXT_OF_10: &[u8] = b"flowshop bounds 1\n3 3 0\n10 13\n2 1 3\nB\nend\n";
+
+/// Targets, how many bytes the sink takes, the answer, and what the sink has then. The makespan of the starting
+/// sequence is 13, so 20 counts as 13. Above the least makespan, 12, the certificate is written.
+static WRITTEN: [(u64, usize, Result<(), WriteFault>, &[u8]); 6] = [
+    (12, 1_000, Ok(()), TEXT_OF_12),
+    (11, 1_000, Ok(()), &TEXT_OF_11),
+    (10, 1_000, Ok(()), TEXT_OF_10),
+    (13, 1_000, Ok(()), &CERTIFICATE_AT_DEPTH_0),
+    (20, 1_000, Ok(()), &CERTIFICATE_AT_DEPTH_0),
+    (11, 11, Err(WriteFault::Device), b"flowshop bo"),
+];
+
+/// Whether a sink of so many bytes gives this answer for a target, and has these bytes then.
+fn writes(
+    alloc: Global,
+    number: u64,
+    room: usize,
+    answer: Result<(), WriteFault>,
+    text: &[u8],
+) -> Result<bool, Fail> {
     let instance = three_machines(alloc)?;
-    // At the empty list the bounds are 7, 10 and 5. At 1, 2 and 3 they are 7, 14 and 9; 7, 11 and 13; 8, 10 and 7. At
-    // 3 1 machine 1 has the bound 12, and at 3 2 machine 1 has 8 and machine 2 has 14.
-    let rows: [(u64, &[u8]); 3] = [
-        (12, b"flowshop bounds 1\n3 3 0\n12 13\n2 1 3\n+BC+AB\nend\n"),
-        (11, &TEXT_OF_11),
-        (10, b"flowshop bounds 1\n3 3 0\n10 13\n2 1 3\nB\nend\n"),
-    ];
-    for (number, text) in rows {
-        let mut sink = MemorySink::new(alloc, 1_000);
-        write(alloc, &instance, number, &mut sink)??;
-        assert_eq!(rt; sink.bytes(), text);
-        let bounds = Bounds {
-            lower: number,
-            upper: 13,
-        };
-        assert_eq!(rt; check_bounds(alloc, &instance, text), Ok(bounds));
+    let mut sink = MemorySink::new(alloc, room);
+    let found = write(alloc, &instance, number, &mut sink)?;
+    Ok(found == answer && sink.bytes() == text)
+}
+
+#[test]
+fn write_finding_writes_what_the_sink_takes(rt: HostRuntime) -> Result<(), Fail> {
+    for &(number, room, answer, text) in WRITTEN.iter() {
+        let holds = writes(rt.alloc(), number, room, answer, text)?;
+        assert!(rt; holds, "for {number}");
+    }
+    Ok(())
+}
+
+/// The texts that are written, and their lower bounds. The upper one is 13.
+static SHOWN: [(u64, &[u8]); 3] = [(12, TEXT_OF_12), (11, &TEXT_OF_11), (10, TEXT_OF_10)];
+
+/// Whether a text shows this lower bound, the upper bound 13 and the starting sequence.
+fn shows(alloc: Global, text: &[u8], lower: u64) -> Result<bool, Fail> {
+    let instance = three_machines(alloc)?;
+    let shown = check_text(alloc, TextKind::OfBounds, &instance, text)?;
+    let is_sequence = shown.sequence.jobs() == [2, 1, 3].as_slice();
+    Ok(is_sequence && shown.bounds == Bounds { lower, upper: 13 })
+}
+
+#[test]
+fn check_text_shows_bounds_and_a_sequence(rt: HostRuntime) -> Result<(), Fail> {
+    for &(lower, text) in SHOWN.iter() {
+        let holds = shows(rt.alloc(), text, lower)?;
+        assert!(rt; holds, "for {lower}");
+    }
+    Ok(())
+}
+
+#[test]
+fn texts_of_bounds_are_told_from_certificates(rt: HostRuntime) -> Result<(), Fail> {
+    let instance = three_machines(rt.alloc())?;
+    for &(_, text) in SHOWN.iter() {
         assert_eq!(rt; kind_of(text), TextKind::OfBounds);
-        let Shown {
-            bounds: shown,
-            sequence,
-        } = check_text(alloc, TextKind::OfBounds, &instance, text)?;
-        assert_eq!(rt; shown, bounds);
-        assert_eq!(rt; sequence.jobs(), [2, 1, 3].as_slice());
-        assert_eq!(rt; check(alloc, &instance, text), Err(CheckFault::Header));
+        let found = check(rt.alloc(), &instance, text);
+        assert_eq!(rt; found, Err(CheckFault::Header));
     }
-    Ok(())
-}
-
-#[test]
-fn certificate_is_written_for_targets_above_the_least_makespan(
-    rt: HostRuntime,
-) -> Result<(), Fail> {
-    let alloc = rt.alloc();
-    let instance = three_machines(alloc)?;
-    // 13 is the makespan of the starting sequence, so 20 counts as 13.
-    for number in [13, 20] {
-        let mut sink = MemorySink::new(alloc, 1_000);
-        write(alloc, &instance, number, &mut sink)??;
-        assert_eq!(rt; sink.bytes(), CERTIFICATE_AT_DEPTH_0.as_slice());
-    }
-    let found = check_bounds(alloc, &instance, &CERTIFICATE_AT_DEPTH_0);
-    assert_eq!(rt; found, Err(CheckFault::Header));
-    Ok(())
-}
-
-#[test]
-fn full_sink_takes_a_prefix_of_the_text_of_bounds(rt: HostRuntime) -> Result<(), Fail> {
-    let alloc = rt.alloc();
-    let mut sink = MemorySink::new(alloc, 11);
-    let written = write(alloc, &three_machines(alloc)?, 11, &mut sink)?;
-    assert_eq!(rt; written, Err(WriteFault::Device));
-    assert_eq!(rt; sink.bytes(), b"flowshop bo".as_slice());
     Ok(())
 }
 
 /// Texts of bounds of the instance with three machines, and what the checker answers.
-const TEXTS: [(&[u8], Result<(u64, u64), CheckFault>); 22] = [
+static TEXTS: [(&[u8], Result<Bounds, CheckFault>); 26] = [
+    (
+        TEXT_OF_12,
+        Ok(Bounds {
+            lower: 12,
+            upper: 13,
+        }),
+    ),
+    (
+        &TEXT_OF_11,
+        Ok(Bounds {
+            lower: 11,
+            upper: 13,
+        }),
+    ),
+    (
+        TEXT_OF_10,
+        Ok(Bounds {
+            lower: 10,
+            upper: 13,
+        }),
+    ),
+    (&CERTIFICATE_AT_DEPTH_0, Err(CheckFault::Header)),
     // Machine 2 has the released bound 10 at the empty list.
     (
         b"flowshop bounds 2\n3 3 0\n10 12\n3 1 2\nB\nend\n",
-        Ok((10, 12)),
+        Ok(Bounds {
+            lower: 10,
+            upper: 12,
+        }),
     ),
     (
         b"flowshop bounds 1\n3 3 0\n12 12\n3 1 2\n+BC+AB\nend\n",
-        Ok((12, 12)),
+        Ok(Bounds {
+            lower: 12,
+            upper: 12,
+        }),
     ),
     (
         b"flowshop bounds 1\n3 3 1\n11 12\n3 1 2\nB\nB\n+AB\nend\n",
-        Ok((11, 12)),
+        Ok(Bounds {
+            lower: 11,
+            upper: 12,
+        }),
     ),
     (
         b"flowshop bounds 1\n3 3 0\n0 13\n2 1 3\nA\nend\n",
-        Ok((0, 13)),
+        Ok(Bounds {
+            lower: 0,
+            upper: 13,
+        }),
     ),
     (
         b"flowshop bounds 3\n3 3 0\n11 13\n2 1 3\n+BB+AB\nend\n",
@@ -185,16 +230,11 @@ const TEXTS: [(&[u8], Result<(u64, u64), CheckFault>); 22] = [
 ];
 
 #[test]
-fn checker_answers_texts_of_bounds(rt: HostRuntime) -> Result<(), Fail> {
-    let alloc = rt.alloc();
-    let instance = three_machines(alloc)?;
-    for (text, answer) in TEXTS {
-        let found = check_bounds(alloc, &instance, text);
-        assert_eq!(rt;
-            found.map(|bounds| (bounds.lower, bounds.upper)),
-            answer,
-            "for {text:?}"
-        );
+fn check_bounds_answers_texts(rt: HostRuntime) -> Result<(), Fail> {
+    let instance = three_machines(rt.alloc())?;
+    for &(text, answer) in TEXTS.iter() {
+        let found = check_bounds(rt.alloc(), &instance, text);
+        assert!(rt; found == answer, "for {text:?}");
     }
     Ok(())
 }
@@ -212,40 +252,36 @@ fn fault_of_prefix(length: usize) -> CheckFault {
 }
 
 #[test]
-fn checker_names_first_fault_of_each_prefix_of_a_text_of_bounds(
-    rt: HostRuntime,
-) -> Result<(), Fail> {
-    let alloc = rt.alloc();
-    let instance = three_machines(alloc)?;
+fn check_bounds_names_first_fault_of_each_prefix(rt: HostRuntime) -> Result<(), Fail> {
+    let instance = three_machines(rt.alloc())?;
     for length in 0..47 {
-        let found = check_bounds(alloc, &instance, &TEXT_OF_11[..length]);
+        let found = check_bounds(rt.alloc(), &instance, &TEXT_OF_11[..length]);
         assert_eq!(rt; found, Err(fault_of_prefix(length)), "at {length} bytes");
     }
     Ok(())
 }
 
+/// The texts of bounds that differ from the text of 11 in one byte. Machine 3 has the bound 13 at the list 2 and 14 at
+/// 3 2, and machine 2 has 12 at 3 1.
+static CLOSE_TEXTS: [&[u8]; 5] = [
+    b"flowshop bounds 2\n3 3 0\n11 13\n2 1 3\n+BB+AB\nend\n",
+    b"flowshop bounds 1\n3 3 0\n10 13\n2 1 3\n+BB+AB\nend\n",
+    b"flowshop bounds 1\n3 3 0\n11 13\n2 1 3\n+BC+AB\nend\n",
+    b"flowshop bounds 1\n3 3 0\n11 13\n2 1 3\n+BB+BB\nend\n",
+    b"flowshop bounds 1\n3 3 0\n11 13\n2 1 3\n+BB+AC\nend\n",
+];
+
 #[test]
-fn checker_accepts_five_of_all_changed_bytes_of_a_text_of_bounds(
-    rt: HostRuntime,
-) -> Result<(), Fail> {
-    let alloc = rt.alloc();
-    let instance = three_machines(alloc)?;
-    // Machine 3 has the bound 13 at the list 2 and 14 at 3 2, and machine 2 has 12 at 3 1.
-    let lawful: [&[u8]; 5] = [
-        b"flowshop bounds 2\n3 3 0\n11 13\n2 1 3\n+BB+AB\nend\n",
-        b"flowshop bounds 1\n3 3 0\n10 13\n2 1 3\n+BB+AB\nend\n",
-        b"flowshop bounds 1\n3 3 0\n11 13\n2 1 3\n+BC+AB\nend\n",
-        b"flowshop bounds 1\n3 3 0\n11 13\n2 1 3\n+BB+BB\nend\n",
-        b"flowshop bounds 1\n3 3 0\n11 13\n2 1 3\n+BB+AC\nend\n",
-    ];
+fn check_bounds_accepts_five_of_all_changed_bytes(rt: HostRuntime) -> Result<(), Fail> {
+    let instance = three_machines(rt.alloc())?;
     let mut accepted: u64 = 0;
     for place in 0..47 {
         for change in 1..=255u8 {
             let mut text = TEXT_OF_11;
             text[place] ^= change;
-            if check_bounds(alloc, &instance, &text).is_ok() {
+            if check_bounds(rt.alloc(), &instance, &text).is_ok() {
                 accepted = accepted.saturating_add(1);
-                assert!(rt; lawful.contains(&text.as_slice()), "{text:?}");
+                assert!(rt; CLOSE_TEXTS.contains(&text.as_slice()));
             }
         }
     }

@@ -1,6 +1,6 @@
 //! Sinks and sources.
 
-ghost use Rattle.std.specs.Prelude.{None, false};
+ghost use Rattle.std.specs.Prelude.{◌≡◌, None, false};
 
 use crate::instances::TWO_MACHINES_TEXT;
 use flow_core::{
@@ -11,45 +11,57 @@ use std::alloc::Global;
 use std::io::{self, ErrorKind, Read, Write};
 use std::test::Fail;
 
-#[test]
-fn put_all_puts_what_the_sink_takes(rt: HostRuntime) -> Result<(), Fail> {
-    let rows: [(usize, Result<(), WriteFault>, &[u8]); 2] = [
-        (10, Err(WriteFault::Device), b"number of "),
-        (200, Ok(()), TWO_MACHINES_TEXT),
-    ];
-    for (limit, answer, bytes) in rows {
-        let mut sink = MemorySink::new(rt.alloc(), limit);
-        assert!(rt; !sink.failed());
-        assert_eq!(rt; put_all(&mut sink, TWO_MACHINES_TEXT), answer);
-        assert_eq!(rt; sink.bytes(), bytes);
-        assert_eq!(rt; sink.failed(), answer.is_err());
-    }
-    Ok(())
+/// How many bytes a sink takes, the answer, and what it has then.
+static PUT: [(usize, Result<(), WriteFault>, &[u8]); 2] = [
+    (10, Err(WriteFault::Device), b"number of "),
+    (200, Ok(()), TWO_MACHINES_TEXT),
+];
+
+/// Whether a sink that takes so many bytes gives this answer for a text, and has these bytes then.
+fn puts(alloc: Global, limit: usize, answer: Result<(), WriteFault>, bytes: &[u8]) -> bool {
+    let mut sink = MemorySink::new(alloc, limit);
+    let was_failed = sink.failed();
+    let found = put_all(&mut sink, TWO_MACHINES_TEXT);
+    !was_failed && found == answer && sink.bytes() == bytes && sink.failed() == answer.is_err()
 }
 
 #[test]
-fn read_all_reads_to_the_end_or_names_its_fault(rt: HostRuntime) -> Result<(), Fail> {
-    let alloc = rt.alloc();
-    let mut source = MemorySource::new(b"abcde", 2, None);
-    assert!(rt; !source.failed());
-    assert_eq!(rt;
-        read_all(alloc, &mut source, 5)?.as_slice(),
-        b"abcde".as_slice()
-    );
-    let mut source = MemorySource::new(b"abcde", 2, None);
-    assert!(rt; !source.failed());
-    match read_all(alloc, &mut source, 4) {
-        Ok(_) => return Err(Fail::from("more than the limit")),
-        Err(fault) => assert_eq!(rt; fault, ReadFault::TooLong),
+fn put_all_puts_what_the_sink_takes(rt: HostRuntime) {
+    for &(limit, answer, bytes) in PUT.iter() {
+        assert!(rt; puts(rt.alloc(), limit, answer, bytes), "in {limit} bytes");
     }
-    let mut source = MemorySource::new(b"abcde", 2, Some(3));
-    assert!(rt; !source.failed());
-    match read_all(alloc, &mut source, 5) {
-        Ok(_) => return Err(Fail::from("past a refusal")),
-        Err(fault) => assert_eq!(rt; fault, ReadFault::Device),
+}
+
+/// Whether `read_all` gives these bytes or this fault for a source.
+fn reads<S: Source>(
+    alloc: Global,
+    source: &mut S,
+    limit: usize,
+    answer: Result<&[u8], ReadFault>,
+) -> bool
+    requires { S.has_failed source.old ≡ false }
+{
+    match read_all(alloc, source, limit) {
+        Ok(bytes) => answer == Ok(bytes.as_slice()),
+        Err(fault) => answer == Err(fault),
     }
-    assert!(rt; source.failed());
-    Ok(())
+}
+
+/// The limit, how many of the bytes a source gives before it refuses, and what is read of five bytes in pieces of two.
+static READ: [(usize, Option<usize>, Result<&[u8], ReadFault>); 3] = [
+    (5, None, Ok(b"abcde")),
+    (4, None, Err(ReadFault::TooLong)),
+    (5, Some(3), Err(ReadFault::Device)),
+];
+
+#[test]
+fn read_all_reads_to_the_end_or_names_its_fault(rt: HostRuntime) {
+    for &(limit, most, answer) in READ.iter() {
+        let mut source = MemorySource::new(b"abcde", 2, most);
+        assert!(rt; !source.failed());
+        assert!(rt; reads(rt.alloc(), &mut source, limit, answer), "{answer:?}");
+        assert_eq!(rt; source.failed(), most.is_some());
+    }
 }
 
 /// Gives one byte in each call, never ends, and counts the calls.
@@ -77,32 +89,27 @@ impl Source for Endless {
 }
 
 #[test]
-fn read_all_asks_once_more_than_its_limit(rt: HostRuntime) -> Result<(), Fail> {
+fn read_all_asks_once_more_than_its_limit(rt: HostRuntime) {
     let mut source = Endless { calls: 0 };
-    match read_all(rt.alloc(), &mut source, 5) {
-        Ok(_) => return Err(Fail::from("without an end")),
-        Err(fault) => assert_eq!(rt; fault, ReadFault::TooLong),
-    }
+    assert!(rt; reads(rt.alloc(), &mut source, 5, Err(ReadFault::TooLong)));
     assert_eq!(rt; source.calls, 6);
-    Ok(())
 }
 
 #[test]
-fn library_readers_and_writers_are_sources_and_sinks(rt: HostRuntime) -> Result<(), Fail> {
-    let alloc = rt.alloc();
+fn readers_of_the_library_are_sources(rt: HostRuntime) {
     let mut source = StdSource::new(b"flow shop".as_slice());
     assert!(rt; !source.failed());
-    assert_eq!(rt;
-        read_all(alloc, &mut source, 100)?.as_slice(),
-        b"flow shop".as_slice()
-    );
-    let mut kept: Vec<u8> = Vec::new(alloc);
+    assert!(rt; reads(rt.alloc(), &mut source, 100, Ok(b"flow shop")));
+}
+
+#[test]
+fn writers_of_the_library_are_sinks(rt: HostRuntime) {
+    let mut kept: Vec<u8> = Vec::new(rt.alloc());
     let mut sink = StdSink::new(&mut kept);
     assert!(rt; !sink.failed());
     assert_eq!(rt; put_all(&mut sink, b"flow shop"), Ok(()));
     assert!(rt; !sink.failed());
-    assert_eq!(rt; kept.as_slice(), b"flow shop".as_slice());
-    Ok(())
+    assert!(rt; kept.as_slice() == b"flow shop".as_slice());
 }
 
 /// Gives its bytes in pieces, each after so many interrupted reads, and then ends or fails. It counts its reads.
@@ -149,17 +156,14 @@ impl<'a> Read for FakeReader<'a> {
 }
 
 #[test]
-fn std_source_reads_again_where_it_was_interrupted(rt: HostRuntime) -> Result<(), Fail> {
+fn std_source_reads_again_where_it_was_interrupted(rt: HostRuntime) {
     let mut buffer = [0u8; 4];
     let mut reader = FakeReader::new(b"flow shop", 3, 999, false);
     let mut source = StdSource::new(&mut reader);
     assert_eq!(rt; source.get(&mut buffer), Ok(3));
     assert_eq!(rt; &buffer[..3], b"flo".as_slice());
     assert!(rt; !source.failed());
-    assert_eq!(rt;
-        read_all(rt.alloc(), &mut source, 100)?.as_slice(),
-        b"w shop".as_slice()
-    );
+    assert!(rt; reads(rt.alloc(), &mut source, 100, Ok(b"w shop")));
     // Two pieces more, and the end.
     assert_eq!(rt; reader.reads, 4_000);
     let mut reader = FakeReader::new(b"flow shop", 3, 1_000, false);
@@ -167,11 +171,10 @@ fn std_source_reads_again_where_it_was_interrupted(rt: HostRuntime) -> Result<()
     assert_eq!(rt; source.get(&mut buffer), Err(Refused));
     assert!(rt; source.failed());
     assert_eq!(rt; reader.reads, 1_000);
-    Ok(())
 }
 
 #[test]
-fn std_source_refuses_where_its_reader_fails(rt: HostRuntime) -> Result<(), Fail> {
+fn std_source_refuses_where_its_reader_fails(rt: HostRuntime) {
     let mut buffer = [0u8; 4];
     let mut reader = FakeReader::new(b"flow", 3, 0, true);
     let mut source = StdSource::new(&mut reader);
@@ -182,14 +185,14 @@ fn std_source_refuses_where_its_reader_fails(rt: HostRuntime) -> Result<(), Fail
     assert!(rt; source.failed());
     // It does not ask again.
     assert_eq!(rt; reader.reads, 3);
+}
+
+#[test]
+fn read_all_names_the_fault_of_a_reader(rt: HostRuntime) {
     let mut source = StdSource::new(FakeReader::new(b"flow", 3, 0, true));
     assert!(rt; !source.failed());
-    match read_all(rt.alloc(), &mut source, 100) {
-        Ok(_) => return Err(Fail::from("past an error")),
-        Err(fault) => assert_eq!(rt; fault, ReadFault::Device),
-    }
+    assert!(rt; reads(rt.alloc(), &mut source, 100, Err(ReadFault::Device)));
     assert!(rt; source.failed());
-    Ok(())
 }
 
 /// `count` bytes, each different from the one before it.
@@ -203,14 +206,13 @@ fn many_bytes(alloc: Global, count: u32) -> Result<Vec<u8>, Fail> {
 
 #[test]
 fn std_source_gives_every_piece(rt: HostRuntime) -> Result<(), Fail> {
-    let alloc = rt.alloc();
-    let bytes = many_bytes(alloc, 140_000)?;
+    let bytes = many_bytes(rt.alloc(), 140_000)?;
     for piece in [1usize, 1_000, 65_536, 65_537, 140_000] {
         let reader = FakeReader::new(bytes.as_slice(), piece, 0, false);
         let mut source = StdSource::new(reader);
         assert!(rt; !source.failed());
-        let all = read_all(alloc, &mut source, 140_000)?;
-        assert!(rt; all.as_slice() == bytes.as_slice(), "pieces of {piece}");
+        let holds = reads(rt.alloc(), &mut source, 140_000, Ok(bytes.as_slice()));
+        assert!(rt; holds, "pieces of {piece}");
         assert!(rt; !source.failed());
     }
     Ok(())
@@ -226,6 +228,19 @@ struct FakeWriter {
     interrupted: u32,
     limit: usize,
     writes: u32,
+}
+
+impl FakeWriter {
+    fn new(alloc: Global, piece: usize, interruptions: u32, limit: usize) -> FakeWriter {
+        FakeWriter {
+            bytes: Vec::new(alloc),
+            piece,
+            interruptions,
+            interrupted: 0,
+            limit,
+            writes: 0,
+        }
+    }
 }
 
 impl Write for FakeWriter {
@@ -252,27 +267,21 @@ impl Write for FakeWriter {
     }
 }
 
+/// Interruptions of each write, bytes in a write, bytes in all; the bytes kept, and the number of writes.
+static WRITTEN: [(u32, usize, usize, &[u8], u32); 7] = [
+    (0, 100, 100, b"flow shop", 1),
+    (0, 1, 100, b"flow shop", 9),
+    (999, 4, 100, b"flow shop", 3_000),
+    (1_000, 4, 100, b"", 1_000),
+    (0, 0, 100, b"", 1),
+    (0, 2, 5, b"flow ", 4),
+    (0, 9, 0, b"", 1),
+];
+
 #[test]
-fn std_sink_writes_again_until_its_writer_refuses(rt: HostRuntime) -> Result<(), Fail> {
-    // Interruptions of each write, bytes in a write, bytes in all; the bytes kept, and the number of writes.
-    let rows: [(u32, usize, usize, &[u8], u32); 7] = [
-        (0, 100, 100, b"flow shop", 1),
-        (0, 1, 100, b"flow shop", 9),
-        (999, 4, 100, b"flow shop", 3_000),
-        (1_000, 4, 100, b"", 1_000),
-        (0, 0, 100, b"", 1),
-        (0, 2, 5, b"flow ", 4),
-        (0, 9, 0, b"", 1),
-    ];
-    for (interruptions, piece, limit, kept, writes) in rows {
-        let mut writer = FakeWriter {
-            bytes: Vec::new(rt.alloc()),
-            piece,
-            interruptions,
-            interrupted: 0,
-            limit,
-            writes: 0,
-        };
+fn std_sink_writes_again_until_its_writer_refuses(rt: HostRuntime) {
+    for &(interruptions, piece, limit, kept, writes) in WRITTEN.iter() {
+        let mut writer = FakeWriter::new(rt.alloc(), piece, interruptions, limit);
         let mut sink = StdSink::new(&mut writer);
         assert!(rt; !sink.failed());
         let is_whole = kept.len() == 9;
@@ -281,5 +290,4 @@ fn std_sink_writes_again_until_its_writer_refuses(rt: HostRuntime) -> Result<(),
         assert_eq!(rt; writer.bytes.as_slice(), kept);
         assert_eq!(rt; writer.writes, writes);
     }
-    Ok(())
 }

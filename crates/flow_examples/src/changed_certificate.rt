@@ -1,6 +1,6 @@
 //! Certificates that differ in a byte or two from one at depth 2, beside a plain reading of each.
 
-use crate::changes::{changed, doubled, lost, swapped};
+use crate::changes::{Change, close_texts};
 use crate::plain::{bound, completion, has};
 use flow_check::{CheckFault, check};
 use flow_core::Instance;
@@ -81,16 +81,28 @@ fn sequence_of(alloc: Global, instance: &Instance, line: &[u8]) -> Result<Vec<u1
     Ok(jobs)
 }
 
+/// The version that a certificate's first line names.
+fn version_of(line: &[u8]) -> Result<u32, CheckFault> {
+    if line == b"flowshop certificate 1".as_slice() {
+        Ok(1)
+    } else if line == b"flowshop certificate 2".as_slice() {
+        Ok(2)
+    } else {
+        Err(CheckFault::Header)
+    }
+}
+
+/// The line of an index. One that is missing has the same fault as an empty one.
+fn line_of<'a>(lines: &[&'a [u8]], index: usize) -> &'a [u8] {
+    lines.get(index).copied().unwrap_or(b"")
+}
+
 /// The heading of a certificate with these lines.
 fn heading_of(alloc: Global, instance: &Instance, lines: &[&[u8]]) -> Result<Heading, CheckFault> {
-    let version = match lines.first() {
-        Some(line) if *line == b"flowshop certificate 1".as_slice() => 1,
-        Some(line) if *line == b"flowshop certificate 2".as_slice() => 2,
-        _ => return Err(CheckFault::Header),
-    };
-    let depth = depth_of(alloc, instance, lines.get(1).ok_or(CheckFault::Size)?)?;
-    let value = value_of(alloc, lines.get(2).ok_or(CheckFault::Value)?)?;
-    let sequence = sequence_of(alloc, instance, lines.get(3).ok_or(CheckFault::Sequence)?)?;
+    let version = version_of(line_of(lines, 0))?;
+    let depth = depth_of(alloc, instance, line_of(lines, 1))?;
+    let value = value_of(alloc, line_of(lines, 2))?;
+    let sequence = sequence_of(alloc, instance, line_of(lines, 3))?;
     if completion(instance, sequence.as_slice(), instance.machines()) != value {
         return Err(CheckFault::NotAttained);
     }
@@ -183,6 +195,25 @@ fn read_tree(
     }
 }
 
+/// Reads the lines with the trees, and returns the number of lines up to there. The last of the lines is no line.
+fn read_trees(
+    alloc: Global,
+    instance: &Instance,
+    heading: Heading,
+    lines: &[&[u8]],
+) -> Result<usize, CheckFault> {
+    let mut line: usize = 4;
+    for prefix in &cut(alloc, instance, heading.depth)? {
+        let bytes = line_of(lines, line);
+        line = line.saturating_add(1);
+        read_tree(alloc, instance, heading, prefix.as_slice(), bytes, line)?;
+        if line >= lines.len() {
+            return Err(CheckFault::Tree(line));
+        }
+    }
+    Ok(line)
+}
+
 /// Reads a certificate line by line.
 fn plain_reading(alloc: Global, instance: &Instance, text: &[u8]) -> Result<u64, CheckFault> {
     let lines: Vec<&[u8]> = text.split(|byte| *byte == b'\n').collect(alloc)?;
@@ -191,27 +222,21 @@ fn plain_reading(alloc: Global, instance: &Instance, text: &[u8]) -> Result<u64,
         return Err(CheckFault::Header);
     };
     let heading = heading_of(alloc, instance, whole)?;
-    let mut line: usize = 4;
-    for prefix in &cut(alloc, instance, heading.depth)? {
-        let bytes = lines.get(line).copied().unwrap_or(b"");
-        line = line.saturating_add(1);
-        read_tree(alloc, instance, heading, prefix.as_slice(), bytes, line)?;
-        if line > whole.len() {
-            return Err(CheckFault::Tree(line));
-        }
-    }
+    let line = read_trees(alloc, instance, heading, lines.as_slice())?;
     match lines.get(line..) {
         Some([last, rest]) if *last == b"end".as_slice() && rest.is_empty() => Ok(heading.value),
         _ => Err(CheckFault::End),
     }
 }
 
-/// How many of these texts the checker accepts; an error where it answers otherwise than the plain reading.
-fn accepted(alloc: Global, instance: &Instance, texts: &[Vec<u8>]) -> Result<usize, Fail> {
+/// How many of the texts that are close to a text the checker accepts; an error where it answers otherwise than the
+/// plain reading.
+fn accepted(alloc: Global, change: Change, text: &[u8]) -> Result<usize, Fail> {
+    let instance = Instance::new(alloc, 4, 3, &FOUR_JOBS)?;
     let mut count: usize = 0;
-    for text in texts {
-        let found = check(alloc, instance, text.as_slice());
-        if found != plain_reading(alloc, instance, text.as_slice()) {
+    for close in &close_texts(alloc, change, text)? {
+        let found = check(alloc, &instance, close.as_slice());
+        if found != plain_reading(alloc, &instance, close.as_slice()) {
             return Err(Fail::from("another answer than the plain reading's"));
         }
         if found.is_ok() {
@@ -221,23 +246,22 @@ fn accepted(alloc: Global, instance: &Instance, texts: &[Vec<u8>]) -> Result<usi
     Ok(count)
 }
 
+/// How many close texts are accepted, counted by another reading, a script over the words of `docs/formats.md`. Line 13
+/// of the lawful certificate begins with two bytes that are the same.
+static ACCEPTED: [(Change, &[u8], usize); 7] = [
+    (Change::Other, LAWFUL, 9),
+    (Change::Lost, LAWFUL, 0),
+    (Change::Doubled, LAWFUL, 0),
+    (Change::Swapped, LAWFUL, 1),
+    (Change::Lost, LOW, 0),
+    (Change::Doubled, LOW, 0),
+    (Change::Swapped, LOW, 0),
+];
+
 #[test]
 fn changed_certificates_are_read_as_by_the_plain_reading(rt: HostRuntime) -> Result<(), Fail> {
-    let alloc = rt.alloc();
-    let instance = Instance::new(alloc, 4, 3, &FOUR_JOBS)?;
-    // These numbers were counted by another reading, a script over the words of `docs/formats.md`.
-    let texts = changed(alloc, LAWFUL)?;
-    assert_eq!(rt; accepted(alloc, &instance, texts.as_slice())?, 9);
-    for text in [LAWFUL, LOW] {
-        let texts = lost(alloc, text)?;
-        assert_eq!(rt; accepted(alloc, &instance, texts.as_slice())?, 0);
-        let texts = doubled(alloc, text)?;
-        assert_eq!(rt; accepted(alloc, &instance, texts.as_slice())?, 0);
+    for &(change, text, count) in ACCEPTED.iter() {
+        assert_eq!(rt; accepted(rt.alloc(), change, text)?, count);
     }
-    // Line 13 begins with two bytes that are the same.
-    let texts = swapped(alloc, LAWFUL)?;
-    assert_eq!(rt; accepted(alloc, &instance, texts.as_slice())?, 1);
-    let texts = swapped(alloc, LOW)?;
-    assert_eq!(rt; accepted(alloc, &instance, texts.as_slice())?, 0);
     Ok(())
 }

@@ -2,53 +2,65 @@
 
 use std::alloc::{AllocError, Global};
 
-/// A text with some bytes in place of one of its own.
-fn replaced(alloc: Global, text: &[u8], place: usize, bytes: &[u8]) -> Result<Vec<u8>, AllocError> {
-    let mut close = Vec::new(alloc);
-    close.extend_from_slice(text.get(..place).unwrap_or(b""))?;
+/// How a text is changed.
+#[derive(Clone, Copy)]
+pub enum Change {
+    /// One byte is another.
+    Other,
+    /// One byte is lost.
+    Lost,
+    /// One byte stands twice.
+    Doubled,
+    /// Two neighbors are swapped.
+    Swapped,
+}
+
+/// A text with some bytes in place of `count` of its own.
+pub fn replaced(
+    alloc: Global,
+    text: &[u8],
+    place: usize,
+    count: usize,
+    bytes: &[u8],
+) -> Result<Vec<u8>, AllocError> {
+    let mut close = Vec::from_slice(alloc, text.get(..place).unwrap_or(b""))?;
     close.extend_from_slice(bytes)?;
-    close.extend_from_slice(text.get(place.saturating_add(1)..).unwrap_or(b""))?;
+    let behind = place.saturating_add(count);
+    close.extend_from_slice(text.get(behind..).unwrap_or(b""))?;
     Ok(close)
 }
 
-/// The texts that differ from a text in one byte.
-pub fn changed(alloc: Global, text: &[u8]) -> Result<Vec<Vec<u8>>, AllocError> {
+/// Puts a text with some bytes in place of `count` of its own behind others.
+fn put(
+    close: &mut Vec<Vec<u8>>,
+    alloc: Global,
+    text: &[u8],
+    place: usize,
+    count: usize,
+    bytes: &[u8],
+) -> Result<(), AllocError> {
+    close.push(replaced(alloc, text, place, count, bytes)?)?;
+    Ok(())
+}
+
+/// The texts that are changed so in one place.
+pub fn close_texts(alloc: Global, change: Change, text: &[u8]) -> Result<Vec<Vec<u8>>, AllocError> {
     let mut close = Vec::new(alloc);
-    for (place, byte) in text.iter().enumerate() {
-        for other in 0..=255u8 {
-            if other != *byte {
-                close.push(replaced(alloc, text, place, &[other])?)?;
+    for (place, &byte) in text.iter().enumerate() {
+        let next = text.get(place.saturating_add(1)).copied();
+        match (change, next) {
+            (Change::Other, _) => {
+                for other in (0..=255u8).filter(|other| *other != byte) {
+                    put(&mut close, alloc, text, place, 1, &[other])?;
+                }
             }
+            (Change::Lost, _) => put(&mut close, alloc, text, place, 1, b"")?,
+            (Change::Doubled, _) => put(&mut close, alloc, text, place, 0, &[byte])?,
+            (Change::Swapped, Some(next)) => {
+                put(&mut close, alloc, text, place, 2, &[next, byte])?;
+            }
+            (Change::Swapped, None) => {}
         }
-    }
-    Ok(close)
-}
-
-/// The texts that lack one byte of a text.
-pub fn lost(alloc: Global, text: &[u8]) -> Result<Vec<Vec<u8>>, AllocError> {
-    let mut close = Vec::new(alloc);
-    for place in 0..text.len() {
-        close.push(replaced(alloc, text, place, b"")?)?;
-    }
-    Ok(close)
-}
-
-/// The texts that have one byte of a text twice.
-pub fn doubled(alloc: Global, text: &[u8]) -> Result<Vec<Vec<u8>>, AllocError> {
-    let mut close = Vec::new(alloc);
-    for (place, byte) in text.iter().enumerate() {
-        close.push(replaced(alloc, text, place, &[*byte, *byte])?)?;
-    }
-    Ok(close)
-}
-
-/// The texts in which two neighbors of a text are swapped.
-pub fn swapped(alloc: Global, text: &[u8]) -> Result<Vec<Vec<u8>>, AllocError> {
-    let mut close = Vec::new(alloc);
-    for place in 1..text.len() {
-        let mut swapped = Vec::from_slice(alloc, text)?;
-        swapped.as_mut_slice().swap(place - 1, place);
-        close.push(swapped)?;
     }
     Ok(close)
 }

@@ -1,8 +1,8 @@
 //! The checker.
 
-use crate::instances::{CERTIFICATE_AT_DEPTH_0, three_machines, two_machines};
+use crate::instances::{CERTIFICATE_AT_DEPTH_0, three_machines};
+use crate::shops::{Shop, made};
 use flow_check::{CheckFault, check};
-use flow_core::Instance;
 use std::alloc::Global;
 use std::test::Fail;
 
@@ -12,151 +12,165 @@ const TITLE: &[u8] = b"flowshop certificate 1\n";
 /// The first line of version 2.
 const TITLE_2: &[u8] = b"flowshop certificate 2\n";
 
-/// The text of these parts.
-fn joined(alloc: Global, parts: &[&[u8]]) -> Result<Vec<u8>, Fail> {
-    let mut text = Vec::new(alloc);
-    for part in parts {
-        text.extend_from_slice(part)?;
-    }
-    Ok(text)
-}
+/// The first lines of both versions.
+static TITLES: [&[u8]; 2] = [TITLE, TITLE_2];
 
-/// What the checker answers for an instance, where these parts stand behind a first line.
-fn checked_behind(
+/// Whether the checker answers so for an instance, where these bytes stand behind a first line.
+fn answers(
     alloc: Global,
-    instance: &Instance,
+    shop: Shop,
     title: &[u8],
     rest: &[u8],
-) -> Result<Result<u64, CheckFault>, Fail> {
-    let text = joined(alloc, &[title, rest])?;
-    Ok(check(alloc, instance, text.as_slice()))
+    answer: Result<u64, CheckFault>,
+) -> Result<bool, Fail> {
+    let instance = made(alloc, shop)?;
+    let mut text = Vec::from_slice(alloc, title)?;
+    text.extend_from_slice(rest)?;
+    Ok(check(alloc, &instance, text.as_slice()) == answer)
 }
 
-/// What the checker answers for an instance, where these parts stand behind the first line of version 1.
-fn checked(
-    alloc: Global,
-    instance: &Instance,
-    parts: &[&[u8]],
-) -> Result<Result<u64, CheckFault>, Fail> {
-    let rest = joined(alloc, parts)?;
-    checked_behind(alloc, instance, TITLE, rest.as_slice())
-}
+/// One job on one machine, with time 0.
+const ONE_JOB: Shop = Shop::Times(1, 1, &[0]);
 
-#[test]
-fn checker_accepts_lawful_certificates(rt: HostRuntime) -> Result<(), Fail> {
-    let alloc = rt.alloc();
-    let three = three_machines(alloc)?;
-    let two = two_machines(alloc)?;
-    let one = Instance::new(alloc, 1, 1, &[0])?;
-    let rows: [(&Instance, &[u8], u64); 7] = [
-        (&three, b"3 3 0\n12\n3 1 2\n+BC++.B\nend\n", 12),
-        (&three, b"3 3 1\n12\n3 1 2\nB\nC\n++.B\nend\n", 12),
-        (&three, b"3 3 2\n12\n3 1 2\nB\nB\nC\nB\n+.\nB\nend\n", 12),
-        (&three, b"3 3 3\n12\n3 1 2\n.\n.\n.\n.\n.\n.\nend\n", 12),
-        (&three, b"3 3 0\n12\n3 1 2\n+B+CB+AB\nend\n", 12),
-        (&two, b"3 2 0\n9\n2 3 1\n+BBB\nend\n", 9),
-        (&one, b"1 1 0\n0\n1\nA\nend\n", 0),
-    ];
-    for (instance, rest, value) in rows {
-        assert_eq!(rt; checked(alloc, instance, &[rest])?, Ok(value));
-    }
-    Ok(())
-}
-
-#[test]
-fn checker_tests_letters_by_the_bound_of_the_version(rt: HostRuntime) -> Result<(), Fail> {
-    let alloc = rt.alloc();
-    let two = two_machines(alloc)?;
+/// Instances, first lines, what stands behind them, and the answer.
+static ANSWERS: [(Shop, &[u8], &[u8], Result<u64, CheckFault>); 24] = [
+    (
+        Shop::Three,
+        TITLE,
+        b"3 3 0\n12\n3 1 2\n+BC++.B\nend\n",
+        Ok(12),
+    ),
+    (
+        Shop::Three,
+        TITLE,
+        b"3 3 1\n12\n3 1 2\nB\nC\n++.B\nend\n",
+        Ok(12),
+    ),
+    (
+        Shop::Three,
+        TITLE,
+        b"3 3 2\n12\n3 1 2\nB\nB\nC\nB\n+.\nB\nend\n",
+        Ok(12),
+    ),
+    (
+        Shop::Three,
+        TITLE,
+        b"3 3 3\n12\n3 1 2\n.\n.\n.\n.\n.\n.\nend\n",
+        Ok(12),
+    ),
+    (
+        Shop::Three,
+        TITLE,
+        b"3 3 0\n12\n3 1 2\n+B+CB+AB\nend\n",
+        Ok(12),
+    ),
+    (ONE_JOB, TITLE, b"1 1 0\n0\n1\nA\nend\n", Ok(0)),
+    // Depths up to the jobs.
+    (ONE_JOB, TITLE, b"1 1 1\n0\n1\n.\nend\n", Ok(0)),
+    (
+        ONE_JOB,
+        TITLE,
+        b"1 1 2\n0\n1\n.\nend\n",
+        Err(CheckFault::Size),
+    ),
     // At the empty list machine 2 has the bound 8, and once it is released by machine 1 the bound 9.
-    let short = b"3 2 0\n9\n2 3 1\nB\nend\n";
-    let long = b"3 2 0\n9\n2 3 1\n+BBB\nend\n";
-    let rows: [(&[u8], &[u8], Result<u64, CheckFault>); 4] = [
-        (TITLE_2, short, Ok(9)),
-        (TITLE, short, Err(CheckFault::Weak(5))),
-        (TITLE_2, long, Ok(9)),
-        (b"flowshop certificate 3\n", long, Err(CheckFault::Header)),
-    ];
-    for (title, rest, answer) in rows {
-        assert_eq!(rt; checked_behind(alloc, &two, title, rest)?, answer);
-    }
-    Ok(())
-}
-
-#[test]
-fn checker_reads_certificates_of_three_machines_in_version_2(rt: HostRuntime) -> Result<(), Fail> {
-    let alloc = rt.alloc();
-    let three = three_machines(alloc)?;
+    (Shop::Two, TITLE_2, b"3 2 0\n9\n2 3 1\nB\nend\n", Ok(9)),
+    (
+        Shop::Two,
+        TITLE,
+        b"3 2 0\n9\n2 3 1\nB\nend\n",
+        Err(CheckFault::Weak(5)),
+    ),
+    (Shop::Two, TITLE, b"3 2 0\n9\n2 3 1\n+BBB\nend\n", Ok(9)),
+    (Shop::Two, TITLE_2, b"3 2 0\n9\n2 3 1\n+BBB\nend\n", Ok(9)),
+    (
+        Shop::Two,
+        b"flowshop certificate 3\n",
+        b"3 2 0\n9\n2 3 1\n+BBB\nend\n",
+        Err(CheckFault::Header),
+    ),
     // The released bounds are 7, 10 and 7 at the empty list, 8, 10 and 8 at 3, and 12, 12 and 12 at 3 1.
-    let rows: [(&[u8], Result<u64, CheckFault>); 9] = [
-        (b"3 3 0\n12\n3 1 2\n+BC++.B\nend\n", Ok(12)),
-        (b"3 3 1\n12\n3 1 2\nB\nC\n++.B\nend\n", Ok(12)),
-        (b"3 3 0\n12\n3 1 2\nA\nend\n", Err(CheckFault::Weak(5))),
-        (b"3 3 0\n12\n3 1 2\nB\nend\n", Err(CheckFault::Weak(5))),
-        (b"3 3 0\n12\n3 1 2\nC\nend\n", Err(CheckFault::Weak(5))),
-        (
-            b"3 3 1\n12\n3 1 2\nB\nC\nB\nend\n",
-            Err(CheckFault::Weak(7)),
-        ),
-        (b"3 3 0\n12\n3 1 2\n+BC+AB\nend\n", Ok(12)),
-        (b"3 3 0\n12\n3 1 2\n+BC+BB\nend\n", Ok(12)),
-        (b"3 3 0\n12\n3 1 2\n+BC+CB\nend\n", Ok(12)),
-    ];
-    for (rest, answer) in rows {
-        assert_eq!(rt; checked_behind(alloc, &three, TITLE_2, rest)?, answer);
-    }
-    Ok(())
-}
-
-/// A certificate of the instance with three machines, whose trees are single letters.
-const LETTERS: [u8; 54] = *b"flowshop certificate 1\n3 3 2\n12\n3 1 2\nB\nB\nC\nB\nA\nB\nend\n";
+    (
+        Shop::Three,
+        TITLE_2,
+        b"3 3 0\n12\n3 1 2\n+BC++.B\nend\n",
+        Ok(12),
+    ),
+    (
+        Shop::Three,
+        TITLE_2,
+        b"3 3 1\n12\n3 1 2\nB\nC\n++.B\nend\n",
+        Ok(12),
+    ),
+    (
+        Shop::Three,
+        TITLE_2,
+        b"3 3 0\n12\n3 1 2\nB\nend\n",
+        Err(CheckFault::Weak(5)),
+    ),
+    (
+        Shop::Three,
+        TITLE_2,
+        b"3 3 0\n12\n3 1 2\nC\nend\n",
+        Err(CheckFault::Weak(5)),
+    ),
+    (
+        Shop::Three,
+        TITLE_2,
+        b"3 3 1\n12\n3 1 2\nB\nC\nB\nend\n",
+        Err(CheckFault::Weak(7)),
+    ),
+    (
+        Shop::Three,
+        TITLE_2,
+        b"3 3 0\n12\n3 1 2\n+BC+AB\nend\n",
+        Ok(12),
+    ),
+    (
+        Shop::Three,
+        TITLE_2,
+        b"3 3 0\n12\n3 1 2\n+BC+BB\nend\n",
+        Ok(12),
+    ),
+    (
+        Shop::Three,
+        TITLE_2,
+        b"3 3 0\n12\n3 1 2\n+BC+CB\nend\n",
+        Ok(12),
+    ),
+    // At the list 1 3 machine 3 has the bound 9 in version 1. Released by machine 2 it has 14, so that the tree of
+    // the first list ends behind it.
+    (
+        Shop::Three,
+        TITLE,
+        b"3 3 1\n12\n3 1 2\n+BC++.B\nend\n",
+        Err(CheckFault::Weak(5)),
+    ),
+    (
+        Shop::Three,
+        TITLE_2,
+        b"3 3 1\n12\n3 1 2\n+BC++.B\nend\n",
+        Err(CheckFault::Tree(5)),
+    ),
+    (
+        Shop::Three,
+        b"flowshop\n",
+        b"3 3\n012\n3 1\nx\nEND\n",
+        Err(CheckFault::Header),
+    ),
+];
 
 #[test]
-fn checker_tests_each_single_letter(rt: HostRuntime) -> Result<(), Fail> {
-    let alloc = rt.alloc();
-    let instance = three_machines(alloc)?;
-    // The machines whose bound is at least 12, worked out by hand, at 1 2, 1 3, 2 1, 2 3, 3 1 and 3 2.
-    let strong: [&[u8]; 6] = [b"BC", b"AB", b"C", b"BC", b"AB", b"BC"];
-    for index in 0..6usize {
-        for letter in b'A'..=b'D' {
-            let mut text = LETTERS;
-            text[38 + 2 * index] = letter;
-            let answer = if letter == b'D' {
-                Err(CheckFault::Tree(5 + index))
-            } else if strong[index].contains(&letter) {
-                Ok(12)
-            } else {
-                Err(CheckFault::Weak(5 + index))
-            };
-            assert_eq!(rt; check(alloc, &instance, &text), answer);
-        }
-    }
-    Ok(())
-}
-
-#[test]
-fn checker_reads_more_trees_than_a_plan_may_have(rt: HostRuntime) -> Result<(), Fail> {
-    let alloc = rt.alloc();
-    let instance = Instance::new(alloc, 48, 1, &[0; 48])?;
-    let mut heading = Vec::from_slice(alloc, b"48 1 3\n0\n1")?;
-    for job in 2..49u16 {
-        heading.extend_from_slice(format!(in alloc; " {}", job)?.as_bytes())?;
-    }
-    // 48 jobs have 48 * 47 * 46 lists of three.
-    let rows = [
-        (103_776, Ok(0)),
-        (103_775, Err(CheckFault::Tree(103_780))),
-        (103_777, Err(CheckFault::End)),
-    ];
-    for (count, answer) in rows {
-        let trees = b"\nA".repeat(alloc, count)?;
-        let parts: [&[u8]; 3] = [heading.as_slice(), trees.as_slice(), b"\nend\n"];
-        assert_eq!(rt; checked(alloc, &instance, &parts)?, answer);
+fn check_answers_certificates(rt: HostRuntime) -> Result<(), Fail> {
+    for &(shop, title, rest, answer) in ANSWERS.iter() {
+        let holds = answers(rt.alloc(), shop, title, rest, answer)?;
+        assert!(rt; holds, "for {rest:?}");
     }
     Ok(())
 }
 
 /// What stands behind a first line for the instance with three machines, and its first fault in either version.
-const FIRST_FAULTS: [(&[u8], CheckFault); 18] = [
+static FIRST_FAULTS: [(&[u8], CheckFault); 18] = [
     (b"3 3\n012\n3 1\nx\nEND\n", CheckFault::Size),
     (b"3 3 0\n012\n3 1\nx\nEND\n", CheckFault::Value),
     (b"3 3 0\n12\n3 1\nx\nEND\n", CheckFault::Sequence),
@@ -189,28 +203,107 @@ const FIRST_FAULTS: [(&[u8], CheckFault); 18] = [
 
 #[test]
 fn checker_names_first_fault(rt: HostRuntime) -> Result<(), Fail> {
-    let alloc = rt.alloc();
-    let instance = three_machines(alloc)?;
-    let found = check(alloc, &instance, b"flowshop\n3 3\n012\n3 1\nx\nEND\n");
-    assert_eq!(rt; found, Err(CheckFault::Header));
-    for title in [TITLE, TITLE_2] {
-        for (rest, fault) in FIRST_FAULTS {
-            let found = checked_behind(alloc, &instance, title, rest)?;
-            assert_eq!(rt; found, Err(fault), "behind {title:?}");
+    for &title in TITLES.iter() {
+        for &(rest, fault) in FIRST_FAULTS.iter() {
+            let holds = answers(rt.alloc(), Shop::Three, title, rest, Err(fault))?;
+            assert!(rt; holds, "for {rest:?}");
         }
     }
-    // At the list 1 3 machine 3 has the bound 9 in version 1. Released by machine 2 it has 14, so that the tree of
-    // the first list ends behind it.
-    let rest = b"3 3 1\n12\n3 1 2\n+BC++.B\nend\n";
-    let found = checked_behind(alloc, &instance, TITLE, rest)?;
-    assert_eq!(rt; found, Err(CheckFault::Weak(5)));
-    let found = checked_behind(alloc, &instance, TITLE_2, rest)?;
-    assert_eq!(rt; found, Err(CheckFault::Tree(5)));
+    Ok(())
+}
+
+/// A certificate of the instance with three machines, whose trees are single letters.
+const LETTERS: [u8; 54] = *b"flowshop certificate 1\n3 3 2\n12\n3 1 2\nB\nB\nC\nB\nA\nB\nend\n";
+
+/// The machines whose bound is at least 12, worked out by hand, at 1 2, 1 3, 2 1, 2 3, 3 1 and 3 2.
+static STRONG: [&[u8]; 6] = [b"BC", b"AB", b"C", b"BC", b"AB", b"BC"];
+
+/// What the checker answers where this letter is the tree on a line, and these are those that it accepts there.
+fn answer_of(letter: u8, strong: &[u8], line: usize) -> Result<u64, CheckFault> {
+    if letter == b'D' {
+        Err(CheckFault::Tree(line))
+    } else if strong.contains(&letter) {
+        Ok(12)
+    } else {
+        Err(CheckFault::Weak(line))
+    }
+}
+
+#[test]
+fn checker_tests_each_single_letter(rt: HostRuntime) -> Result<(), Fail> {
+    let instance = three_machines(rt.alloc())?;
+    for index in 0..6usize {
+        for letter in b'A'..=b'D' {
+            let mut text = LETTERS;
+            text[38 + 2 * index] = letter;
+            let found = check(rt.alloc(), &instance, &text);
+            assert_eq!(rt; found, answer_of(letter, STRONG[index], 5 + index));
+        }
+    }
+    Ok(())
+}
+
+/// Instances on one machine, the depth, a tree, how many lines have this tree, and the answer. 48 jobs have
+/// 48 * 47 * 46 = 103,776 lists of three, more than the prefixes of a plan. 4 jobs have 24 lists of three, and as many
+/// of four.
+static EQUAL_TREES: [(Shop, u32, &[u8], usize, Result<u64, CheckFault>); 5] = [
+    (Shop::Times(48, 1, &[0; 48]), 3, b"A\n", 103_776, Ok(0)),
+    (
+        Shop::Times(48, 1, &[0; 48]),
+        3,
+        b"A\n",
+        103_775,
+        Err(CheckFault::Tree(103_780)),
+    ),
+    (
+        Shop::Times(48, 1, &[0; 48]),
+        3,
+        b"A\n",
+        103_777,
+        Err(CheckFault::End),
+    ),
+    (Shop::Times(4, 1, &[0; 4]), 3, b"A\n", 24, Ok(0)),
+    (
+        Shop::Times(4, 1, &[0; 4]),
+        4,
+        b".\n",
+        24,
+        Err(CheckFault::Size),
+    ),
+];
+
+/// A text for so many jobs on one machine, whose sequence is 1, 2, .. and whose makespan is 0, with so many lines that
+/// have this tree.
+fn text_of(
+    alloc: Global,
+    jobs: u16,
+    depth: u32,
+    tree: &[u8],
+    count: usize,
+) -> Result<Vec<u8>, Fail> {
+    let mut text = Vec::from_slice(alloc, TITLE)?;
+    text.extend_from_slice(format!(in alloc; "{jobs} 1 {depth}\n0\n1")?.as_bytes())?;
+    for job in 2..jobs.saturating_add(1) {
+        text.extend_from_slice(format!(in alloc; " {job}")?.as_bytes())?;
+    }
+    text.push(b'\n')?;
+    text.append(&mut tree.repeat(alloc, count)?)?;
+    text.extend_from_slice(b"end\n")?;
+    Ok(text)
+}
+
+#[test]
+fn checker_reads_a_tree_for_each_list_of_the_depth(rt: HostRuntime) -> Result<(), Fail> {
+    for &(shop, depth, tree, count, answer) in EQUAL_TREES.iter() {
+        let instance = made(rt.alloc(), shop)?;
+        let text = text_of(rt.alloc(), instance.jobs(), depth, tree, count)?;
+        assert_eq!(rt; check(rt.alloc(), &instance, text.as_slice()), answer);
+    }
     Ok(())
 }
 
 /// The lines of the certificate at depth 0 behind the first, without their ends.
-const LINES_AT_DEPTH_0: [&[u8]; 5] = [b"3 3 0", b"12", b"3 1 2", b"+BC++.B", b"end"];
+static LINES_AT_DEPTH_0: [&[u8]; 5] = [b"3 3 0", b"12", b"3 1 2", b"+BC++.B", b"end"];
 
 /// The certificate at depth 0 behind a first line, with other bytes as one of its lines, counted from 1.
 fn with_line(alloc: Global, title: &[u8], changed: usize, bytes: &[u8]) -> Result<Vec<u8>, Fail> {
@@ -229,21 +322,27 @@ fn with_line(alloc: Global, title: &[u8], changed: usize, bytes: &[u8]) -> Resul
     Ok(text)
 }
 
+/// Whether the certificate at depth 0 has these bytes as this line.
+fn is_line(alloc: Global, title: &[u8], number: usize, bytes: &[u8]) -> Result<bool, Fail> {
+    let text = with_line(alloc, title, number, bytes)?;
+    Ok(text.as_slice() == CERTIFICATE_AT_DEPTH_0.as_slice())
+}
+
 #[test]
 fn lines_make_the_certificate(rt: HostRuntime) -> Result<(), Fail> {
-    let alloc = rt.alloc();
+    assert!(rt; is_line(rt.alloc(), TITLE_2, 1, b"flowshop certificate 1")?);
     for (index, line) in LINES_AT_DEPTH_0.iter().enumerate() {
-        let text = with_line(alloc, TITLE, index + 2, line)?;
-        assert_eq!(rt; text.as_slice(), CERTIFICATE_AT_DEPTH_0.as_slice());
+        assert!(rt;
+            is_line(rt.alloc(), TITLE, index + 2, line)?,
+            "line {index}"
+        );
     }
-    let text = with_line(alloc, TITLE_2, 1, b"flowshop certificate 1")?;
-    assert_eq!(rt; text.as_slice(), CERTIFICATE_AT_DEPTH_0.as_slice());
     Ok(())
 }
 
 /// The number of a line, its fault, and bytes that have this fault in either version as that line of the certificate at
 /// depth 0.
-const CHANGED_LINES: [(usize, CheckFault, &[&[u8]]); 9] = [
+static CHANGED_LINES: [(usize, CheckFault, &[&[u8]]); 9] = [
     (
         1,
         CheckFault::Header,
@@ -343,30 +442,12 @@ fn first_other<'a>(
 
 #[test]
 fn checker_names_fault_of_each_changed_line(rt: HostRuntime) -> Result<(), Fail> {
-    for title in [TITLE, TITLE_2] {
-        for (line, fault, changes) in CHANGED_LINES {
+    for &title in TITLES.iter() {
+        for &(line, fault, changes) in CHANGED_LINES.iter() {
             let other = first_other(rt.alloc(), title, line, fault, changes)?;
-            assert_eq!(rt; other, None, "for {fault} in line {line} behind {title:?}");
+            assert_eq!(rt; other, None, "for {fault} in line {line}");
         }
     }
-    Ok(())
-}
-
-#[test]
-fn checker_refuses_depths_past_the_jobs_and_past_three(rt: HostRuntime) -> Result<(), Fail> {
-    let alloc = rt.alloc();
-    let one = Instance::new(alloc, 1, 1, &[0])?;
-    assert_eq!(rt; checked(alloc, &one, &[b"1 1 1\n0\n1\n.\nend\n"])?, Ok(0));
-    let found = checked(alloc, &one, &[b"1 1 2\n0\n1\n.\nend\n"])?;
-    assert_eq!(rt; found, Err(CheckFault::Size));
-    let four = Instance::new(alloc, 4, 1, &[0; 4])?;
-    // 4 jobs have 24 lists of three, and as many of four.
-    let trees = b"A\n".repeat(alloc, 24)?;
-    let parts: [&[u8]; 3] = [b"4 1 3\n0\n1 2 3 4\n", trees.as_slice(), b"end\n"];
-    assert_eq!(rt; checked(alloc, &four, &parts)?, Ok(0));
-    let trees = b".\n".repeat(alloc, 24)?;
-    let parts: [&[u8]; 3] = [b"4 1 4\n0\n1 2 3 4\n", trees.as_slice(), b"end\n"];
-    assert_eq!(rt; checked(alloc, &four, &parts)?, Err(CheckFault::Size));
     Ok(())
 }
 
@@ -384,37 +465,37 @@ fn fault_of_prefix(length: usize) -> CheckFault {
 
 #[test]
 fn checker_names_first_fault_of_each_prefix(rt: HostRuntime) -> Result<(), Fail> {
-    let alloc = rt.alloc();
-    let instance = three_machines(alloc)?;
+    let instance = three_machines(rt.alloc())?;
     for length in 0..50 {
-        let found = check(alloc, &instance, &CERTIFICATE_AT_DEPTH_0[..length]);
+        let found = check(rt.alloc(), &instance, &CERTIFICATE_AT_DEPTH_0[..length]);
         assert_eq!(rt; found, Err(fault_of_prefix(length)), "at {length} bytes");
     }
     Ok(())
 }
 
+/// The certificates that differ from the one at depth 0 in one byte. Machine 3 has the bound 14 at the list 3 2, and
+/// version 2 the same bounds or greater ones.
+static CLOSE_CERTIFICATES: [&[u8]; 2] = [
+    b"flowshop certificate 1\n3 3 0\n12\n3 1 2\n+BC++.C\nend\n",
+    b"flowshop certificate 2\n3 3 0\n12\n3 1 2\n+BC++.B\nend\n",
+];
+
 #[test]
 fn checker_accepts_two_of_all_changed_bytes(rt: HostRuntime) -> Result<(), Fail> {
-    let alloc = rt.alloc();
-    let instance = three_machines(alloc)?;
-    // Machine 3 has the bound 14 at the list 3 2, and version 2 the same bounds or greater ones.
-    let mut letters: u64 = 0;
-    let mut versions: u64 = 0;
+    let instance = three_machines(rt.alloc())?;
+    let mut accepted: u64 = 0;
     for place in 0..50 {
         for change in 1..=255u8 {
             let mut text = CERTIFICATE_AT_DEPTH_0;
             text[place] ^= change;
-            if let Ok(value) = check(alloc, &instance, &text) {
-                assert_eq!(rt; value, 12);
-                if &text[..23] == TITLE_2 {
-                    versions = versions.saturating_add(1);
-                } else {
-                    letters = letters.saturating_add(1);
-                    assert_eq!(rt; &text[38..46], b"+BC++.C\n".as_slice());
-                }
+            let found = check(rt.alloc(), &instance, &text);
+            if found.is_ok() {
+                accepted = accepted.saturating_add(1);
+                assert!(rt; found == Ok(12));
+                assert!(rt; CLOSE_CERTIFICATES.contains(&text.as_slice()));
             }
         }
     }
-    assert_eq!(rt; (letters, versions), (1, 1));
+    assert_eq!(rt; accepted, 2);
     Ok(())
 }

@@ -24,6 +24,8 @@ mod plain;
 #[cfg(test)]
 mod search;
 #[cfg(test)]
+mod shops;
+#[cfg(test)]
 mod start_text;
 #[cfg(test)]
 mod starts;
@@ -31,6 +33,8 @@ mod starts;
 mod text;
 #[cfg(test)]
 mod trees;
+#[cfg(test)]
+mod two_ended;
 #[cfg(test)]
 mod values;
 #[cfg(test)]

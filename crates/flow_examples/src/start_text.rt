@@ -1,8 +1,9 @@
 //! Start text: what is read, the first fault, and each text that differs in a byte from a start, beside a plain
 //! reading.
 
-use flow_core::{Claim, Instance, Sequence, Start, StartFault, read_start};
-use std::alloc::Global;
+use crate::changes::replaced;
+use flow_core::{Claim, Start, StartFault, read_start};
+use std::alloc::{AllocError, Global};
 use std::test::Fail;
 
 /// A start whose words are spread over lines and blanks.
@@ -11,191 +12,192 @@ const A_START: &[u8] = b"\n\tsequence 2 03\r1 \n\r\nmakespan\t9\n";
 /// The bytes that stand in for one of a start.
 const OTHERS: &[u8] = b" \t\r\n09sx\0\xff";
 
-/// The start of a text.
-fn start_of(alloc: Global, text: &[u8]) -> Result<Start, Fail> {
-    match read_start(alloc, text) {
-        Ok(start) => Ok(start),
-        Err(_) => Err(Fail::from("no start")),
-    }
-}
+/// Texts, their jobs, and the makespan that they claim.
+static READ: [(&[u8], &[u16], Option<Claim>); 3] = [
+    (
+        A_START,
+        &[2, 3, 1],
+        Some(Claim {
+            makespan: 9,
+            line: 4,
+        }),
+    ),
+    (b"sequence 65535 0 7 7", &[65_535, 0, 7, 7], None),
+    (
+        b"sequence 800\nmakespan 4294967295",
+        &[800],
+        Some(Claim {
+            makespan: u32::MAX,
+            line: 2,
+        }),
+    ),
+];
 
 #[test]
 fn a_start_is_read(rt: HostRuntime) -> Result<(), Fail> {
-    let alloc = rt.alloc();
-    let start = start_of(alloc, A_START)?;
-    assert!(rt; start.jobs.as_slice() == [2, 3, 1].as_slice());
-    assert_eq!(rt;
-        start.claim,
-        Some(Claim {
-            makespan: 9,
-            line: 4
-        })
-    );
-    let start = start_of(alloc, b"sequence 65535 0 7 7")?;
-    assert!(rt; start.jobs.as_slice() == [65_535, 0, 7, 7].as_slice());
-    assert_eq!(rt; start.claim, None);
-    let start = start_of(alloc, b"sequence 800\nmakespan 4294967295")?;
-    assert!(rt; start.jobs.as_slice() == [800].as_slice());
-    assert_eq!(rt;
-        start.claim,
-        Some(Claim {
-            makespan: u32::MAX,
-            line: 2
-        })
-    );
-    Ok(())
-}
-
-#[test]
-fn the_first_fault_of_a_start_is_named(rt: HostRuntime) -> Result<(), Fail> {
-    let rows: [(&[u8], usize); 22] = [
-        (b"", 1),
-        (b"\n", 2),
-        (b" \r\n\t\n ", 4),
-        (b"2 3 1\n", 1),
-        (b"\n2 3 1\n", 2),
-        (b"sequence\n", 1),
-        (b"\n sequence \nmakespan 9\n", 2),
-        (b"sequence2 3 1\n", 1),
-        (b"Sequence 2 3 1\n", 1),
-        (b"sequences 2 3 1\n", 1),
-        (b"sequence 2,3,1\n", 1),
-        (b"sequence 2 -3 1\n", 1),
-        (b"sequence 2 3 1 makespan 9\n", 1),
-        (b"sequence 65536\n", 1),
-        (b"sequence 4294967296\n", 1),
-        (b"sequence 2 3\n1\n", 2),
-        (b"sequence 2 3 1\nsequence 2 3 1\n", 2),
-        (b"sequence 2 3 1\n\nmakespan\n", 3),
-        (b"sequence 2 3 1\nmakespan 9 9\n", 2),
-        (b"sequence 2 3 1\nmakespan 4294967296\n", 2),
-        (b"sequence 2 3 1\nmakespan 9\n\nmakespan 9\n", 4),
-        (b"makespan 9\nsequence 2 3 1\n", 1),
-    ];
-    for (text, line) in rows {
-        assert_eq!(rt; read_start(rt.alloc(), text), Err(StartFault::Line(line)));
+    for &(text, jobs, claim) in READ.iter() {
+        let start = read_start(rt.alloc(), text)?;
+        assert_eq!(rt; start.jobs.as_slice(), jobs);
+        assert_eq!(rt; start.claim, claim);
     }
     Ok(())
 }
 
-/// The numbers behind a word on a line, by their words.
-fn plain_numbers(
-    alloc: Global,
-    word: &str,
+/// Texts, and the line of the first fault.
+static FIRST_FAULTS: [(&[u8], usize); 22] = [
+    (b"", 1),
+    (b"\n", 2),
+    (b" \r\n\t\n ", 4),
+    (b"2 3 1\n", 1),
+    (b"\n2 3 1\n", 2),
+    (b"sequence\n", 1),
+    (b"\n sequence \nmakespan 9\n", 2),
+    (b"sequence2 3 1\n", 1),
+    (b"Sequence 2 3 1\n", 1),
+    (b"sequences 2 3 1\n", 1),
+    (b"sequence 2,3,1\n", 1),
+    (b"sequence 2 -3 1\n", 1),
+    (b"sequence 2 3 1 makespan 9\n", 1),
+    (b"sequence 65536\n", 1),
+    (b"sequence 4294967296\n", 1),
+    (b"sequence 2 3\n1\n", 2),
+    (b"sequence 2 3 1\nsequence 2 3 1\n", 2),
+    (b"sequence 2 3 1\n\nmakespan\n", 3),
+    (b"sequence 2 3 1\nmakespan 9 9\n", 2),
+    (b"sequence 2 3 1\nmakespan 4294967296\n", 2),
+    (b"sequence 2 3 1\nmakespan 9\n\nmakespan 9\n", 4),
+    (b"makespan 9\nsequence 2 3 1\n", 1),
+];
+
+#[test]
+fn the_first_fault_of_a_start_is_named(rt: HostRuntime) {
+    for &(text, line) in FIRST_FAULTS.iter() {
+        let fault = StartFault::Line(line);
+        assert_eq!(rt; read_start(rt.alloc(), text), Err(fault));
+    }
+}
+
+/// Whether a byte is a blank within a line.
+fn is_blank(byte: u8) -> bool {
+    byte == b' ' || byte == b'\t' || byte == b'\r'
+}
+
+/// Puts the numbers behind a word on a line into a list. Whether there is nothing else on the line.
+fn read_line(
+    word: &[u8],
     line: &[u8],
     most: u64,
-) -> Result<Option<Vec<u64>>, Fail> {
-    let mut numbers = Vec::new(alloc);
+    numbers: &mut Vec<u64>,
+) -> Result<bool, AllocError> {
     let mut is_first = true;
-    for part in line.split(|byte| *byte == b' ' || *byte == b'\t' || *byte == b'\r') {
+    for part in line.split(|byte| is_blank(*byte)) {
         if part.is_empty() {
             continue;
         }
         if is_first {
             is_first = false;
-            if part != word.as_bytes() {
-                return Ok(None);
+            if part != word {
+                return Ok(false);
             }
             continue;
         }
         if !part.iter().all(|byte| byte.is_ascii_digit()) {
-            return Ok(None);
+            return Ok(false);
         }
         match str::from_utf8(part).unwrap_or("").parse::<u64>() {
             Ok(number) if number <= most => numbers.push(number)?,
-            _ => return Ok(None),
+            _ => return Ok(false),
         }
     }
-    Ok(Some(numbers))
+    Ok(true)
 }
 
-/// What a plain reading finds: the jobs, with the makespan and its line or 0; or the line at fault.
-type Plain = Result<(Vec<u64>, u64, usize), usize>;
+/// Reads a line that is not blank, the first of them or one behind it. Whether it brings what is wanted.
+fn read_next(
+    line: &[u8],
+    number: u64,
+    jobs: &mut Vec<u64>,
+    claim: &mut Vec<u64>,
+) -> Result<bool, AllocError> {
+    if jobs.is_empty() {
+        return Ok(read_line(b"sequence", line, 65_535, jobs)? && !jobs.is_empty());
+    }
+    if !claim.is_empty() || !read_line(b"makespan", line, 4_294_967_295, claim)? {
+        return Ok(false);
+    }
+    claim.push(number)?;
+    Ok(claim.len() == 2)
+}
 
-/// Reads a start line by line.
-fn plain_reading(alloc: Global, text: &[u8]) -> Result<Plain, Fail> {
-    let mut jobs = None;
-    let mut claim = (0, 0);
+/// Reads a start line by line: the jobs, and the makespan with its line if there is one. The answer is the line at
+/// fault, or 0.
+fn plain_reading(
+    text: &[u8],
+    jobs: &mut Vec<u64>,
+    claim: &mut Vec<u64>,
+) -> Result<usize, AllocError> {
     let mut count = 0usize;
     for line in text.split(|byte| *byte == b'\n') {
         count = count.saturating_add(1);
-        if line
+        let is_empty = line.iter().all(|byte| is_blank(*byte));
+        if !is_empty && !read_next(line, count as u64, jobs, claim)? {
+            return Ok(count);
+        }
+    }
+    if !jobs.is_empty() {
+        return Ok(0);
+    }
+    // Bytes behind the last LF are a line; where there are none, the last line is the one before it.
+    if text.is_empty() || text.ends_with(b"\n") {
+        return Ok(count);
+    }
+    Ok(count.saturating_add(1))
+}
+
+/// Whether a start has these jobs, and this makespan with its line or none.
+fn is_start(start: &Start, jobs: &[u64], claim: &[u64]) -> bool {
+    let is_claim = match start.claim {
+        Some(found) => claim == [u64::from(found.makespan), found.line as u64].as_slice(),
+        None => claim.is_empty(),
+    };
+    is_claim
+        && start
+            .jobs
             .iter()
-            .all(|byte| *byte == b' ' || *byte == b'\t' || *byte == b'\r')
-        {
-            continue;
-        }
-        if jobs.is_none() {
-            jobs = plain_numbers(alloc, "sequence", line, 65_535)?.filter(|jobs| !jobs.is_empty());
-            if jobs.is_none() {
-                return Ok(Err(count));
-            }
-            continue;
-        }
-        match plain_numbers(alloc, "makespan", line, 4_294_967_295)? {
-            Some(numbers) if numbers.len() == 1 && claim.1 == 0 => claim = (numbers[0], count),
-            _ => return Ok(Err(count)),
-        }
-    }
-    match jobs {
-        Some(jobs) => Ok(Ok((jobs, claim.0, claim.1))),
-        // Bytes behind the last LF are a line; where there are none, the last line is the one before it.
-        None if text.is_empty() || text.ends_with(b"\n") => Ok(Err(count)),
-        None => Ok(Err(count.saturating_add(1))),
-    }
+            .map(|job| u64::from(*job))
+            .eq(jobs.iter().copied())
 }
 
 /// Whether a text is read as a plain reading reads it.
-fn is_read_alike(alloc: Global, text: &[u8]) -> Result<bool, Fail> {
-    Ok(
-        match (read_start(alloc, text), plain_reading(alloc, text)?) {
-            (Ok(start), Ok((jobs, makespan, line))) => {
-                let claim = match start.claim {
-                    Some(claim) => (u64::from(claim.makespan), claim.line),
-                    None => (0, 0),
-                };
-                claim == (makespan, line)
-                    && start
-                        .jobs
-                        .iter()
-                        .map(|job| u64::from(*job))
-                        .eq(jobs.iter().copied())
-            }
-            (Err(StartFault::Line(found)), Err(line)) => found == line,
-            _ => false,
-        },
-    )
+fn is_read_alike(alloc: Global, text: &[u8]) -> Result<bool, AllocError> {
+    let mut jobs = Vec::new(alloc);
+    let mut claim = Vec::new(alloc);
+    let line = plain_reading(text, &mut jobs, &mut claim)?;
+    Ok(match read_start(alloc, text) {
+        Ok(start) => line == 0 && is_start(&start, jobs.as_slice(), claim.as_slice()),
+        Err(fault) => line > 0 && fault == StartFault::Line(line),
+    })
 }
 
 #[test]
-fn cut_and_changed_starts_are_read_alike(rt: HostRuntime) -> Result<(), Fail> {
-    let alloc = rt.alloc();
+fn cut_starts_are_read_alike(rt: HostRuntime) -> Result<(), Fail> {
     for length in 0..A_START.len() + 1 {
-        let Some(text) = A_START.get(..length) else {
-            return Err(Fail::from("no such length"));
-        };
-        assert!(rt; is_read_alike(alloc, text)?, "cut at {length}");
-    }
-    for place in 0..A_START.len() {
-        for other in OTHERS {
-            let mut text = Vec::from_slice(alloc, A_START)?;
-            if let Some(byte) = text.get_mut(place) {
-                *byte = *other;
-            }
-            assert!(rt;
-                is_read_alike(alloc, text.as_slice())?,
-                "{other} at {place}"
-            );
-        }
+        let text = A_START.get(..length).ok_or("no such length")?;
+        assert!(rt; is_read_alike(rt.alloc(), text)?, "cut at {length}");
     }
     Ok(())
 }
 
 #[test]
-fn a_reversed_sequence_has_its_jobs_backwards(rt: HostRuntime) -> Result<(), Fail> {
-    let alloc = rt.alloc();
-    let instance = Instance::new(alloc, 4, 1, &[1, 2, 3, 4])?;
-    let reversed = Sequence::new(alloc, &instance, &[2, 4, 1, 3])?.reversed();
-    assert!(rt; reversed.jobs() == [3, 1, 4, 2].as_slice());
+fn changed_starts_are_read_alike(rt: HostRuntime) -> Result<(), Fail> {
+    for place in 0..A_START.len() {
+        for other in OTHERS {
+            let text = replaced(rt.alloc(), A_START, place, 1, &[*other])?;
+            assert!(rt;
+                is_read_alike(rt.alloc(), text.as_slice())?,
+                "{other} at {place}"
+            );
+        }
+    }
     Ok(())
 }

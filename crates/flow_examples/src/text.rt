@@ -1,58 +1,81 @@
 //! Benchmark text: what is read, the first fault, and what is written.
 
-use crate::instances::{GENERATED_TEXT, TWO_MACHINES_TEXT, two_machines};
-use flow_core::{Block, Instance, TextFault, block_text, generate, read_blocks};
+use crate::instances::{GENERATED_TEXT, TWO_MACHINES_TEXT};
+use crate::shops::{Shop, made};
+use flow_core::{Block, TextFault, block_text, read_blocks};
 use std::alloc::Global;
 use std::test::Fail;
 
-/// The only block of a text.
-fn only_block(alloc: Global, text: &[u8]) -> Result<Block, Fail> {
-    let mut blocks = read_blocks(alloc, text)?;
-    match blocks.pop() {
-        Some(block) if blocks.is_empty() => Ok(block),
-        _ => Err(Fail::from("not one block")),
+/// A block of a table: its seed, upper bound and lower bound, and its instance.
+type Listed = ((u32, u32, u32), Shop);
+
+/// Whether a text is read as these blocks.
+fn is_read_as(alloc: Global, text: &[u8], blocks: &[Listed]) -> Result<bool, Fail> {
+    let found = read_blocks(alloc, text)?;
+    if found.len() != blocks.len() {
+        return Ok(false);
     }
+    for (block, (numbers, shop)) in found.iter().zip(blocks) {
+        let instance = made(alloc, *shop)?;
+        if (block.seed, block.upper, block.lower) != *numbers || block.instance != instance {
+            return Ok(false);
+        }
+    }
+    Ok(true)
 }
 
-/// The fault of a text.
-fn fault_of(alloc: Global, text: &[u8]) -> Result<TextFault, Fail> {
-    match read_blocks(alloc, text) {
-        Ok(_) => Err(Fail::from("a text was read")),
-        Err(fault) => Ok(fault),
+/// The texts of these blocks, one behind another.
+fn text_of(alloc: Global, blocks: &[Listed]) -> Result<Vec<u8>, Fail> {
+    let mut text = Vec::new(alloc);
+    for ((seed, upper, lower), shop) in blocks {
+        let block = Block {
+            seed: *seed,
+            upper: *upper,
+            lower: *lower,
+            instance: made(alloc, *shop)?,
+        };
+        text.append(&mut block_text(alloc, &block)?)?;
     }
+    Ok(text)
 }
+
+/// One job on one machine, which takes 5.
+const FIVE: Shop = Shop::Times(1, 1, &[5]);
+
+/// Texts of one block.
+static LENIENT: [(&[u8], Listed); 5] = [
+    (
+        b"number of jobs :\r\n  3\t2 7 9\r\n9\r\n\r\nprocessing times :\r\n3 1\r\n2 2\r\n4 2\r\n",
+        ((7, 9, 9), Shop::Two),
+    ),
+    // Leading zeros and a missing line end.
+    (b"a\n1 1 1 1 1\nb\n05", ((1, 1, 1), FIVE)),
+    (
+        b"a\n1 1 1 1 1\nb\n100000\n",
+        ((1, 1, 1), Shop::Times(1, 1, &[100_000])),
+    ),
+    (
+        b"a\n1 1 4294967295 4294967295 4294967295\nb\n5\n",
+        ((u32::MAX, u32::MAX, u32::MAX), FIVE),
+    ),
+    // The text with two machines without its last line end.
+    (
+        b"number of jobs, number of machines, initial seed, upper bound and lower bound :\n\
+        3 2 0 0 0\nprocessing times :\n3 1 2\n2 4 2",
+        ((0, 0, 0), Shop::Two),
+    ),
+];
 
 #[test]
 fn lenient_texts_are_read(rt: HostRuntime) -> Result<(), Fail> {
-    let alloc = rt.alloc();
-    let two = two_machines(alloc)?;
-    let five = Instance::new(alloc, 1, 1, &[5])?;
-    let large = Instance::new(alloc, 1, 1, &[100_000])?;
-    let rows: [(&[u8], (u32, u32, u32), &Instance); 4] = [
-        (
-            b"number of jobs :\r\n  3\t2 7 9\r\n9\r\n\r\nprocessing times :\r\n3 1\r\n2 2\r\n4 2\r\n",
-            (7, 9, 9),
-            &two,
-        ),
-        // Leading zeros and a missing line end.
-        (b"a\n1 1 1 1 1\nb\n05", (1, 1, 1), &five),
-        (b"a\n1 1 1 1 1\nb\n100000\n", (1, 1, 1), &large),
-        (
-            b"a\n1 1 4294967295 4294967295 4294967295\nb\n5\n",
-            (u32::MAX, u32::MAX, u32::MAX),
-            &five,
-        ),
-    ];
-    for (text, numbers, instance) in rows {
-        let block = only_block(alloc, text)?;
-        assert_eq!(rt; (block.seed, block.upper, block.lower), numbers);
-        assert!(rt; block.instance == *instance);
+    for &(text, block) in LENIENT.iter() {
+        assert!(rt; is_read_as(rt.alloc(), text, &[block])?, "{text:?}");
     }
     Ok(())
 }
 
 /// Texts, and the first fault of each.
-const FIRST_FAULTS: [(&[u8], TextFault); 15] = [
+static FIRST_FAULTS: [(&[u8], TextFault); 15] = [
     (b"", TextFault::NoBlock),
     (b"3 2 0 0 0\n", TextFault::Label(1)),
     (b"a\n3 2 7 9 9 9\n", TextFault::Head(2)),
@@ -74,84 +97,67 @@ const FIRST_FAULTS: [(&[u8], TextFault); 15] = [
 ];
 
 #[test]
-fn first_fault_of_a_text_is_named(rt: HostRuntime) -> Result<(), Fail> {
-    for (text, fault) in FIRST_FAULTS {
-        assert_eq!(rt; fault_of(rt.alloc(), text)?, fault);
+fn first_fault_of_a_text_is_named(rt: HostRuntime) {
+    for &(text, fault) in FIRST_FAULTS.iter() {
+        assert_eq!(rt; read_blocks(rt.alloc(), text).err(), Some(fault));
     }
-    Ok(())
 }
 
 #[test]
 fn number_of_a_thousand_digits_is_named(rt: HostRuntime) -> Result<(), Fail> {
-    let alloc = rt.alloc();
-    let mut great = Vec::from_slice(alloc, b"a\n1")?;
-    great.extend_from_slice(b"0".repeat(alloc, 1_000)?.as_slice())?;
-    assert_eq!(rt; fault_of(alloc, great.as_slice())?, TextFault::Number(2));
+    let mut text = Vec::from_slice(rt.alloc(), b"a\n1")?;
+    text.append(&mut b"0".repeat(rt.alloc(), 1_000)?)?;
+    let found = read_blocks(rt.alloc(), text.as_slice());
+    assert_eq!(rt; found.err(), Some(TextFault::Number(2)));
     Ok(())
 }
 
+/// The block of `GENERATED_TEXT`.
+static GENERATED: [Listed; 1] = [((1, 122, 122), Shop::Seed(2, 2, 1))];
+
+/// Ten blocks with different seeds.
+static TEN_SEEDS: [Listed; 10] = [
+    ((1, 9, 8), Shop::Two),
+    ((2, 9, 8), Shop::Two),
+    ((3, 9, 8), Shop::Two),
+    ((4, 9, 8), Shop::Two),
+    ((5, 9, 8), Shop::Two),
+    ((6, 9, 8), Shop::Two),
+    ((7, 9, 8), Shop::Two),
+    ((8, 9, 8), Shop::Two),
+    ((9, 9, 8), Shop::Two),
+    ((10, 9, 8), Shop::Two),
+];
+
 #[test]
-fn block_is_written_in_one_form_and_read_again(rt: HostRuntime) -> Result<(), Fail> {
-    let alloc = rt.alloc();
-    let block = Block {
-        seed: 1,
-        upper: 122,
-        lower: 122,
-        instance: generate(alloc, 2, 2, 1)?,
-    };
-    let text = block_text(alloc, &block)?;
+fn blocks_are_written_in_one_form_and_read_again(rt: HostRuntime) -> Result<(), Fail> {
+    let text = text_of(rt.alloc(), &GENERATED)?;
     assert_eq!(rt; text.as_slice(), GENERATED_TEXT);
-    let again = only_block(alloc, text.as_slice())?;
-    assert_eq!(rt; (again.seed, again.upper, again.lower), (1, 122, 122));
-    assert!(rt; again.instance == block.instance);
+    assert!(rt; is_read_as(rt.alloc(), GENERATED_TEXT, &GENERATED)?);
+    let text = text_of(rt.alloc(), &TEN_SEEDS)?;
+    assert!(rt; is_read_as(rt.alloc(), text.as_slice(), &TEN_SEEDS)?);
     Ok(())
 }
 
-#[test]
-fn blocks_in_sequence_are_read_in_order(rt: HostRuntime) -> Result<(), Fail> {
-    let alloc = rt.alloc();
-    let mut text = Vec::new(alloc);
-    for seed in 1..=10u32 {
-        let block = Block {
-            seed,
-            upper: 9,
-            lower: 8,
-            instance: two_machines(alloc)?,
-        };
-        text.extend_from_slice(block_text(alloc, &block)?.as_slice())?;
-    }
-    let blocks = read_blocks(alloc, text.as_slice())?;
-    assert_eq!(rt; blocks.len(), 10);
-    let two = two_machines(alloc)?;
-    let mut seed = 0u32;
-    for block in &blocks {
-        seed = seed.wrapping_add(1);
-        assert_eq!(rt; (block.seed, block.upper, block.lower), (seed, 9, 8));
-        assert!(rt; block.instance == two, "block {seed}");
-    }
-    Ok(())
-}
+/// Nine times the block of `TWO_MACHINES_TEXT`, and another.
+static NINE_AND_ONE: [Listed; 10] = [
+    ((0, 0, 0), Shop::Two),
+    ((0, 0, 0), Shop::Two),
+    ((0, 0, 0), Shop::Two),
+    ((0, 0, 0), Shop::Two),
+    ((0, 0, 0), Shop::Two),
+    ((0, 0, 0), Shop::Two),
+    ((0, 0, 0), Shop::Two),
+    ((0, 0, 0), Shop::Two),
+    ((0, 0, 0), Shop::Two),
+    ((7, 6, 5), Shop::Times(1, 1, &[4])),
+];
 
 #[test]
 fn repeated_text_is_read_as_so_many_blocks(rt: HostRuntime) -> Result<(), Fail> {
-    let alloc = rt.alloc();
-    let mut text = Vec::new(alloc);
-    for _ in 0..9u32 {
-        text.extend_from_slice(TWO_MACHINES_TEXT)?;
-    }
+    let mut text = TWO_MACHINES_TEXT.repeat(rt.alloc(), 9)?;
     text.extend_from_slice(b"a\n1 1 7 6 5\nb\n4\n")?;
-    let blocks = read_blocks(alloc, text.as_slice())?;
-    assert_eq!(rt; blocks.len(), 10);
-    let two = two_machines(alloc)?;
-    for block in blocks.iter().take(9) {
-        assert_eq!(rt; (block.seed, block.upper, block.lower), (0, 0, 0));
-        assert!(rt; block.instance == two);
-    }
-    let last = Instance::new(alloc, 1, 1, &[4])?;
-    for block in blocks.iter().skip(9) {
-        assert_eq!(rt; (block.seed, block.upper, block.lower), (7, 6, 5));
-        assert!(rt; block.instance == last);
-    }
+    assert!(rt; is_read_as(rt.alloc(), text.as_slice(), &NINE_AND_ONE)?);
     Ok(())
 }
 
@@ -167,44 +173,37 @@ fn missing(length: usize, line: usize) -> TextFault {
 }
 
 #[test]
-fn prefixes_of_a_text_miss_the_rest(rt: HostRuntime) -> Result<(), Fail> {
-    let alloc = rt.alloc();
+fn prefixes_of_a_text_miss_the_rest(rt: HostRuntime) {
     let whole = TWO_MACHINES_TEXT;
     assert_eq!(rt; whole.len(), 121);
     let mut line = 1usize;
     for length in 0..120usize {
-        let prefix = &whole[..length];
         // `line` is the number of lines of the prefix, plus 1.
         if length > 0 && (length == 1 || whole[length - 2] == b'\n') {
             line = line.wrapping_add(1);
         }
-        assert_eq!(rt;
-            fault_of(alloc, prefix)?,
-            missing(length, line),
-            "at {length}"
-        );
+        let found = read_blocks(rt.alloc(), &whole[..length]);
+        let fault = missing(length, line);
+        assert_eq!(rt; found.err(), Some(fault), "at {length}");
     }
-    let block = only_block(alloc, &whole[..120])?;
-    assert_eq!(rt; (block.seed, block.upper, block.lower), (0, 0, 0));
-    assert!(rt; block.instance == two_machines(alloc)?);
-    Ok(())
 }
+
+/// Faults, and how they are printed.
+static PRINTED: [(TextFault, &str); 8] = [
+    (TextFault::Memory, "Memory"),
+    (TextFault::NoBlock, "NoBlock"),
+    (TextFault::Label(3), "Label 3"),
+    (TextFault::Byte(2), "Byte 2"),
+    (TextFault::Number(2), "Number 2"),
+    (TextFault::Head(6), "Head 6"),
+    (TextFault::Limits(4), "Limits 4"),
+    (TextFault::Times(9), "Times 9"),
+];
 
 #[test]
 fn text_faults_are_printed_with_their_line(rt: HostRuntime) -> Result<(), Fail> {
-    let alloc = rt.alloc();
-    let rows = [
-        (TextFault::Memory, "Memory"),
-        (TextFault::NoBlock, "NoBlock"),
-        (TextFault::Label(3), "Label 3"),
-        (TextFault::Byte(2), "Byte 2"),
-        (TextFault::Number(2), "Number 2"),
-        (TextFault::Head(6), "Head 6"),
-        (TextFault::Limits(4), "Limits 4"),
-        (TextFault::Times(9), "Times 9"),
-    ];
-    for (fault, text) in rows {
-        assert_eq!(rt; format!(in alloc; "{fault}")?.as_str(), text);
+    for &(fault, text) in PRINTED.iter() {
+        assert_eq!(rt; format!(in rt.alloc(); "{fault}")?.as_str(), text);
     }
     Ok(())
 }

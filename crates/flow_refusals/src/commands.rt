@@ -1,21 +1,25 @@
-//! The commands that start no thread, over sources and sinks in memory.
+//! The commands, over sources and sinks in memory.
 
-ghost use Rattle.std.specs.Prelude.{◌≡◌, false, None};
+ghost use Rattle.std.specs.Prelude.{◌≡◌, false};
+ghost use Rattle.std.specs.Option.{ForSome};
 
-use crate::schedules::{LAST_BAR, TABLE};
-use crate::trouble::{Trouble, confirm};
+use crate::groups::{is_refusal, refused_where};
+use crate::schedules::{TABLE, is_picture};
 use flow_check::CheckFault;
 use flow_commands::{
-    CertifyRequest, CheckRequest, CommandFault, ImproveRequest, ScheduleForm, run_certify,
-    run_check, run_check_as, run_gen, run_improve, run_mirror, run_neh, run_schedule, run_span,
+    CertifyRequest, CheckRequest, CommandFault, ImproveRequest, ScheduleForm, SolveRequest,
+    run_certify, run_check, run_check_as, run_gen, run_improve, run_mirror, run_neh, run_schedule,
+    run_solve, run_solve_as, run_span,
 };
-use flow_core::{MemorySink, MemorySource};
+use flow_core::{MemorySink, MemorySource, StartFault};
 use flow_examples::{
-    CERTIFICATE_AT_DEPTH_0, GENERATED_TEXT, THREE_MACHINES_TEXT, TWO_MACHINES_TEXT,
+    AMPLE, CERTIFICATE_AT_DEPTH_0, GENERATED_TEXT, THREE_MACHINES_TEXT, TIGHT, TWO_MACHINES_TEXT,
     WEAK_CERTIFICATE,
 };
-use flow_pool::SolveFault;
+use flow_pool::{Open, SolveFault};
 use std::alloc::Global;
+use std::sync::Wait;
+use std::thread::Threads;
 
 /// What `mirror` writes for the instance with two machines.
 const MIRRORED_TEXT: &[u8] =
@@ -23,12 +27,11 @@ const MIRRORED_TEXT: &[u8] =
 3 2 0 0 0\nprocessing times :\n2 4 2\n3 1 2\n";
 
 /// A start of the instance with three machines.
-pub(crate) const START: &[u8] = b"sequence 1 2 3\nmakespan 15\n";
+const START: &[u8] = b"sequence 1 2 3\nmakespan 15\n";
 
 /// The certificate of the mirrored instance of three machines at depth 0, in version 2. It was computed apart from the
 /// program, by the definitions.
-pub(crate) const MIRRORED_CERTIFICATE: &[u8] =
-    b"flowshop certificate 2\n3 3 0\n12\n2 1 3\n+BC+AB\nend\n";
+const MIRRORED_CERTIFICATE: &[u8] = b"flowshop certificate 2\n3 3 0\n12\n2 1 3\n+BC+AB\nend\n";
 
 /// An instance with nine jobs on four machines, which `gen` makes of seed 50.
 const FOUR_MACHINES_TEXT: &[u8] =
@@ -44,90 +47,15 @@ const FOUR_MACHINES_START: &[u8] = b"sequence 7 1 2 5 8 3 4 9 6\nmakespan 745\n"
 const FOUR_MACHINES_CERTIFICATE: &[u8] = b"flowshop certificate 1\n9 4 0\n742\n5 2 4 6 1 7 9 3 8\n\
 +DDDD+D++DDDDDDD++DDDDDD++D+DD++.DDDDDDDDDDDDDDDDDDDDD+DDDDDDDDDD\nend\n";
 
-/// A source of all these bytes.
-pub(crate) fn all_of(bytes: &[u8]) -> MemorySource
-    ensures { result.failed ≡ false }
-{
-    MemorySource::new(bytes, 7, None)
-}
+/// The certificate of the mirrored instance of three machines at depth 0 from the reversed start `1 2 3`. It was
+/// computed apart from the program, by the definitions.
+const STARTED_CERTIFICATE: &[u8] = b"flowshop certificate 1\n3 3 0\n12\n2 1 3\n+++.B++.B+AB\nend\n";
 
-/// A sink with room for any output here.
-pub(crate) fn room(alloc: Global) -> MemorySink
-    ensures { result.failed ≡ false }
-{
-    MemorySink::new(alloc, 1_000)
-}
+/// A text of bounds of the text with three machines.
+const BOUNDS_OF_11: &[u8] = b"flowshop bounds 1\n3 3 0\n11 13\n2 1 3\n+BB+AB\nend\n";
 
-/// `Ok` where a command wrote this text. Where memory ran out it wrote nothing, or in its sink a proper prefix.
-pub(crate) fn confirm_written(
-    ran: Result<(), CommandFault>,
-    out: &MemorySink,
-    text: &[u8],
-    command: &'static str,
-) -> Result<(), Trouble> {
-    match ran {
-        Ok(()) => confirm(out.bytes() == text, command),
-        Err(CommandFault::Memory | CommandFault::Run(SolveFault::Threads)) => {
-            confirm(out.bytes().is_empty(), command)?;
-            Err(Trouble::Refused)
-        }
-        Err(CommandFault::Write(_)) => {
-            let is_part = text.starts_with(out.bytes()) && out.bytes().len() < text.len();
-            confirm(is_part, command)?;
-            Err(Trouble::Refused)
-        }
-        Err(_) => Err(Trouble::Wrong(command)),
-    }
-}
-
-/// `Ok` where a command refused by this fault. It never writes anything.
-pub(crate) fn confirm_refused(
-    ran: Result<(), CommandFault>,
-    out: &MemorySink,
-    fault: CommandFault,
-    command: &'static str,
-) -> Result<(), Trouble> {
-    confirm(out.bytes().is_empty(), command)?;
-    match ran {
-        Err(CommandFault::Memory | CommandFault::Run(SolveFault::Threads)) => Err(Trouble::Refused),
-        Err(found) => confirm(found == fault, command),
-        Ok(()) => Err(Trouble::Wrong(command)),
-    }
-}
-
-/// `run_span`.
-pub(crate) fn span_is_run(alloc: Global) -> Result<(), Trouble> {
-    let mut out = room(alloc);
-    let ran = run_span(
-        alloc,
-        &mut all_of(TWO_MACHINES_TEXT),
-        1,
-        &[2, 3, 1],
-        &mut out,
-    );
-    confirm_written(ran, &out, b"makespan 9\n", "run_span")
-}
-
-/// `run_gen`.
-pub(crate) fn gen_is_run(alloc: Global) -> Result<(), Trouble> {
-    let mut out = room(alloc);
-    let ran = run_gen(alloc, 2, 2, 1, &mut out);
-    confirm_written(ran, &out, GENERATED_TEXT, "run_gen")
-}
-
-/// `run_neh`.
-pub(crate) fn neh_is_run(alloc: Global) -> Result<(), Trouble> {
-    let mut out = room(alloc);
-    let ran = run_neh(alloc, &mut all_of(TWO_MACHINES_TEXT), 1, &mut out);
-    confirm_written(ran, &out, b"sequence 2 3 1\nmakespan 9\n", "run_neh")
-}
-
-/// No start text.
-pub(crate) fn no_start() -> Option<MemorySource<'static>>
-    ensures { result ≡ None }
-{
-    None
-}
+/// What is printed for a certificate whose sequence is asked for.
+const CHECKED_LINES: &[u8] = b"sequence 3 1 2\nmakespan 12\n";
 
 /// No beam, and no round of an improvement.
 const NO_ROUND: ImproveRequest = ImproveRequest {
@@ -144,172 +72,313 @@ const CERTIFY: CertifyRequest = CertifyRequest {
     bounds: false,
 };
 
-/// `run_improve` of no round.
-pub(crate) fn improve_is_run(alloc: Global) -> Result<(), Trouble> {
-    let mut out = room(alloc);
-    let mut file = all_of(THREE_MACHINES_TEXT);
-    let ran = run_improve(alloc, &mut file, 1, &mut no_start(), NO_ROUND, &mut out);
-    confirm_written(ran, &out, b"sequence 2 1 3\nmakespan 13\n", "run_improve")
+/// `solve` of the mirrored instance with two workers at depth 0.
+const MIRRORED: SolveRequest = SolveRequest {
+    workers: 2,
+    depth: 0,
+    budget: AMPLE,
+    version: 1,
+    mirrored: true,
+    target: None,
+};
+
+/// `check` of texts of either instance and of bounds too.
+const CHECK: CheckRequest = CheckRequest {
+    either: true,
+    bounds: true,
+    sequence: false,
+};
+
+/// The same, where the sequence is printed.
+const CHECK_SEQUENCE: CheckRequest = CheckRequest {
+    sequence: true,
+    ..CHECK
+};
+
+/// A command, with what it is given beside its texts.
+#[derive(Drop)]
+enum Command {
+    Gen,
+    Span,
+    Neh,
+    Mirror,
+    Improve,
+    Certify,
+    /// By `run_solve`, at a depth, within a budget.
+    Solve(u32, u32),
+    SolveAs(SolveRequest),
+    Check,
+    CheckAs(CheckRequest),
+    Schedule(ScheduleForm),
 }
 
-/// `run_improve` of no round from a start text, which gives the start back.
-pub(crate) fn improve_is_run_from(alloc: Global) -> Result<(), Trouble> {
-    let mut out = room(alloc);
-    let mut file = all_of(THREE_MACHINES_TEXT);
-    let mut start = Some(all_of(START));
-    let ran = run_improve(alloc, &mut file, 1, &mut start, NO_ROUND, &mut out);
-    confirm_written(ran, &out, START, "run_improve from a start")
+/// What a command is to write, or its fault.
+#[derive(Drop)]
+enum Wanted {
+    Text(&'static [u8]),
+    Picture,
+    Fault(CommandFault),
 }
 
-/// `run_certify`, where the certificate is that of the instance.
-pub(crate) fn certify_is_run(alloc: Global) -> Result<(), Trouble> {
-    let mut out = room(alloc);
-    let mut file = all_of(THREE_MACHINES_TEXT);
-    let ran = run_certify(alloc, &mut file, 1, &mut no_start(), CERTIFY, &mut out);
-    confirm_written(ran, &out, &CERTIFICATE_AT_DEPTH_0, "run_certify")
+/// A run of a command.
+#[derive(Drop)]
+pub(crate) struct Run {
+    /// The name of the call.
+    pub name: &'static str,
+    text: &'static [u8],
+    /// Its start, its certificate, or its sequence.
+    beside: Option<&'static [u8]>,
+    command: Command,
+    wanted: Wanted,
 }
 
-/// `run_certify` from a start text, where the certificate is that of the mirrored instance.
-pub(crate) fn certify_is_run_from(alloc: Global) -> Result<(), Trouble> {
-    let mut out = room(alloc);
-    let mut file = all_of(FOUR_MACHINES_TEXT);
-    let mut start = Some(all_of(FOUR_MACHINES_START));
-    let ran = run_certify(alloc, &mut file, 1, &mut start, CERTIFY, &mut out);
-    confirm_written(
-        ran,
-        &out,
-        FOUR_MACHINES_CERTIFICATE,
-        "run_certify from a start",
-    )
+/// All runs.
+pub(crate) static RUNS: [Run; 22] = [
+    Run {
+        name: "run_span",
+        text: TWO_MACHINES_TEXT,
+        beside: None,
+        command: Command::Span,
+        wanted: Wanted::Text(b"makespan 9\n"),
+    },
+    Run {
+        name: "run_gen",
+        text: b"",
+        beside: None,
+        command: Command::Gen,
+        wanted: Wanted::Text(GENERATED_TEXT),
+    },
+    Run {
+        name: "run_neh",
+        text: TWO_MACHINES_TEXT,
+        beside: None,
+        command: Command::Neh,
+        wanted: Wanted::Text(b"sequence 2 3 1\nmakespan 9\n"),
+    },
+    Run {
+        name: "run_improve",
+        text: THREE_MACHINES_TEXT,
+        beside: None,
+        command: Command::Improve,
+        wanted: Wanted::Text(b"sequence 2 1 3\nmakespan 13\n"),
+    },
+    Run {
+        name: "run_improve from a start",
+        text: THREE_MACHINES_TEXT,
+        beside: Some(START),
+        command: Command::Improve,
+        wanted: Wanted::Text(START),
+    },
+    Run {
+        name: "run_certify",
+        text: THREE_MACHINES_TEXT,
+        beside: None,
+        command: Command::Certify,
+        wanted: Wanted::Text(&CERTIFICATE_AT_DEPTH_0),
+    },
+    Run {
+        name: "run_certify from a start",
+        text: FOUR_MACHINES_TEXT,
+        beside: Some(FOUR_MACHINES_START),
+        command: Command::Certify,
+        wanted: Wanted::Text(FOUR_MACHINES_CERTIFICATE),
+    },
+    Run {
+        name: "run_mirror",
+        text: TWO_MACHINES_TEXT,
+        beside: None,
+        command: Command::Mirror,
+        wanted: Wanted::Text(MIRRORED_TEXT),
+    },
+    Run {
+        name: "run_solve",
+        text: THREE_MACHINES_TEXT,
+        beside: None,
+        command: Command::Solve(0, AMPLE),
+        wanted: Wanted::Text(&CERTIFICATE_AT_DEPTH_0),
+    },
+    Run {
+        name: "run_solve beyond the budget",
+        text: THREE_MACHINES_TEXT,
+        beside: None,
+        command: Command::Solve(1, TIGHT),
+        wanted: Wanted::Fault(CommandFault::Run(SolveFault::OverBudget(2))),
+    },
+    Run {
+        name: "run_solve_as of the mirrored instance",
+        text: THREE_MACHINES_TEXT,
+        beside: None,
+        command: Command::SolveAs(SolveRequest {
+            version: 2,
+            ..MIRRORED
+        }),
+        wanted: Wanted::Text(MIRRORED_CERTIFICATE),
+    },
+    Run {
+        name: "run_solve_as below a target",
+        text: THREE_MACHINES_TEXT,
+        beside: None,
+        command: Command::SolveAs(SolveRequest {
+            mirrored: false,
+            target: Some(11),
+            ..MIRRORED
+        }),
+        wanted: Wanted::Text(BOUNDS_OF_11),
+    },
+    Run {
+        name: "run_solve_as from a start",
+        text: THREE_MACHINES_TEXT,
+        beside: Some(START),
+        command: Command::SolveAs(MIRRORED),
+        wanted: Wanted::Text(STARTED_CERTIFICATE),
+    },
+    Run {
+        name: "run_solve_as from a start with another makespan",
+        text: THREE_MACHINES_TEXT,
+        beside: Some(b"sequence 1 2 3\nmakespan 14\n"),
+        command: Command::SolveAs(MIRRORED),
+        wanted: Wanted::Fault(CommandFault::Start(StartFault::Line(2))),
+    },
+    Run {
+        name: "run_check",
+        text: THREE_MACHINES_TEXT,
+        beside: Some(&CERTIFICATE_AT_DEPTH_0),
+        command: Command::Check,
+        wanted: Wanted::Text(b"optimal 12\n"),
+    },
+    Run {
+        name: "run_check of a text with a weak letter",
+        text: THREE_MACHINES_TEXT,
+        beside: Some(WEAK_CERTIFICATE),
+        command: Command::Check,
+        wanted: Wanted::Fault(CommandFault::Certificate(CheckFault::Weak(7))),
+    },
+    Run {
+        name: "run_check_as of either",
+        text: THREE_MACHINES_TEXT,
+        beside: Some(MIRRORED_CERTIFICATE),
+        command: Command::CheckAs(CHECK),
+        wanted: Wanted::Text(b"optimal 12\n"),
+    },
+    Run {
+        name: "run_check_as of a sequence",
+        text: THREE_MACHINES_TEXT,
+        beside: Some(&CERTIFICATE_AT_DEPTH_0),
+        command: Command::CheckAs(CHECK_SEQUENCE),
+        wanted: Wanted::Text(CHECKED_LINES),
+    },
+    Run {
+        name: "run_check_as of a mirrored sequence",
+        text: THREE_MACHINES_TEXT,
+        beside: Some(MIRRORED_CERTIFICATE),
+        command: Command::CheckAs(CHECK_SEQUENCE),
+        wanted: Wanted::Text(CHECKED_LINES),
+    },
+    Run {
+        name: "run_check_as of bounds",
+        text: THREE_MACHINES_TEXT,
+        beside: Some(BOUNDS_OF_11),
+        command: Command::CheckAs(CHECK),
+        wanted: Wanted::Text(b"bounds 11 13\n"),
+    },
+    Run {
+        name: "run_schedule of a table",
+        text: TWO_MACHINES_TEXT,
+        beside: Some(b"sequence 2 3 1\n"),
+        command: Command::Schedule(ScheduleForm::Csv),
+        wanted: Wanted::Text(TABLE),
+    },
+    Run {
+        name: "run_schedule of a picture",
+        text: THREE_MACHINES_TEXT,
+        beside: Some(b"sequence 3 1 2\n"),
+        command: Command::Schedule(ScheduleForm::Svg),
+        wanted: Wanted::Picture,
+    },
+];
+
+/// A source of all these bytes.
+fn all_of(bytes: &[u8]) -> MemorySource
+    ensures { result.failed ≡ false }
+{
+    MemorySource::new(bytes, 7, None)
 }
 
-/// `run_mirror`.
-pub(crate) fn mirror_is_run(alloc: Global) -> Result<(), Trouble> {
-    let mut out = room(alloc);
-    let ran = run_mirror(alloc, &mut all_of(TWO_MACHINES_TEXT), 1, &mut out);
-    confirm_written(ran, &out, MIRRORED_TEXT, "run_mirror")
-}
-
-/// `run_check` of a certificate.
-pub(crate) fn check_is_run(alloc: Global) -> Result<(), Trouble> {
-    let mut out = room(alloc);
-    let mut cert = all_of(&CERTIFICATE_AT_DEPTH_0);
-    let ran = run_check(
-        alloc,
-        &mut all_of(THREE_MACHINES_TEXT),
-        1,
-        &mut cert,
-        &mut out,
-    );
-    confirm_written(ran, &out, b"optimal 12\n", "run_check")
-}
-
-/// `run_check` of a text with a weak letter.
-pub(crate) fn check_is_refused(alloc: Global) -> Result<(), Trouble> {
-    let mut out = room(alloc);
-    let mut cert = all_of(WEAK_CERTIFICATE);
-    let ran = run_check(
-        alloc,
-        &mut all_of(THREE_MACHINES_TEXT),
-        1,
-        &mut cert,
-        &mut out,
-    );
-    let fault = CommandFault::Certificate(CheckFault::Weak(7));
-    confirm_refused(ran, &out, fault, "run_check of a text with a weak letter")
-}
-
-/// `run_check_as` of a certificate, where one of the mirrored instance is accepted too.
-fn confirm_checked(
-    alloc: Global,
-    certificate: &[u8],
-    sequence: bool,
-    text: &[u8],
-    command: &'static str,
-) -> Result<(), Trouble> {
-    let mut out = room(alloc);
-    let mut cert = all_of(certificate);
-    let mut file = all_of(THREE_MACHINES_TEXT);
-    let request = CheckRequest {
-        either: true,
-        bounds: true,
-        sequence,
-    };
-    let ran = run_check_as(alloc, &mut file, 1, &mut cert, request, &mut out);
-    confirm_written(ran, &out, text, command)
-}
-
-/// `run_check_as` of a certificate of the mirrored instance, which is accepted too.
-pub(crate) fn mirrored_is_checked(alloc: Global) -> Result<(), Trouble> {
-    let line = b"optimal 12\n";
-    confirm_checked(
-        alloc,
-        MIRRORED_CERTIFICATE,
-        false,
-        line,
-        "run_check_as of either",
-    )
-}
-
-/// What is printed for a certificate whose sequence is asked for.
-const CHECKED_LINES: &[u8] = b"sequence 3 1 2\nmakespan 12\n";
-
-/// `run_check_as`, where the sequence is asked for.
-pub(crate) fn sequence_is_checked(alloc: Global) -> Result<(), Trouble> {
-    confirm_checked(
-        alloc,
-        &CERTIFICATE_AT_DEPTH_0,
-        true,
-        CHECKED_LINES,
-        "run_check_as of a sequence",
-    )
-}
-
-/// `run_check_as`, where the sequence of a certificate of the mirrored instance is asked for.
-pub(crate) fn mirrored_sequence_is_checked(alloc: Global) -> Result<(), Trouble> {
-    confirm_checked(
-        alloc,
-        MIRRORED_CERTIFICATE,
-        true,
-        CHECKED_LINES,
-        "run_check_as of a mirrored sequence",
-    )
-}
-
-/// A text of bounds of the text with three machines.
-pub(crate) const BOUNDS_OF_11: &[u8] = b"flowshop bounds 1\n3 3 0\n11 13\n2 1 3\n+BB+AB\nend\n";
-
-/// `run_check_as` of a text of bounds.
-pub(crate) fn bounds_are_checked(alloc: Global) -> Result<(), Trouble> {
-    let line = b"bounds 11 13\n";
-    confirm_checked(alloc, BOUNDS_OF_11, false, line, "run_check_as of bounds")
-}
-
-/// `run_schedule` of a table.
-pub(crate) fn table_is_run(alloc: Global) -> Result<(), Trouble> {
-    let mut out = room(alloc);
-    let mut file = all_of(TWO_MACHINES_TEXT);
-    let mut start = all_of(b"sequence 2 3 1\n");
-    let ran = run_schedule(alloc, &mut file, 1, &mut start, ScheduleForm::Csv, &mut out);
-    confirm_written(ran, &out, TABLE, "run_schedule of a table")
-}
-
-/// `run_schedule` of a picture, which is written whole or not at all.
-pub(crate) fn picture_is_run(alloc: Global) -> Result<(), Trouble> {
-    let mut out = MemorySink::new(alloc, 10_000);
-    let mut file = all_of(THREE_MACHINES_TEXT);
-    let mut start = all_of(b"sequence 3 1 2\n");
-    let ran = run_schedule(alloc, &mut file, 1, &mut start, ScheduleForm::Svg, &mut out);
-    let command = "run_schedule of a picture";
-    match ran {
-        Ok(()) => {
-            let right = out.bytes().starts_with(b"<svg ") && out.bytes().ends_with(LAST_BAR);
-            confirm(right, command)
-        }
-        Err(CommandFault::Memory | CommandFault::Write(_)) => {
-            confirm(out.bytes().is_empty(), command)?;
-            Err(Trouble::Refused)
-        }
-        Err(_) => Err(Trouble::Wrong(command)),
+/// A source of all these bytes, where there are some.
+fn all_of_any(bytes: Option<&'static [u8]>) -> Option<MemorySource<'static>>
+    ensures { ForSome result (λ source. source.failed ≡ false) }
+{
+    match bytes {
+        Some(bytes) => Some(all_of(bytes)),
+        None => None,
     }
+}
+
+/// Runs a command.
+fn ran<T: Threads + Wait + Sync>(
+    threads: &T,
+    alloc: Global,
+    run: &Run,
+    out: &mut MemorySink,
+) -> Result<(), CommandFault>
+    requires { out.old.failed ≡ false }
+{
+    let mut file = all_of(run.text);
+    let mut start = all_of_any(run.beside);
+    let mut other = all_of(run.beside.unwrap_or(b""));
+    match &run.command {
+        Command::Gen => run_gen(alloc, 2, 2, 1, out),
+        Command::Span => run_span(alloc, &mut file, 1, &[2, 3, 1], out),
+        Command::Neh => run_neh(alloc, &mut file, 1, out),
+        Command::Mirror => run_mirror(alloc, &mut file, 1, out),
+        Command::Improve => run_improve(alloc, &mut file, 1, &mut start, NO_ROUND, out),
+        Command::Certify => run_certify(alloc, &mut file, 1, &mut start, CERTIFY, out),
+        Command::Solve(depth, budget) => run_solve(
+            threads, alloc, &mut file, 1, 2, *depth, *budget, 1, &Open, out,
+        ),
+        Command::SolveAs(request) => run_solve_as(
+            threads, alloc, &mut file, 1, &mut start, *request, &Open, out,
+        ),
+        Command::Check => run_check(alloc, &mut file, 1, &mut other, out),
+        Command::CheckAs(request) => run_check_as(alloc, &mut file, 1, &mut other, *request, out),
+        Command::Schedule(form) => run_schedule(alloc, &mut file, 1, &mut other, *form, out),
+    }
+}
+
+/// Whether that is a part of what a command is to write, and not all of it. A picture is written whole or not at all.
+fn is_part(written: &[u8], wanted: &Wanted) -> bool {
+    match wanted {
+        Wanted::Text(text) => text.starts_with(written) && written.len() < text.len(),
+        Wanted::Picture => written.is_empty(),
+        Wanted::Fault(_) => false,
+    }
+}
+
+/// Whether a command wrote, or refused, as it should. Where memory ran out it wrote nothing, or in its sink a part. A
+/// command that refuses never writes anything.
+fn is_wanted(
+    ran: Result<(), CommandFault>,
+    written: &[u8],
+    wanted: &Wanted,
+) -> Result<bool, CommandFault> {
+    match (ran, wanted) {
+        (Ok(()), Wanted::Text(text)) => Ok(written == *text),
+        (Ok(()), Wanted::Picture) => Ok(is_picture(written)),
+        (Ok(()), Wanted::Fault(_)) => Ok(false),
+        (Err(CommandFault::Write(_)), _) => refused_where(is_part(written, wanted)),
+        (Err(fault), _) if is_refusal(fault) => refused_where(written.is_empty()),
+        (Err(fault), Wanted::Fault(other)) => Ok(written.is_empty() && fault == *other),
+        (Err(_), _) => Ok(false),
+    }
+}
+
+/// Makes a run, and says whether it came to what it should.
+pub(crate) fn run_is_right<T: Threads + Wait + Sync>(
+    threads: &T,
+    alloc: Global,
+    run: &Run,
+) -> Result<bool, CommandFault> {
+    let mut out = MemorySink::new(alloc, 10_000);
+    let ran = ran(threads, alloc, run, &mut out);
+    is_wanted(ran, out.bytes(), &run.wanted)
 }

@@ -1,41 +1,48 @@
 //! Instances, sequences and the generator.
 
-use crate::trouble::{Trouble, confirm};
+use flow_commands::CommandFault;
 use flow_core::{Instance, Sequence, generate, makespan, rows};
 use flow_examples::{three_machines, two_machines};
 use std::alloc::Global;
 
+/// Whether jobs are a sequence of the instance, of this makespan.
+fn has_makespan(
+    alloc: Global,
+    instance: &Instance,
+    jobs: &[u16],
+    value: u64,
+) -> Result<bool, CommandFault> {
+    let sequence = Sequence::new(alloc, instance, jobs)?;
+    Ok(makespan(instance, &sequence) == value)
+}
+
 /// `Instance::new` and `Sequence::new`.
-pub(crate) fn instances_are_made(alloc: Global) -> Result<(), Trouble> {
+pub(crate) fn instances_are_made(alloc: Global) -> Result<bool, CommandFault> {
     let three = three_machines(alloc)?;
-    let least = Sequence::new(alloc, &three, &[3, 1, 2])?;
     let two = two_machines(alloc)?;
-    let other = Sequence::new(alloc, &two, &[2, 3, 1])?;
-    let right = makespan(&three, &least) == 12 && makespan(&two, &other) == 9;
-    confirm(right, "Instance::new, Sequence::new")
+    Ok(has_makespan(alloc, &three, &[3, 1, 2], 12)? && has_makespan(alloc, &two, &[2, 3, 1], 9)?)
 }
 
 /// `generate`.
-pub(crate) fn instance_is_generated(alloc: Global) -> Result<(), Trouble> {
+pub(crate) fn instance_is_generated(alloc: Global) -> Result<bool, CommandFault> {
     let instance = generate(alloc, 2, 2, 1)?;
-    let expected = Instance::new(alloc, 2, 2, &[1, 14, 75, 46])?;
-    confirm(instance == expected, "generate")
+    Ok(instance == Instance::new(alloc, 2, 2, &[1, 14, 75, 46])?)
 }
 
-/// `Instance::mirrored`.
-pub(crate) fn instance_is_mirrored(alloc: Global) -> Result<(), Trouble> {
-    let mirrored = two_machines(alloc)?.mirrored(alloc)?;
-    let expected = Instance::new(alloc, 3, 2, &[2, 4, 2, 3, 1, 2])?;
-    confirm(mirrored == expected, "Instance::mirrored")
+/// `Instance::mirrored` of the instance with two machines.
+pub(crate) fn instance_is_mirrored(alloc: Global, two: &Instance) -> Result<bool, CommandFault> {
+    let mirrored = two.mirrored(alloc)?;
+    Ok(mirrored == Instance::new(alloc, 3, 2, &[2, 4, 2, 3, 1, 2])?)
 }
 
-/// `rows`.
-pub(crate) fn rows_are_made(alloc: Global) -> Result<(), Trouble> {
-    let made = rows(alloc, &two_machines(alloc)?)?;
+/// `rows` of the instance with two machines.
+pub(crate) fn rows_are_made(alloc: Global, two: &Instance) -> Result<bool, CommandFault> {
+    let made = rows(alloc, two)?;
     let [first, second, third] = made.as_slice() else {
-        return Err(Trouble::Wrong("rows"));
+        return Ok(false);
     };
-    let right = (first.times[0], second.times[0], third.times[0]) == (3, 1, 2)
-        && (first.tails[0], second.tails[0], third.tails[0]) == (2, 4, 2);
-    confirm(right, "rows")
+    Ok(
+        (first.times[0], second.times[0], third.times[0]) == (3, 1, 2)
+            && (first.tails[0], second.tails[0], third.tails[0]) == (2, 4, 2),
+    )
 }

@@ -12,22 +12,21 @@
 mod bounds;
 mod certificates;
 mod commands;
+mod groups;
 mod growths;
 mod instances;
 mod lanes;
 mod schedules;
 mod search;
-mod solve;
 mod texts;
-mod trouble;
 mod workers;
 
+use commands::{RUNS, run_is_right};
+use flow_commands::CommandFault;
+use groups::{GROUPS, is_refusal};
 use growths::{asked, grow};
-use std::alloc::Global;
 use std::process::ExitCode;
-use std::sync::Wait;
-use std::thread::Threads;
-use trouble::Trouble;
+use workers::workers_solve;
 
 /// The status where memory ran out in some call, or a worker could not be started.
 const REFUSED: u8 = 1;
@@ -35,61 +34,25 @@ const REFUSED: u8 = 1;
 /// The status where a call returned something that it should not.
 const WRONG: u8 = 2;
 
-/// How many groups of calls there are.
-const GROUPS: usize = 48;
+/// How many groups returned what they should, and the status, as far as they were made.
+#[derive(Drop)]
+struct Tally {
+    right: u32,
+    status: u8,
+}
 
-/// Makes all calls: each group, also where one before it did not return what it should.
-fn found<T: Threads + Wait + Sync>(threads: &T, alloc: Global) -> [Result<(), Trouble>; GROUPS] {
-    [
-        instances::instances_are_made(alloc),
-        instances::instance_is_generated(alloc),
-        instances::instance_is_mirrored(alloc),
-        instances::rows_are_made(alloc),
-        texts::text_is_read(alloc),
-        texts::start_is_read(alloc),
-        texts::source_is_read(alloc),
-        texts::sink_takes_all(alloc),
-        bounds::starting_sequence_is_found(alloc),
-        bounds::insertions_are_tried(alloc),
-        bounds::beam_is_searched(alloc),
-        bounds::rounds_of_both_are_made(alloc),
-        bounds::start_is_improved(alloc),
-        search::prefixes_are_answered(alloc),
-        search::plan_starts_as_given(alloc),
-        search::outcomes_are_concluded(alloc),
-        search::plan_is_solved(alloc),
-        search::certificate_is_found(alloc),
-        search::bound_is_raised(alloc),
-        schedules::table_is_made(alloc),
-        schedules::picture_is_made(alloc),
-        certificates::certificate_is_written(alloc),
-        certificates::certificates_are_checked(alloc),
-        certificates::certified_sequence_is_given(alloc),
-        lanes::lane_is_used(alloc),
-        workers::workers_solve(threads, alloc),
-        commands::span_is_run(alloc),
-        commands::gen_is_run(alloc),
-        commands::neh_is_run(alloc),
-        commands::improve_is_run(alloc),
-        commands::improve_is_run_from(alloc),
-        commands::certify_is_run(alloc),
-        commands::certify_is_run_from(alloc),
-        commands::mirror_is_run(alloc),
-        solve::solve_is_run(threads, alloc),
-        solve::solve_is_refused(threads, alloc),
-        solve::mirrored_is_solved(threads, alloc),
-        solve::bounds_are_solved(threads, alloc),
-        solve::start_is_solved(threads, alloc),
-        solve::start_is_refused(threads, alloc),
-        commands::check_is_run(alloc),
-        commands::check_is_refused(alloc),
-        commands::mirrored_is_checked(alloc),
-        commands::sequence_is_checked(alloc),
-        commands::mirrored_sequence_is_checked(alloc),
-        commands::bounds_are_checked(alloc),
-        commands::table_is_run(alloc),
-        commands::picture_is_run(alloc),
-    ]
+impl Tally {
+    /// Adds a group: whether its calls returned what they should, or the fault of the call at which it ended.
+    fn add<R: Eprint>(&mut self, rt: &R, name: &str, ended: Result<bool, CommandFault>) {
+        match ended {
+            Ok(true) => self.right = self.right.saturating_add(1),
+            Err(fault) if is_refusal(fault) => self.status = self.status.max(REFUSED),
+            _ => {
+                drop(eprintln!(rt; "{name}: not what it should be"));
+                self.status = WRONG;
+            }
+        }
+    }
 }
 
 fn main(rt: HostRuntime) -> ExitCode {
@@ -97,18 +60,20 @@ fn main(rt: HostRuntime) -> ExitCode {
     if grow(alloc, asked(&rt)).is_err() {
         return ExitCode::from(REFUSED);
     }
-    let mut status = 0;
-    let mut right = 0u32;
-    for one in found(&rt, alloc) {
-        match one {
-            Ok(()) => right = right.saturating_add(1),
-            Err(Trouble::Refused) => status = status.max(REFUSED),
-            Err(Trouble::Wrong(call)) => {
-                drop(eprintln!(&rt; "{call}: not what it should be"));
-                status = WRONG;
-            }
-        }
+    let mut tally = Tally {
+        right: 0,
+        status: 0,
+    };
+    for (name, group) in &GROUPS {
+        tally.add(&rt, name, group.made(alloc));
     }
-    drop(println!(&rt; "{right} of {GROUPS} groups of calls returned what they should"));
-    ExitCode::from(status)
+    let workers = workers_solve(&rt, alloc);
+    tally.add(&rt, "serve, solve, solve_below, solve_limited", workers);
+    for run in &RUNS {
+        tally.add(&rt, run.name, run_is_right(&rt, alloc, run));
+    }
+    let count = GROUPS.len() + 1 + RUNS.len();
+    let right = tally.right;
+    drop(println!(&rt; "{right} of {count} groups of calls returned what they should"));
+    ExitCode::from(tally.status)
 }

@@ -1,107 +1,128 @@
 //! Plans, outcomes and verdicts.
 
-use crate::trouble::{Trouble, confirm};
 use flow_certify::{Searched, find_certificate, raise_bound};
+use flow_commands::CommandFault;
 use flow_core::{Instance, Sequence};
-use flow_examples::{AMPLE, TIGHT, TREES_AT_DEPTH_1, all_outcomes, is_verdict, three_machines};
+use flow_examples::{AMPLE, TIGHT, TREES_AT_DEPTH_1, all_outcomes, is_verdict};
 use flow_improve::Effort;
+use flow_pool::SolveFault;
 use flow_search::{
-    Finding, Options, Outcome, RunFault, Verdict, answer, conclude, prepare, prepare_from,
+    Finding, Options, Outcome, Plan, RunFault, Verdict, answer, conclude, prepare, prepare_from,
     solve_plain,
 };
 use std::alloc::Global;
+
+/// A plan with so many workers, at a depth, within a budget.
+pub(crate) fn planned<'a>(
+    alloc: Global,
+    instance: &'a Instance,
+    workers: u32,
+    depth: u32,
+    budget: u32,
+) -> Result<Plan<'a>, CommandFault> {
+    let options = Options::new(workers, depth, budget)?;
+    Ok(prepare(alloc, instance, options)?)
+}
 
 /// Whether a verdict is that of the instance with three machines, at depth 1.
 pub(crate) fn is_worked(verdict: &Verdict) -> bool {
     is_verdict(verdict, 12, &[3, 1, 2], &TREES_AT_DEPTH_1)
 }
 
-/// `prepare` and `answer`. An answer that has no memory is a refusal.
-pub(crate) fn prefixes_are_answered(alloc: Global) -> Result<(), Trouble> {
-    let instance = three_machines(alloc)?;
-    let plan = prepare(alloc, &instance, Options::new(1, 1, AMPLE)?)?;
-    let right = plan.prefixes() == 3 && plan.start_value() == 13;
-    confirm(right, "prepare")?;
-    for number in 0..plan.prefixes() {
-        match answer(alloc, &plan, number) {
-            Outcome::Done { best: _, tree } => {
-                let right = TREES_AT_DEPTH_1
-                    .get(number as usize)
-                    .is_some_and(|expected| tree.as_slice() == *expected);
-                confirm(right, "answer")?;
-            }
-            Outcome::NoMemory => return Err(Trouble::Refused),
-            _ => return Err(Trouble::Wrong("answer")),
-        }
+/// Whether an outcome is that of the prefix of this number. One that has no memory is a refusal.
+fn is_outcome(outcome: &Outcome, number: usize) -> Result<bool, CommandFault> {
+    match outcome {
+        Outcome::Done { best: _, tree } => Ok(
+            TREES_AT_DEPTH_1
+                .get(number)
+                .is_some_and(|expected| tree.as_slice() == *expected),
+        ),
+        Outcome::NoMemory => Err(CommandFault::Memory),
+        _ => Ok(false),
     }
-    Ok(())
+}
+
+/// `prepare` and `answer`.
+pub(crate) fn prefixes_are_answered(alloc: Global, three: &Instance) -> Result<bool, CommandFault> {
+    let plan = planned(alloc, three, 1, 1, AMPLE)?;
+    let mut right = plan.prefixes() == 3 && plan.start_value() == 13;
+    for number in 0..plan.prefixes() {
+        right = is_outcome(&answer(alloc, &plan, number), number as usize)? && right;
+    }
+    Ok(right)
 }
 
 /// `prepare_from`.
-pub(crate) fn plan_starts_as_given(alloc: Global) -> Result<(), Trouble> {
-    let instance = three_machines(alloc)?;
-    let start = Sequence::new(alloc, &instance, &[3, 1, 2])?;
-    let plan = prepare_from(alloc, &instance, start, Options::new(1, 1, AMPLE)?)?;
-    let right = plan.start().jobs() == [3, 1, 2].as_slice() && plan.start_value() == 12;
-    confirm(right, "prepare_from")
+pub(crate) fn plan_starts_as_given(alloc: Global, three: &Instance) -> Result<bool, CommandFault> {
+    let options = Options::new(1, 1, AMPLE)?;
+    let start = Sequence::new(alloc, three, &[3, 1, 2])?;
+    let plan = prepare_from(alloc, three, start, options)?;
+    Ok(plan.start().jobs() == [3, 1, 2].as_slice() && plan.start_value() == 12)
 }
 
-/// `conclude`.
-pub(crate) fn outcomes_are_concluded(alloc: Global) -> Result<(), Trouble> {
-    let instance = three_machines(alloc)?;
-    let plan = prepare(alloc, &instance, Options::new(1, 1, AMPLE)?)?;
-    let verdict = conclude(alloc, &plan, all_outcomes(alloc, &plan)?)?;
-    confirm(is_worked(&verdict), "conclude")
-}
-
-/// `solve_plain`, within a budget and beyond one.
-pub(crate) fn plan_is_solved(alloc: Global) -> Result<(), Trouble> {
-    let instance = three_machines(alloc)?;
-    let plan = prepare(alloc, &instance, Options::new(1, 1, AMPLE)?)?;
-    confirm(is_worked(&solve_plain(alloc, &plan)?), "solve_plain")?;
-    let tight = prepare(alloc, &instance, Options::new(1, 1, TIGHT)?)?;
-    match solve_plain(alloc, &tight) {
-        Err(RunFault::OverBudget(2)) => Ok(()),
-        Err(RunFault::Memory) => Err(Trouble::Refused),
-        _ => Err(Trouble::Wrong("solve_plain beyond the budget")),
+/// Whether a run on one thread ended with the worked verdict.
+fn ends_worked(solved: &Result<Verdict, RunFault>) -> Result<bool, CommandFault> {
+    match solved {
+        Ok(verdict) => Ok(is_worked(verdict)),
+        Err(fault) => Err(CommandFault::from(SolveFault::from(*fault))),
     }
 }
 
-/// Whether `find_certificate` finds the least makespan of the instance with three machines from its start.
-fn finds_least(alloc: Global, instance: &Instance) -> Result<bool, Trouble> {
-    let mirror = instance.mirrored(alloc)?;
-    let start = Sequence::new(alloc, instance, &[2, 1, 3])?;
-    let effort = Effort {
-        width: 0,
-        rounds: 0,
-        seed: 1,
-        work: 0,
-    };
-    match find_certificate(alloc, instance, &mirror, &start, &effort, None)? {
+/// `conclude`.
+pub(crate) fn outcomes_are_concluded(
+    alloc: Global,
+    three: &Instance,
+) -> Result<bool, CommandFault> {
+    let plan = planned(alloc, three, 1, 1, AMPLE)?;
+    ends_worked(&conclude(alloc, &plan, all_outcomes(alloc, &plan)?))
+}
+
+/// Whether `solve_plain` ends with the worked verdict.
+fn is_solved(alloc: Global, three: &Instance) -> Result<bool, CommandFault> {
+    let plan = planned(alloc, three, 1, 1, AMPLE)?;
+    ends_worked(&solve_plain(alloc, &plan))
+}
+
+/// Whether `solve_plain` ends beyond the budget.
+fn is_over(alloc: Global, three: &Instance) -> Result<bool, CommandFault> {
+    let plan = planned(alloc, three, 1, 1, TIGHT)?;
+    match solve_plain(alloc, &plan) {
+        Err(RunFault::OverBudget(2)) => Ok(true),
+        Err(RunFault::Memory) => Err(CommandFault::Memory),
+        _ => Ok(false),
+    }
+}
+
+/// `solve_plain`, within a budget and beyond one.
+pub(crate) fn plan_is_solved(alloc: Global, three: &Instance) -> Result<bool, CommandFault> {
+    Ok(is_solved(alloc, three)? && is_over(alloc, three)?)
+}
+
+/// No beam, and no round.
+const NO_EFFORT: Effort = Effort {
+    width: 0,
+    rounds: 0,
+    seed: 1,
+    work: 0,
+};
+
+/// `find_certificate` of the instance with three machines from its start.
+pub(crate) fn certificate_is_found(alloc: Global, three: &Instance) -> Result<bool, CommandFault> {
+    let mirror = three.mirrored(alloc)?;
+    let start = Sequence::new(alloc, three, &[2, 1, 3])?;
+    match find_certificate(alloc, three, &mirror, &start, &NO_EFFORT, None)? {
         Searched::Found(_plan, verdict) => Ok(verdict.value == 12),
         Searched::Over(_) => Ok(false),
     }
 }
 
-/// Whether `raise_bound` ends at the least makespan of the instance with three machines.
-fn ends_at_least(alloc: Global, instance: &Instance) -> Result<bool, Trouble> {
-    let mirror = instance.mirrored(alloc)?;
-    let start = Sequence::new(alloc, instance, &[2, 1, 3])?;
-    let proved = raise_bound(alloc, instance, &mirror, &start, 1)?;
+/// `raise_bound` of the instance with three machines from its start.
+pub(crate) fn bound_is_raised(alloc: Global, three: &Instance) -> Result<bool, CommandFault> {
+    let mirror = three.mirrored(alloc)?;
+    let start = Sequence::new(alloc, three, &[2, 1, 3])?;
+    let proved = raise_bound(alloc, three, &mirror, &start, 1)?;
     match &proved.finding {
         Finding::Least(verdict) => Ok(verdict.value == 12),
         Finding::Bound { .. } => Ok(false),
     }
-}
-
-/// `find_certificate`.
-pub(crate) fn certificate_is_found(alloc: Global) -> Result<(), Trouble> {
-    let instance = three_machines(alloc)?;
-    confirm(finds_least(alloc, &instance)?, "find_certificate")
-}
-
-/// `raise_bound`.
-pub(crate) fn bound_is_raised(alloc: Global) -> Result<(), Trouble> {
-    let instance = three_machines(alloc)?;
-    confirm(ends_at_least(alloc, &instance)?, "raise_bound")
 }

@@ -1,14 +1,18 @@
 //! Workers in threads.
 
-use crate::search::is_worked;
-use crate::trouble::{Trouble, confirm};
+ghost use Rattle.std.specs.Prelude.{◌≡◌};
+
+use crate::groups::refused_where;
+use crate::search::{is_worked, planned};
+use flow_commands::CommandFault;
 use flow_core::Instance;
 use flow_examples::{AMPLE, TIGHT, three_machines};
-use flow_lanes::{lane, settle};
+use flow_lanes::{Sender, lane, settle};
 use flow_pool::{
-    Gate, Open, SolveFault, Task, WorkerEnds, serve, solve, solve_below, solve_limited,
+    Answer, Gate, Open, Report, SolveFault, Task, WorkerEnds, serve, solve, solve_below,
+    solve_limited,
 };
-use flow_search::{Finding, Options, Outcome, Target, prepare};
+use flow_search::{Finding, Outcome, Plan, Target};
 use std::alloc::Global;
 use std::sync::Wait;
 use std::sync::atomic::{AtomicU32, Ordering};
@@ -17,24 +21,20 @@ use std::thread::Threads;
 /// Counts how often it is told of each of the three prefixes.
 #[derive(Drop)]
 struct Counts {
-    first: AtomicU32,
-    second: AtomicU32,
-    third: AtomicU32,
+    told: [AtomicU32; 3],
 }
 
 impl Counts {
     /// No prefix yet.
     fn new() -> Counts {
         Counts {
-            first: AtomicU32::new(0),
-            second: AtomicU32::new(0),
-            third: AtomicU32::new(0),
+            told: [AtomicU32::new(0), AtomicU32::new(0), AtomicU32::new(0)],
         }
     }
 
     /// Whether it was told so often of each prefix.
     fn are(&self, count: u32) -> bool {
-        [&self.first, &self.second, &self.third]
+        self.told
             .iter()
             .all(|told| told.load(Ordering::SeqCst) == count)
     }
@@ -42,69 +42,97 @@ impl Counts {
 
 impl Gate for Counts {
     fn reached(&self, _lane: u32, number: u32) {
-        let told = match number {
-            0 => &self.first,
-            1 => &self.second,
-            _ => &self.third,
-        };
-        told.fetch_add(1, Ordering::SeqCst);
+        let place = (number as usize).min(2);
+        self.told[place].fetch_add(1, Ordering::SeqCst);
     }
 }
 
-/// `serve`: a worker answers one prefix, up to the end.
-fn worker_serves<T: Wait>(rt: &T, alloc: Global, instance: &Instance) -> Result<(), Trouble> {
-    let plan = prepare(alloc, instance, Options::new(1, 1, AMPLE)?)?;
+/// Whether an answer is that to prefix 2, where all else was right. One that has no memory is a refusal.
+fn is_answer(answer: Option<Answer>, right: bool) -> Result<bool, CommandFault> {
+    let Some(Answer { number, outcome }) = answer else {
+        return Ok(false);
+    };
+    let right = right && number == 2;
+    match outcome {
+        Outcome::Done { best: _, tree } => Ok(right && tree.as_slice() == b"++.B".as_slice()),
+        Outcome::NoMemory => refused_where(right),
+        _ => Ok(false),
+    }
+}
+
+/// Sends prefix 2, and then the end.
+fn sends_tasks(sender: &mut Sender<Task>) -> bool
+    ensures { sender.new.lane ≡ sender.old.lane }
+{
+    sender.try_send(Task::Prefix(2)).is_ok() && sender.try_send(Task::End).is_ok()
+}
+
+/// Whether `serve` answers one prefix, up to the end. The lane of its tasks has two slots, so it takes both.
+fn is_served<T: Wait>(rt: &T, alloc: Global, plan: &Plan) -> Result<bool, CommandFault> {
     let (mut sender, tasks) = lane(alloc, 2)?;
     let (answers, mut receiver) = lane(alloc, 1)?;
-    let sent = sender.try_send(Task::Prefix(2)).is_ok() && sender.try_send(Task::End).is_ok();
-    confirm(sent, "try_send of a task")?;
-    let ends = serve(rt, alloc, &plan, 0, WorkerEnds { tasks, answers }, &Open);
-    let Some(answer) = receiver.try_recv() else {
-        return Err(Trouble::Wrong("serve"));
-    };
-    let settled = settle(sender, ends.tasks).is_ok() && settle(ends.answers, receiver).is_ok();
-    confirm(settled && answer.number == 2, "serve")?;
-    match answer.outcome {
-        Outcome::Done { best: _, tree } => confirm(tree.as_slice() == b"++.B".as_slice(), "serve"),
-        Outcome::NoMemory => Err(Trouble::Refused),
-        _ => Err(Trouble::Wrong("serve")),
+    let sent = sends_tasks(&mut sender);
+    let ends = serve(rt, alloc, plan, 0, WorkerEnds { tasks, answers }, &Open);
+    let answer = receiver.try_recv();
+    let tasks = settle(sender, ends.tasks).is_ok();
+    let answers = settle(ends.answers, receiver).is_ok();
+    is_answer(answer, sent && tasks && answers)
+}
+
+/// `serve`.
+fn worker_serves<T: Wait>(
+    rt: &T,
+    alloc: Global,
+    instance: &Instance,
+) -> Result<bool, CommandFault> {
+    let plan = planned(alloc, instance, 1, 1, AMPLE)?;
+    is_served(rt, alloc, &plan)
+}
+
+/// A run of three prefixes: how many workers it has, its budget, how many of them may start, and its fault, if it has
+/// one.
+type Limited = (u32, u32, Option<u32>, Option<SolveFault>);
+
+/// `solve` by three workers; by two workers beyond the budget; and `solve_limited` where the third may not start.
+const SOLVES: [Limited; 3] = [
+    (3, AMPLE, None, None),
+    (2, TIGHT, None, Some(SolveFault::OverBudget(2))),
+    (3, AMPLE, Some(2), Some(SolveFault::Threads)),
+];
+
+/// Whether a run came to what it should. Where the gate was told of one prefix, it was told of all three; where a
+/// worker could not be started, of none.
+fn is_right(
+    solved: &Result<Report, SolveFault>,
+    counts: &Counts,
+    wanted: Option<SolveFault>,
+) -> Result<bool, CommandFault> {
+    match solved {
+        Ok(report) => Ok(wanted.is_none() && is_worked(&report.verdict) && counts.are(1)),
+        Err(SolveFault::Threads) if wanted == Some(SolveFault::Threads) => Ok(counts.are(0)),
+        Err(SolveFault::Threads) => refused_where(counts.are(0)),
+        Err(SolveFault::Memory) if wanted == Some(SolveFault::Threads) => refused_where(counts.are(
+            0,
+        )),
+        Err(SolveFault::Memory) => refused_where(counts.are(0) || counts.are(1)),
+        Err(fault) => Ok(wanted == Some(*fault)),
     }
 }
 
-/// `solve` by three workers. Where the gate was told of one prefix, it was told of all three.
+/// `solve` and `solve_limited`.
 fn plan_is_solved<T: Threads + Wait + Sync>(
     rt: &T,
     alloc: Global,
     instance: &Instance,
-) -> Result<(), Trouble> {
-    let plan = prepare(alloc, instance, Options::new(3, 1, AMPLE)?)?;
+    (workers, budget, starts, wanted): Limited,
+) -> Result<bool, CommandFault> {
+    let plan = planned(alloc, instance, workers, 1, budget)?;
     let counts = Counts::new();
-    match solve(rt, alloc, &plan, &counts) {
-        Ok(report) => confirm(is_worked(&report.verdict) && counts.are(1), "solve"),
-        Err(SolveFault::Memory) => {
-            confirm(counts.are(0) || counts.are(1), "solve without memory")?;
-            Err(Trouble::Refused)
-        }
-        Err(SolveFault::Threads) => {
-            confirm(counts.are(0), "solve without threads")?;
-            Err(Trouble::Refused)
-        }
-        Err(_) => Err(Trouble::Wrong("solve")),
-    }
-}
-
-/// `solve` by two workers beyond the budget.
-fn budget_is_kept<T: Threads + Wait + Sync>(
-    rt: &T,
-    alloc: Global,
-    instance: &Instance,
-) -> Result<(), Trouble> {
-    let plan = prepare(alloc, instance, Options::new(2, 1, TIGHT)?)?;
-    match solve(rt, alloc, &plan, &Open) {
-        Err(SolveFault::OverBudget(2)) => Ok(()),
-        Err(SolveFault::Memory | SolveFault::Threads) => Err(Trouble::Refused),
-        _ => Err(Trouble::Wrong("solve beyond the budget")),
-    }
+    let solved = match starts {
+        Some(starts) => solve_limited(rt, alloc, &plan, &counts, starts),
+        None => solve(rt, alloc, &plan, &counts),
+    };
+    is_right(&solved, &counts, wanted)
 }
 
 /// `solve_below` by two workers, where no sequence is below the target.
@@ -112,45 +140,21 @@ fn target_is_solved<T: Threads + Wait + Sync>(
     rt: &T,
     alloc: Global,
     instance: &Instance,
-) -> Result<(), Trouble> {
-    let plan = prepare(alloc, instance, Options::new(2, 1, AMPLE)?)?;
-    let target = Target::new(&plan, 12);
-    match solve_below(rt, alloc, &target, &Open) {
-        Ok(report) => {
-            let right = matches!(&report.finding, Finding::Bound { trees } if trees.len() == 3);
-            confirm(right, "solve_below")
-        }
-        Err(SolveFault::Memory | SolveFault::Threads) => Err(Trouble::Refused),
-        Err(_) => Err(Trouble::Wrong("solve_below")),
-    }
-}
-
-/// `solve_limited` where the third worker may not start. No prefix is reached.
-fn start_is_refused<T: Threads + Wait + Sync>(
-    rt: &T,
-    alloc: Global,
-    instance: &Instance,
-) -> Result<(), Trouble> {
-    let plan = prepare(alloc, instance, Options::new(3, 1, AMPLE)?)?;
-    let counts = Counts::new();
-    let solved = solve_limited(rt, alloc, &plan, &counts, 2);
-    confirm(counts.are(0), "solve_limited")?;
-    match solved {
-        Err(SolveFault::Threads) => Ok(()),
-        Err(SolveFault::Memory) => Err(Trouble::Refused),
-        _ => Err(Trouble::Wrong("solve_limited")),
-    }
+) -> Result<bool, CommandFault> {
+    let plan = planned(alloc, instance, 2, 1, AMPLE)?;
+    let report = solve_below(rt, alloc, &Target::new(&plan, 12), &Open)?;
+    Ok(matches!(&report.finding, Finding::Bound { trees } if trees.len() == 3))
 }
 
 /// `serve`, `solve`, `solve_below` and `solve_limited`.
 pub(crate) fn workers_solve<T: Threads + Wait + Sync>(
     threads: &T,
     alloc: Global,
-) -> Result<(), Trouble> {
+) -> Result<bool, CommandFault> {
     let instance = three_machines(alloc)?;
-    worker_serves(threads, alloc, &instance)?;
-    plan_is_solved(threads, alloc, &instance)?;
-    budget_is_kept(threads, alloc, &instance)?;
-    target_is_solved(threads, alloc, &instance)?;
-    start_is_refused(threads, alloc, &instance)
+    let mut right = worker_serves(threads, alloc, &instance)?;
+    for limited in SOLVES {
+        right = plan_is_solved(threads, alloc, &instance, limited)? && right;
+    }
+    Ok(target_is_solved(threads, alloc, &instance)? && right)
 }

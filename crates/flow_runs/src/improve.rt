@@ -1,215 +1,304 @@
-//! What beam and rounds come to together, which no contract says. Values and sequences are those of the plain program
-//! bench/improve.rs.
+//! What beam and rounds come to, alone and together, which no contract says. Values and sequences are those of the
+//! plain program bench/improve.rs, where nothing else is said.
 
-ghost use Rattle.std.specs.Prelude.{◌<◌, ◌≤◌};
-ghost use Rattle.flow_core.specs.Generator.{modulus};
-
-use flow_bound::neh;
+use crate::searches::{ANY, DOWN, comes_to, start_of};
+use flow_bound::{neh, taillard_bound};
 use flow_core::{Instance, generate};
 use flow_improve::{Effort, Reached, beam, improve, rounds_of_both};
 use std::alloc::Global;
 use std::test::Fail;
 
-/// What is reached from the starting sequence of an instance.
-fn reached(alloc: Global, instance: &Instance, effort: &Effort) -> Result<Reached, Fail>
-    requires seed_from { 1 ≤ effort.now.seed }
-    requires seed_to { effort.now.seed < modulus }
-{
-    let (start, _) = neh(alloc, instance)?;
-    Ok(improve(alloc, instance, &start, effort)?)
+/// What rounds and a beam of width 32 come to together, of fifteen jobs on eight machines; and what that beam does.
+const OF_BOTH: &[u16] = &[1, 3, 4, 11, 6, 8, 7, 5, 9, 12, 15, 2, 10, 14, 13];
+
+const OF_BEAM: &[u16] = &[1, 5, 4, 3, 11, 6, 8, 7, 9, 15, 2, 12, 10, 14, 13];
+
+/// Jobs, machines and seed of an instance; a start; width, rounds, seed and work; and the makespan, the jobs, and
+/// whether the search was whole.
+type Row = (
+    [u32; 3],
+    &'static [u16],
+    [u32; 4],
+    u64,
+    &'static [u16],
+    bool,
+);
+
+static ROWS: [Row; 24] = [
+    // The beam alone searches everything.
+    (
+        [20, 5, 379_008_056],
+        ANY,
+        [4_096, 10_000, 1, 8_500],
+        1359,
+        &[
+            6, 10, 17, 7, 3, 18, 12, 15, 1, 13, 11, 9, 16, 20, 19, 4, 5, 2, 14, 8,
+        ],
+        true,
+    ),
+    // The beam has 1208, and four rounds from the start 1214.
+    (
+        [15, 8, 7],
+        ANY,
+        [32, 4, 1, 8_500],
+        1206,
+        &[1, 3, 4, 11, 6, 8, 7, 5, 9, 12, 15, 2, 10, 14, 13],
+        false,
+    ),
+    // The beam has 1636, and three rounds from the start 1629.
+    (
+        [20, 10, 587_595_453],
+        ANY,
+        [16, 3, 1, 8_500],
+        1591,
+        &[
+            18, 4, 2, 9, 3, 17, 19, 5, 12, 8, 15, 10, 6, 14, 20, 11, 13, 7, 1, 16,
+        ],
+        false,
+    ),
+    // The beam gives the start back, so both runs are one.
+    (
+        [30, 20, 5],
+        ANY,
+        [16, 3, 1, 8_500],
+        2773,
+        &[
+            7, 28, 13, 20, 25, 1, 16, 22, 14, 17, 8, 2, 24, 19, 18, 10, 5, 4, 9, 6, 23, 27, 30, 12,
+            15, 29, 11, 3, 26, 21,
+        ],
+        false,
+    ),
+    // Rounds from the best of the beam come to 1589. The seed is a large one.
+    (
+        [20, 10, 587_595_453],
+        ANY,
+        [8, 50, 2_147_483_645, 8_500],
+        1586,
+        &[
+            18, 5, 2, 12, 17, 15, 3, 9, 10, 14, 4, 6, 19, 8, 20, 11, 13, 7, 1, 16,
+        ],
+        false,
+    ),
+    // One round of the start is within the steps. With none the best would have 2064, with two 2056.
+    (
+        [25, 13, 140],
+        ANY,
+        [4, 10_000, 7, 1],
+        2057,
+        &[
+            1, 21, 9, 7, 25, 20, 5, 22, 18, 6, 8, 3, 12, 4, 2, 13, 19, 11, 16, 23, 24, 10, 15, 14,
+            17,
+        ],
+        false,
+    ),
+    // One round is within the steps. With none the best would have 2327, with two 2269.
+    (
+        [30, 13, 5],
+        ANY,
+        [0, 10_000, 7, 1],
+        2271,
+        &[
+            18, 17, 13, 28, 30, 15, 6, 3, 24, 21, 11, 2, 29, 25, 19, 22, 14, 16, 8, 26, 23, 5, 27,
+            20, 12, 4, 7, 9, 10, 1,
+        ],
+        false,
+    ),
+    // The first round has the bound 415.
+    (
+        [6, 3, 17],
+        ANY,
+        [0, 100_000_000, 1, 8_500],
+        415,
+        &[1, 6, 3, 2, 5, 4],
+        true,
+    ),
+    // The beam has the bound 415, and there is no round.
+    (
+        [6, 3, 17],
+        ANY,
+        [4, 100_000_000, 1, 8_500],
+        415,
+        &[1, 2, 3, 5, 6, 4],
+        true,
+    ),
+    // All sequences have one makespan, which is the bound.
+    (
+        [7, 1, 9],
+        ANY,
+        [4, 600, 1, 8_500],
+        331,
+        &[1, 4, 2, 7, 5, 3, 6],
+        true,
+    ),
+    // From here on rounds without a beam, of which both runs are the same.
+    // Worked out apart from the program.
+    (
+        [20, 10, 587_595_453],
+        ANY,
+        [0, 20, 3, 8_500],
+        1596,
+        &[
+            18, 5, 9, 12, 17, 3, 15, 4, 6, 19, 8, 2, 20, 10, 11, 14, 13, 7, 1, 16,
+        ],
+        false,
+    ),
+    // Worked out apart from the program: the starting sequence. A round that takes a worse list for the best returns
+    // another.
+    (
+        [20, 5, 873_654_221],
+        ANY,
+        [0, 5, 7, 8_500],
+        1286,
+        &[
+            3, 17, 9, 8, 15, 14, 11, 16, 13, 19, 6, 4, 5, 18, 1, 2, 10, 7, 20, 12,
+        ],
+        false,
+    ),
+    (
+        [20, 10, 587_595_453],
+        ANY,
+        [0, 50, 3, 8_500],
+        1583,
+        &[
+            18, 5, 2, 12, 9, 10, 15, 17, 4, 13, 3, 6, 19, 8, 20, 11, 14, 7, 16, 1,
+        ],
+        false,
+    ),
+    (
+        [20, 10, 587_595_453],
+        ANY,
+        [0, 1_000, 3, 8_500],
+        1582,
+        &[
+            18, 5, 2, 12, 9, 10, 4, 14, 13, 15, 17, 3, 6, 19, 8, 20, 11, 7, 1, 16,
+        ],
+        false,
+    ),
+    (
+        [20, 10, 587_595_453],
+        ANY,
+        [0, 50, 2_147_483_645, 8_500],
+        1586,
+        &[
+            18, 5, 2, 12, 17, 15, 3, 9, 10, 14, 4, 6, 19, 8, 20, 11, 13, 7, 1, 16,
+        ],
+        false,
+    ),
+    (
+        [21, 26, 8],
+        ANY,
+        [0, 40, 1, 8_500],
+        2638,
+        &[
+            2, 17, 10, 9, 12, 19, 8, 5, 18, 7, 1, 20, 13, 21, 3, 15, 6, 14, 4, 16, 11,
+        ],
+        false,
+    ),
+    // The start has a makespan of one more than the bound, which the first round has; all these rounds would take
+    // hours.
+    (
+        [6, 3, 17],
+        ANY,
+        [0, 5, 1, 8_500],
+        415,
+        &[1, 6, 3, 2, 5, 4],
+        true,
+    ),
+    (
+        [6, 3, 17],
+        ANY,
+        [0, u32::MAX, 1, 8_500],
+        415,
+        &[1, 6, 3, 2, 5, 4],
+        true,
+    ),
+    // No sequence has the bound, 363: all 40,320 were tried.
+    (
+        [8, 3, 12],
+        ANY,
+        [0, 20, 1, 8_500],
+        369,
+        &[1, 3, 4, 8, 6, 5, 2, 7],
+        false,
+    ),
+    // The seed is the greatest.
+    (
+        [15, 7, 4],
+        ANY,
+        [0, 12, 2_147_483_646, 8_500],
+        969,
+        &[3, 1, 14, 12, 2, 10, 13, 6, 5, 15, 7, 9, 8, 4, 11],
+        false,
+    ),
+    // All jobs leave the list in each round.
+    ([3, 4, 1], ANY, [0, 6, 5, 8_500], 272, &[1, 3, 2], false),
+    // One job has one sequence; its makespan is the sum of its times, which are the generator's first three numbers.
+    ([1, 3, 5], ANY, [0, 4, 9, 8_500], 145, &[1], true),
+    // With no round; and on one machine, where all sequences have one makespan and none is below that of the start.
+    ([6, 4, 8], DOWN, [0, 0, 3, 8_500], 413, DOWN, false),
+    ([6, 1, 8], DOWN, [0, 9, 3, 8_500], 180, DOWN, true),
+];
+
+/// What is reached from a start of an instance.
+fn reached(
+    alloc: Global,
+    instance: &Instance,
+    start: &[u16],
+    numbers: [u32; 4],
+) -> Result<Reached, Fail> {
+    let [width, rounds, seed, work] = numbers;
+    if seed < 1 || seed >= 2_147_483_647 {
+        return Err(Fail::from("no seed"));
+    }
+    let effort = Effort {
+        width,
+        rounds,
+        seed,
+        work,
+    };
+    let start = start_of(alloc, instance, start)?;
+    Ok(improve(alloc, instance, &start, &effort)?)
 }
 
-// The beam alone searches everything.
+/// Whether beam and rounds come to what a row says.
+fn holds(alloc: Global, row: &Row) -> Result<bool, Fail> {
+    let ([jobs, machines, of_instance], start, numbers, value, list, whole) = *row;
+    let instance = generate(alloc, jobs, machines, of_instance)?;
+    let best = reached(alloc, &instance, start, numbers)?;
+    Ok(comes_to(&best, value, list, whole))
+}
+
 #[test]
-fn a_whole_beam_makes_no_round(rt: HostRuntime) -> Result<(), Fail> {
-    let instance = generate(rt.alloc(), 20, 5, 379_008_056)?;
-    let effort = Effort {
-        width: 4_096,
-        rounds: 10_000,
-        seed: 1,
-        work: 8_500,
-    };
-    let best = reached(rt.alloc(), &instance, &effort)?;
-    let jobs = [
-        6, 10, 17, 7, 3, 18, 12, 15, 1, 13, 11, 9, 16, 20, 19, 4, 5, 2, 14, 8,
-    ];
-    assert_eq!(rt; best.value, 1359);
-    assert_eq!(rt; best.sequence.jobs(), jobs.as_slice());
-    assert!(rt; best.whole);
+fn beam_and_rounds_improve_the_start(rt: HostRuntime) -> Result<(), Fail> {
+    for (number, row) in ROWS.iter().enumerate() {
+        assert!(rt; holds(rt.alloc(), row)?, "row {number}");
+    }
     Ok(())
 }
 
-// The beam has 1208, and four rounds from the start 1214.
-#[test]
-fn rounds_from_the_beam_are_best(rt: HostRuntime) -> Result<(), Fail> {
-    let instance = generate(rt.alloc(), 15, 8, 7)?;
-    let effort = Effort {
-        width: 32,
-        rounds: 4,
-        seed: 1,
-        work: 8_500,
-    };
-    let best = reached(rt.alloc(), &instance, &effort)?;
-    let jobs = [1, 3, 4, 11, 6, 8, 7, 5, 9, 12, 15, 2, 10, 14, 13];
-    assert_eq!(rt; best.value, 1206);
-    assert_eq!(rt; best.sequence.jobs(), jobs.as_slice());
-    assert!(rt; !best.whole);
-    Ok(())
+/// Jobs, machines and seed of an instance; the makespan of its starting sequence, and its bound. Worked out apart from
+/// the program.
+static STARTS: [([u32; 3], u64, u64); 5] = [
+    ([20, 5, 379_008_056], 1365, 1290),
+    ([15, 8, 7], 1247, 1151),
+    ([30, 5, 129], 1656, 1623),
+    ([6, 3, 17], 416, 415),
+    ([8, 3, 12], 372, 363),
+];
+
+/// Whether the starting sequence and the bound of an instance are those of a row.
+fn begins(alloc: Global, row: &([u32; 3], u64, u64)) -> Result<bool, Fail> {
+    let ([jobs, machines, seed], value, bound) = *row;
+    let instance = generate(alloc, jobs, machines, seed)?;
+    let (_, makespan) = neh(alloc, &instance)?;
+    Ok(makespan == value && taillard_bound(&instance) == bound)
 }
 
-// The beam has 1636, and three rounds from the start 1629.
 #[test]
-fn rounds_from_both_improve(rt: HostRuntime) -> Result<(), Fail> {
-    let instance = generate(rt.alloc(), 20, 10, 587_595_453)?;
-    let effort = Effort {
-        width: 16,
-        rounds: 3,
-        seed: 1,
-        work: 8_500,
-    };
-    let best = reached(rt.alloc(), &instance, &effort)?;
-    let jobs = [
-        18, 4, 2, 9, 3, 17, 19, 5, 12, 8, 15, 10, 6, 14, 20, 11, 13, 7, 1, 16,
-    ];
-    assert_eq!(rt; best.value, 1591);
-    assert_eq!(rt; best.sequence.jobs(), jobs.as_slice());
-    assert!(rt; !best.whole);
-    Ok(())
-}
-
-// The beam gives the start back, so both runs are one.
-#[test]
-fn a_beam_that_keeps_the_start(rt: HostRuntime) -> Result<(), Fail> {
-    let instance = generate(rt.alloc(), 30, 20, 5)?;
-    let effort = Effort {
-        width: 16,
-        rounds: 3,
-        seed: 1,
-        work: 8_500,
-    };
-    let best = reached(rt.alloc(), &instance, &effort)?;
-    let jobs = [
-        7, 28, 13, 20, 25, 1, 16, 22, 14, 17, 8, 2, 24, 19, 18, 10, 5, 4, 9, 6, 23, 27, 30, 12, 15,
-        29, 11, 3, 26, 21,
-    ];
-    assert_eq!(rt; best.value, 2773);
-    assert_eq!(rt; best.sequence.jobs(), jobs.as_slice());
-    assert!(rt; !best.whole);
-    Ok(())
-}
-
-// Rounds from the best of the beam come to 1589. The seed is a large one.
-#[test]
-fn rounds_from_the_start_are_best(rt: HostRuntime) -> Result<(), Fail> {
-    let instance = generate(rt.alloc(), 20, 10, 587_595_453)?;
-    let effort = Effort {
-        width: 8,
-        rounds: 50,
-        seed: 2_147_483_645,
-        work: 8_500,
-    };
-    let best = reached(rt.alloc(), &instance, &effort)?;
-    let jobs = [
-        18, 5, 2, 12, 17, 15, 3, 9, 10, 14, 4, 6, 19, 8, 20, 11, 13, 7, 1, 16,
-    ];
-    assert_eq!(rt; best.value, 1586);
-    assert_eq!(rt; best.sequence.jobs(), jobs.as_slice());
-    assert!(rt; !best.whole);
-    Ok(())
-}
-
-// One round of the start is within the steps. With none the best would have 2064, with two 2056.
-#[test]
-fn steps_end_the_rounds_from_the_start(rt: HostRuntime) -> Result<(), Fail> {
-    let instance = generate(rt.alloc(), 25, 13, 140)?;
-    let effort = Effort {
-        width: 4,
-        rounds: 10_000,
-        seed: 7,
-        work: 1,
-    };
-    let best = reached(rt.alloc(), &instance, &effort)?;
-    let jobs = [
-        1, 21, 9, 7, 25, 20, 5, 22, 18, 6, 8, 3, 12, 4, 2, 13, 19, 11, 16, 23, 24, 10, 15, 14, 17,
-    ];
-    assert_eq!(rt; best.value, 2057);
-    assert_eq!(rt; best.sequence.jobs(), jobs.as_slice());
-    assert!(rt; !best.whole);
-    Ok(())
-}
-
-// One round is within the steps. With none the best would have 2327, with two 2269.
-#[test]
-fn steps_end_the_rounds_from_the_beam(rt: HostRuntime) -> Result<(), Fail> {
-    let instance = generate(rt.alloc(), 30, 13, 5)?;
-    let effort = Effort {
-        width: 0,
-        rounds: 10_000,
-        seed: 7,
-        work: 1,
-    };
-    let best = reached(rt.alloc(), &instance, &effort)?;
-    let jobs = [
-        18, 17, 13, 28, 30, 15, 6, 3, 24, 21, 11, 2, 29, 25, 19, 22, 14, 16, 8, 26, 23, 5, 27, 20,
-        12, 4, 7, 9, 10, 1,
-    ];
-    assert_eq!(rt; best.value, 2271);
-    assert_eq!(rt; best.sequence.jobs(), jobs.as_slice());
-    assert!(rt; !best.whole);
-    Ok(())
-}
-
-// The first round has the bound 415.
-#[test]
-fn rounds_reach_the_bound(rt: HostRuntime) -> Result<(), Fail> {
-    let instance = generate(rt.alloc(), 6, 3, 17)?;
-    let effort = Effort {
-        width: 0,
-        rounds: 100_000_000,
-        seed: 1,
-        work: 8_500,
-    };
-    let best = reached(rt.alloc(), &instance, &effort)?;
-    let jobs = [1, 6, 3, 2, 5, 4];
-    assert_eq!(rt; best.value, 415);
-    assert_eq!(rt; best.sequence.jobs(), jobs.as_slice());
-    assert!(rt; best.whole);
-    Ok(())
-}
-
-// The beam has the bound 415, and there is no round.
-#[test]
-fn a_beam_reaches_the_bound(rt: HostRuntime) -> Result<(), Fail> {
-    let instance = generate(rt.alloc(), 6, 3, 17)?;
-    let effort = Effort {
-        width: 4,
-        rounds: 100_000_000,
-        seed: 1,
-        work: 8_500,
-    };
-    let best = reached(rt.alloc(), &instance, &effort)?;
-    let jobs = [1, 2, 3, 5, 6, 4];
-    assert_eq!(rt; best.value, 415);
-    assert_eq!(rt; best.sequence.jobs(), jobs.as_slice());
-    assert!(rt; best.whole);
-    Ok(())
-}
-
-// All sequences have one makespan, which is the bound.
-#[test]
-fn one_machine_has_the_bound(rt: HostRuntime) -> Result<(), Fail> {
-    let instance = generate(rt.alloc(), 7, 1, 9)?;
-    let effort = Effort {
-        width: 4,
-        rounds: 600,
-        seed: 1,
-        work: 8_500,
-    };
-    let best = reached(rt.alloc(), &instance, &effort)?;
-    let jobs = [1, 4, 2, 7, 5, 3, 6];
-    assert_eq!(rt; best.value, 331);
-    assert_eq!(rt; best.sequence.jobs(), jobs.as_slice());
-    assert!(rt; best.whole);
+fn starts_and_bounds_are_those_of_the_tables(rt: HostRuntime) -> Result<(), Fail> {
+    for (number, row) in STARTS.iter().enumerate() {
+        assert!(rt; begins(rt.alloc(), row)?, "row {number}");
+    }
     Ok(())
 }
 
@@ -235,26 +324,27 @@ fn steps_are_dealt(rt: HostRuntime) {
     }
 }
 
-// The four rounds from both come to 1206, and a beam of 1208 that is whole needs none.
-#[test]
-fn a_beam_that_is_whole_stays(rt: HostRuntime) -> Result<(), Fail> {
-    let instance = generate(rt.alloc(), 15, 8, 7)?;
-    let (start, value) = neh(rt.alloc(), &instance)?;
-    assert_eq!(rt; value, 1247);
+/// What four rounds from both come to after a beam of width 32, which may be taken for whole.
+fn rounds_after(alloc: Global, whole: bool) -> Result<Reached, Fail> {
+    let instance = generate(alloc, 15, 8, 7)?;
+    let (start, _) = neh(alloc, &instance)?;
     let effort = Effort {
         width: 32,
         rounds: 4,
         seed: 1,
         work: 8_500,
     };
-    let mut beamed = beam(rt.alloc(), &instance, &start, 32, effort.beam_work())?;
-    let best = rounds_of_both(rt.alloc(), &instance, &start, &beamed, &effort)?;
-    assert_eq!(rt; best.value, 1206);
-    assert!(rt; !best.whole);
-    beamed.whole = true;
-    let same = rounds_of_both(rt.alloc(), &instance, &start, &beamed, &effort)?;
-    assert_eq!(rt; same.value, 1208);
-    assert_eq!(rt; same.sequence.jobs(), beamed.sequence.jobs());
-    assert!(rt; same.whole);
+    let mut beamed = beam(alloc, &instance, &start, 32, effort.beam_work())?;
+    beamed.whole = whole;
+    Ok(rounds_of_both(alloc, &instance, &start, &beamed, &effort)?)
+}
+
+// The four rounds from both come to 1206, and a beam of 1208 that is whole needs none.
+#[test]
+fn a_beam_that_is_whole_stays(rt: HostRuntime) -> Result<(), Fail> {
+    let best = rounds_after(rt.alloc(), false)?;
+    assert!(rt; comes_to(&best, 1206, OF_BOTH, false));
+    let best = rounds_after(rt.alloc(), true)?;
+    assert!(rt; comes_to(&best, 1208, OF_BEAM, true));
     Ok(())
 }

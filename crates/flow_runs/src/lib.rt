@@ -11,4 +11,4 @@ mod improve;
 #[cfg(test)]
 mod raise;
 #[cfg(test)]
-mod rounds;
+mod searches;

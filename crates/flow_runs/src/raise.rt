@@ -1,14 +1,11 @@
 //! What searches below targets come to, and searches for certificates, which no contract says.
 
-ghost use Rattle.std.specs.Prelude.{◌≡◌, true};
-ghost use Rattle.std.specs.Int.{is_in_range};
-ghost use Rattle.flow_core.specs.Limits.{least_version, greatest_version};
-ghost use Rattle.flow_core.specs.Sequences.{IsSequence};
 ghost use Rattle.flow_certify.specs.Tries.{AreInRange};
 
+use crate::searches::{ANY, start_of};
 use flow_bound::neh;
-use flow_certify::{Searched, find_certificate, raise_bound};
-use flow_core::{Instance, Sequence};
+use flow_certify::{Proved, Searched, find_certificate, raise_bound};
+use flow_core::{Instance, makespan};
 use flow_improve::Effort;
 use flow_search::Finding;
 use std::alloc::Global;
@@ -37,46 +34,37 @@ const NO_EFFORT: Effort = Effort {
     work: 0,
 };
 
-/// Whether `raise_bound` ends at the least makespan, and this is the value.
-fn ends_at_least(
-    alloc: Global,
-    instance: &Instance,
-    start: &Sequence,
-    version: u32,
-    value: u64,
-) -> Result<bool, Fail>
-    requires is_sequence { IsSequence instance.now.jobs start.now }
-    requires version { is_in_range least_version greatest_version version ≡ true }
-{
-    let mirror = instance.mirrored(alloc)?;
-    let proved = raise_bound(alloc, instance, &mirror, start, version)?;
-    match &proved.finding {
-        Finding::Least(verdict) => Ok(verdict.value == value),
-        Finding::Bound { .. } => Ok(false),
+/// What `raise_bound` ends at: the least makespan, or a number below which there is no sequence, and its one tree.
+type End = (u64, Option<&'static [u8]>);
+
+/// Whether `raise_bound` ended so.
+fn ends_at(proved: &Proved, end: End) -> bool {
+    match (&proved.finding, end) {
+        (Finding::Least(verdict), (value, None)) => verdict.value == value,
+        (Finding::Bound { trees }, (number, Some(tree))) => {
+            let one = trees.len() == 1 && trees[0].as_slice() == tree;
+            one && proved.number == number && proved.target().value() == number
+        }
+        _ => false,
     }
 }
 
-/// Whether `raise_bound` ends at a number below which there is no sequence, with one tree.
-fn ends_at_bound(
+/// Whether `raise_bound` ends so from a start of this makespan.
+fn raises(
     alloc: Global,
     instance: &Instance,
-    start: &Sequence,
+    jobs: &[u16],
+    value: u64,
     version: u32,
-    number: u64,
-    tree: &[u8],
-) -> Result<bool, Fail>
-    requires is_sequence { IsSequence instance.now.jobs start.now }
-    requires version { is_in_range least_version greatest_version version ≡ true }
-{
-    let mirror = instance.mirrored(alloc)?;
-    let proved = raise_bound(alloc, instance, &mirror, start, version)?;
-    match &proved.finding {
-        Finding::Least(_) => Ok(false),
-        Finding::Bound { trees } => {
-            let one = trees.len() == 1 && trees[0].as_slice() == tree;
-            Ok(one && proved.number == number && proved.target().value() == number)
-        }
+    end: End,
+) -> Result<bool, Fail> {
+    if version != 1 && version != 2 {
+        return Err(Fail::from("no version"));
     }
+    let start = start_of(alloc, instance, jobs)?;
+    let mirror = instance.mirrored(alloc)?;
+    let proved = raise_bound(alloc, instance, &mirror, &start, version)?;
+    Ok(makespan(instance, &start) == value && ends_at(&proved, end))
 }
 
 /// Whether `find_certificate` gives this verdict of a plan of a starting sequence of makespan 13.
@@ -100,47 +88,29 @@ fn finds_from_13(
     }
 }
 
-// The starts have the makespans 13 and 12. Below 10 and 11 there is no sequence; below 13 there is the one of 12.
+/// Jobs, machines and times; a start, its makespan and a version; and what `raise_bound` ends at.
+static ROWS: [(u32, u32, &[u32], &[u16], u64, u32, End); 7] = [
+    // Below 10 and 11 there is no sequence; below 13 there is the one of 12.
+    (3, 3, &THREE_MACHINES, &[2, 1, 3], 13, 1, (12, None)),
+    (3, 3, &THREE_MACHINES, &[2, 1, 3], 13, 2, (12, None)),
+    (3, 3, &THREE_MACHINES, &[3, 1, 2], 12, 1, (12, None)),
+    (3, 3, &THREE_MACHINES, &[3, 1, 2], 12, 2, (12, None)),
+    // The trees are over the budget of 1,000,000 bytes, and within that of 10,000,000.
+    (10, 2, &NINE_SHORT_JOBS, ANY, 29, 1, (29, None)),
+    (14, 2, &ONE_LONG_JOB, ANY, 33, 2, (24, Some(b"A"))),
+    // All makespans are 0, so 0 is the makespan of the start, and the least one.
+    (800, 26, &[0; 20_800], ANY, 0, 1, (0, None)),
+];
+
 #[test]
-fn raise_bound_ends_at_the_least_makespan(rt: HostRuntime) -> Result<(), Fail> {
-    let alloc = rt.alloc();
-    let instance = Instance::new(alloc, 3, 3, &THREE_MACHINES)?;
-    for jobs in [[2, 1, 3], [3, 1, 2]] {
-        let start = Sequence::new(alloc, &instance, &jobs)?;
-        assert!(rt; ends_at_least(alloc, &instance, &start, 1, 12)?);
-        assert!(rt; ends_at_least(alloc, &instance, &start, 2, 12)?);
+fn raise_bound_ends_at_the_least_makespan_or_a_bound(rt: HostRuntime) -> Result<(), Fail> {
+    for (jobs, machines, times, start, value, version, end) in ROWS {
+        let instance = Instance::new(rt.alloc(), jobs, machines, times)?;
+        assert!(rt;
+            raises(rt.alloc(), &instance, start, value, version, end)?,
+            "at {jobs} {machines}"
+        );
     }
-    Ok(())
-}
-
-// The trees are over the budget of 1,000,000 bytes, and within that of 10,000,000.
-#[test]
-fn raise_bound_has_three_budgets(rt: HostRuntime) -> Result<(), Fail> {
-    let alloc = rt.alloc();
-    let instance = Instance::new(alloc, 10, 2, &NINE_SHORT_JOBS)?;
-    let (start, value) = neh(alloc, &instance)?;
-    assert_eq!(rt; value, 29);
-    assert!(rt; ends_at_least(alloc, &instance, &start, 1, 29)?);
-    Ok(())
-}
-
-#[test]
-fn raise_bound_ends_where_the_trees_are_too_long(rt: HostRuntime) -> Result<(), Fail> {
-    let alloc = rt.alloc();
-    let instance = Instance::new(alloc, 14, 2, &ONE_LONG_JOB)?;
-    let (start, value) = neh(alloc, &instance)?;
-    assert_eq!(rt; value, 33);
-    assert!(rt; ends_at_bound(alloc, &instance, &start, 2, 24, b"A")?);
-    Ok(())
-}
-
-// All makespans are 0, so 0 is the makespan of the start, and the least one.
-#[test]
-fn raise_bound_ends_at_once_where_all_times_are_0(rt: HostRuntime) -> Result<(), Fail> {
-    let alloc = rt.alloc();
-    let instance = Instance::new(alloc, 800, 26, &[0; 20_800])?;
-    let (start, _) = neh(alloc, &instance)?;
-    assert!(rt; ends_at_least(alloc, &instance, &start, 1, 0)?);
     Ok(())
 }
 

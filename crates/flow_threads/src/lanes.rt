@@ -6,32 +6,79 @@ use std::sync::Wait;
 use std::test::Fail;
 use std::thread;
 
+/// A step at a lane of numbers, with what it gives.
+enum Step {
+    /// An item is taken.
+    Sent(u32),
+    /// An item is handed back.
+    HandedBack(u32),
+    /// So many items are known to be in the lane.
+    Ready(usize),
+    /// So many slots are known to be free.
+    Room(usize),
+    /// What is received.
+    Received(Option<u32>),
+}
+
+impl Step {
+    /// Makes the step, and says whether it gave what it should.
+    fn is_right(&self, sender: &mut Sender<u32>, receiver: &mut Receiver<u32>) -> bool
+        ensures sender { sender.new.lane ≡ sender.old.lane }
+        ensures receiver { receiver.new.lane ≡ receiver.old.lane }
+    {
+        match self {
+            Step::Sent(item) => sender.try_send(*item) == Ok(()),
+            Step::HandedBack(item) => sender.try_send(*item) == Err(*item),
+            Step::Ready(count) => receiver.ready() == *count,
+            Step::Room(count) => sender.room() == *count,
+            Step::Received(item) => receiver.try_recv() == *item,
+        }
+    }
+}
+
+/// Steps at a lane of two slots.
+static STEPS: [Step; 10] = [
+    Step::Sent(5),
+    Step::Sent(6),
+    Step::HandedBack(7),
+    Step::Ready(2),
+    Step::Received(Some(5)),
+    Step::Sent(7),
+    Step::Received(Some(6)),
+    Step::Received(Some(7)),
+    Step::Received(None),
+    Step::Room(2),
+];
+
 #[test]
 fn lane_gives_what_is_known(rt: HostRuntime) -> Result<(), Fail> {
     let (mut sender, mut receiver) = lane(rt.alloc(), 2)?;
-    assert_eq!(rt; sender.try_send(5), Ok(()));
-    assert_eq!(rt; sender.try_send(6), Ok(()));
-    assert_eq!(rt; sender.try_send(7), Err(7));
-    assert_eq!(rt; receiver.ready(), 2);
-    assert_eq!(rt; receiver.try_recv(), Some(5));
-    assert_eq!(rt; sender.try_send(7), Ok(()));
-    assert_eq!(rt; receiver.try_recv(), Some(6));
-    assert_eq!(rt; receiver.try_recv(), Some(7));
-    assert_eq!(rt; receiver.try_recv(), None);
-    assert_eq!(rt; sender.room(), 2);
+    'steps: for step in &STEPS {
+        assert!(rt; step.is_right(&mut sender, &mut receiver));
+    }
     assert!(rt; settle(sender, receiver).is_ok());
     Ok(())
+}
+
+/// Whether a lane is handed back, since this item alone stands in it; and settled once it was received.
+pub(crate) fn holds_only<T: PartialEq + Drop>(
+    sender: Sender<T>,
+    receiver: Receiver<T>,
+    item: T,
+) -> bool
+    requires { sender.lane ≡ receiver.lane }
+{
+    let Err((sender, mut receiver)) = settle(sender, receiver) else {
+        return false;
+    };
+    receiver.try_recv() == Some(item) && settle(sender, receiver).is_ok()
 }
 
 #[test]
 fn settle_hands_back_a_lane_with_an_item(rt: HostRuntime) -> Result<(), Fail> {
     let (mut sender, receiver) = lane(rt.alloc(), 2)?;
     assert_eq!(rt; sender.try_send(7), Ok(()));
-    let Err((sender, mut receiver)) = settle(sender, receiver) else {
-        return Err(Fail::from("7 stands in the lane"));
-    };
-    assert_eq!(rt; receiver.try_recv(), Some(7));
-    assert!(rt; settle(sender, receiver).is_ok());
+    assert!(rt; holds_only(sender, receiver, 7u32));
     Ok(())
 }
 

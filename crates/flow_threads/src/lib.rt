@@ -2,6 +2,10 @@
 #![tactic(auto)]
 
 #[cfg(test)]
+mod gates;
+#[cfg(test)]
 mod lanes;
+#[cfg(test)]
+mod runs;
 #[cfg(test)]
 mod workers;

@@ -1,4 +1,7 @@
 //! The tests of the program.
 
 mod dispatch;
+mod files;
+mod lines;
+mod orders;
 mod stop;

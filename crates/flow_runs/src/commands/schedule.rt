@@ -1,15 +1,20 @@
 //! What `schedule` writes and refuses.
 
-use super::{
-    Endless, ONE_JOB, OTHER_STARTS, ROOM, Ran, THREE_MACHINES, TWO_MACHINES, all_of, refused, wrote,
-};
+use super::endless::Endless;
+use super::texts::{ONE_JOB, OTHER_STARTS, THREE_MACHINES};
+use super::{ROOM, Wanted, all_of, comes_to, fills};
 use flow_commands::{CommandFault, ScheduleForm, run_schedule};
-use flow_core::{MemorySink, MemorySource, ReadFault, StartFault, TextFault, WriteFault};
+use flow_core::{MemorySink, MemorySource, ReadFault, StartFault, TextFault};
 use std::alloc::{AllocError, Global};
 use std::test::Fail;
 
-/// Both forms.
-const FORMS: [ScheduleForm; 2] = [ScheduleForm::Csv, ScheduleForm::Svg];
+/// One form, and both.
+const CSV: &[ScheduleForm] = &[ScheduleForm::Csv];
+
+const FORMS: &[ScheduleForm] = &[ScheduleForm::Csv, ScheduleForm::Svg];
+
+/// Three machines, and then two.
+const TWO_BLOCKS: &[u8] = b"a\n3 3 0 0 0\nb\n4 0 0\n0 8 2\n4 0 1\na\n3 2 0 0 0\nb\n3 1 2\n2 4 2\n";
 
 /// A start of the text with three machines.
 const START: &[u8] = b"sequence 3 1 2\nmakespan 12\n";
@@ -39,112 +44,154 @@ const BARS: &[u8] = b"<g text-anchor=\"middle\">\n\
 <text x=\"73000\" y=\"8950\">2</text>\n\
 </g></svg>\n";
 
-/// A run of `schedule`.
-fn scheduled(alloc: Global, text: &[u8], index: u32, start: &[u8], form: ScheduleForm) -> Ran {
+/// A text, an index, a start and forms; and what is written, or the fault.
+type Row = (
+    &'static [u8],
+    u32,
+    &'static [u8],
+    &'static [ScheduleForm],
+    Wanted,
+);
+
+static ROWS: [Row; 8] = [
+    (THREE_MACHINES, 1, START, CSV, Ok(TABLE)),
+    (
+        ONE_JOB,
+        1,
+        b"sequence 1\n",
+        CSV,
+        Ok(b"job,machine,start,end\n1,1,0,0\n"),
+    ),
+    (
+        TWO_BLOCKS,
+        2,
+        b"sequence 2 3 1",
+        CSV,
+        Ok(b"job,machine,start,end\n2,1,0,1\n2,2,1,5\n3,1,1,3\n3,2,5,7\n1,1,3,6\n1,2,7,9\n"),
+    ),
+    (TWO_BLOCKS, 1, START, CSV, Ok(TABLE)),
+    (
+        TWO_BLOCKS,
+        2,
+        START,
+        FORMS,
+        Err(CommandFault::Start(StartFault::Line(2))),
+    ),
+    (TWO_BLOCKS, 0, START, FORMS, Err(CommandFault::Index)),
+    (TWO_BLOCKS, 3, b"", FORMS, Err(CommandFault::Index)),
+    (
+        b"",
+        1,
+        b"",
+        FORMS,
+        Err(CommandFault::Text(TextFault::NoBlock)),
+    ),
+];
+
+/// Whether `schedule` in a form comes to what a row says.
+fn holds(alloc: Global, row: &Row, form: ScheduleForm) -> bool {
+    let (text, index, start, _, wanted) = *row;
     let mut out = MemorySink::new(alloc, ROOM);
     let mut start = all_of(start);
-    run_schedule(alloc, &mut all_of(text), index, &mut start, form, &mut out)?;
-    Ok(out)
+    let ran = run_schedule(alloc, &mut all_of(text), index, &mut start, form, &mut out);
+    comes_to(ran, &out, wanted)
 }
 
 #[test]
-fn schedule_writes_the_table(rt: HostRuntime) -> Result<(), Fail> {
-    let ran = scheduled(rt.alloc(), THREE_MACHINES, 1, START, ScheduleForm::Csv);
-    assert!(rt; wrote(&ran, TABLE));
-    let ran = scheduled(rt.alloc(), ONE_JOB, 1, b"sequence 1\n", ScheduleForm::Csv);
-    assert!(rt; wrote(&ran, b"job,machine,start,end\n1,1,0,0\n"));
-    Ok(())
-}
-
-#[test]
-fn schedule_draws_the_bars(rt: HostRuntime) -> Result<(), Fail> {
-    let drawn = scheduled(rt.alloc(), THREE_MACHINES, 1, START, ScheduleForm::Svg)?;
-    assert!(rt; drawn.bytes().starts_with(b"<svg ".as_slice()));
-    assert!(rt; drawn.bytes().ends_with(BARS));
-    let drawn = scheduled(rt.alloc(), ONE_JOB, 1, b"sequence 1\n", ScheduleForm::Svg)?;
-    assert!(rt;
-        drawn
-            .bytes()
-            .ends_with(b"<g text-anchor=\"middle\">\n</g></svg>\n".as_slice())
-    );
-    Ok(())
-}
-
-#[test]
-fn schedule_takes_the_block_of_the_index(rt: HostRuntime) -> Result<(), Fail> {
-    let alloc = rt.alloc();
-    let mut text = Vec::from_slice(alloc, THREE_MACHINES)?;
-    text.extend_from_slice(TWO_MACHINES)?;
-    let text = text.as_slice();
-    let ran = scheduled(alloc, text, 2, b"sequence 2 3 1", ScheduleForm::Csv);
-    let table = b"job,machine,start,end\n2,1,0,1\n2,2,1,5\n3,1,1,3\n3,2,5,7\n1,1,3,6\n1,2,7,9\n";
-    assert!(rt; wrote(&ran, table));
-    assert!(rt; wrote(&scheduled(alloc, text, 1, START, ScheduleForm::Csv), TABLE));
-    let start = CommandFault::Start(StartFault::Line(2));
-    for form in FORMS {
-        assert!(rt; refused(&scheduled(alloc, text, 2, START, form), start));
-        assert!(rt; refused(&scheduled(alloc, text, 0, START, form), CommandFault::Index));
-        assert!(rt; refused(&scheduled(alloc, text, 3, b"", form), CommandFault::Index));
-    }
-    Ok(())
-}
-
-#[test]
-fn schedule_names_the_fault_of_a_start(rt: HostRuntime) -> Result<(), Fail> {
-    let alloc = rt.alloc();
-    for form in FORMS {
-        for (start, fault) in OTHER_STARTS {
-            assert!(rt; refused(&scheduled(alloc, THREE_MACHINES, 1, start, form), fault));
+fn schedule_writes_the_table(rt: HostRuntime) {
+    for (number, row) in ROWS.iter().enumerate() {
+        for form in row.3 {
+            assert!(rt; holds(rt.alloc(), row, *form), "row {number}");
         }
-        let none = CommandFault::Text(TextFault::NoBlock);
-        assert!(rt; refused(&scheduled(alloc, b"", 1, b"", form), none));
     }
-    Ok(())
+}
+
+/// A text, a start, and the end of its picture.
+static PICTURES: [(&[u8], &[u8], &[u8]); 2] = [
+    (THREE_MACHINES, START, BARS),
+    (
+        ONE_JOB,
+        b"sequence 1\n",
+        b"<g text-anchor=\"middle\">\n</g></svg>\n",
+    ),
+];
+
+/// Whether the picture of a start ends as a row says.
+fn is_drawn(alloc: Global, row: &(&[u8], &[u8], &[u8])) -> bool {
+    let (text, start, bars) = *row;
+    let mut out = MemorySink::new(alloc, ROOM);
+    let mut start = all_of(start);
+    let mut file = all_of(text);
+    let ran = run_schedule(alloc, &mut file, 1, &mut start, ScheduleForm::Svg, &mut out);
+    let drawn = out.bytes();
+    ran == Ok(()) && drawn.starts_with(b"<svg ".as_slice()) && drawn.ends_with(bars)
 }
 
 #[test]
-fn schedule_stops_an_endless_start(rt: HostRuntime) -> Result<(), Fail> {
-    let alloc = rt.alloc();
+fn schedule_draws_the_bars(rt: HostRuntime) {
+    for (number, row) in PICTURES.iter().enumerate() {
+        assert!(rt; is_drawn(rt.alloc(), row), "row {number}");
+    }
+}
+
+#[test]
+fn schedule_names_the_fault_of_a_start(rt: HostRuntime) {
+    for (start, fault) in OTHER_STARTS.iter() {
+        for form in FORMS {
+            let row: Row = (THREE_MACHINES, 1, *start, FORMS, Err(*fault));
+            assert!(rt; holds(rt.alloc(), &row, *form));
+        }
+    }
+}
+
+#[test]
+fn schedule_stops_an_endless_start(rt: HostRuntime) {
     for form in FORMS {
-        let mut out = MemorySink::new(alloc, ROOM);
-        let mut start = Endless {
-            given: 0,
-            failed: false,
-        };
+        let mut out = MemorySink::new(rt.alloc(), ROOM);
+        let mut start = Endless::new();
         let mut file = all_of(THREE_MACHINES);
-        let ran = run_schedule(alloc, &mut file, 1, &mut start, form, &mut out);
-        assert_eq!(rt; ran, Err(CommandFault::Read(ReadFault::TooLong)));
-        assert!(rt; out.bytes().is_empty());
+        let ran = run_schedule(rt.alloc(), &mut file, 1, &mut start, *form, &mut out);
+        assert!(rt; comes_to(ran, &out, Err(CommandFault::Read(ReadFault::TooLong))));
     }
-    Ok(())
 }
 
 #[test]
-fn schedule_writes_nothing_after_a_failed_read(rt: HostRuntime) -> Result<(), Fail> {
-    let alloc = rt.alloc();
+fn schedule_writes_nothing_after_a_failed_read(rt: HostRuntime) {
     for most in 0..START.len() + 1 {
-        let mut out = MemorySink::new(alloc, ROOM);
+        let mut out = MemorySink::new(rt.alloc(), ROOM);
         let mut start = MemorySource::new(START, 5, Some(most));
         let mut file = all_of(THREE_MACHINES);
-        let ran = run_schedule(alloc, &mut file, 1, &mut start, ScheduleForm::Svg, &mut out);
-        assert_eq!(rt; ran, Err(CommandFault::Read(ReadFault::Device)));
-        assert!(rt; out.bytes().is_empty());
+        let ran = run_schedule(
+            rt.alloc(),
+            &mut file,
+            1,
+            &mut start,
+            ScheduleForm::Svg,
+            &mut out,
+        );
+        assert!(rt;
+            comes_to(ran, &out, Err(CommandFault::Read(ReadFault::Device))),
+            "at {most}"
+        );
     }
-    Ok(())
 }
 
 #[test]
-fn schedule_fills_a_sink_up_to_its_limit(rt: HostRuntime) -> Result<(), Fail> {
-    let alloc = rt.alloc();
-    for room in 0..TABLE.len() {
-        let mut out = MemorySink::new(alloc, room);
+fn schedule_fills_a_sink_up_to_its_limit(rt: HostRuntime) {
+    for room in 0..TABLE.len() + 1 {
+        let mut out = MemorySink::new(rt.alloc(), room);
         let mut file = all_of(THREE_MACHINES);
         let mut start = all_of(START);
-        let ran = run_schedule(alloc, &mut file, 1, &mut start, ScheduleForm::Csv, &mut out);
-        assert_eq!(rt; ran, Err(CommandFault::Write(WriteFault::Device)));
-        assert!(rt; TABLE.get(..room) == Some(out.bytes()));
+        let ran = run_schedule(
+            rt.alloc(),
+            &mut file,
+            1,
+            &mut start,
+            ScheduleForm::Csv,
+            &mut out,
+        );
+        assert!(rt; fills(ran, &out, room, TABLE), "at {room}");
     }
-    Ok(())
 }
 
 /// The text of an instance with the most jobs and machines and all times the greatest.

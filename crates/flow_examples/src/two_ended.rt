@@ -1,0 +1,364 @@
+//! The checker of two-ended certificates.
+
+use crate::changes::{Change, close_texts};
+use crate::instances::three_machines;
+use crate::shops::{Shop, made};
+use flow_check::{CheckFault, check, check_bounds, check_two_ended};
+use flow_core::Instance;
+use std::alloc::Global;
+use std::test::Fail;
+
+/// The bounds of a lawful text, or the first fault.
+type Answer = Result<(u64, u64), CheckFault>;
+
+/// The first line.
+const TITLE: &[u8] = b"flowshop two-ended 1\n";
+
+/// What the checker answers for an instance.
+fn answer_of(alloc: Global, instance: &Instance, text: &[u8]) -> Answer {
+    match check_two_ended(alloc, instance, text) {
+        Ok(shown) => Ok((shown.bounds.lower, shown.bounds.upper)),
+        Err(fault) => Err(fault),
+    }
+}
+
+/// An instance, what stands behind the first line, and the answer.
+type Row = (Shop, &'static [u8], Answer);
+
+/// Whether the checker answers so.
+fn is_answered(alloc: Global, row: &Row) -> Result<bool, Fail> {
+    let (shop, rest, answer) = *row;
+    let instance = made(alloc, shop)?;
+    let mut text = Vec::from_slice(alloc, TITLE)?;
+    text.extend_from_slice(rest)?;
+    Ok(answer_of(alloc, &instance, text.as_slice()) == answer)
+}
+
+/// One job on one machine, with time 0.
+const ONE_JOB: Shop = Shop::Times(1, 1, &[0]);
+
+/// The first published instance of 20 jobs on 5 machines.
+const PUBLISHED: Shop = Shop::Seed(20, 5, 873_654_221);
+
+/// Texts of some instances.
+static ANSWERS: [Row; 34] = [
+    // With three machines the node of two empty lists has the bound 10. With one job at the front the bounds are 14, 13
+    // and 10, at the back 14, 12 and 11; those of 3 1 and 3 2 are 12 and 14.
+    (Shop::Three, b"3 3\n0 13\n2 1 3\n\nend\n", Ok((0, 13))),
+    (Shop::Three, b"3 3\n10 12\n3 1 2\n\nend\n", Ok((10, 12))),
+    (
+        Shop::Three,
+        b"3 3\n10 12\n3 1 2\n-\nend\n",
+        Err(CheckFault::Tree(5)),
+    ),
+    (Shop::Three, b"3 3\n11 13\n2 1 3\n-\nend\n", Ok((11, 13))),
+    (Shop::Three, b"3 3\n11 13\n2 1 3\n++\nend\n", Ok((11, 13))),
+    (Shop::Three, b"3 3\n11 12\n3 1 2\n+-\nend\n", Ok((11, 12))),
+    (
+        Shop::Three,
+        b"3 3\n11 13\n2 1 3\n\nend\n",
+        Err(CheckFault::Tree(5)),
+    ),
+    (
+        Shop::Three,
+        b"3 3\n11 13\n2 1 3\n+\nend\n",
+        Err(CheckFault::Tree(5)),
+    ),
+    (
+        Shop::Three,
+        b"3 3\n11 13\n2 1 3\n--\nend\n",
+        Err(CheckFault::Tree(5)),
+    ),
+    (Shop::Three, b"3 3\n12 12\n3 1 2\n++\nend\n", Ok((12, 12))),
+    (Shop::Three, b"3 3\n12 12\n3 1 2\n+-\nend\n", Ok((12, 12))),
+    (Shop::Three, b"3 3\n12 12\n3 1 2\n-+\nend\n", Ok((12, 12))),
+    (Shop::Three, b"3 3\n12 12\n3 1 2\n--\nend\n", Ok((12, 12))),
+    (
+        Shop::Three,
+        b"3 3\n12 12\n3 1 2\n-\nend\n",
+        Err(CheckFault::Tree(5)),
+    ),
+    (Shop::Three, b"3 3\n12 13\n2 1 3\n--\nend\n", Ok((12, 13))),
+    // The sequence 3 1 2 has the makespan 12, which is below 13.
+    (
+        Shop::Three,
+        b"3 3\n13 13\n2 1 3\n++\nend\n",
+        Err(CheckFault::Tree(5)),
+    ),
+    (
+        Shop::Three,
+        b"3 3\n13 13\n2 1 3\n+++\nend\n",
+        Err(CheckFault::Low(5)),
+    ),
+    (
+        Shop::Three,
+        b"3 3\n13 13\n2 1 3\n+++x\nEND\n",
+        Err(CheckFault::Low(5)),
+    ),
+    (
+        Shop::Three,
+        b"3 3\n13 13\n2 1 3\n---\nend\n",
+        Err(CheckFault::Low(5)),
+    ),
+    (
+        Shop::Three,
+        b"3 3\n13 12\n3 1 2\n+++\nend\n",
+        Err(CheckFault::Low(5)),
+    ),
+    (
+        Shop::Three,
+        b"3 3\n18446744073709551615 13\n2 1 3\n+++\nend\n",
+        Err(CheckFault::Low(5)),
+    ),
+    (
+        Shop::Three,
+        b"3 3\n11 12\n2 1 3\n-\nend\n",
+        Err(CheckFault::NotAttained),
+    ),
+    // With two machines the bound of the node of two empty lists is the least makespan.
+    (Shop::Two, b"3 2\n9 9\n2 3 1\n\nend\n", Ok((9, 9))),
+    (
+        Shop::Two,
+        b"3 2\n9 9\n2 3 1\n+\nend\n",
+        Err(CheckFault::Tree(5)),
+    ),
+    (ONE_JOB, b"1 1\n0 0\n1\n\nend\n", Ok((0, 0))),
+    (ONE_JOB, b"1 1\n1 0\n1\n\nend\n", Err(CheckFault::Tree(5))),
+    (ONE_JOB, b"1 1\n1 0\n1\n+\nend\n", Err(CheckFault::Low(5))),
+    (ONE_JOB, b"1 1\n1 0\n1\n-\nend\n", Err(CheckFault::Low(5))),
+    (
+        Shop::Times(1, 3, &[3, 1, 2]),
+        b"1 3\n6 6\n1\n\nend\n",
+        Ok((6, 6)),
+    ),
+    (
+        Shop::Times(3, 2, &[0; 6]),
+        b"3 2\n0 0\n1 2 3\n\nend\n",
+        Ok((0, 0)),
+    ),
+    (
+        PUBLISHED,
+        b"20 5\n1278 1278\n9 15 14 17 3 6 18 4 2 7 11 13 19 1 5 16 8 10 20 12\n-----+-\nend\n",
+        Ok((1278, 1278)),
+    ),
+    (
+        PUBLISHED,
+        b"20 5\n1278 1278\n9 15 14 17 3 6 18 4 2 7 11 13 19 1 5 16 8 10 20 12\n-----+\nend\n",
+        Err(CheckFault::Tree(5)),
+    ),
+    (
+        PUBLISHED,
+        b"20 5\n1278 1278\n9 15 14 17 3 6 18 4 2 7 11 13 19 1 5 16 8 10 20 12\n-----+--\nend\n",
+        Err(CheckFault::Tree(5)),
+    ),
+    (
+        PUBLISHED,
+        b"20 5\n1278 1279\n9 15 14 17 3 6 18 4 2 7 11 13 19 1 5 16 8 10 20 12\n-----+-\nend\n",
+        Err(CheckFault::NotAttained),
+    ),
+];
+
+#[test]
+fn check_two_ended_answers_texts(rt: HostRuntime) -> Result<(), Fail> {
+    for row in &ANSWERS {
+        assert!(rt; is_answered(rt.alloc(), row)?, "for {:?}", row.1);
+    }
+    Ok(())
+}
+
+/// A two-ended certificate of the instance with three machines.
+const CERTIFICATE: &[u8] = b"flowshop two-ended 1\n3 3\n12 12\n3 1 2\n++\nend\n";
+
+/// Its lines, without their ends.
+const LINES: [&[u8]; 6] = [
+    b"flowshop two-ended 1",
+    b"3 3",
+    b"12 12",
+    b"3 1 2",
+    b"++",
+    b"end",
+];
+
+/// The certificate with other bytes as one of its lines, counted from 1.
+fn with_line(alloc: Global, changed: usize, bytes: &[u8]) -> Result<Vec<u8>, Fail> {
+    let mut text = Vec::new(alloc);
+    for (index, line) in LINES.iter().enumerate() {
+        let kept = if index + 1 == changed { bytes } else { line };
+        text.extend_from_slice(kept)?;
+        text.push(b'\n')?;
+    }
+    Ok(text)
+}
+
+/// The number of a line, its fault, and bytes that have this fault as that line of the certificate.
+type Changed = (usize, CheckFault, &'static [&'static [u8]]);
+
+/// Whether the certificate has this fault with each of these bytes as this line.
+fn has_fault(alloc: Global, instance: &Instance, row: &Changed) -> Result<bool, Fail> {
+    let (number, fault, lines) = *row;
+    for line in lines {
+        let text = with_line(alloc, number, line)?;
+        if answer_of(alloc, instance, text.as_slice()) != Err(fault) {
+            return Ok(false);
+        }
+    }
+    Ok(true)
+}
+
+/// Changed lines. What stands on the later ones does not matter.
+static CHANGED_LINES: [Changed; 8] = [
+    (
+        1,
+        CheckFault::Header,
+        &[
+            b"",
+            b"flowshop two-ended 2",
+            b"flowshop two-ended 0",
+            b"flowshop two-ended 01",
+            b"flowshop two-ended",
+            b"Flowshop two-ended 1",
+            b"flowshop two-ended 1 ",
+            b"flowshop two-ended 1\r",
+            b"flowshop certificate 1",
+            b"flowshop bounds 1",
+            b"flowshop\n3\n012\n3 1",
+        ],
+    ),
+    (
+        2,
+        CheckFault::Size,
+        &[
+            b"",
+            b"3",
+            b"3 3 0",
+            b"2 3",
+            b"3 2",
+            b"03 3",
+            b"3 03",
+            b"3  3",
+            b" 3 3",
+            b"3 3 ",
+            b"3 +3",
+            b"3 3\r",
+            b"4 3\n012\n3 1",
+        ],
+    ),
+    (
+        3,
+        CheckFault::Value,
+        &[
+            b"",
+            b"12",
+            b"012 12",
+            b"12 012",
+            b"12 12 12",
+            b"12 12 ",
+            b"12  12",
+            b"12 12\r",
+            b"12 18446744073709551616",
+            b"18446744073709551616 12",
+            b"12\n3 1",
+        ],
+    ),
+    (
+        3,
+        CheckFault::NotAttained,
+        &[b"12 18446744073709551615", b"12 13", b"12 11", b"0 0"],
+    ),
+    (
+        4,
+        CheckFault::Sequence,
+        &[
+            b"", b"3 1", b"3 1 2 2", b"3 1 1", b"3 1 0", b"3 1 4", b"3 1 02", b"3  1 2", b"3 1 2 ",
+            b"3 1 2\r", b"3 1\nx",
+        ],
+    ),
+    (4, CheckFault::NotAttained, &[b"1 2 3", b"2 1 3\nx"]),
+    (
+        5,
+        CheckFault::Tree(5),
+        &[
+            b"", b"+", b"-", b".", b"x+", b"+x", b"+.", b" ++", b"+++", b"++-", b"++ ", b"++\r",
+            b"++x", b"++end",
+        ],
+    ),
+    (
+        6,
+        CheckFault::End,
+        &[b"", b"END", b"end ", b"end\r", b"end\nx"],
+    ),
+];
+
+#[test]
+fn check_two_ended_names_the_first_fault(rt: HostRuntime) -> Result<(), Fail> {
+    let instance = three_machines(rt.alloc())?;
+    for row in &CHANGED_LINES {
+        assert!(rt;
+            has_fault(rt.alloc(), &instance, row)?,
+            "on line {}: {:?}",
+            row.0,
+            row.1
+        );
+    }
+    Ok(())
+}
+
+/// The first fault of each beginning of the certificate: how many bytes it has less than, and the fault.
+const BEGINNINGS: [(usize, CheckFault); 6] = [
+    (21, CheckFault::Header),
+    (25, CheckFault::Size),
+    (31, CheckFault::Value),
+    (37, CheckFault::Sequence),
+    (40, CheckFault::Tree(5)),
+    (44, CheckFault::End),
+];
+
+#[test]
+fn check_two_ended_names_the_first_fault_of_each_beginning(rt: HostRuntime) -> Result<(), Fail> {
+    let instance = three_machines(rt.alloc())?;
+    let mut count = 0usize;
+    for (end, fault) in BEGINNINGS {
+        for length in count..end {
+            let text = CERTIFICATE.get(..length).unwrap_or(b"");
+            let found = answer_of(rt.alloc(), &instance, text);
+            assert_eq!(rt; found, Err(fault), "of {length} bytes");
+        }
+        count = end;
+    }
+    assert_eq!(rt; count, CERTIFICATE.len());
+    Ok(())
+}
+
+/// Texts of the instance with three machines, and how many texts with one other byte are lawful too. Of the first, `++`
+/// proves 11 as well, and `-+` and `+-` prove 12.
+const CLOSE: [(&[u8], usize); 2] = [
+    (CERTIFICATE, 3),
+    (b"flowshop two-ended 1\n3 3\n11 13\n2 1 3\n-\nend\n", 0),
+];
+
+#[test]
+fn check_two_ended_accepts_three_of_all_changed_bytes(rt: HostRuntime) -> Result<(), Fail> {
+    let instance = three_machines(rt.alloc())?;
+    for (text, wanted) in CLOSE {
+        let mut count = 0usize;
+        for close in close_texts(rt.alloc(), Change::Other, text)?.iter() {
+            if answer_of(rt.alloc(), &instance, close.as_slice()).is_ok() {
+                count = count.saturating_add(1);
+            }
+        }
+        assert_eq!(rt; count, wanted, "for {text:?}");
+    }
+    Ok(())
+}
+
+#[test]
+fn each_checker_reads_its_kind_of_text(rt: HostRuntime) -> Result<(), Fail> {
+    let instance = three_machines(rt.alloc())?;
+    let shown = check_two_ended(rt.alloc(), &instance, CERTIFICATE)?;
+    assert_eq!(rt; shown.sequence.jobs(), [3, 1, 2].as_slice());
+    let found = check(rt.alloc(), &instance, CERTIFICATE);
+    assert_eq!(rt; found, Err(CheckFault::Header));
+    let found = check_bounds(rt.alloc(), &instance, CERTIFICATE);
+    assert_eq!(rt; found, Err(CheckFault::Header));
+    Ok(())
+}

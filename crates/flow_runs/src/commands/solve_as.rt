@@ -1,0 +1,329 @@
+//! What `solve` as a request says writes and refuses: from starts, of the mirrored instance, and below targets.
+
+use super::endless::Endless;
+use super::texts::{
+    BEST, BOUNDS_OF_10, BOUNDS_OF_11, BOUNDS_OF_12, DEPTH_0, FROM_BEST, FROM_LAST, FROM_START,
+    LAST, LONG_TREES, LONG_TREES_START, NEH, ONE_JOB, OTHER_STARTS, START, THREE_MACHINES,
+};
+use super::{AMPLE, ROOM, Wanted, all_of, comes_to, start_of};
+use flow_commands::{CommandFault, SolveRequest, run_solve_as};
+use flow_core::{MemorySink, MemorySource, ReadFault, StartFault, TextFault};
+use flow_pool::{Open, SolveFault};
+use flow_search::OptionFault;
+use std::alloc::Global;
+use std::sync::Wait;
+use std::thread::Threads;
+
+/// One worker, depth 0 and an ample budget, in version 1.
+const PLAIN: SolveRequest = SolveRequest {
+    workers: 1,
+    depth: 0,
+    budget: AMPLE,
+    version: 1,
+    mirrored: false,
+    target: None,
+};
+
+/// The same of the mirrored instance.
+const MIRRORED: SolveRequest = SolveRequest {
+    mirrored: true,
+    ..PLAIN
+};
+
+/// More workers than there may be.
+const CROWDED: SolveRequest = SolveRequest {
+    workers: 65,
+    budget: 1,
+    ..PLAIN
+};
+
+/// A search below 11.
+const BELOW_11: SolveRequest = SolveRequest {
+    target: Some(11),
+    ..PLAIN
+};
+
+/// The same at depth 1.
+const PARTS: SolveRequest = SolveRequest {
+    depth: 1,
+    ..BELOW_11
+};
+
+/// A text, a start text and a request; and what is written, or the fault.
+type Row = (&'static [u8], Option<&'static [u8]>, SolveRequest, Wanted);
+
+static ROWS: [Row; 29] = [
+    // From starts. The certificates, and those of the mirrored instance from the reversed starts, were computed apart
+    // from the program, by the definitions.
+    (THREE_MACHINES, Some(START), PLAIN, Ok(FROM_START)),
+    (
+        THREE_MACHINES,
+        Some(START),
+        MIRRORED,
+        Ok(b"flowshop certificate 1\n3 3 0\n12\n2 1 3\n+++.B++.B+AB\nend\n"),
+    ),
+    (THREE_MACHINES, Some(LAST), PLAIN, Ok(FROM_LAST)),
+    (
+        THREE_MACHINES,
+        Some(LAST),
+        MIRRORED,
+        Ok(b"flowshop certificate 1\n3 3 0\n12\n2 1 3\n+B++.B+AB\nend\n"),
+    ),
+    (THREE_MACHINES, Some(BEST), PLAIN, Ok(FROM_BEST)),
+    (
+        THREE_MACHINES,
+        Some(BEST),
+        MIRRORED,
+        Ok(b"flowshop certificate 1\n3 3 0\n12\n2 1 3\n+BC+AB\nend\n"),
+    ),
+    (THREE_MACHINES, Some(NEH), PLAIN, Ok(DEPTH_0)),
+    (
+        ONE_JOB,
+        Some(b"sequence 1\nmakespan 0\n"),
+        MIRRORED,
+        Ok(b"flowshop certificate 1\n1 1 0\n0\n1\nA\nend\n"),
+    ),
+    (
+        b"",
+        Some(b""),
+        PLAIN,
+        Err(CommandFault::Text(TextFault::NoBlock)),
+    ),
+    (
+        THREE_MACHINES,
+        Some(b"sequence 2 1 3\nmakespan 14\n"),
+        CROWDED,
+        Err(CommandFault::Start(StartFault::Line(2))),
+    ),
+    (
+        THREE_MACHINES,
+        Some(NEH),
+        CROWDED,
+        Err(CommandFault::Choice(OptionFault::Workers)),
+    ),
+    (
+        THREE_MACHINES,
+        Some(NEH),
+        SolveRequest { budget: 6, ..PLAIN },
+        Err(CommandFault::Run(SolveFault::OverBudget(0))),
+    ),
+    (
+        THREE_MACHINES,
+        Some(NEH),
+        SolveRequest {
+            workers: 64,
+            budget: 7,
+            ..PLAIN
+        },
+        Ok(DEPTH_0),
+    ),
+    // Both trees are longer.
+    (
+        LONG_TREES,
+        Some(LONG_TREES_START),
+        SolveRequest {
+            budget: 10_000,
+            ..PLAIN
+        },
+        Err(CommandFault::Run(SolveFault::OverBudget(0))),
+    ),
+    (
+        LONG_TREES,
+        Some(LONG_TREES_START),
+        SolveRequest {
+            budget: 10_000,
+            ..MIRRORED
+        },
+        Err(CommandFault::Run(SolveFault::OverBudget(0))),
+    ),
+    // Below targets. The starting sequence has the makespan 13, and the start 15.
+    (
+        THREE_MACHINES,
+        None,
+        SolveRequest {
+            target: Some(12),
+            ..PLAIN
+        },
+        Ok(BOUNDS_OF_12),
+    ),
+    (THREE_MACHINES, None, BELOW_11, Ok(BOUNDS_OF_11)),
+    // Version 2 cuts the empty list at 10 by the same machine as version 1.
+    (
+        THREE_MACHINES,
+        None,
+        SolveRequest {
+            target: Some(10),
+            version: 2,
+            ..PLAIN
+        },
+        Ok(BOUNDS_OF_10),
+    ),
+    (
+        THREE_MACHINES,
+        None,
+        SolveRequest {
+            target: Some(0),
+            ..PLAIN
+        },
+        Ok(b"flowshop bounds 1\n3 3 0\n0 13\n2 1 3\nA\nend\n"),
+    ),
+    (
+        THREE_MACHINES,
+        None,
+        SolveRequest {
+            target: Some(13),
+            ..PLAIN
+        },
+        Ok(DEPTH_0),
+    ),
+    (
+        THREE_MACHINES,
+        None,
+        SolveRequest {
+            target: Some(14),
+            ..PLAIN
+        },
+        Ok(DEPTH_0),
+    ),
+    (
+        THREE_MACHINES,
+        None,
+        SolveRequest {
+            target: Some(u64::MAX),
+            ..PLAIN
+        },
+        Ok(DEPTH_0),
+    ),
+    // The text of 11 has a tree of 6 bytes. At depth 1 its trees are those of the lists 1, 2 and 3.
+    (
+        THREE_MACHINES,
+        None,
+        SolveRequest {
+            budget: 6,
+            ..BELOW_11
+        },
+        Ok(BOUNDS_OF_11),
+    ),
+    (
+        THREE_MACHINES,
+        None,
+        SolveRequest {
+            budget: 5,
+            ..BELOW_11
+        },
+        Err(CommandFault::Run(SolveFault::OverBudget(0))),
+    ),
+    (
+        THREE_MACHINES,
+        None,
+        SolveRequest { budget: 3, ..PARTS },
+        Ok(b"flowshop bounds 1\n3 3 1\n11 13\n2 1 3\nB\nB\n+AB\nend\n"),
+    ),
+    (
+        THREE_MACHINES,
+        None,
+        SolveRequest { budget: 2, ..PARTS },
+        Err(CommandFault::Run(SolveFault::OverBudget(2))),
+    ),
+    (
+        THREE_MACHINES,
+        Some(START),
+        SolveRequest {
+            target: Some(12),
+            ..PLAIN
+        },
+        Ok(b"flowshop bounds 1\n3 3 0\n12 15\n1 2 3\n+BC+AB\nend\n"),
+    ),
+    // Below 14 the list 1 is cut at once by machine 2, whose bound is 14.
+    (
+        THREE_MACHINES,
+        Some(START),
+        SolveRequest {
+            target: Some(14),
+            ..PLAIN
+        },
+        Ok(b"flowshop certificate 1\n3 3 0\n12\n3 1 2\n+B++.B++.B\nend\n"),
+    ),
+    (
+        THREE_MACHINES,
+        Some(START),
+        SolveRequest {
+            target: Some(15),
+            ..PLAIN
+        },
+        Ok(FROM_START),
+    ),
+];
+
+/// Whether `solve` comes to this.
+fn solves<R: Threads + Wait + Sync>(rt: &R, alloc: Global, row: &Row) -> bool {
+    let (text, start, request, wanted) = *row;
+    let mut out = MemorySink::new(alloc, ROOM);
+    let mut start = start_of(start);
+    let mut file = all_of(text);
+    let ran = run_solve_as(
+        rt, alloc, &mut file, 1, &mut start, request, &Open, &mut out,
+    );
+    comes_to(ran, &out, wanted)
+}
+
+#[test]
+fn solve_searches_as_a_request_says(rt: HostRuntime) {
+    for (number, row) in ROWS.iter().enumerate() {
+        assert!(rt; solves(&rt, rt.alloc(), row), "row {number}");
+    }
+}
+
+#[test]
+fn solve_names_the_fault_of_a_start(rt: HostRuntime) {
+    for (start, fault) in OTHER_STARTS.iter() {
+        for request in [PLAIN, MIRRORED] {
+            let row: Row = (THREE_MACHINES, Some(*start), request, Err(*fault));
+            assert!(rt; solves(&rt, rt.alloc(), &row));
+        }
+    }
+}
+
+/// An index, and how many bytes of a start are given before it refuses; and the fault.
+static FAILED: [(u32, usize, CommandFault); 2] = [
+    (2, 0, CommandFault::Index),
+    (1, 20, CommandFault::Read(ReadFault::Device)),
+];
+
+#[test]
+fn solve_stops_at_a_start_that_fails(rt: HostRuntime) {
+    for (index, most, fault) in FAILED {
+        let mut out = MemorySink::new(rt.alloc(), ROOM);
+        let mut file = all_of(THREE_MACHINES);
+        let mut start = Some(MemorySource::new(NEH, 5, Some(most)));
+        let ran = run_solve_as(
+            &rt,
+            rt.alloc(),
+            &mut file,
+            index,
+            &mut start,
+            CROWDED,
+            &Open,
+            &mut out,
+        );
+        assert!(rt; comes_to(ran, &out, Err(fault)), "at {fault}");
+    }
+}
+
+#[test]
+fn solve_stops_an_endless_start(rt: HostRuntime) {
+    let mut out = MemorySink::new(rt.alloc(), ROOM);
+    let mut start = Some(Endless::new());
+    let mut file = all_of(THREE_MACHINES);
+    let ran = run_solve_as(
+        &rt,
+        rt.alloc(),
+        &mut file,
+        1,
+        &mut start,
+        PLAIN,
+        &Open,
+        &mut out,
+    );
+    assert!(rt; comes_to(ran, &out, Err(CommandFault::Read(ReadFault::TooLong))));
+}

@@ -1,0 +1,34 @@
+//! Instances, starts and what a search of better sequences comes to.
+
+ghost use Rattle.std.specs.Prelude.{IfOk};
+ghost use Rattle.flow_core.specs.Sequences.{IsSequence};
+
+use flow_bound::neh;
+use flow_core::{Instance, Sequence};
+use flow_improve::Reached;
+use std::alloc::Global;
+use std::test::Fail;
+
+/// No jobs: the starting sequence where a start is asked for, and any sequence where one is compared.
+pub(crate) const ANY: &[u16] = &[];
+
+/// Six jobs from the last to the first.
+pub(crate) const DOWN: &[u16] = &[6, 5, 4, 3, 2, 1];
+
+/// The sequence of these jobs, or, where there are none, the starting sequence.
+pub(crate) fn start_of(alloc: Global, instance: &Instance, jobs: &[u16]) -> Result<Sequence, Fail>
+    ensures { IfOk result (IsSequence instance.now.jobs) }
+{
+    if jobs.is_empty() {
+        let (start, _) = neh(alloc, instance)?;
+        return Ok(start);
+    }
+    Ok(Sequence::new(alloc, instance, jobs)?)
+}
+
+/// Whether a search came to this makespan, these jobs, and this answer whether it was whole. Where no jobs are given,
+/// any sequence will do.
+pub(crate) fn comes_to(reached: &Reached, value: u64, jobs: &[u16], whole: bool) -> bool {
+    let same = jobs.is_empty() || reached.sequence.jobs() == jobs;
+    same && reached.value == value && reached.whole == whole
+}

@@ -1,0 +1,386 @@
+//! Whole runs, in threads.
+
+use crate::gates::{Calls, Hold, Holding};
+use flow_pool::{Gate, Open, Report, SolveFault, solve, solve_below, solve_limited};
+use flow_search::{
+    Finding, Options, Plan, Target, Verdict, prepare, solve_plain, solve_plain_below,
+};
+use flow_shop::Instance;
+use std::alloc::Global;
+use std::sync::Wait;
+use std::test::Fail;
+use std::thread::Threads;
+
+/// A budget that no tree exceeds.
+pub(crate) const AMPLE: u32 = 1_000_000;
+
+/// The numbers of jobs and machines of an instance, and its times, machine by machine.
+pub(crate) type Shop = (u32, u32, &'static [u32]);
+
+/// Three jobs on three machines, with rows `4 0 0`, `0 8 2` and `4 0 1`.
+pub(crate) const THREE_MACHINES: Shop = (3, 3, &[4, 0, 0, 0, 8, 2, 4, 0, 1]);
+
+/// Eight jobs of times 1 and 1, and one of times 10 and 10. Each sequence has makespan 28, and no bound is 28 before
+/// the last job is there. So the search of a prefix takes much longer than the hub takes to park again.
+const ONE_LONG_JOB: Shop = (
+    9,
+    2,
+    &[1, 1, 1, 1, 1, 1, 1, 1, 10, 1, 1, 1, 1, 1, 1, 1, 1, 10],
+);
+
+/// Ten jobs on one machine, all of time 0.
+const NO_TIME: Shop = (10, 1, &[0, 0, 0, 0, 0, 0, 0, 0, 0, 0]);
+
+/// How a plan is run.
+#[derive(Clone, Copy)]
+enum How {
+    /// By `solve`.
+    Solve,
+    /// By `solve_limited`, where so many workers may start.
+    Limited(u32),
+    /// By `solve_plain`, on one thread.
+    Plain,
+    /// By `solve_below` this number, and by `solve_plain_below`.
+    Below(u64),
+}
+
+/// What is to come of a run.
+#[derive(Clone, Copy)]
+enum Wanted {
+    /// The verdict of the three machines, with these trees, and the lanes of all workers.
+    Worked(&'static [&'static [u8]]),
+    /// The least makespan, and so many trees.
+    Found(u64, usize),
+    /// Below a target, whether no sequence is below it; with the lanes of all workers.
+    Bound(bool),
+    /// A fault.
+    Fault(SolveFault),
+}
+
+/// A run: the instance, the workers, the depth, the budget, how it is run, and what is to come of it.
+#[derive(Clone, Copy)]
+struct Run {
+    shop: Shop,
+    workers: u32,
+    depth: u32,
+    budget: u32,
+    how: How,
+    wanted: Wanted,
+}
+
+/// The verdict of the three machines at depth 1.
+const WORKED: Wanted = Wanted::Worked(&[b"B", b"C", b"++.B"]);
+
+/// The verdict of the three machines at depth 3.
+const LEAVES: Wanted = Wanted::Worked(&[b".", b".", b".", b".", b".", b"."]);
+
+/// A run of the three machines at depth 1 with one worker.
+const RUN: Run = Run {
+    shop: THREE_MACHINES,
+    workers: 1,
+    depth: 1,
+    budget: AMPLE,
+    how: How::Solve,
+    wanted: WORKED,
+};
+
+/// Whether a verdict is that of the three machines, with these trees.
+fn is_worked(verdict: &Verdict, trees: &[&[u8]]) -> bool {
+    let mut same = verdict.value == 12
+        && verdict.sequence.jobs() == [3, 1, 2].as_slice()
+        && verdict.trees.len() == trees.len();
+    for (tree, want) in verdict.trees.iter().zip(trees) {
+        same = same && tree.as_slice() == *want;
+    }
+    same
+}
+
+/// Whether that came of a run by `solve` or by `solve_limited`.
+fn came(solved: Result<Report, SolveFault>, run: &Run) -> bool {
+    match (&solved, run.wanted) {
+        (Ok(report), Wanted::Worked(trees)) => {
+            is_worked(&report.verdict, trees) && report.lanes.len() == run.workers as usize
+        }
+        (Ok(report), Wanted::Found(value, trees)) => {
+            report.verdict.value == value && report.verdict.trees.len() == trees
+        }
+        (Err(fault), Wanted::Fault(other)) => *fault == other,
+        _ => false,
+    }
+}
+
+/// Whether one thread finds the verdict of a run.
+fn is_plain(alloc: Global, plan: &Plan, run: &Run) -> bool {
+    match (solve_plain(alloc, plan), run.wanted) {
+        (Ok(verdict), Wanted::Worked(trees)) => is_worked(&verdict, trees),
+        _ => false,
+    }
+}
+
+/// Whether workers find below this number what one thread finds there, and what they should.
+fn is_below<R: Threads + Wait + Sync>(
+    rt: &R,
+    alloc: Global,
+    plan: &Plan,
+    number: u64,
+    run: &Run,
+) -> Result<bool, SolveFault> {
+    let target = Target::new(plan, number);
+    let report = solve_below(rt, alloc, &target, &Open)?;
+    let plain = solve_plain_below(alloc, &target)?;
+    let Wanted::Bound(bound) = run.wanted else {
+        return Ok(false);
+    };
+    Ok(
+        report.finding == plain
+            && matches!(plain, Finding::Bound { .. }) == bound
+            && report.lanes.len() == run.workers as usize,
+    )
+}
+
+/// A plan with the workers, the depth and the budget of these options.
+pub(crate) fn planned<'a>(
+    alloc: Global,
+    instance: &'a Instance,
+    options: (u32, u32, u32),
+) -> Result<Plan<'a>, Fail> {
+    let (workers, depth, budget) = options;
+    let options = Options::new(workers, depth, budget)?;
+    Ok(prepare(alloc, instance, options)?)
+}
+
+/// Whether a run comes to what it should.
+fn is_right<R: Threads + Wait + Sync, G: Gate + Sync>(
+    rt: &R,
+    alloc: Global,
+    run: Run,
+    gate: &G,
+) -> Result<bool, Fail> {
+    let (jobs, machines, times) = run.shop;
+    let instance = Instance::new(alloc, jobs, machines, times)?;
+    let plan = planned(alloc, &instance, (run.workers, run.depth, run.budget))?;
+    match run.how {
+        How::Solve => Ok(came(solve(rt, alloc, &plan, gate), &run)),
+        How::Limited(starts) => Ok(came(solve_limited(rt, alloc, &plan, gate, starts), &run)),
+        How::Plain => Ok(is_plain(alloc, &plan, &run)),
+        How::Below(number) => Ok(is_below(rt, alloc, &plan, number, &run)?),
+    }
+}
+
+#[test]
+fn solve_and_serve_succeed(rt: HostRuntime) -> Result<(), Fail> {
+    for workers in 1..65u32 {
+        let run = Run { workers, ..RUN };
+        let plain = Run {
+            how: How::Plain,
+            ..run
+        };
+        assert!(rt; is_right(&rt, rt.alloc(), run, &Open)?);
+        assert!(rt; is_right(&rt, rt.alloc(), plain, &Open)?);
+    }
+    Ok(())
+}
+
+/// A run of ten jobs of no time with two workers.
+const ALL_PREFIXES: Run = Run {
+    shop: NO_TIME,
+    workers: 2,
+    depth: 2,
+    wanted: Wanted::Found(0, 90),
+    ..RUN
+};
+
+#[test]
+fn hub_is_unparked_at_each_prefix(rt: HostRuntime) -> Result<(), Fail> {
+    for _ in 0..20u32 {
+        assert!(rt; is_right(&rt, rt.alloc(), ALL_PREFIXES, &Open)?);
+    }
+    Ok(())
+}
+
+#[test]
+fn budget_is_exceeded_by_the_same_prefix(rt: HostRuntime) -> Result<(), Fail> {
+    let over = Wanted::Fault(SolveFault::OverBudget(2));
+    for workers in [1, 2, 3, 64] {
+        for (budget, wanted) in [(3, over), (4, WORKED)] {
+            let run = Run {
+                workers,
+                budget,
+                wanted,
+                ..RUN
+            };
+            assert!(rt; is_right(&rt, rt.alloc(), run, &Open)?);
+        }
+    }
+    Ok(())
+}
+
+/// For how many turns a worker is held so that the hub parks.
+const PARKED: u64 = 2_000_000;
+
+/// A run whose workers are held, where they are held, and the bits of prefixes that are reached.
+type Held = (Run, &'static [Hold], u32);
+
+/// The first two or three prefixes are held until all of them were reached. In the last run prefix 0 is held until
+/// prefix 9 was reached, and then so long that the hub parks: the lane of worker 0 is full, answer 0 is the next in
+/// turn, and worker 1 receives no more. There prefix 2 is held until prefix 11 was reached, which the hub has still to
+/// send.
+static HELD: [Held; 3] = [
+    (
+        Run { workers: 2, ..RUN },
+        &[(0, 0b11, 0), (1, 0b11, 0)],
+        0b111,
+    ),
+    (
+        Run { workers: 3, ..RUN },
+        &[(0, 0b111, 0), (1, 0b111, 0), (2, 0b111, 0)],
+        0b111,
+    ),
+    (
+        Run {
+            shop: ONE_LONG_JOB,
+            workers: 2,
+            depth: 2,
+            wanted: Wanted::Found(28, 72),
+            ..RUN
+        },
+        &[(0, 0b10_0000_0000, PARKED), (2, 0b1000_0000_0000, 0)],
+        0b1111_1111_1111,
+    ),
+];
+
+/// Workers run side by side, and the hub is unparked before the gate is told.
+#[test]
+fn solve_runs_workers_side_by_side(rt: HostRuntime) -> Result<(), Fail> {
+    for (run, holds, bits) in &HELD {
+        let gate = Holding::new(*holds);
+        assert!(rt; is_right(&rt, rt.alloc(), *run, &gate)?);
+        assert!(rt; gate.has_reached(*bits));
+        assert!(rt; !gate.is_late());
+    }
+    Ok(())
+}
+
+/// Runs whose calls of the gate are noted, and how many prefixes they have.
+static TOLD: [(Run, u32); 3] = [
+    (
+        Run {
+            depth: 3,
+            wanted: LEAVES,
+            ..RUN
+        },
+        6,
+    ),
+    (Run { workers: 64, ..RUN }, 3),
+    (
+        Run {
+            workers: 64,
+            ..ALL_PREFIXES
+        },
+        90,
+    ),
+];
+
+/// Whether each prefix was told once, by its worker; and in its turn, where there is one worker.
+fn are_told(calls: &Calls, prefixes: u32, workers: u32) -> bool {
+    for number in 0..prefixes {
+        let Some(lane) = number.checked_rem(workers) else {
+            return false;
+        };
+        let in_turn = workers > 1 || calls.is(number as usize, lane, number);
+        if !in_turn || !calls.is_once(lane, number) {
+            return false;
+        }
+    }
+    calls.count() == prefixes as usize
+}
+
+#[test]
+fn gate_is_told_once_of_each_prefix(rt: HostRuntime) -> Result<(), Fail> {
+    for (run, prefixes) in &TOLD {
+        let calls = Calls::new(rt.alloc(), *prefixes)?;
+        assert!(rt; is_right(&rt, rt.alloc(), *run, &calls)?);
+        assert!(rt; are_told(&calls, *prefixes, run.workers));
+    }
+    Ok(())
+}
+
+/// Until the hub takes an answer, a worker was sent nine prefixes at most: four answers stand in its lane, it holds a
+/// fifth, and four tasks stand in its other lane.
+#[test]
+fn run_over_its_budget_ends_soon(rt: HostRuntime) -> Result<(), Fail> {
+    for workers in 1..5u32 {
+        let run = Run {
+            shop: ONE_LONG_JOB,
+            workers,
+            depth: 2,
+            budget: 1,
+            wanted: Wanted::Fault(SolveFault::OverBudget(0)),
+            ..RUN
+        };
+        let calls = Calls::new(rt.alloc(), 0)?;
+        assert!(rt; is_right(&rt, rt.alloc(), run, &calls)?);
+        assert!(rt; calls.count() <= 9 * workers as usize);
+    }
+    Ok(())
+}
+
+/// Runs with three workers of which some may start, and how often the gate is told.
+static LIMITED: [(u32, Wanted, usize); 4] = [
+    (0, Wanted::Fault(SolveFault::Threads), 0),
+    (1, Wanted::Fault(SolveFault::Threads), 0),
+    (2, Wanted::Fault(SolveFault::Threads), 0),
+    (3, WORKED, 3),
+];
+
+#[test]
+fn no_prefix_is_reached_where_a_start_fails(rt: HostRuntime) -> Result<(), Fail> {
+    for (starts, wanted, told) in &LIMITED {
+        let run = Run {
+            workers: 3,
+            how: How::Limited(*starts),
+            wanted: *wanted,
+            ..RUN
+        };
+        let calls = Calls::new(rt.alloc(), 0)?;
+        assert!(rt;
+            is_right(&rt, rt.alloc(), run, &calls)?,
+            "after {starts} starts"
+        );
+        assert!(rt; calls.count() == *told, "after {starts} starts");
+    }
+    Ok(())
+}
+
+/// The starting sequence has the makespan 13, and no sequence is below 12.
+#[test]
+fn workers_find_below_a_target_what_one_thread_finds(rt: HostRuntime) -> Result<(), Fail> {
+    for (workers, depth) in [(1, 0), (2, 0), (4, 0), (1, 1), (2, 1), (4, 1)] {
+        for number in 10..15u64 {
+            let run = Run {
+                workers,
+                depth,
+                how: How::Below(number),
+                wanted: Wanted::Bound(number <= 12),
+                ..RUN
+            };
+            assert!(rt; is_right(&rt, rt.alloc(), run, &Open)?, "below {number}");
+        }
+    }
+    Ok(())
+}
+
+/// The faults of a run, and how they are printed.
+static FAULTS: [(SolveFault, &str); 3] = [
+    (SolveFault::Memory, "Memory"),
+    (SolveFault::Threads, "Threads"),
+    (SolveFault::OverBudget(2), "OverBudget 2"),
+];
+
+#[test]
+fn faults_are_printed_by_their_names(rt: HostRuntime) -> Result<(), Fail> {
+    for (fault, name) in &FAULTS {
+        assert_eq!(rt; format!(in rt.alloc(); "{}", fault)?.as_str(), *name);
+    }
+    Ok(())
+}
