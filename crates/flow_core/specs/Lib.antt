@@ -4,6 +4,8 @@ pub use Rattle.flow_shop.specs.Least
 pub use Rattle.flow_shop.specs.Paths
 pub use Rattle.flow_shop.specs.Sequences
 pub use Rattle.flow_shop.specs.Bound
+pub use Rattle.flow_shop.specs.Ends
+pub use Rattle.flow_shop.specs.Directions
 pub use Rattle.flow_shop.specs.Front
 pub use Rattle.flow_shop.specs.Rows
 pub use Rattle.flow_shop.specs.TwoLeast
