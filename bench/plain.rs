@@ -14,6 +14,8 @@ mod fault;
 mod search;
 #[path = "plain/shop.rs"]
 mod shop;
+#[path = "plain/two_ended.rs"]
+mod two_ended;
 
 use blocks::{Block, push_line, read_blocks};
 use fault::{Fault, command_line, failed, refused};
@@ -23,6 +25,7 @@ use std::env;
 use std::fs::File;
 use std::io::{self, Read, Write};
 use std::process::ExitCode;
+use two_ended::two_ended;
 
 const MAX_TEXT: u64 = 16_777_216;
 
@@ -116,6 +119,16 @@ fn run_solve(file: impl Read, index: u32, request: &Request) -> Result<Vec<u8>, 
     solve(&instance, &options)
 }
 
+/// The text of bounds whose lower one is a number, where directions within the budget prove it.
+fn run_two_ended(
+    file: impl Read,
+    index: u32,
+    number: u32,
+    budget: usize,
+) -> Result<Vec<u8>, Fault> {
+    two_ended(&read_instance(file, index)?, number, budget)
+}
+
 fn argument<T: std::str::FromStr>(word: &str) -> Result<T, Fault> {
     word.parse().map_err(|_| command_line())
 }
@@ -163,6 +176,11 @@ fn output(words: &[&str]) -> Result<Vec<u8>, Fault> {
         ["solve", file, index, rest @ ..] => {
             let (index, request) = (argument(index)?, request(rest)?);
             run_solve(open(file)?, index, &request)
+        }
+        ["two-ended", file, index, number, budget] => {
+            let (number, budget) = (argument(number)?, argument(budget)?);
+            let index = argument(index)?;
+            run_two_ended(open(file)?, index, number, budget)
         }
         _ => Err(command_line()),
     }

@@ -11,7 +11,7 @@ pub const MAX_MACHINES: usize = 26;
 pub type Front = [u64; MAX_MACHINES];
 
 /// A time for each machine.
-type Row = [u32; MAX_MACHINES];
+pub type Row = [u32; MAX_MACHINES];
 
 /// The bound that a letter names.
 #[derive(Clone, Copy)]
@@ -42,11 +42,11 @@ impl Bound {
 }
 
 pub struct Job {
-    times: Row,
+    pub times: Row,
     /// What the job needs before each machine.
-    before: Row,
+    pub before: Row,
     /// What the job needs behind each machine.
-    behind: Row,
+    pub behind: Row,
     total: u64,
 }
 
