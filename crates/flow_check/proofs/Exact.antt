@@ -2,7 +2,7 @@
 use Rattle.std.proofs.Common.{◌≡◌, ◌&&◌, nat_eq, nat_le, ◌^◌, ℕ, ◌-◌, ◌<◌, ◌≤◌, Bool, true}
 use Rattle.std.proofs.Common.{cond, List, []}
 use Rattle.std.proofs.Common.{◌∷◌, ◌++◌, length, Option, Some, None, Result, Ok, Err, refl, ap, sym, subst, ◌∙◌}
-use Rattle.std.proofs.Common.{arith, append_assoc, ◌+◌}
+use Rattle.std.proofs.Common.{arith, append_assoc}
 use Rattle.std.specs.Option.{option_map_or}
 use Rattle.std.specs.List.{AllByRecursion, flat_map}
 use Rattle.std.proofs.lemmas.List.Elements.{recursion_from_All}
@@ -23,8 +23,8 @@ use Rattle.flow_check.specs.internal.Reading.{ValueIsExact, text_value, header_v
 use Rattle.flow_check.specs.internal.Reading.{sequence_value, after_heading, stated_once, stated_by}
 use Rattle.flow_check.specs.internal.ReadTrees.{cut_value}
 use Rattle.flow_check.specs.internal.Reading.{on_line, numbers_in, version_of}
-use Rattle.flow_check.specs.declared.kind.TextKind.{TextKind}
-use Rattle.flow_check.specs.declared.kind.TextKind.TheVariants.{Certificate, OfBounds}
+use Rattle.flow_check.specs.declared.kind.TreeKind.{TreeKind}
+use Rattle.flow_check.specs.declared.kind.TreeKind.TheVariants.{Certificate, OfBounds}
 use Rattle.flow_check.specs.declared.fault.CheckFault.{CheckFault}
 use Rattle.flow_check.specs.declared.fault.CheckFault.TheVariants.{Header, Size, Value, Sequence, NotAttained}
 use Rattle.flow_check.proofs.TreesExact.{trees-sound, trees-complete, fault-value, passes}
@@ -39,14 +39,14 @@ all-weaken P Q (x ∷ xs) f h = (f x h.0, all-weaken P Q xs f h.1)
 
 -- the lines that the form prescribes
 
-abbrev pub after_header : (kind : TextKind) → Shop → ℕ → List ℕ → List ℕ → Result (Stated kind) CheckFault
+abbrev pub after_header : (kind : TreeKind) → Shop → ℕ → List ℕ → List ℕ → Result (Stated kind) CheckFault
 after_header kind shop version text more = size_value kind shop version more (numbers_in text)
 
-abbrev pub after_size : (kind : TextKind) → Shop → ℕ → ℕ → List ℕ → List ℕ → Result (Stated kind) CheckFault
+abbrev pub after_size : (kind : TreeKind) → Shop → ℕ → ℕ → List ℕ → List ℕ → Result (Stated kind) CheckFault
 after_size kind shop version depth text more = value_value kind shop version depth more (numbers_in text)
 
 abbrev pub after_stated :
-    (kind : TextKind) → Shop → ℕ → ℕ → Stated kind → List ℕ → List ℕ → Result (Stated kind) CheckFault
+    (kind : TreeKind) → Shop → ℕ → ℕ → Stated kind → List ℕ → List ℕ → Result (Stated kind) CheckFault
 after_stated kind shop version depth stated text more =
     sequence_value kind shop version depth stated more (numbers_in text)
 
@@ -54,12 +54,12 @@ pub four : (a b c d : Bool) → (a && b && c && d) ≡ true → (a ≡ true) × 
 four a b c d e = let k = both (a && b && c) d e in let l = both (a && b) c k.0 in let m = both a b l.0 in
     (m.0, m.1, l.1, k.1)
 
-abbrev SizeOf : (kind : TextKind) → Shop → ℕ → List ℕ → Option (List ℕ) → Stated kind → Type 0
+abbrev SizeOf : (kind : TreeKind) → Shop → ℕ → List ℕ → Option (List ℕ) → Stated kind → Type 0
 SizeOf kind shop version rest o s = (depth : ℕ) × (o ≡ Some (shop.jobs ∷ shop.machines ∷ depth ∷ []))
     × (depth ≤ shop.jobs) × (depth ≤ greatest_depth)
     × (on_line Value (after_size kind shop version depth) rest ≡ Ok s)
 
-size-sound : (kind : TextKind) (shop : Shop) (version : ℕ) (rest : List ℕ) (o : Option (List ℕ)) (s : Stated kind) →
+size-sound : (kind : TreeKind) (shop : Shop) (version : ℕ) (rest : List ℕ) (o : Option (List ℕ)) (s : Stated kind) →
     size_value kind shop version rest o ≡ Ok s → SizeOf kind shop version rest o s
 size-sound kind shop version rest None s e = absurd (fault-value Size s e)
 size-sound kind shop version rest (Some []) s e = absurd (fault-value Size s e)
@@ -101,12 +101,12 @@ once-sound : {A : Type 0} (stated : A) (r : Result ℕ CheckFault) (s : A) → s
 once-sound stated (Ok value) s e = (value, refl, ap (worth stated) e)
 once-sound stated (Err fault) s e = absurd (fault-value fault s e)
 
-abbrev SequenceOf : (kind : TextKind) → Shop → ℕ → ℕ → Stated kind → List ℕ → Option (List ℕ) → Stated kind → Type 0
+abbrev SequenceOf : (kind : TreeKind) → Shop → ℕ → ℕ → Stated kind → List ℕ → Option (List ℕ) → Stated kind → Type 0
 SequenceOf kind shop version depth stated rest o s = (jobs : List ℕ) × (o ≡ Some jobs) × IsSequence shop.jobs jobs
     × (span shop jobs ≡ (stated_bounds kind stated).upper)
     × (after_heading kind shop version depth stated rest ≡ Ok s)
 
-sequence-sound : (kind : TextKind) (shop : Shop) (version depth : ℕ) (stated : Stated kind) (rest : List ℕ)
+sequence-sound : (kind : TreeKind) (shop : Shop) (version depth : ℕ) (stated : Stated kind) (rest : List ℕ)
     (o : Option (List ℕ)) (s : Stated kind) → sequence_value kind shop version depth stated rest o ≡ Ok s →
     SequenceOf kind shop version depth stated rest o s
 sequence-sound kind shop version depth stated rest None s e = absurd (fault-value Sequence s e)
@@ -170,7 +170,7 @@ size-fit shop depth limits shallow =
       ),
     )
 
-sound : (kind : TextKind) (shop : Shop) (bytes : List ℕ) (s : Stated kind) → IsWithinLimits shop →
+sound : (kind : TreeKind) (shop : Shop) (bytes : List ℕ) (s : Stated kind) → IsWithinLimits shop →
     on_line Header (header_value kind shop) bytes ≡ Ok s → IsLawful kind shop bytes s
 sound kind shop bytes s limits e =
     let l1 = on-line-sound Header (header_value kind shop) bytes s e in
@@ -218,7 +218,7 @@ sound kind shop bytes s limits e =
     ) in
     subst (IsLawful kind shop bytes) once.2 is
   where
-    upper-fits : (kind : TextKind) (stated : Stated kind) → IsStated kind stated →
+    upper-fits : (kind : TreeKind) (stated : Stated kind) → IsStated kind stated →
         (stated_bounds kind stated).upper < 2 ^ 64
     upper-fits Certificate value fits = fits
     upper-fits OfBounds bounds fits = fits.1
@@ -238,7 +238,7 @@ size-true shop depth short shallow =
     ∙ le-leb depth greatest_depth shallow
 
 -- bounds that are shown fit a word
-pub shown-fit : (kind : TextKind) (shop : Shop) (stated : Stated kind) (version depth : ℕ) (sequence : List ℕ)
+pub shown-fit : (kind : TreeKind) (shop : Shop) (stated : Stated kind) (version depth : ℕ) (sequence : List ℕ)
     (trees : List (List ℕ)) →
     Shows shop version (stated_bounds kind stated).lower (stated_bounds kind stated).upper depth sequence trees →
     IsStated kind stated
@@ -247,7 +247,7 @@ shown-fit OfBounds shop bounds version depth sequence trees shows =
     let order = shown-order shop version bounds.lower bounds.upper depth sequence trees shows in
     (omega (arith, order, shows.fits), shows.fits)
 
-complete : (kind : TextKind) (shop : Shop) (stated : Stated kind) (version depth : ℕ) (sequence : List ℕ)
+complete : (kind : TreeKind) (shop : Shop) (stated : Stated kind) (version depth : ℕ) (sequence : List ℕ)
     (trees : List (List ℕ)) → IsWithinLimits shop →
     Shows shop version (stated_bounds kind stated).lower (stated_bounds kind stated).upper depth sequence trees →
     on_line Header (header_value kind shop) (text_of kind shop version depth stated sequence trees) ≡ Ok stated

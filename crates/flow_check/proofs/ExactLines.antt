@@ -1,5 +1,5 @@
 -- The lines of a text, one by one: what is read of each is what it says.
-use Rattle.std.proofs.Common.{◌≡◌, ◌&&◌, nat_eq, nat_lt, ◌^◌, ℕ, zero, suc, ◌-◌, ◌<◌, Bool, true, false}
+use Rattle.std.proofs.Common.{◌≡◌, ◌&&◌, nat_eq, nat_lt, ◌^◌, ℕ, zero, suc, ◌<◌, Bool, true, false}
 use Rattle.std.proofs.Common.{cond, not, List, []}
 use Rattle.std.proofs.Common.{◌∷◌, ◌++◌, Option, Some, None, Result, Ok, Err, refl, ap, sym, subst, ◌∙◌, inl}
 use Rattle.std.proofs.Common.{inr, arith, ap₂, ◌+◌}
@@ -16,8 +16,8 @@ use Rattle.flow_check.specs.TextLines.{IsStated, numbers_of}
 use Rattle.flow_check.specs.internal.Reading.{stated_by}
 use Rattle.flow_check.specs.internal.Reading.{first_line, on_line, numbers_in, version_of}
 use Rattle.flow_check.specs.declared.bounds.Bounds.{Bounds}
-use Rattle.flow_check.specs.declared.kind.TextKind.{TextKind}
-use Rattle.flow_check.specs.declared.kind.TextKind.TheVariants.{Certificate, OfBounds}
+use Rattle.flow_check.specs.declared.kind.TreeKind.{TreeKind}
+use Rattle.flow_check.specs.declared.kind.TreeKind.TheVariants.{Certificate, OfBounds}
 use Rattle.flow_check.specs.declared.fault.CheckFault.{CheckFault}
 use Rattle.flow_shop.proofs.Lists.{find-some}
 use Rattle.flow_check.proofs.TreesExact.{fault-value}
@@ -87,16 +87,16 @@ version-cases P one two (suc (suc zero)) is = two
 version-cases P one two (suc (suc (suc n))) is = absurd (omega (arith, is.1))
 
 -- the version's digit ends the title
-title-digit : (kind : TextKind) (version : ℕ) → version < 10 →
+title-digit : (kind : TreeKind) (version : ℕ) → version < 10 →
     title kind version ≡ opening kind ++ (48 + version) ∷ []
 title-digit kind version small = ap (λ ds. opening kind ++ ds) (decimal_digit version small)
 
 -- the titles of the two versions differ
-titles-differ : (kind : TextKind) → bytes_eq (opening kind ++ 50 ∷ []) (opening kind ++ 49 ∷ []) ≡ false
+titles-differ : (kind : TreeKind) → bytes_eq (opening kind ++ 50 ∷ []) (opening kind ++ 49 ∷ []) ≡ false
 titles-differ Certificate = refl
 titles-differ OfBounds = refl
 
-pub title-known : (kind : TextKind) (version : ℕ) → IsVersion version →
+pub title-known : (kind : TreeKind) (version : ℕ) → IsVersion version →
     version_of kind (title kind version) ≡ Some version
 title-known kind = version-cases (λ version. version_of kind (title kind version) ≡ Some version)
     (ap (λ b. cond b (Some 1) (cond (bytes_eq (title kind 1) (title kind 2)) (Some 2) None)) (same (title kind 1)))
@@ -110,7 +110,7 @@ title-known kind = version-cases (λ version. version_of kind (title kind versio
     apart = ap₂ (λ two one. bytes_eq two one) (title-digit kind 2 (omega arith)) (title-digit kind 1 (omega arith))
         ∙ titles-differ kind
 
-plain-titles : (kind : TextKind) → IsPlain (opening kind ++ 49 ∷ []) × IsPlain (opening kind ++ 50 ∷ [])
+plain-titles : (kind : TreeKind) → IsPlain (opening kind ++ 49 ∷ []) × IsPlain (opening kind ++ 50 ∷ [])
 plain-titles Certificate = (
   plain-test (codes "flowshop certificate " ++ 49 ∷ []) refl,
   plain-test (codes "flowshop certificate " ++ 50 ∷ []) refl,
@@ -120,12 +120,12 @@ plain-titles OfBounds = (
   plain-test (codes "flowshop bounds " ++ 50 ∷ []) refl,
 )
 
-pub title-plain : (kind : TextKind) (version : ℕ) → IsVersion version → IsPlain (title kind version)
+pub title-plain : (kind : TreeKind) (version : ℕ) → IsVersion version → IsPlain (title kind version)
 title-plain kind = version-cases (λ version. IsPlain (title kind version))
     (subst IsPlain (sym (title-digit kind 1 (omega arith))) (plain-titles kind).0)
     (subst IsPlain (sym (title-digit kind 2 (omega arith))) (plain-titles kind).1)
 
-pub known-title : (kind : TextKind) (text : List ℕ) (version : ℕ) → version_of kind text ≡ Some version →
+pub known-title : (kind : TreeKind) (text : List ℕ) (version : ℕ) → version_of kind text ≡ Some version →
     IsVersion version × (text ≡ title kind version)
 known-title kind text version e =
     let one : IsVersion 1 = (omega arith, omega arith) in
@@ -135,7 +135,7 @@ known-title kind text version e =
 
 -- the third line
 
-pub stated-plain : (kind : TextKind) (stated : Stated kind) → IsStated kind stated →
+pub stated-plain : (kind : TreeKind) (stated : Stated kind) → IsStated kind stated →
     IsPlain (spaced (numbers_of kind stated))
 stated-plain Certificate value fits = spaced-plain (value ∷ []) (fits, tt)
 stated-plain OfBounds bounds fits = spaced-plain (bounds.lower ∷ bounds.upper ∷ []) (fits.0, (fits.1, tt))
@@ -143,7 +143,7 @@ stated-plain OfBounds bounds fits = spaced-plain (bounds.lower ∷ bounds.upper 
 both-true : (a b : Bool) → a ≡ true → b ≡ true → (a && b) ≡ true
 both-true a b e f = ap (λ t. t && b) e ∙ f
 
-pub stated-known : (kind : TextKind) (stated : Stated kind) → IsStated kind stated →
+pub stated-known : (kind : TreeKind) (stated : Stated kind) → IsStated kind stated →
     stated_by kind (numbers_in (spaced (numbers_of kind stated))) ≡ Some stated
 stated-known Certificate value fits =
     ap (stated_by Certificate) (numbers-complete value [] (fits, tt))
@@ -161,7 +161,7 @@ stated-if true value stated e = (refl, same_Some value stated e)
 stated-if false value stated e = absurd (none-some stated e)
 
 -- numbers that state something are those of a third line
-pub states : (kind : TextKind) (numbers : Option (List ℕ)) (stated : Stated kind) →
+pub states : (kind : TreeKind) (numbers : Option (List ℕ)) (stated : Stated kind) →
     stated_by kind numbers ≡ Some stated →
     IsStated kind stated × (numbers ≡ Some (numbers_of kind stated))
 states Certificate None stated e = absurd (none-some stated e)
@@ -184,12 +184,12 @@ states OfBounds (Some (lower ∷ upper ∷ [])) stated e =
       ap (λ (b : Bounds). Some (b.lower ∷ b.upper ∷ [])) is.1,
     )
 
-stated-fit : (kind : TextKind) (stated : Stated kind) → IsStated kind stated → Fit (numbers_of kind stated)
+stated-fit : (kind : TreeKind) (stated : Stated kind) → IsStated kind stated → Fit (numbers_of kind stated)
 stated-fit Certificate value fits = (fits, tt)
 stated-fit OfBounds bounds fits = (fits.0, (fits.1, tt))
 
 -- a text whose numbers state something is the third line of what they state
-pub stated-text : (kind : TextKind) (text : List ℕ) (stated : Stated kind) →
+pub stated-text : (kind : TreeKind) (text : List ℕ) (stated : Stated kind) →
     stated_by kind (numbers_in text) ≡ Some stated →
     IsStated kind stated × (text ≡ spaced (numbers_of kind stated))
 stated-text kind text stated e =

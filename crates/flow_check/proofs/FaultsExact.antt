@@ -12,13 +12,13 @@ use Rattle.flow_shop.specs.Bound.{bound_of}
 use Rattle.flow_check.specs.Certificate.{IsLawful}
 use Rattle.flow_check.specs.TextLines.{IsVersion, IsDepth, Stated, IsStated, stated_bounds, numbers_of}
 use Rattle.flow_check.specs.TextLines.{line, spaced, upto_title, upto_sizes, upto_stated, heading}
-use Rattle.flow_check.specs.CertificateFaults.{HasFaultAs, EachTextIsJudged}
+use Rattle.flow_check.specs.CertificateFaults.{HasTreeTextFault, EachTextIsJudged}
 use Rattle.flow_check.specs.internal.Reading.{text_value, header_value, stated_once, after_heading, on_line}
 use Rattle.flow_check.specs.internal.Reading.{FaultIsExact}
 use Rattle.flow_check.specs.declared.fault.CheckFault.{CheckFault}
 use Rattle.flow_check.specs.declared.fault.CheckFault.TheVariants.{Memory, Header, Size, Value, Sequence, NotAttained}
 use Rattle.flow_check.specs.declared.fault.CheckFault.TheVariants.{Tree, Weak, Low, End}
-use Rattle.flow_check.specs.declared.kind.TextKind.{TextKind}
+use Rattle.flow_check.specs.declared.kind.TreeKind.{TreeKind}
 use Rattle.flow_check.proofs.TreesExact.{fault-value}
 use Rattle.flow_check.proofs.TreeFaults.{lines-read}
 use Rattle.flow_check.proofs.Exact.{after_header, after_size, after_stated, value_is_exact}
@@ -29,14 +29,14 @@ use Rattle.flow_check.proofs.TextBegins.{outer}
 
 -- how far a text is read that is lawful up to a line
 
-abbrev read_at : (kind : TextKind) → Shop → List ℕ → Result (Stated kind) CheckFault
+abbrev read_at : (kind : TreeKind) → Shop → List ℕ → Result (Stated kind) CheckFault
 read_at kind shop text = on_line Header (header_value kind shop) text
 
-upto-title : (kind : TextKind) (shop : Shop) (text : List ℕ) (version : ℕ) (rest : List ℕ) → IsVersion version →
+upto-title : (kind : TreeKind) (shop : Shop) (text : List ℕ) (version : ℕ) (rest : List ℕ) → IsVersion version →
     text ≡ upto_title kind version ++ rest → read_at kind shop text ≡ on_line Size (after_header kind shop version) rest
 upto-title kind shop text version rest known e = title-read kind shop version text rest known e
 
-upto-sizes : (kind : TextKind) (shop : Shop) (text : List ℕ) (version depth : ℕ) (rest : List ℕ) →
+upto-sizes : (kind : TreeKind) (shop : Shop) (text : List ℕ) (version depth : ℕ) (rest : List ℕ) →
     IsWithinLimits shop → IsVersion version → IsDepth shop depth → text ≡ upto_sizes kind shop version depth ++ rest →
     read_at kind shop text ≡ on_line Value (after_size kind shop version depth) rest
 upto-sizes kind shop text version depth rest limits known deep e =
@@ -44,7 +44,7 @@ upto-sizes kind shop text version depth rest limits known deep e =
     upto-title kind shop text version (size ++ rest) known (e ∙ append_assoc (upto_title kind version) size rest)
     ∙ size-read kind shop version (size ++ rest) depth rest limits (deep.0, deep.1, refl)
 
-upto-stated : (kind : TextKind) (shop : Shop) (text : List ℕ) (version depth : ℕ) (stated : Stated kind)
+upto-stated : (kind : TreeKind) (shop : Shop) (text : List ℕ) (version depth : ℕ) (stated : Stated kind)
     (rest : List ℕ) → IsWithinLimits shop → IsVersion version → IsDepth shop depth → IsStated kind stated →
     text ≡ upto_stated kind shop version depth stated ++ rest →
     read_at kind shop text ≡ on_line Sequence (after_stated kind shop version depth stated) rest
@@ -54,7 +54,7 @@ upto-stated kind shop text version depth stated rest limits known deep fits e =
     (e ∙ append_assoc (upto_sizes kind shop version depth) third rest)
     ∙ stated-read kind shop version (third ++ rest) depth stated rest (fits, refl)
 
-upto-heading : (kind : TextKind) (shop : Shop) (text : List ℕ) (version depth : ℕ) (stated : Stated kind)
+upto-heading : (kind : TreeKind) (shop : Shop) (text : List ℕ) (version depth : ℕ) (stated : Stated kind)
     (sequence rest : List ℕ) → IsWithinLimits shop → IsVersion version → IsDepth shop depth → IsStated kind stated →
     IsSequence shop.jobs sequence → text ≡ heading kind shop version depth stated sequence ++ rest →
     read_at kind shop text
@@ -66,7 +66,7 @@ upto-heading kind shop text version depth stated sequence rest limits known deep
     (e ∙ append_assoc (upto_stated kind shop version depth stated) jobs rest)
     ∙ sequence-read kind shop version (jobs ++ rest) depth stated sequence rest limits (is, refl)
 
-last-read : (kind : TextKind) (shop : Shop) (text : List ℕ) (fault : CheckFault) → IsWithinLimits shop →
+last-read : (kind : TreeKind) (shop : Shop) (text : List ℕ) (fault : CheckFault) → IsWithinLimits shop →
     TreesHaveFault kind shop text fault → read_at kind shop text ≡ Err fault
 last-read kind shop text fault limits
     (version, depth, stated, sequence, known, deep, fits, is, attained, lines, e, h) =
@@ -78,8 +78,8 @@ last-read kind shop text fault limits
     ∙ ap (stated_once stated) (lines-read shop (bound_of version) lower (shop.jobs - depth) (cut shop.jobs depth) 5
     lines fault h)
 
-all-read : (kind : TextKind) (shop : Shop) (text : List ℕ) (fault : CheckFault) → IsWithinLimits shop →
-    HasFaultAs kind shop text fault → read_at kind shop text ≡ Err fault
+all-read : (kind : TreeKind) (shop : Shop) (text : List ℕ) (fault : CheckFault) → IsWithinLimits shop →
+    HasTreeTextFault kind shop text fault → read_at kind shop text ≡ Err fault
 all-read kind shop text Memory limits h = absurd h
 all-read kind shop text Header limits h =
     title-refused kind shop text (λ version rest known e. h version known (rest, e))
@@ -105,8 +105,8 @@ all-read kind shop text (Weak place) limits h = last-read kind shop text (Weak p
 all-read kind shop text (Low place) limits h = last-read kind shop text (Low place) limits h
 all-read kind shop text End limits h = last-read kind shop text End limits h
 
-pub first-read : (kind : TextKind) (shop : Shop) (text : List ℕ) (fault : CheckFault) → IsWithinLimits shop →
-    HasFaultAs kind shop text fault → text_value kind shop text ≡ Err fault
+pub first-read : (kind : TreeKind) (shop : Shop) (text : List ℕ) (fault : CheckFault) → IsWithinLimits shop →
+    HasTreeTextFault kind shop text fault → text_value kind shop text ≡ Err fault
 unfolding text_value
 first-read kind shop text fault limits h = all-read kind shop text fault limits h
 
@@ -114,7 +114,7 @@ first-read kind shop text fault limits h = all-read kind shop text fault limits 
 
 pub fault_is_exact : FaultIsExact
 fault_is_exact kind shop text fault limits = (
-  λ e. IfErr-at_err (λ f. HasFaultAs kind shop text f) e (first-has kind shop text limits),
+  λ e. IfErr-at_err (λ f. HasTreeTextFault kind shop text f) e (first-has kind shop text limits),
   first-read kind shop text fault limits,
 )
 
@@ -122,10 +122,10 @@ abbrev fault_of : {A : Type 0} → Result A CheckFault → CheckFault
 fault_of (Ok value) = Memory
 fault_of (Err fault) = fault
 
-either : (kind : TextKind) (shop : Shop) (text : List ℕ) → IsWithinLimits shop →
+either : (kind : TreeKind) (shop : Shop) (text : List ℕ) → IsWithinLimits shop →
     (r : Result (Stated kind) CheckFault) → text_value kind shop text ≡ r →
     ((stated : Stated kind) × IsLawful kind shop text stated)
-    ⊎ ((fault : CheckFault) × HasFaultAs kind shop text fault)
+    ⊎ ((fault : CheckFault) × HasTreeTextFault kind shop text fault)
 either kind shop text limits (Ok stated) e = inl (stated, (value_is_exact kind shop text stated limits).0 e)
 either kind shop text limits (Err fault) e = inr (fault, (fault_is_exact kind shop text fault limits).0 e)
 

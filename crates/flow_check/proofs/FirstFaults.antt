@@ -1,6 +1,6 @@
 -- A fault with which a text is read is its first fault.
 use Rattle.std.proofs.Common.{◌≡◌, ◌&&◌, nat_eq, nat_le, ℕ, zero, suc, ◌+◌, ◌-◌, Bool}
-use Rattle.std.proofs.Common.{true, false, cond}
+use Rattle.std.proofs.Common.{false, cond}
 use Rattle.std.proofs.Common.{List, [], ◌∷◌, ◌++◌, Option, Some, None, Result, Ok, Err, IfErr, refl, ap, sym}
 use Rattle.std.proofs.Common.{subst, ◌∙◌, inl, inr, arith}
 use Rattle.std.specs.Option.{option_map_or}
@@ -18,7 +18,7 @@ use Rattle.flow_shop.proofs.SequenceLemmas.{sequence-fault-none-is, is-fault-non
 use Rattle.flow_check.specs.Certificate.{Covers}
 use Rattle.flow_check.specs.TextLines.{IsVersion, IsDepth, Stated, IsStated, stated_bounds, numbers_of}
 use Rattle.flow_check.specs.TextLines.{line, spaced, title, upto_title, upto_sizes, upto_stated, heading}
-use Rattle.flow_check.specs.CertificateFaults.{HasFaultAmong, HasTreeFault, HasLineFault, HasFaultAs}
+use Rattle.flow_check.specs.CertificateFaults.{HasFaultAmong, HasTreeFault, HasLineFault, HasTreeTextFault}
 use Rattle.flow_check.specs.internal.Reading.{text_value, header_value, size_value, sequence_value, stated_by}
 use Rattle.flow_check.specs.internal.Reading.{stated_once, after_heading, first_line, on_line, numbers_in}
 use Rattle.flow_check.specs.internal.ReadTrees.{cut_value}
@@ -26,7 +26,7 @@ use Rattle.flow_check.specs.internal.Reading.{version_of}
 use Rattle.flow_check.specs.declared.fault.CheckFault.{CheckFault}
 use Rattle.flow_check.specs.declared.fault.CheckFault.TheVariants.{Memory, Header, Size, Value, Sequence, NotAttained}
 use Rattle.flow_check.specs.declared.fault.CheckFault.TheVariants.{Tree, Weak, Low, End}
-use Rattle.flow_check.specs.declared.kind.TextKind.{TextKind}
+use Rattle.flow_check.specs.declared.kind.TreeKind.{TreeKind}
 use Rattle.flow_check.proofs.Numbers.{Fit, numbers-sound, numbers-complete, spaced-plain}
 use Rattle.flow_check.proofs.TreeFaults.{lines-have}
 use Rattle.flow_check.proofs.ExactLines.{title-plain, title-known, known-title}
@@ -75,7 +75,7 @@ line-kind shop bound value left (prefix ∷ prefixes) place text fault (inr (tre
     line-kind shop bound value left prefixes (place + 1) h.0 fault h.2
 
 -- what the lines before the trees say, where they are lawful
-record Heads (kind : TextKind) (shop : Shop) (text : List ℕ) (version depth : ℕ) (stated : Stated kind)
+record Heads (kind : TreeKind) (shop : Shop) (text : List ℕ) (version depth : ℕ) (stated : Stated kind)
     (sequence lines : List ℕ) : Type 0 where
   known : IsVersion version
   deep : IsDepth shop depth
@@ -83,7 +83,7 @@ record Heads (kind : TextKind) (shop : Shop) (text : List ℕ) (version depth : 
   whole : IsSequence shop.jobs sequence
   text_is : text ≡ heading kind shop version depth stated sequence ++ lines
 
-abbrev pub TreesHaveFault : TextKind → Shop → List ℕ → CheckFault → Type 0
+abbrev pub TreesHaveFault : TreeKind → Shop → List ℕ → CheckFault → Type 0
 TreesHaveFault kind shop text fault =
     (version : ℕ) × (depth : ℕ) × (stated : Stated kind) × (sequence : List ℕ) × IsVersion version
     × IsDepth shop depth × IsStated kind stated × IsSequence shop.jobs sequence
@@ -92,8 +92,8 @@ TreesHaveFault kind shop text fault =
     × HasLineFault shop (bound_of version) (stated_bounds kind stated).lower (shop.jobs - depth)
     (cut shop.jobs depth) 5 lines fault
 
-of-trees : (kind : TextKind) (shop : Shop) (text : List ℕ) (fault : CheckFault) → IsOfTrees fault →
-    TreesHaveFault kind shop text fault → HasFaultAs kind shop text fault
+of-trees : (kind : TreeKind) (shop : Shop) (text : List ℕ) (fault : CheckFault) → IsOfTrees fault →
+    TreesHaveFault kind shop text fault → HasTreeTextFault kind shop text fault
 of-trees kind shop text Memory is h = absurd is
 of-trees kind shop text Header is h = absurd is
 of-trees kind shop text Size is h = absurd is
@@ -115,7 +115,7 @@ once-has P stated (Err fault) h = h
 abbrev SequenceIn : Shop → Option (List ℕ) → List ℕ → Type 0
 SequenceIn shop o jobs = IsSequence shop.jobs jobs × (o ≡ Some jobs)
 
-sequence-step : (kind : TextKind) (P : CheckFault → Type 0) (shop : Shop) (version depth : ℕ) (stated : Stated kind)
+sequence-step : (kind : TreeKind) (P : CheckFault → Type 0) (shop : Shop) (version depth : ℕ) (stated : Stated kind)
     (rest : List ℕ) (o : Option (List ℕ)) → (((jobs : List ℕ) → SequenceIn shop o jobs → ⊥) → P Sequence) →
     ((jobs : List ℕ) → SequenceIn shop o jobs →
     IfErr (cond (nat_eq (span shop jobs) (stated_bounds kind stated).upper)
@@ -135,11 +135,11 @@ sequence-step kind P shop version depth stated rest (Some jobs) bad good =
     fine (Some f) e = bad (λ other h. none-some f (sym (is-fault-none shop.jobs jobs
         (subst (IsSequence shop.jobs) (sym (same_Some jobs other h.1)) h.0)) ∙ e))
 
-attained-has : (kind : TextKind) (shop : Shop) (text : List ℕ) (version depth : ℕ) (stated : Stated kind)
+attained-has : (kind : TreeKind) (shop : Shop) (text : List ℕ) (version depth : ℕ) (stated : Stated kind)
     (sequence lines : List ℕ) → Heads kind shop text version depth stated sequence lines →
     IfErr (cond (nat_eq (span shop sequence) (stated_bounds kind stated).upper)
     (after_heading kind shop version depth stated lines) (Err NotAttained))
-    (λ fault. HasFaultAs kind shop text fault)
+    (λ fault. HasTreeTextFault kind shop text fault)
 attained-has kind shop text version depth stated sequence lines heads =
     test First NotAttained (after_heading kind shop version depth stated lines) (nat_eq (span shop sequence) upper)
     (λ other. (
@@ -176,7 +176,7 @@ attained-has kind shop text version depth stated sequence lines heads =
     (lines-have shop (bound_of version) lower (shop.jobs - depth) (cut shop.jobs depth) 5 lines)))
   where
     First : CheckFault → Type 0
-    First fault = HasFaultAs kind shop text fault
+    First fault = HasTreeTextFault kind shop text fault
 
     lower : ℕ
     lower = (stated_bounds kind stated).lower
@@ -184,11 +184,11 @@ attained-has kind shop text version depth stated sequence lines heads =
     upper : ℕ
     upper = (stated_bounds kind stated).upper
 
-sequence-has : (kind : TextKind) (shop : Shop) (text : List ℕ) (version depth : ℕ) (stated : Stated kind)
+sequence-has : (kind : TreeKind) (shop : Shop) (text : List ℕ) (version depth : ℕ) (stated : Stated kind)
     (rest : List ℕ) → IsWithinLimits shop → IsVersion version → IsDepth shop depth → IsStated kind stated →
     text ≡ upto_stated kind shop version depth stated ++ rest →
     IfErr (on_line Sequence (after_stated kind shop version depth stated) rest)
-    (λ fault. HasFaultAs kind shop text fault)
+    (λ fault. HasTreeTextFault kind shop text fault)
 sequence-has kind shop text version depth stated rest limits known deep fits e =
     step First Sequence (λ r. after_stated kind shop version depth stated r.0 r.1) (first_line rest)
     (λ none. missing (λ jobs more is at. no-line rest (spaced jobs) more none
@@ -213,10 +213,10 @@ sequence-has kind shop text version depth stated rest limits known deep fits e =
     })))
   where
     First : CheckFault → Type 0
-    First fault = HasFaultAs kind shop text fault
+    First fault = HasTreeTextFault kind shop text fault
 
     missing : ((jobs more : List ℕ) → IsSequence shop.jobs jobs → rest ≡ line (spaced jobs) ++ more → ⊥) →
-        HasFaultAs kind shop text Sequence
+        HasTreeTextFault kind shop text Sequence
     missing none = (
       version,
       depth,
@@ -231,9 +231,9 @@ sequence-has kind shop text version depth stated rest limits known deep fits e =
 
 -- at the line of the value, or of the bounds
 
-stated-has : (kind : TextKind) (shop : Shop) (text : List ℕ) (version depth : ℕ) (rest : List ℕ) →
+stated-has : (kind : TreeKind) (shop : Shop) (text : List ℕ) (version depth : ℕ) (rest : List ℕ) →
     IsWithinLimits shop → IsVersion version → IsDepth shop depth → text ≡ upto_sizes kind shop version depth ++ rest →
-    IfErr (on_line Value (after_size kind shop version depth) rest) (λ fault. HasFaultAs kind shop text fault)
+    IfErr (on_line Value (after_size kind shop version depth) rest) (λ fault. HasTreeTextFault kind shop text fault)
 stated-has kind shop text version depth rest limits known deep e =
     step First Value (λ r. after_size kind shop version depth r.0 r.1) (first_line rest)
     (λ none. missing (λ stated more fits at. no-line rest (spaced (numbers_of kind stated)) more none
@@ -251,10 +251,10 @@ stated-has kind shop text version depth rest limits known deep e =
     (begun rest r.0 r.1 (spaced (numbers_of kind stated)) found third.1))))
   where
     First : CheckFault → Type 0
-    First fault = HasFaultAs kind shop text fault
+    First fault = HasTreeTextFault kind shop text fault
 
     missing : ((stated : Stated kind) (more : List ℕ) → IsStated kind stated →
-        rest ≡ line (spaced (numbers_of kind stated)) ++ more → ⊥) → HasFaultAs kind shop text Value
+        rest ≡ line (spaced (numbers_of kind stated)) ++ more → ⊥) → HasTreeTextFault kind shop text Value
     missing none = (
       version,
       depth,
@@ -281,7 +281,7 @@ SizeIn shop o depth = IsDepth shop depth × (o ≡ Some (sizes shop depth))
 unsized : (shop : Shop) (o : Option (List ℕ)) (depth : ℕ) → size_test shop o ≡ false → SizeIn shop o depth → ⊥
 unsized shop o depth off h = false≢true (sym off ∙ ap (size_test shop) h.1 ∙ size-true shop depth h.0.0 h.0.1)
 
-size-step : (kind : TextKind) (P : CheckFault → Type 0) (shop : Shop) (version : ℕ) (rest : List ℕ)
+size-step : (kind : TreeKind) (P : CheckFault → Type 0) (shop : Shop) (version : ℕ) (rest : List ℕ)
     (o : Option (List ℕ)) →
     (((depth : ℕ) → SizeIn shop o depth → ⊥) → P Size) →
     ((depth : ℕ) → SizeIn shop o depth → IfErr (on_line Value (after_size kind shop version depth) rest) P) →
@@ -304,10 +304,10 @@ size-step kind P shop version rest (Some (a ∷ b ∷ d ∷ [])) bad good =
           ∙ ap (λ k. Some (shop.jobs ∷ k ∷ d ∷ [])) (eqb-true b shop.machines t.1),
     ))
 
-size-has : (kind : TextKind) (shop : Shop) (text : List ℕ) (version : ℕ) (rest : List ℕ) → IsWithinLimits shop →
+size-has : (kind : TreeKind) (shop : Shop) (text : List ℕ) (version : ℕ) (rest : List ℕ) → IsWithinLimits shop →
     IsVersion version →
     text ≡ upto_title kind version ++ rest →
-    IfErr (on_line Size (after_header kind shop version) rest) (λ fault. HasFaultAs kind shop text fault)
+    IfErr (on_line Size (after_header kind shop version) rest) (λ fault. HasTreeTextFault kind shop text fault)
 size-has kind shop text version rest limits known e =
     step First Size (λ r. after_header kind shop version r.0 r.1) (first_line rest)
     (λ none. missing (λ depth more deep at. no-line rest (spaced (sizes shop depth)) more none
@@ -324,10 +324,10 @@ size-has kind shop text version rest limits known e =
     (numbers-sound r.0 (sizes shop depth) is.1 (size-fit shop depth limits is.0.1))))))
   where
     First : CheckFault → Type 0
-    First fault = HasFaultAs kind shop text fault
+    First fault = HasTreeTextFault kind shop text fault
 
     missing : ((depth : ℕ) (more : List ℕ) → IsDepth shop depth → rest ≡ line (spaced (sizes shop depth)) ++ more → ⊥) →
-        HasFaultAs kind shop text Size
+        HasTreeTextFault kind shop text Size
     missing none = (
       version,
       known,
@@ -337,8 +337,8 @@ size-has kind shop text version rest limits known e =
     )
 
 -- at the first line
-title-has : (kind : TextKind) (shop : Shop) (text : List ℕ) → IsWithinLimits shop →
-    IfErr (on_line Header (header_value kind shop) text) (λ fault. HasFaultAs kind shop text fault)
+title-has : (kind : TreeKind) (shop : Shop) (text : List ℕ) → IsWithinLimits shop →
+    IfErr (on_line Header (header_value kind shop) text) (λ fault. HasTreeTextFault kind shop text fault)
 title-has kind shop text limits =
     step First Header (λ r. header_value kind shop r.0 r.1) (first_line text)
     (λ none version known b. no-line text (title kind version) b.0 none (title-plain kind version known) b.1)
@@ -352,9 +352,9 @@ title-has kind shop text limits =
     size-has kind shop text version r.1 limits titled.0 (begun text r.0 r.1 (title kind version) found titled.1)))
   where
     First : CheckFault → Type 0
-    First fault = HasFaultAs kind shop text fault
+    First fault = HasTreeTextFault kind shop text fault
 
-pub first-has : (kind : TextKind) (shop : Shop) (text : List ℕ) → IsWithinLimits shop →
-    IfErr (text_value kind shop text) (λ fault. HasFaultAs kind shop text fault)
+pub first-has : (kind : TreeKind) (shop : Shop) (text : List ℕ) → IsWithinLimits shop →
+    IfErr (text_value kind shop text) (λ fault. HasTreeTextFault kind shop text fault)
 unfolding text_value
 first-has kind shop text limits = title-has kind shop text limits

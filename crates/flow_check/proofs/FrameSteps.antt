@@ -7,7 +7,7 @@ use Rattle.flow_check.specs.declared.fault.CheckFault.{CheckFault}
 use Rattle.flow_check.specs.declared.two_ended.walk.Frame.{Frame}
 use Rattle.flow_check.specs.internal.ReadTrees.{then_read}
 use Rattle.flow_check.specs.internal.ReadDirections.{Reading}
-use Rattle.flow_check.specs.internal.Frames.{first_of, last_of, AreFrames, IsFrame}
+use Rattle.flow_check.specs.internal.Frames.{first_of, last_of, AreFrames, IsParent}
 use Rattle.flow_check.proofs.DirectionSteps.{children_read}
 
 module _ (shop : Shop) (number : ℕ) where
@@ -48,7 +48,7 @@ module _ (shop : Shop) (number : ℕ) where
 
   pub frames-push : (first last : List ℕ) (frames : List Frame) (frame : Frame) →
       AreFrames shop number first last frames →
-      IsFrame shop number (first_of first frames) (last_of last frames) frame →
+      IsParent shop number (first_of first frames) (last_of last frames) frame →
       AreFrames shop number first last (frames ++ frame ∷ [])
   frames-push first last [] frame are is = (is, tt)
   frames-push first last (f ∷ fs) frame are is =
@@ -57,7 +57,7 @@ module _ (shop : Shop) (number : ℕ) where
   pub frames-pop : (first last : List ℕ) (frames : List Frame) (frame : Frame) →
       AreFrames shop number first last (frames ++ frame ∷ []) →
       AreFrames shop number first last frames
-      × IsFrame shop number (first_of first frames) (last_of last frames) frame
+      × IsParent shop number (first_of first frames) (last_of last frames) frame
   frames-pop first last [] frame are = (tt, are.0)
   frames-pop first last (f ∷ fs) frame are =
       let rest = frames-pop (first_with f.end first f.job) (last_with f.end last f.job) fs frame are.1 in

@@ -16,7 +16,7 @@ use Rattle.flow_check.specs.internal.Reading.{first_line, on_line, numbers_in, v
 use Rattle.flow_check.specs.internal.Heading.{BeginsWithSize, BeginsWithStated, BeginsWithSequence}
 use Rattle.flow_check.specs.declared.fault.CheckFault.{CheckFault}
 use Rattle.flow_check.specs.declared.fault.CheckFault.TheVariants.{Header, Size, Value, Sequence, NotAttained}
-use Rattle.flow_check.specs.declared.kind.TextKind.{TextKind}
+use Rattle.flow_check.specs.declared.kind.TreeKind.{TreeKind}
 use Rattle.flow_check.proofs.Numbers.{Fit, numbers-sound, numbers-complete, spaced-plain}
 use Rattle.flow_check.proofs.ExactLines.{LineOf, first-line-is, on-line-complete, title-plain, title-known}
 use Rattle.flow_check.proofs.ExactLines.{known-title}
@@ -58,7 +58,7 @@ line-read fault next bytes line_text rest e reads = ap (on_line fault next) (e �
 
 -- the first line
 
-pub title-read : (kind : TextKind) (shop : Shop) (version : ℕ) (bytes rest : List ℕ) → IsVersion version →
+pub title-read : (kind : TreeKind) (shop : Shop) (version : ℕ) (bytes rest : List ℕ) → IsVersion version →
     bytes ≡ line (title kind version) ++ rest →
     on_line Header (header_value kind shop) bytes ≡ on_line Size (after_header kind shop version) rest
 title-read kind shop version bytes rest known e =
@@ -67,7 +67,7 @@ title-read kind shop version bytes rest known e =
     ∙ ap (λ o. option_map_or (λ v. on_line Size (after_header kind shop v) rest) o (Err Header))
     (title-known kind version known)
 
-pub title-refused : (kind : TextKind) (shop : Shop) (bytes : List ℕ) →
+pub title-refused : (kind : TreeKind) (shop : Shop) (bytes : List ℕ) →
     ((version : ℕ) (rest : List ℕ) → IsVersion version → bytes ≡ line (title kind version) ++ rest → ⊥) →
     on_line Header (header_value kind shop) bytes ≡ Err Header
 title-refused kind shop bytes none = line-refused Header (header_value kind shop) bytes (λ text rest e.
@@ -78,7 +78,7 @@ title-refused kind shop bytes none = line-refused Header (header_value kind shop
 
 -- the line of the size
 
-pub size-read : (kind : TextKind) (shop : Shop) (version : ℕ) (bytes : List ℕ) (depth : ℕ) (rest : List ℕ) →
+pub size-read : (kind : TreeKind) (shop : Shop) (version : ℕ) (bytes : List ℕ) (depth : ℕ) (rest : List ℕ) →
     IsWithinLimits shop → BeginsWithSize shop.jobs shop.machines bytes depth rest →
     on_line Size (after_header kind shop version) bytes ≡ on_line Value (after_size kind shop version depth) rest
 size-read kind shop version bytes depth rest limits h =
@@ -91,7 +91,7 @@ size-read kind shop version bytes depth rest limits h =
     ∙ ap (λ b. cond b (on_line Value (after_size kind shop version depth) rest) (Err Size))
     (size-true shop depth h.0 h.1)
 
-size-other : (kind : TextKind) (shop : Shop) (version : ℕ) (rest : List ℕ) (o : Option (List ℕ)) →
+size-other : (kind : TreeKind) (shop : Shop) (version : ℕ) (rest : List ℕ) (o : Option (List ℕ)) →
     ((depth : ℕ) → depth ≤ shop.jobs → depth ≤ greatest_depth → o ≡ Some (shop.jobs ∷ shop.machines ∷ depth ∷ []) → ⊥) →
     size_value kind shop version rest o ≡ Err Size
 size-other kind shop version rest None none = refl
@@ -110,7 +110,7 @@ size-other kind shop version rest (Some (a ∷ b ∷ d ∷ [])) none =
       | inr other ↦ ap (λ b. cond b (on_line Value (after_size kind shop version d) rest) (Err Size)) other
     ]
 
-pub size-refused : (kind : TextKind) (shop : Shop) (version : ℕ) (bytes : List ℕ) → IsWithinLimits shop →
+pub size-refused : (kind : TreeKind) (shop : Shop) (version : ℕ) (bytes : List ℕ) → IsWithinLimits shop →
     ((depth : ℕ) (rest : List ℕ) → BeginsWithSize shop.jobs shop.machines bytes depth rest → ⊥) →
     on_line Size (after_header kind shop version) bytes ≡ Err Size
 size-refused kind shop version bytes limits none =
@@ -125,7 +125,7 @@ size-refused kind shop version bytes limits none =
 
 -- the line of the value, or of the bounds
 
-pub stated-read : (kind : TextKind) (shop : Shop) (version : ℕ) (bytes : List ℕ) (depth : ℕ) (stated : Stated kind)
+pub stated-read : (kind : TreeKind) (shop : Shop) (version : ℕ) (bytes : List ℕ) (depth : ℕ) (stated : Stated kind)
     (rest : List ℕ) → BeginsWithStated kind bytes stated rest →
     on_line Value (after_size kind shop version depth) bytes
     ≡ on_line Sequence (after_stated kind shop version depth stated) rest
@@ -136,7 +136,7 @@ stated-read kind shop version bytes depth stated rest h =
     ∙ ap (λ o. option_map_or (λ s. on_line Sequence (after_stated kind shop version depth s) rest) o (Err Value))
     (stated-known kind stated h.0)
 
-pub stated-refused : (kind : TextKind) (shop : Shop) (version : ℕ) (bytes : List ℕ) (depth : ℕ) →
+pub stated-refused : (kind : TreeKind) (shop : Shop) (version : ℕ) (bytes : List ℕ) (depth : ℕ) →
     ((stated : Stated kind) (rest : List ℕ) → BeginsWithStated kind bytes stated rest → ⊥) →
     on_line Value (after_size kind shop version depth) bytes ≡ Err Value
 stated-refused kind shop version bytes depth none =
@@ -148,7 +148,7 @@ stated-refused kind shop version bytes depth none =
 
 -- the line of the sequence
 
-pub sequence-read : (kind : TextKind) (shop : Shop) (version : ℕ) (bytes : List ℕ) (depth : ℕ) (stated : Stated kind)
+pub sequence-read : (kind : TreeKind) (shop : Shop) (version : ℕ) (bytes : List ℕ) (depth : ℕ) (stated : Stated kind)
     (jobs rest : List ℕ) → IsWithinLimits shop → BeginsWithSequence shop.jobs bytes jobs rest →
     on_line Sequence (after_stated kind shop version depth stated) bytes
     ≡ cond (nat_eq (span shop jobs) (stated_bounds kind stated).upper)
@@ -170,7 +170,7 @@ no-sequence : {A : Type 0} (shop : Shop) (jobs : List ℕ) (next : Result A Chec
 no-sequence shop jobs next None none = absurd (none refl)
 no-sequence shop jobs next (Some fault) none = refl
 
-sequence-other : (kind : TextKind) (shop : Shop) (version depth : ℕ) (stated : Stated kind) (rest : List ℕ)
+sequence-other : (kind : TreeKind) (shop : Shop) (version depth : ℕ) (stated : Stated kind) (rest : List ℕ)
     (o : Option (List ℕ)) → ((jobs : List ℕ) → IsSequence shop.jobs jobs → o ≡ Some jobs → ⊥) →
     sequence_value kind shop version depth stated rest o ≡ Err Sequence
 sequence-other kind shop version depth stated rest None none = refl
@@ -180,7 +180,7 @@ sequence-other kind shop version depth stated rest (Some jobs) none =
     (sequence_fault shop.jobs jobs)
     (λ fine. none jobs (sequence-fault-none-is shop.jobs jobs fine) refl)
 
-pub sequence-refused : (kind : TextKind) (shop : Shop) (version : ℕ) (bytes : List ℕ) (depth : ℕ)
+pub sequence-refused : (kind : TreeKind) (shop : Shop) (version : ℕ) (bytes : List ℕ) (depth : ℕ)
     (stated : Stated kind) → IsWithinLimits shop →
     ((jobs rest : List ℕ) → BeginsWithSequence shop.jobs bytes jobs rest → ⊥) →
     on_line Sequence (after_stated kind shop version depth stated) bytes ≡ Err Sequence

@@ -9,6 +9,7 @@ pub mod TreeFaults
 pub mod FirstFaults
 pub mod TextBegins
 pub mod FaultsExact
+pub mod FaultsSaid
 pub mod Checked
 pub mod Links
 pub mod NodeSteps
@@ -38,3 +39,5 @@ pub mod TwoEndedLaws
 pub mod DirectionsGiven
 pub mod TwoEndedLines
 pub mod TwoEndedChecked
+pub mod KindsRead
+pub mod TextGiven

@@ -101,9 +101,6 @@ module _ (words : List ℕ) (job : ℕ) (within : (job - 1) / 16 < length words)
       mark-there words ((job - 1) / 16) word_set job within refl
       ∙ bit_at_set_same w16 (slice_index words ((job - 1) / 16)) ((job - 1) % 16) (omega arith)
 
-  pub set-there : (other : ℕ) → job ≡ other → mark (record { words = set words ((job - 1) / 16) word_set }) other ≡ 1
-  set-there other same = ap (mark (record { words = set words ((job - 1) / 16) word_set })) (sym same) ∙ set-same
-
   pub cleared-same : mark (record { words = set words ((job - 1) / 16) word_cleared }) job ≡ 0
   cleared-same =
       mark-there words ((job - 1) / 16) word_cleared job within refl

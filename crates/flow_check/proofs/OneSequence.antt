@@ -1,13 +1,18 @@
 -- A text of a kind states one value, or one pair of bounds, and one sequence: that of its fourth line.
-use Rattle.std.proofs.Common.{◌≡◌, ℕ, ◌≤◌, List, [], ◌∷◌, ◌++◌, Option, Some, Ok, ap, sym, ◌∙◌, arith}
+use Rattle.std.proofs.Common.{◌≡◌, ℕ, ◌≤◌, List, [], ◌∷◌, ◌++◌, Option, Some, Ok, ap, sym, subst, ◌∙◌, arith}
 use Rattle.std.specs.Option.{option_map_or}
 use Rattle.std.specs.List.{flat_map}
 use Rattle.std.proofs.lemmas.Option.{same_Some}
+use Rattle.std.proofs.lemmas.List.{append-nil}
+use Rattle.flow_shop.specs.Limits.{greatest_depth}
 use Rattle.flow_shop.specs.Shop.{Shop, IsWithinLimits}
-use Rattle.flow_check.specs.Certificate.{Shows, GivesSequenceAs, StatesOne}
-use Rattle.flow_check.specs.TextLines.{Stated, stated_bounds, numbers_of, line, spaced, title, ending, text_of}
+use Rattle.flow_shop.specs.Sequences.{IsSequence}
+use Rattle.flow_check.specs.Certificate.{GivesSequenceAs, IsLawful, StatesOne}
+use Rattle.flow_check.specs.TextLines.{IsVersion, Stated, IsStated, numbers_of, line, spaced, title, ending, heading}
+use Rattle.flow_check.specs.internal.Heading.{BeginsWithHeading}
 use Rattle.flow_check.specs.internal.Reading.{first_line, numbers_in, text_value}
-use Rattle.flow_check.specs.declared.kind.TextKind.{TextKind}
+use Rattle.flow_check.specs.declared.heading.Heading.{Heading}
+use Rattle.flow_check.specs.declared.kind.TreeKind.{TreeKind}
 use Rattle.flow_check.proofs.Numbers.{IsPlain, spaced-plain}
 use Rattle.flow_check.proofs.ExactLines.{first-line-complete, title-plain, stated-plain}
 use Rattle.flow_check.proofs.Exact.{worth, glue, sequence-fit, size-fit, numbers-whole, shown-fit, value_is_exact}
@@ -30,38 +35,53 @@ rest-is text rest plain = ap (λ o. option_map_or (λ r. r.1) o []) (first-line-
 abbrev fourth : List ℕ → Option (List ℕ)
 fourth bytes = numbers_in (word_of (rest_of (rest_of (rest_of bytes))))
 
-fourth-is : (kind : TextKind) (shop : Shop) (stated : Stated kind) (version depth : ℕ) (sequence : List ℕ)
-    (trees : List (List ℕ)) → IsWithinLimits shop →
-    Shows shop version (stated_bounds kind stated).lower (stated_bounds kind stated).upper depth sequence trees →
-    fourth (text_of kind shop version depth stated sequence trees) ≡ Some sequence
-fourth-is kind shop stated version depth sequence trees limits shows =
+fourth-is : (kind : TreeKind) (shop : Shop) (version depth : ℕ) (stated : Stated kind) (sequence more rest : List ℕ) →
+    IsWithinLimits shop → IsVersion version → depth ≤ greatest_depth → IsStated kind stated →
+    IsSequence shop.jobs sequence →
+    fourth (heading kind shop version depth stated sequence ++ more ++ rest) ≡ Some sequence
+fourth-is kind shop version depth stated sequence more rest limits known shallow fit is =
     let first : List ℕ = title kind version in
     let size : List ℕ = spaced (shop.jobs ∷ shop.machines ∷ depth ∷ []) in
     let third : List ℕ = spaced (numbers_of kind stated) in
-    let rest4 : List ℕ = flat_map line trees ++ line ending in
-    let rest3 : List ℕ = spaced sequence ++ 10 ∷ rest4 in
+    let rest3 : List ℕ = spaced sequence ++ 10 ∷ (more ++ rest) in
     let rest2 : List ℕ = third ++ 10 ∷ rest3 in
     let rest1 : List ℕ = size ++ 10 ∷ rest2 in
-    let fits = sequence-fit shop.jobs sequence limits.jobs shows.whole in
+    let fits = sequence-fit shop.jobs sequence limits.jobs is in
     let some_job : 1 ≤ shop.jobs = limits.some_job in
-    ap fourth (sym (glue first size third (spaced sequence) (flat_map line trees) (line ending)))
-    ∙ ap (λ t. numbers_in (word_of (rest_of (rest_of t))))
-    (rest-is first rest1 (title-plain kind version shows.known))
+    ap fourth (sym (glue first size third (spaced sequence) more rest))
+    ∙ ap (λ t. numbers_in (word_of (rest_of (rest_of t)))) (rest-is first rest1 (title-plain kind version known))
     ∙ ap (λ t. numbers_in (word_of (rest_of t)))
-    (rest-is size rest2 (spaced-plain (shop.jobs ∷ shop.machines ∷ depth ∷ [])
-    (size-fit shop depth limits shows.shallow)))
-    ∙ ap (λ t. numbers_in (word_of t))
-    (rest-is third rest3 (stated-plain kind stated (shown-fit kind shop stated version depth sequence trees shows)))
-    ∙ ap numbers_in (word-is (spaced sequence) rest4 (spaced-plain sequence fits))
-    ∙ numbers-whole sequence (omega (arith, shows.whole.whole, some_job)) fits
+    (rest-is size rest2 (spaced-plain (shop.jobs ∷ shop.machines ∷ depth ∷ []) (size-fit shop depth limits shallow)))
+    ∙ ap (λ t. numbers_in (word_of t)) (rest-is third rest3 (stated-plain kind stated fit))
+    ∙ ap numbers_in (word-is (spaced sequence) (more ++ rest) (spaced-plain sequence fits))
+    ∙ numbers-whole sequence (omega (arith, is.whole, some_job)) fits
+
+-- that of a lawful text is its sequence
+fourth-given : (kind : TreeKind) (shop : Shop) (bytes : List ℕ) (stated : Stated kind) (sequence : List ℕ) →
+    IsWithinLimits shop → GivesSequenceAs kind shop bytes stated sequence → fourth bytes ≡ Some sequence
+fourth-given kind shop bytes stated sequence limits (version, depth, trees, shows, text) =
+    ap fourth text
+    ∙ fourth-is kind shop version depth stated sequence (flat_map line trees) (line ending) limits shows.known
+    shows.shallow (shown-fit kind shop stated version depth sequence trees shows) shows.whole
+
+-- the sequence that is read in the lines before the trees is the one that a lawful text gives
+pub gives-read : (kind : TreeKind) (shop : Shop) (bytes : List ℕ) (lines : Heading) (stated : Stated kind) →
+    IsWithinLimits shop → BeginsWithHeading kind shop bytes lines → IsLawful kind shop bytes stated →
+    GivesSequenceAs kind shop bytes stated lines.sequence
+gives-read kind shop bytes lines stated limits (third, known, deep, fit, whole, begins) (sequence, gives) =
+    let front : List ℕ = heading kind shop lines.version lines.depth third lines.sequence in
+    let read : fourth bytes ≡ Some lines.sequence =
+    ap fourth (begins ∙ sym (append-nil (front ++ lines.trees.now)))
+    ∙ fourth-is kind shop lines.version lines.depth third lines.sequence lines.trees.now [] limits known deep.1 fit
+    whole in
+    subst (λ jobs. GivesSequenceAs kind shop bytes stated jobs)
+    (same_Some sequence lines.sequence (sym (fourth-given kind shop bytes stated sequence limits gives) ∙ read)) gives
 
 pub states_one : StatesOne
 states_one kind shop bytes stated other one another limits first second =
     let read : text_value kind shop bytes ≡ Ok stated = (value_is_exact kind shop bytes stated limits).1 (one, first) in
     let again : text_value kind shop bytes ≡ Ok other = (value_is_exact kind shop bytes other limits).1 (another, second)
     in
-    let given : fourth bytes ≡ Some one =
-    ap fourth first.4 ∙ fourth-is kind shop stated first.0 first.1 one first.2 limits first.3 in
-    let given_again : fourth bytes ≡ Some another =
-    ap fourth second.4 ∙ fourth-is kind shop other second.0 second.1 another second.2 limits second.3 in
+    let given : fourth bytes ≡ Some one = fourth-given kind shop bytes stated one limits first in
+    let given_again : fourth bytes ≡ Some another = fourth-given kind shop bytes other another limits second in
     (ap (worth stated) (sym read ∙ again), same_Some one another (sym given ∙ given_again))

@@ -68,12 +68,6 @@ module _ (shop : Shop) (number : ℕ) (end : End) (first last : List ℕ) (left 
 
 -- a word is written
 module _ (words : List ℕ) (group value : ℕ) (within : group < length words) where
-  pub rest-kept : ((job : ℕ) → group ≤ (job - 1) / 16 → mark (record { words = words }) job ≡ 0) → (job : ℕ) →
-      group + 1 ≤ (job - 1) / 16 → mark (record { words = set words group value }) job ≡ 0
-  rest-kept rest job high =
-      let apart : (job - 1) / 16 ≢ group = omega (arith, high) in
-      mark-elsewhere words group value job apart ∙ rest job (omega (arith, high))
-
   module _ (shop : Shop) (number : ℕ) (end : End) (first last : List ℕ) (left : Marks)
       (are : AreLeft shop first last left) (job : ℕ) (low : 1 ≤ job) where
     pub word-before : (job - 1) / 16 < group → IsOpen shop number end first last (record { words = words }) job →
@@ -100,15 +94,16 @@ module _ (words : List ℕ) (group value : ℕ) (within : group < length words) 
         (bit_at-lt bits ((job - 1) % 16)) tells
 
 -- a word of which no job is left
-pub word-none : (shop : Shop) (number : ℕ) (end : End) (first last : List ℕ) (left marks : Marks)
-    (are : AreLeft shop first last left) (job : ℕ) (low : 1 ≤ job) (group word : ℕ) → word ≡ 0 →
-    word ≡ slice_index left.words group → (job - 1) / 16 ≡ group → mark marks job ≡ 0 →
-    IsOpen shop number end first last marks job
-word-none shop number end first last left marks are job low group word none is there out =
-    open-none shop number end first last left are marks job low
+pub word-none : (words : List ℕ) (group : ℕ) (within : group < length words) (shop : Shop) (number : ℕ) (end : End)
+    (first last : List ℕ) (left : Marks) (are : AreLeft shop first last left) (job : ℕ) (low : 1 ≤ job) (word : ℕ) →
+    word ≡ 0 → word ≡ slice_index left.words group → (job - 1) / 16 ≡ group →
+    IsOpen shop number end first last (record { words = set words group 0 }) job
+word-none words group within shop number end first last left are job low word none is there =
+    open-none shop number end first last left are (record { words = set words group 0 }) job low
     (ap (λ g. bit_at (slice_index left.words g) ((job - 1) % 16)) there
     ∙ ap (λ w. bit_at w ((job - 1) % 16)) (sym is ∙ none)
-    ∙ bit_at-zero ((job - 1) % 16)) out
+    ∙ bit_at-zero ((job - 1) % 16))
+    (mark-there words group 0 job within there ∙ bit_at-zero ((job - 1) % 16))
 
 -- what a group says of one of its jobs
 pub group-tells : {V : Type 0} (list : V → List ℕ) (cap width : ℕ) (wide : width ≡ 16) (shop : Shop) (number limit : ℕ)

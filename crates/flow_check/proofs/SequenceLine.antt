@@ -3,7 +3,7 @@ use Rattle.std.proofs.Common.{◌≡◌, ◌≢◌, ℕ, suc, ◌+◌, ◌-◌, 
 use Rattle.std.proofs.Common.{◌∷◌, ◌++◌, length, refl, ap, sym, subst, ◌∙◌, inl, inr, append_assoc, arith}
 use Rattle.std.proofs.Common.{set as set_at}
 use Rattle.std.specs.Fmt.{decimal}
-use Rattle.std.proofs.lemmas.List.{append-nil, length_push, length-append, get_or-set_same, get_or-set_other}
+use Rattle.std.proofs.lemmas.List.{append-nil, length_push, get_or-set_same, get_or-set_other}
 use Rattle.std.proofs.lemmas.List.Folds.{list_any-append}
 use Rattle.std.proofs.lemmas.List.Elements.{All-from_recursion, recursion_from_All}
 use Rattle.std.proofs.lemmas.Bool.{cases_Bool, eq-eqb, ne_eqb, false≢true, eqb-true}
@@ -89,11 +89,8 @@ pub record IsDone (shop : Shop) (text : List ℕ) (place : ℕ) (set : List Bool
   pub read : text ≡ ended shop.jobs done ++ rest
   pub only : GoesOn shop.jobs text rest done
 
-abbrev pub IsReadTo : Shop → List ℕ → ℕ → List Bool → List ℕ → List ℕ → Type 0
-IsReadTo shop text place set front rest = (done : List ℕ) × IsDone shop text place set front rest done
-
 -- before the first job the whole line is to come
-pub goes-on-at-first : (n : ℕ) (text : List ℕ) → 1 ≤ n → GoesOn n text text []
+goes-on-at-first : (n : ℕ) (text : List ℕ) → 1 ≤ n → GoesOn n text text []
 goes-on-at-first n text some jobs after h = let none : n - 0 ≡ n = omega arith in (
   jobs,
   refl,
@@ -112,10 +109,6 @@ none-done shop text set front some times empty = record {
   read = refl;
   only = goes-on-at-first shop.jobs text some;
 }
-
-pub begins : (shop : Shop) (text : List ℕ) (set : List Bool) (front : List ℕ) → 1 ≤ shop.jobs →
-    IsFrontOf shop [] front → ((job : ℕ) → contains set job ≡ false) → IsReadTo shop text 1 set front text
-begins shop text set front some times empty = ([], none-done shop text set front some times empty)
 
 -- a sequence in whose line the text goes on has a next job at a place that is not after the last
 next-job : (n : ℕ) (text rest done : List ℕ) → GoesOn n text rest done → length done < n → (jobs after : List ℕ) →
@@ -185,38 +178,21 @@ as-read n m text end other job rest same byte h =
     (h.0, omega (arith, h.1, same), h.2 ∙ ap (λ e. decimal job ++ e ∷ rest) (sym byte))
 
 -- the next job, as the reader takes it
-pub job-at : (n : ℕ) (text rest done : List ℕ) → GoesOn n text rest done → (place m end : ℕ) →
-    length done + 1 ≡ place → m ≡ n → place ≤ m → end ≡ end_of (m + 1 - place) →
-    (jobs after : List ℕ) → BeginsWithSequence n text jobs after → (job : ℕ) × (more : List ℕ)
-    × BeginsWithJob m rest end job more × (has done job ≡ false)
-job-at n text rest done goes place m end count same within byte jobs after h =
-    let left : ℕ = n - length done in
-    let next = next-job n text rest done goes (omega (arith, count, within, same)) jobs after h in
-    let more : List ℕ = ended (left - 1) next.1 ++ after in (
-      next.0,
-      more,
-      as-read n m rest (end_of left) end next.0 more same (read-end n m place (length done) end count within same byte)
-          next.3,
-      next.4,
-    )
-
 pub at-job : {shop : Shop} {text : List ℕ} {place : ℕ} {set : List Bool} {front rest done : List ℕ} →
     IsDone shop text place set front rest done → (m end : ℕ) → m ≡ shop.jobs → place ≤ m →
     end ≡ end_of (m + 1 - place) →
     (jobs after : List ℕ) → BeginsWithSequence shop.jobs text jobs after → (job : ℕ) × (more : List ℕ)
     × BeginsWithJob m rest end job more × (has done job ≡ false)
-at-job {shop} {text} {place} {set} {front} {rest} {done} is m end =
-    job-at shop.jobs text rest done is.only place m end is.count
-
--- one more job was read, as the reader takes it
-pub goes-on-as-read : (n : ℕ) (text rest done : List ℕ) → GoesOn n text rest done → (place m end job : ℕ)
-    (next : List ℕ) → length done + 1 ≡ place → m ≡ n → place ≤ m → end ≡ end_of (m + 1 - place) →
-    ((j : ℕ) (r : List ℕ) → BeginsWithJob m rest end j r → (job ≡ j) × (next ≡ r)) →
-    GoesOn n text next (done ++ job ∷ [])
-goes-on-as-read n text rest done goes place m end job next count same within byte only =
-    goes-on-after n text rest done job next goes (omega (arith, count, within, same))
-    (λ j r h. only j r (as-read n m rest (end_of (n - length done)) end j r same
-    (read-end n m place (length done) end count within same byte) h))
+at-job {shop} {text} {place} {set} {front} {rest} {done} is m end same within byte jobs after h =
+    let left : ℕ = shop.jobs - length done in
+    let next = next-job shop.jobs text rest done is.only (omega (arith, is.count, within, same)) jobs after h in
+    let more : List ℕ = ended (left - 1) next.1 ++ after in (
+      next.0,
+      more,
+      as-read shop.jobs m rest (end_of left) end next.0 more same
+          (read-end shop.jobs m place (length done) end is.count within same byte) next.3,
+      next.4,
+    )
 
 members-more : (set : List Bool) (done : List ℕ) (job k : ℕ) → length set ≡ most_jobs → 1 ≤ job → job ≤ most_jobs →
     1 ≤ k → k ≤ most_jobs → contains set k ≡ has done k → contains (set_at set (job - 1) true) k
@@ -305,21 +281,3 @@ all-done shop text place set front rest done is last some =
       },
       is.read ∙ ap (λ xs. xs ++ rest) (ended-line shop.jobs done whole some),
     )
-
-pub goes-on-at-last : (n : ℕ) (text rest done : List ℕ) → GoesOn n text rest done → length done ≡ n →
-    (jobs after : List ℕ) → BeginsWithSequence n text jobs after → (done ≡ jobs) × (rest ≡ after)
-goes-on-at-last n text rest done goes last jobs after h = let k = goes jobs after h in split k.0 k.1 k.2
-  where
-    split : (more : List ℕ) → jobs ≡ done ++ more → rest ≡ ended (n - length done) more ++ after → (done ≡ jobs)
-        × (rest ≡ after)
-    split [] e r = (sym (e ∙ append-nil done), r)
-    split (j ∷ js) e r =
-        let whole : length jobs ≡ n = h.0.whole in
-        let long : length jobs ≡ length done + length (j ∷ js) = ap length e ∙ length-append done (j ∷ js) in
-        absurd (omega (arith, whole, long, last))
-
-pub only-done : (shop : Shop) (text : List ℕ) (place : ℕ) (set : List Bool) (front rest done : List ℕ) →
-    IsDone shop text place set front rest done → place ≡ shop.jobs + 1 →
-    (jobs after : List ℕ) → BeginsWithSequence shop.jobs text jobs after → (done ≡ jobs) × (rest ≡ after)
-only-done shop text place set front rest done is last =
-    goes-on-at-last shop.jobs text rest done is.only (omega (arith, is.count, last))

@@ -10,11 +10,11 @@ use Rattle.flow_shop.specs.Limits.{greatest_depth}
 use Rattle.flow_check.specs.TextLines.{line, spaced, title, opening}
 use Rattle.flow_check.specs.internal.Heading.{BeginsWithNumber, BeginsWithSize, BeginsWithStated}
 use Rattle.flow_check.specs.declared.bounds.Bounds.{Bounds}
-use Rattle.flow_check.specs.declared.kind.TextKind.{TextKind}
-use Rattle.flow_check.specs.declared.kind.TextKind.TheVariants.{Certificate, OfBounds}
+use Rattle.flow_check.specs.declared.kind.TreeKind.{TreeKind}
+use Rattle.flow_check.specs.declared.kind.TreeKind.TheVariants.{Certificate, OfBounds}
 
 -- the first line ends in its version
-pub title-parts : (kind : TextKind) (version : ℕ) (rest : List ℕ) →
+pub title-parts : (kind : TreeKind) (version : ℕ) (rest : List ℕ) →
     line (title kind version) ++ rest ≡ opening kind ++ (decimal version ++ 10 ∷ rest)
 title-parts kind version rest =
     append_assoc (title kind version) (10 ∷ []) rest

@@ -16,8 +16,8 @@ use Rattle.flow_check.specs.Certificate.{Covers, Shows, IsLawful, AreBounds, Bou
 use Rattle.flow_check.specs.TextLines.{Stated, stated_bounds}
 use Rattle.flow_check.specs.Certificate.{CertificateIsSound, ValueIsOne}
 use Rattle.flow_check.specs.declared.bounds.Bounds.{Bounds}
-use Rattle.flow_check.specs.declared.kind.TextKind.{TextKind}
-use Rattle.flow_check.specs.declared.kind.TextKind.TheVariants.{Certificate, OfBounds}
+use Rattle.flow_check.specs.declared.kind.TreeKind.{TreeKind}
+use Rattle.flow_check.specs.declared.kind.TreeKind.TheVariants.{Certificate, OfBounds}
 
 all-at : (P : ℕ → Type 0) (xs : List ℕ) (x : ℕ) (ys : List ℕ) → AllByRecursion P (xs ++ x ∷ ys) → P x
 all-at P [] x ys h = h.0
@@ -130,7 +130,7 @@ shown-order shop version lower upper depth sequence parts shows =
     (shown-low shop version lower upper depth sequence parts shows sequence shows.whole)
 
 -- the bounds that a lawful text states
-pub lawful-bounds : (kind : TextKind) (shop : Shop) (bytes : List ℕ) (stated : Stated kind) →
+pub lawful-bounds : (kind : TreeKind) (shop : Shop) (bytes : List ℕ) (stated : Stated kind) →
     IsLawful kind shop bytes stated → AreBounds shop (stated_bounds kind stated)
 lawful-bounds kind shop bytes stated (sequence, (version, depth, parts, shows, text)) =
     let bounds : Bounds = stated_bounds kind stated in

@@ -1,56 +1,43 @@
--- The sequence that a text states.
-use Rattle.std.proofs.Common.{◌≡◌, ℕ, ◌+◌, List, ◌++◌, sym, subst, ◌∙◌, length, append_assoc}
-use Rattle.std.specs.List.{flat_map}
+-- The lines before the trees, and the sequence that a text states.
+use Rattle.std.proofs.Common.{◌≡◌, ℕ, List, [], ◌∷◌, ◌++◌, Err, inl, inr, sym, subst}
 use Rattle.flow_shop.specs.Shop.{Shop}
 use Rattle.flow_shop.specs.Paths.{span}
-use Rattle.flow_shop.specs.Sequences.{IsSequence, IsLeastMakespan}
-use Rattle.flow_check.specs.Certificate.{IsLawful}
-use Rattle.flow_check.specs.TextLines.{Stated, ending, line, spaced, upto_stated}
+use Rattle.flow_shop.specs.Sequences.{IsLeastMakespan}
+use Rattle.flow_check.specs.TextLines.{Stated, line, spaced, numbers_of, title, upto_title, upto_sizes, upto_stated}
+use Rattle.flow_check.specs.TextLines.{heading}
 use Rattle.flow_check.specs.Certificate.{GivesSequenceAs}
 use Rattle.flow_check.specs.Stated.{GivesSequence}
-use Rattle.flow_check.specs.declared.kind.TextKind.{TextKind}
-use Rattle.flow_check.specs.declared.kind.TextKind.TheVariants.{Certificate}
-use Rattle.flow_check.proofs.SequenceLine.{GoesOn}
+use Rattle.flow_check.specs.internal.Heading.{BeginsWithSize, BeginsWithStated, BeginsWithSequence, IsSequenceFault}
+use Rattle.flow_check.specs.CertificateFaults.{UnlessMemory}
+use Rattle.flow_check.specs.internal.Reading.{text_value}
+use Rattle.flow_check.specs.declared.fault.CheckFault.{CheckFault}
+use Rattle.flow_check.specs.declared.fault.CheckFault.TheVariants.{Sequence}
+use Rattle.flow_check.specs.declared.kind.TreeKind.{TreeKind}
+use Rattle.flow_check.specs.declared.kind.TreeKind.TheVariants.{Certificate}
+use Rattle.flow_check.proofs.TextBegins.{outer}
 use Rattle.flow_check.proofs.Sound.{certificate_is_sound}
 
--- the lines before the sequence, one after the other
-pub heading-parts : (title sizes third rest text : List ℕ) → text ≡ ((title ++ sizes) ++ third) ++ rest →
-    text ≡ title ++ (sizes ++ (third ++ rest))
-heading-parts title sizes third rest text is =
-    is ∙ append_assoc (title ++ sizes) third rest ∙ append_assoc title sizes (third ++ rest)
+-- a text begins with the lines that are read one after the other
+pub begins-heading : (kind : TreeKind) (shop : Shop) (text sizes third fourth rest : List ℕ) (version depth : ℕ)
+    (stated : Stated kind) (sequence : List ℕ) → text ≡ line (title kind version) ++ sizes →
+    BeginsWithSize shop.jobs shop.machines sizes depth third → BeginsWithStated kind third stated fourth →
+    BeginsWithSequence shop.jobs fourth sequence rest →
+    text ≡ heading kind shop version depth stated sequence ++ rest
+begins-heading kind shop text sizes third fourth rest version depth stated sequence titled sized bounded jobs =
+    outer text (upto_stated kind shop version depth stated) fourth (line (spaced sequence)) rest
+    (outer text (upto_sizes kind shop version depth) third (line (spaced (numbers_of kind stated))) fourth
+    (outer text (upto_title kind version) sizes (line (spaced (shop.jobs ∷ shop.machines ∷ depth ∷ []))) third titled
+    sized.2) bounded.1) jobs.1
 
--- the jobs that were read up to a place
-pub record AreRead (n : ℕ) (text : List ℕ) (place : ℕ) (done rest : List ℕ) : Type 0 where
-  pub count : length done + 1 ≡ place
-  pub only : GoesOn n text rest done
-
--- a text from the line of its sequence on
-pub stated-line : (kind : TextKind) (shop : Shop) (bytes : List ℕ) (stated : Stated kind) (jobs : List ℕ)
-    (gives : GivesSequenceAs kind shop bytes stated jobs) →
-    bytes ≡ upto_stated kind shop gives.0 gives.1 stated
-    ++ (line (spaced jobs) ++ (flat_map line gives.2 ++ line ending))
-stated-line kind shop bytes stated jobs gives =
-    gives.4
-    ∙ append_assoc (upto_stated kind shop gives.0 gives.1 stated ++ line (spaced jobs)) (flat_map line gives.2)
-    (line ending)
-    ∙ append_assoc (upto_stated kind shop gives.0 gives.1 stated) (line (spaced jobs))
-    (flat_map line gives.2 ++ line ending)
-
--- a lawful text gives a sequence
-lawful-gives : (kind : TextKind) (shop : Shop) (bytes : List ℕ) (stated : Stated kind) →
-    IsLawful kind shop bytes stated →
-    (jobs : List ℕ) × GivesSequenceAs kind shop bytes stated jobs × IsSequence shop.jobs jobs
-lawful-gives kind shop bytes stated (jobs, gives) = (jobs, gives, gives.3.whole)
-
--- jobs that are those of each sequence that a text gives are its sequence
-pub stated-is : (kind : TextKind) (shop : Shop) (bytes : List ℕ) (stated : Stated kind) (found own : List ℕ) →
-    IsLawful kind shop bytes stated →
-    ((s : Stated kind) (jobs : List ℕ) → GivesSequenceAs kind shop bytes s jobs → found ≡ jobs) → own ≡ found →
-    GivesSequenceAs kind shop bytes stated own × IsSequence shop.jobs own
-stated-is kind shop bytes stated found own is each same =
-    let gives = lawful-gives kind shop bytes stated is in
-    subst (λ jobs. GivesSequenceAs kind shop bytes stated jobs × IsSequence shop.jobs jobs)
-    (sym (same ∙ each stated gives.0 gives.1)) (gives.1, gives.2)
+-- where no line of a sequence is read, memory ran out, or the text is at fault there
+pub sequence-fails : (kind : TreeKind) (shop : Shop) (text start : List ℕ) (fault : CheckFault) →
+    (((jobs rest : List ℕ) → BeginsWithSequence shop.jobs start jobs rest → ⊥) →
+    text_value kind shop text ≡ Err Sequence) → IsSequenceFault shop.jobs start fault →
+    UnlessMemory (λ f. text_value kind shop text ≡ Err f) fault
+sequence-fails kind shop text start fault refused (inl memory) =
+    subst (UnlessMemory (λ f. text_value kind shop text ≡ Err f)) (sym memory) tt
+sequence-fails kind shop text start fault refused (inr (is, none)) =
+    subst (UnlessMemory (λ f. text_value kind shop text ≡ Err f)) (sym is) (refused none)
 
 -- the sequence of a certificate has its value as makespan, which is the least
 pub value-gives : (shop : Shop) (bytes : List ℕ) (value : ℕ) (sequence : List ℕ) →

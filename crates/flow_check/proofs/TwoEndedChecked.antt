@@ -1,6 +1,6 @@
 -- What the checker of two-ended certificates gives.
 use Rattle.std.proofs.Common.{◌≡◌, ◌⊎◌, ℕ, List, [], ◌∷◌, Result, Err, take, drop, sym}
-use Rattle.std.proofs.Common.{subst, refl, inl, inr}
+use Rattle.std.proofs.Common.{subst, inl, inr}
 use Rattle.std.proofs.lemmas.List.{take-append-drop}
 use Rattle.flow_shop.specs.Characters.{line_feed}
 use Rattle.flow_shop.specs.Shop.{Shop, IsWithinLimits}
@@ -13,8 +13,8 @@ use Rattle.flow_check.specs.TwoEndedFaults.{IsNotTwoEnded}
 use Rattle.flow_check.specs.internal.TwoEndedLines.{IsEndFault}
 use Rattle.flow_check.specs.declared.bounds.Bounds.{Bounds}
 use Rattle.flow_check.specs.declared.fault.CheckFault.{CheckFault}
-use Rattle.flow_check.specs.declared.fault.CheckFault.TheVariants.{Memory, Header, Size, Value, Sequence, NotAttained}
-use Rattle.flow_check.specs.declared.fault.CheckFault.TheVariants.{Tree, Weak, Low, End}
+use Rattle.flow_check.specs.declared.fault.CheckFault.TheVariants.{Memory}
+use Rattle.flow_check.proofs.FaultsSaid.{said, follows, only-memory}
 use Rattle.flow_check.proofs.TextBegins.{outer}
 use Rattle.flow_check.proofs.TwoEndedFound.{fault-after}
 use Rattle.flow_check.proofs.TwoEndedLaws.{each_two_ended_is_judged}
@@ -22,55 +22,24 @@ use Rattle.flow_check.proofs.TwoEndedLaws.{each_two_ended_is_judged}
 module _ (shop : Shop) (text : List ℕ) where
   -- a fault of a text that is none of memory
   pub is-fault : (fault : CheckFault) → HasTwoEndedFault shop text fault → IsTwoEndedFault shop text fault
-  is-fault Memory h = tt
-  is-fault Header h = h
-  is-fault Size h = h
-  is-fault Value h = h
-  is-fault Sequence h = h
-  is-fault NotAttained h = h
-  is-fault (Tree place) h = h
-  is-fault (Weak place) h = h
-  is-fault (Low place) h = h
-  is-fault End h = h
+  is-fault fault has = said (HasTwoEndedFault shop text) fault has
 
-  module _ (limits : IsWithinLimits shop) where
-    -- a text with a fault is not lawful
-    apart : (fault : CheckFault) → HasTwoEndedFault shop text fault → (bounds : Bounds) (sequence : List ℕ) →
-        IsTwoEnded shop text bounds sequence → ⊥
-    apart fault h bounds sequence is =
-        (each_two_ended_is_judged shop text limits).apart bounds sequence fault is h
-
-    pub unlawful : (fault : CheckFault) → IsTwoEndedFault shop text fault → IsNotTwoEnded shop text fault
-    unlawful Memory h = tt
-    unlawful Header h = apart Header h
-    unlawful Size h = apart Size h
-    unlawful Value h = apart Value h
-    unlawful Sequence h = apart Sequence h
-    unlawful NotAttained h = apart NotAttained h
-    unlawful (Tree place) h = apart (Tree place) h
-    unlawful (Weak place) h = apart (Weak place) h
-    unlawful (Low place) h = apart (Low place) h
-    unlawful End h = apart End h
+  -- a text with a fault is not lawful
+  pub unlawful : IsWithinLimits shop → (fault : CheckFault) → IsTwoEndedFault shop text fault →
+      IsNotTwoEnded shop text fault
+  unlawful limits fault first =
+      follows (HasTwoEndedFault shop text)
+      (λ _. (bounds : Bounds) (sequence : List ℕ) → ¬ IsTwoEnded shop text bounds sequence) fault
+      (λ has bounds sequence is. (each_two_ended_is_judged shop text limits).apart bounds sequence fault is has) first
 
   -- a lawful text is refused where memory ran out alone
-  only-memory : (fault : CheckFault) → IsNotTwoEnded shop text fault → (bounds : Bounds) (sequence : List ℕ) →
-      IsTwoEnded shop text bounds sequence → fault ≡ Memory
-  only-memory Memory none bounds sequence is = refl
-  only-memory Header none bounds sequence is = absurd (none bounds sequence is)
-  only-memory Size none bounds sequence is = absurd (none bounds sequence is)
-  only-memory Value none bounds sequence is = absurd (none bounds sequence is)
-  only-memory Sequence none bounds sequence is = absurd (none bounds sequence is)
-  only-memory NotAttained none bounds sequence is = absurd (none bounds sequence is)
-  only-memory (Tree place) none bounds sequence is = absurd (none bounds sequence is)
-  only-memory (Weak place) none bounds sequence is = absurd (none bounds sequence is)
-  only-memory (Low place) none bounds sequence is = absurd (none bounds sequence is)
-  only-memory End none bounds sequence is = absurd (none bounds sequence is)
-
   pub refused : {A : Type 0} (Q : Type 0) (answer : Result A CheckFault) (fault : CheckFault) → IsWithinLimits shop →
       answer ≡ Err fault → IsTwoEndedFault shop text fault → (bounds : Bounds) (sequence : List ℕ) →
       IsTwoEnded shop text bounds sequence → Q ⊎ (answer ≡ Err Memory)
   refused Q answer fault limits e bad bounds sequence is =
-      inr (subst (λ f. answer ≡ Err f) (only-memory fault (unlawful limits fault bad) bounds sequence is) e)
+      inr (subst (λ f. answer ≡ Err f)
+      (only-memory (λ _. (b : Bounds) (s : List ℕ) → ¬ IsTwoEnded shop text b s) fault
+      (λ no. no bounds sequence is) (unlawful limits fault bad)) e)
 
   module _ (bounds : Bounds) (sequence rest : List ℕ) (four : HasFourLines shop text bounds sequence rest)
       (attained : span shop sequence ≡ bounds.upper) where

@@ -19,7 +19,7 @@ use Rattle.flow_check.specs.TwoEndedFaults.{HasDirectionsFault, HasLastFault, Ha
 use Rattle.flow_check.specs.TwoEndedFaults.{HasTwoEndedFault}
 use Rattle.flow_check.specs.internal.ReadDirections.{Reading, read_node}
 use Rattle.flow_check.specs.declared.bounds.Bounds.{Bounds}
-use Rattle.flow_check.specs.declared.kind.TextKind.TheVariants.{OfBounds}
+use Rattle.flow_check.specs.declared.kind.TreeKind.TheVariants.{OfBounds}
 use Rattle.flow_check.specs.declared.fault.CheckFault.{CheckFault}
 use Rattle.flow_check.specs.declared.fault.CheckFault.TheVariants.{Memory, Header, Size, Value, Sequence, NotAttained}
 use Rattle.flow_check.specs.declared.fault.CheckFault.TheVariants.{Tree, Weak, Low, End}

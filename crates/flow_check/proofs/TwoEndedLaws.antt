@@ -18,7 +18,7 @@ use Rattle.flow_check.specs.TwoEnded.{TwoEndedIsSound, TwoEndedStatesOne}
 use Rattle.flow_check.specs.TwoEndedFaults.{HasLastFault, HasFourLines, FailsAfterFour, HasTwoEndedFault}
 use Rattle.flow_check.specs.TwoEndedFaults.{EachTwoEndedIsJudged}
 use Rattle.flow_check.specs.declared.bounds.Bounds.{Bounds}
-use Rattle.flow_check.specs.declared.kind.TextKind.TheVariants.{OfBounds}
+use Rattle.flow_check.specs.declared.kind.TreeKind.TheVariants.{OfBounds}
 use Rattle.flow_check.specs.declared.fault.CheckFault.{CheckFault}
 use Rattle.flow_check.specs.declared.fault.CheckFault.TheVariants.{Memory, Header, Size, Value, Sequence, NotAttained}
 use Rattle.flow_check.specs.declared.fault.CheckFault.TheVariants.{Tree, Weak, Low, End}

@@ -6,10 +6,10 @@ use Rattle.flow_check.specs.TextLines.{line, spaced, IsStated, numbers_of}
 use Rattle.flow_check.specs.TwoEnded.{title_line, size_lines, bounds_lines}
 use Rattle.flow_check.specs.TwoEndedFaults.{HasNoSize, HasNoBounds, HasNoSequence, HasFourLines, MissesUpper}
 use Rattle.flow_check.specs.TwoEndedFaults.{IsTwoEndedFault}
-use Rattle.flow_check.specs.internal.Heading.{BeginsWithStated, BeginsWithSequence}
-use Rattle.flow_check.specs.internal.TwoEndedLines.{BeginsWithJobs, IsSequenceFault}
+use Rattle.flow_check.specs.internal.Heading.{BeginsWithStated, BeginsWithSequence, IsSequenceFault}
+use Rattle.flow_check.specs.internal.TwoEndedLines.{BeginsWithJobs}
 use Rattle.flow_check.specs.declared.bounds.Bounds.{Bounds}
-use Rattle.flow_check.specs.declared.kind.TextKind.TheVariants.{OfBounds}
+use Rattle.flow_check.specs.declared.kind.TreeKind.TheVariants.{OfBounds}
 use Rattle.flow_check.specs.declared.fault.CheckFault.{CheckFault}
 use Rattle.flow_check.proofs.TextBegins.{inner, outer}
 

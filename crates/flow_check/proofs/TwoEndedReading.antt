@@ -17,7 +17,7 @@ use Rattle.flow_check.specs.internal.Reading.{first_line, numbers_in, stated_by}
 use Rattle.flow_check.specs.internal.Heading.{BeginsWithStated, BeginsWithSequence}
 use Rattle.flow_check.specs.internal.ReadDirections.{Reading, read_node}
 use Rattle.flow_check.specs.declared.bounds.Bounds.{Bounds}
-use Rattle.flow_check.specs.declared.kind.TextKind.TheVariants.{OfBounds}
+use Rattle.flow_check.specs.declared.kind.TreeKind.TheVariants.{OfBounds}
 use Rattle.flow_check.specs.declared.fault.CheckFault.{CheckFault}
 use Rattle.flow_check.specs.declared.fault.CheckFault.TheVariants.{Header, Size, Value, Sequence, NotAttained, Tree}
 use Rattle.flow_check.specs.declared.fault.CheckFault.TheVariants.{End}

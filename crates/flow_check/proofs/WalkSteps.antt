@@ -1,9 +1,11 @@
 -- How the walk goes to a child and back.
-use Rattle.std.proofs.Common.{◌≡◌, ◌≢◌, ℕ, ◌+◌, ◌-◌, ◌<◌, ◌≤◌, Bool, true, false, ◌||◌, nat_eq}
-use Rattle.std.proofs.Common.{List, [], ◌∷◌, ◌++◌, length, drop, Some, None, Ok, Err}
+use Rattle.std.proofs.Common.{◌≡◌, ◌≢◌, ℕ, ◌+◌, ◌-◌, ◌/◌, ◌<◌, ◌≤◌, Bool, true, false, ◌||◌, nat_eq}
+use Rattle.std.proofs.Common.{suc, List, [], ◌∷◌, ◌++◌, length, take, drop, Some, None, Ok, Err}
 use Rattle.std.proofs.Common.{refl, ap, sym, ◌∙◌, subst, inl, inr, arith, length-append}
+use Rattle.std.proofs.Math.Seq.{take-suc}
 use Rattle.std.proofs.lemmas.Bool.{cases_lt, false≢true}
 use Rattle.std.proofs.lemmas.Bool.Decides.{eqb_tells}
+use Rattle.std.proofs.lemmas.List.{length-take-le}
 use Rattle.flow_shop.specs.Shop.{Shop}
 use Rattle.flow_shop.specs.Sequences.{has}
 use Rattle.flow_shop.proofs.Taken.{left_from, has-push}
@@ -16,10 +18,12 @@ use Rattle.flow_nodes.specs.Groups.{child_bound}
 use Rattle.flow_check.specs.declared.fault.CheckFault.TheVariants.{Low, Tree}
 use Rattle.flow_check.specs.declared.two_ended.marks.Marks.{Marks}
 use Rattle.flow_check.specs.declared.two_ended.walk.Frame.{Frame}
+use Rattle.flow_check.specs.declared.two_ended.walk.Path.{Path}
 use Rattle.flow_check.specs.internal.ReadTrees.{then_read}
 use Rattle.flow_check.specs.internal.ReadDirections.{Reading, first_end, read_node}
 use Rattle.flow_check.specs.internal.Marks.{mark}
-use Rattle.flow_check.specs.internal.Frames.{first_of, last_of, AreFrames, AreLeft, IsFrame}
+use Rattle.flow_check.specs.internal.Frames.{first_of, last_of, AreFrames, AreLeft, IsFrame, IsParent}
+use Rattle.flow_check.specs.internal.Frames.{frame_at, here, above, with_job}
 use Rattle.flow_check.proofs.DirectionSteps.{children_read, children-jump, children-past, children-take, read-low}
 use Rattle.flow_check.proofs.DirectionSteps.{read-sign, read-children}
 use Rattle.flow_check.proofs.FrameSteps.{around, around-push, around-fault, frames-push, frames-pop, first-push, last-push}
@@ -67,6 +71,30 @@ left-without shop end first last old new job are others same = record {
   ];
 }
 
+-- the marks of a node, once its child is read
+left-with : (shop : Shop) (end : End) (first last : List ℕ) (old new : Marks) (job : ℕ) → job ≤ shop.jobs →
+    has (first ++ last) job ≡ false → AreLeft shop (first_with end first job) (last_with end last job) old →
+    ((other : ℕ) → 1 ≤ other → other ≢ job → mark new other ≡ mark old other) → mark new job ≡ 1 →
+    AreLeft shop first last new
+left-with shop end first last old new job high fresh are others same = record {
+  all = λ k low top left. elim (eqb_tells k job) [
+    | inl is ↦ ap (mark new) is.1 ∙ same
+    | inr is ↦ others k low is.1
+        ∙ are.all k low top
+        (child-has end first last job k ∙ ap (λ b. has (first ++ last) k || b) is.0
+        ∙ or-false (has (first ++ last) k) ∙ left)
+  ];
+  only = λ k low marked. elim (eqb_tells k job) [
+    | inl is ↦ (omega (arith, is.1, high), ap (has (first ++ last)) is.1 ∙ fresh)
+    | inr is ↦
+        let old = are.only k low (sym (others k low is.1) ∙ marked) in (
+          old.0,
+          sym (child-has end first last job k ∙ ap (λ b. has (first ++ last) k || b) is.0
+              ∙ or-false (has (first ++ last) k)) ∙ old.1,
+        )
+  ];
+}
+
 -- all jobs are left at the root
 pub left-root : (shop : Shop) (marks : Marks) (jobs : ℕ) → jobs ≡ shop.jobs →
     ((job : ℕ) → 1 ≤ job → job ≤ jobs → mark marks job ≡ 1) → ((job : ℕ) → jobs < job → mark marks job ≡ 0) →
@@ -78,6 +106,23 @@ left-root shop marks jobs same marked others = record {
     | inr within ↦ (omega (arith, within, same), refl)
   ];
 }
+
+-- the nodes of a path
+pub count-above : (path : Path) → path.depth < length path.frames.items → length (above path) ≡ path.depth
+count-above path within = length-take-le path.depth path.frames.items (omega arith)
+
+pub last-above : (frames : List Frame) (depth : ℕ) → 0 < depth → depth < length frames →
+    take depth frames ≡ take (depth - 1) frames ++ frame_at frames (depth - 1) ∷ []
+last-above frames depth some within =
+    let e : depth ≡ suc (depth - 1) = omega arith in
+    ap (λ d. take d frames) e ∙ take-suc frames (depth - 1) _ (omega arith)
+
+pub above-back : (old new : Path) → 0 < old.depth → old.depth < length old.frames.items → new.depth ≡ old.depth - 1 →
+    new.frames.items ≡ old.frames.items → above old ≡ above new ++ here new ∷ []
+above-back old new some within depth frames =
+    last-above old.frames.items old.depth some within
+    ∙ ap (λ d. take d old.frames.items ++ frame_at old.frames.items d ∷ []) (sym depth)
+    ∙ ap (λ fs. take new.depth fs ++ frame_at fs new.depth ∷ []) (sym frames)
 
 -- the walk stands at a place of a text, and reads the children of a frame from the one behind the frame's job on
 pub record StandsAt
@@ -135,11 +180,12 @@ module _ (shop : Shop) (number : ℕ) (whole : Reading) (text : List ℕ) (place
       ∙ children-past shop number frame.end left first last (drop place text)
       (frame.job + 1 + (shop.jobs - frame.job)) (omega (arith, within))
 
-  module _ (job : ℕ) (above : frame.job < job) (marked : mark frame.below job ≡ 1)
+  module _ (job : ℕ) (above : frame.job < job) (inside : (job - 1) / 16 < (shop.jobs + 15) / 16)
+      (marked : mark frame.below job ≡ 1)
       (least : (other : ℕ) → frame.job < other → other < job → mark frame.below other ≡ 0) where
     pub opened : (job ≤ shop.jobs) × (has (first ++ last) job ≡ false)
         × (child_bound shop frame.end first last job < number)
-    opened = stands.is_frame.are_open.only job (omega (arith, above)) marked
+    opened = stands.is_frame.are_open.only job (omega (arith, above)) inside marked
 
     pub opened-job : IsJob shop job
     opened-job = (omega (arith, above), opened.0)
@@ -219,7 +265,7 @@ stands-back shop number whole text place frames aboves frame above stands none e
     let are = frames-pop shop number [] [] aboves above (subst (AreFrames shop number [] []) e stands.frames_are) in
     record {
       frames_are = are.0;
-      is_frame = are.1;
+      is_frame = are.1.is_frame;
       answer = stands.answer
           ∙ ap (around shop number shop.jobs [] [] frames)
           (children-done shop number whole text place frames frame (first_of [] frames) (last_of [] frames)
@@ -228,34 +274,56 @@ stands-back shop number whole text place frames aboves frame above stands none e
           ∙ around-push shop number shop.jobs [] [] aboves above (Ok (drop place text));
     }
 
+-- the job that was put there
+pub parent-back : (shop : Shop) (number : ℕ) (frames aboves : List Frame) (above : Frame) →
+    AreFrames shop number [] [] frames → frames ≡ aboves ++ above ∷ [] →
+    IsParent shop number (first_of [] aboves) (last_of [] aboves) above
+parent-back shop number frames aboves above are e =
+    (frames-pop shop number [] [] aboves above (subst (AreFrames shop number [] []) e are)).1
+
+-- the jobs left there
+pub left-back : (shop : Shop) (number : ℕ) (frames aboves : List Frame) (above : Frame) (old new : Marks) →
+    AreFrames shop number [] [] frames → frames ≡ aboves ++ above ∷ [] →
+    AreLeft shop (first_of [] frames) (last_of [] frames) old →
+    ((other : ℕ) → 1 ≤ other → other ≢ above.job → mark new other ≡ mark old other) → mark new above.job ≡ 1 →
+    AreLeft shop (first_of [] aboves) (last_of [] aboves) new
+left-back shop number frames aboves above old new are e left others same =
+    let is = parent-back shop number frames aboves above are e in
+    left-with shop above.end (first_of [] aboves) (last_of [] aboves) old new above.job is.is_frame.job is.left
+    (subst (λ f. AreLeft shop f (last_with above.end (last_of [] aboves) above.job) old) (first-push [] aboves above)
+    (subst (λ l. AreLeft shop (first_of [] (aboves ++ above ∷ [])) l old) (last-push [] aboves above)
+    (subst (λ fs. AreLeft shop (first_of [] fs) (last_of [] fs) old) e left))) others same
+
 -- or it goes to the next child below the number
 pub stands-child : (shop : Shop) (number : ℕ) (whole : Reading) (text : List ℕ) (place : ℕ) (frames : List Frame)
-    (frame now child : Frame) (job : ℕ) → Stands shop number whole text place frames frame → frame.job < job →
-    mark frame.below job ≡ 1 →
+    (frame child : Frame) (job : ℕ) → Stands shop number whole text place frames frame → frame.job < job →
+    (job - 1) / 16 < (shop.jobs + 15) / 16 → mark frame.below job ≡ 1 →
     ((other : ℕ) → frame.job < other → other < job → mark frame.below other ≡ 0) →
-    now ≡ record { node = frame.node; end = frame.end; left = frame.left; below = frame.below; job = job } →
     length frames + 1 < shop.jobs → first_end (drop place text) ≡ Some child.end → child.job ≡ 0 →
     IsFrame shop number (first_with frame.end (first_of [] frames) job) (last_with frame.end (last_of [] frames) job)
-    child → Stands shop number whole text (place + 1) (frames ++ now ∷ []) child
-stands-child shop number whole text place frames frame now child job stands above marked least same room is before
+    child → Stands shop number whole text (place + 1) (frames ++ with_job frame job ∷ []) child
+stands-child shop number whole text place frames frame child job stands above inside marked least room is before
     is_frame =
-    let put : Frame = record { node = frame.node; end = frame.end; left = frame.left; below = frame.below; job = job } in
+    let put : Frame = with_job frame job in
     let first : List ℕ = first_of [] frames in
     let last : List ℕ = last_of [] frames in
     let left : ℕ = shop.jobs - length frames in
-    let high = (opened shop number whole text place frames frame first last left stands job above marked least).0 in
+    let there = opened shop number whole text place frames frame first last left stands job above inside marked least in
     let at : StandsAt shop number whole text (place + 1) (frames ++ put ∷ []) child (first_with frame.end first job)
     (last_with frame.end last job) (left - 1) =
     record {
       frames_are = frames-push shop number [] [] frames put stands.frames_are (record {
-        is_node = stands.is_frame.is_node;
-        are_left = stands.is_frame.are_left;
-        are_open = stands.is_frame.are_open;
-        job = high;
+        is_frame = record {
+          is_node = stands.is_frame.is_node;
+          are_open = stands.is_frame.are_open;
+          job = there.0;
+        };
+        some = omega (arith, above);
+        left = there.1;
       });
       is_frame = is_frame;
-      answer = read-child shop number whole text place frames frame first last left stands job above marked least child
-          (omega (arith, room)) is before
+      answer = read-child shop number whole text place frames frame first last left stands job above inside marked least
+          child (omega (arith, room)) is before
           ∙ sym (around-push shop number shop.jobs [] [] frames put
           (children_read shop number child.end (left - 1) (first_with frame.end first job)
           (last_with frame.end last job)
@@ -264,10 +332,19 @@ stands-child shop number whole text place frames frame now child job stands abov
     } in
     let count : left - 1 ≡ shop.jobs - length (frames ++ put ∷ []) =
     omega (arith, length-append frames (put ∷ [])) in
-    subst (λ f. Stands shop number whole text (place + 1) (frames ++ f ∷ []) child) (sym same)
-    (subst (StandsAt shop number whole text (place + 1) (frames ++ put ∷ []) child (first_of [] (frames ++ put ∷ []))
+    subst (StandsAt shop number whole text (place + 1) (frames ++ put ∷ []) child (first_of [] (frames ++ put ∷ []))
     (last_of [] (frames ++ put ∷ []))) count
     (subst (λ l. StandsAt shop number whole text (place + 1) (frames ++ put ∷ []) child (first_of [] (frames ++ put ∷ []))
     l (left - 1)) (sym (last-push [] frames put))
     (subst (λ f. StandsAt shop number whole text (place + 1) (frames ++ put ∷ []) child f
-    (last_with frame.end last job) (left - 1)) (sym (first-push [] frames put)) at)))
+    (last_with frame.end last job) (left - 1)) (sym (first-push [] frames put)) at))
+
+-- the jobs left at the child
+pub left-child : (shop : Shop) (frames : List Frame) (put : Frame) (old new : Marks) →
+    AreLeft shop (first_of [] frames) (last_of [] frames) old →
+    ((other : ℕ) → 1 ≤ other → other ≢ put.job → mark new other ≡ mark old other) → mark new put.job ≡ 0 →
+    AreLeft shop (first_of [] (frames ++ put ∷ [])) (last_of [] (frames ++ put ∷ [])) new
+left-child shop frames put old new left others same =
+    subst (λ l. AreLeft shop (first_of [] (frames ++ put ∷ [])) l new) (sym (last-push [] frames put))
+    (subst (λ f. AreLeft shop f (last_with put.end (last_of [] frames) put.job) new) (sym (first-push [] frames put))
+    (left-without shop put.end (first_of [] frames) (last_of [] frames) old new put.job left others same))

@@ -9,8 +9,8 @@ use Rattle.flow_shop.specs.Paths.{span}
 use Rattle.flow_shop.specs.Sequences.{IsSequence, IsLowerBound, IsLeastMakespan, jobs_left, cut}
 use Rattle.flow_shop.specs.Bound.{bound_of, letter}
 use Rattle.flow_check.specs.TextLines.{IsVersion, Stated, stated_bounds, text_of}
-use Rattle.flow_check.specs.declared.kind.TextKind.{TextKind}
-use Rattle.flow_check.specs.declared.kind.TextKind.TheVariants.{Certificate, OfBounds}
+use Rattle.flow_check.specs.declared.kind.TreeKind.{TreeKind}
+use Rattle.flow_check.specs.declared.kind.TreeKind.TheVariants.{Certificate, OfBounds}
 use Rattle.flow_check.specs.declared.bounds.Bounds.{Bounds}
 
 -- the byte that is a tree where no job is left: `.`
@@ -45,14 +45,14 @@ pub record Shows (shop : Shop) (version lower upper depth : ℕ) (sequence : Lis
       (cut shop.jobs depth) trees
 
 -- a text is a lawful one of its kind, in one of the versions, with this sequence
-abbrev pub GivesSequenceAs : (kind : TextKind) → Shop → List ℕ → Stated kind → List ℕ → Type 0
+abbrev pub GivesSequenceAs : (kind : TreeKind) → Shop → List ℕ → Stated kind → List ℕ → Type 0
 GivesSequenceAs kind shop bytes stated sequence =
     (version depth : ℕ) × (trees : List (List ℕ))
     × Shows shop version (stated_bounds kind stated).lower (stated_bounds kind stated).upper depth sequence trees
     × (bytes ≡ text_of kind shop version depth stated sequence trees)
 
 -- a text is a lawful one of its kind
-abbrev pub IsLawful : (kind : TextKind) → Shop → List ℕ → Stated kind → Type 0
+abbrev pub IsLawful : (kind : TreeKind) → Shop → List ℕ → Stated kind → Type 0
 IsLawful kind shop bytes stated = (sequence : List ℕ) × GivesSequenceAs kind shop bytes stated sequence
 
 -- a text is a lawful certificate of a value
@@ -88,7 +88,7 @@ BoundsAreSound =
 -- a text of a kind states one value, or one pair of bounds, and one sequence
 abbrev pub StatesOne : Type 0
 StatesOne =
-    (kind : TextKind) (shop : Shop) (bytes : List ℕ) (stated other : Stated kind) (one another : List ℕ) →
+    (kind : TreeKind) (shop : Shop) (bytes : List ℕ) (stated other : Stated kind) (one another : List ℕ) →
     IsWithinLimits shop →
     GivesSequenceAs kind shop bytes stated one → GivesSequenceAs kind shop bytes other another →
     (stated ≡ other) × (one ≡ another)

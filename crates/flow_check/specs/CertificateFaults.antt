@@ -10,8 +10,8 @@ use Rattle.flow_check.specs.TextLines.{IsVersion, IsDepth, IsStated, Stated, sta
 use Rattle.flow_shop.specs.Characters.{line_feed}
 use Rattle.flow_check.specs.Certificate.{plus}
 use Rattle.flow_check.specs.TextLines.{line, ending, upto_title, upto_sizes, upto_stated, heading}
-use Rattle.flow_check.specs.declared.kind.TextKind.{TextKind}
-use Rattle.flow_check.specs.declared.kind.TextKind.TheVariants.{Certificate, OfBounds}
+use Rattle.flow_check.specs.declared.kind.TreeKind.{TreeKind}
+use Rattle.flow_check.specs.declared.kind.TreeKind.TheVariants.{Certificate, OfBounds}
 use Rattle.flow_check.specs.declared.fault.CheckFault.{CheckFault}
 use Rattle.flow_check.specs.declared.fault.CheckFault.TheVariants.{Memory, Header, Size, Value, Sequence, NotAttained}
 use Rattle.flow_check.specs.declared.fault.CheckFault.TheVariants.{Tree, Weak, Low, End}
@@ -19,6 +19,11 @@ use Rattle.flow_check.specs.declared.fault.CheckFault.TheVariants.{Tree, Weak, L
 -- a text begins with another one
 abbrev pub BeginsWith : List ℕ → List ℕ → Type 0
 BeginsWith text start = (rest : List ℕ) × (text ≡ start ++ rest)
+
+-- what a fault says; `Memory` says nothing
+abbrev pub UnlessMemory : (CheckFault → Type 0) → CheckFault → Type 0
+UnlessMemory says Memory = Unit {0}
+UnlessMemory says fault = says fault
 
 -- a text should have a lawful part for each item, one after the other. The parts of the first items are lawful, and
 -- this is the fault of the next item's
@@ -60,29 +65,29 @@ HasLineFault shop bound value left (prefix ∷ prefixes) place text fault =
     ⊎ ((lines : List ℕ) × (rest ≡ line_feed ∷ lines)
     × HasLineFault shop bound value left prefixes (place + 1) lines fault)))
 
--- the first fault of a text, as one of a kind. The first tree stands in line 5
-abbrev pub HasFaultAs : TextKind → Shop → List ℕ → CheckFault → Type 0
-HasFaultAs kind shop text Memory = ⊥
-HasFaultAs kind shop text Header = (version : ℕ) → IsVersion version → ¬ BeginsWith text (upto_title kind version)
-HasFaultAs kind shop text Size =
+-- the first fault of a text, as one of a kind that is made of trees. The first tree stands in line 5
+abbrev pub HasTreeTextFault : TreeKind → Shop → List ℕ → CheckFault → Type 0
+HasTreeTextFault kind shop text Memory = ⊥
+HasTreeTextFault kind shop text Header = (version : ℕ) → IsVersion version → ¬ BeginsWith text (upto_title kind version)
+HasTreeTextFault kind shop text Size =
     (version : ℕ) × IsVersion version × BeginsWith text (upto_title kind version)
     × ((depth : ℕ) → IsDepth shop depth → ¬ BeginsWith text (upto_sizes kind shop version depth))
-HasFaultAs kind shop text Value =
+HasTreeTextFault kind shop text Value =
     (version : ℕ) × (depth : ℕ) × IsVersion version × IsDepth shop depth
     × BeginsWith text (upto_sizes kind shop version depth)
     × ((stated : Stated kind) → IsStated kind stated →
     ¬ BeginsWith text (upto_stated kind shop version depth stated))
-HasFaultAs kind shop text Sequence =
+HasTreeTextFault kind shop text Sequence =
     (version : ℕ) × (depth : ℕ) × (stated : Stated kind) × IsVersion version × IsDepth shop depth
     × IsStated kind stated × BeginsWith text (upto_stated kind shop version depth stated)
     × ((sequence : List ℕ) → IsSequence shop.jobs sequence →
     ¬ BeginsWith text (heading kind shop version depth stated sequence))
-HasFaultAs kind shop text NotAttained =
+HasTreeTextFault kind shop text NotAttained =
     (version : ℕ) × (depth : ℕ) × (stated : Stated kind) × (sequence : List ℕ) × IsVersion version
     × IsDepth shop depth × IsStated kind stated × IsSequence shop.jobs sequence
     × BeginsWith text (heading kind shop version depth stated sequence)
     × (span shop sequence ≢ (stated_bounds kind stated).upper)
-HasFaultAs kind shop text fault =
+HasTreeTextFault kind shop text fault =
     (version : ℕ) × (depth : ℕ) × (stated : Stated kind) × (sequence : List ℕ) × IsVersion version
     × IsDepth shop depth × IsStated kind stated × IsSequence shop.jobs sequence
     × (span shop sequence ≡ (stated_bounds kind stated).upper)
@@ -92,21 +97,21 @@ HasFaultAs kind shop text fault =
 
 -- the first fault of a text that is no lawful certificate
 abbrev pub HasFirstFault : Shop → List ℕ → CheckFault → Type 0
-HasFirstFault shop text fault = HasFaultAs Certificate shop text fault
+HasFirstFault shop text fault = HasTreeTextFault Certificate shop text fault
 
 -- the first fault of a text that is no lawful text of bounds
 abbrev pub HasBoundsFault : Shop → List ℕ → CheckFault → Type 0
-HasBoundsFault shop text fault = HasFaultAs OfBounds shop text fault
+HasBoundsFault shop text fault = HasTreeTextFault OfBounds shop text fault
 
 -- each text of an instance is a lawful one of a kind for what it states, or has one first fault, and not both
-pub record IsJudgedAs (kind : TextKind) (shop : Shop) (text : List ℕ) : Type 0 where
+pub record IsJudgedAs (kind : TreeKind) (shop : Shop) (text : List ℕ) : Type 0 where
   pub some : ((stated : Stated kind) × IsLawful kind shop text stated)
-      ⊎ ((fault : CheckFault) × HasFaultAs kind shop text fault)
+      ⊎ ((fault : CheckFault) × HasTreeTextFault kind shop text fault)
   pub apart : (stated : Stated kind) (fault : CheckFault) → IsLawful kind shop text stated →
-      ¬ HasFaultAs kind shop text fault
-  pub one : (fault other : CheckFault) → HasFaultAs kind shop text fault → HasFaultAs kind shop text other →
+      ¬ HasTreeTextFault kind shop text fault
+  pub one : (fault other : CheckFault) → HasTreeTextFault kind shop text fault → HasTreeTextFault kind shop text other →
       fault ≡ other
 
 abbrev pub EachTextIsJudged : Type 0
 EachTextIsJudged =
-    (kind : TextKind) (shop : Shop) (text : List ℕ) → IsWithinLimits shop → IsJudgedAs kind shop text
+    (kind : TreeKind) (shop : Shop) (text : List ℕ) → IsWithinLimits shop → IsJudgedAs kind shop text

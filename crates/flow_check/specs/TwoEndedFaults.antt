@@ -9,10 +9,10 @@ use Rattle.flow_shop.specs.Ends.{end_bound}
 use Rattle.flow_shop.specs.Directions.{sign, first_with, last_with, ProvesWith, Proves}
 use Rattle.flow_shop.specs.declared.end.End.{End as SequenceEnd}
 use Rattle.flow_check.specs.TextLines.{line, ending, IsStated}
-use Rattle.flow_check.specs.CertificateFaults.{BeginsWith, HasFaultAmong}
+use Rattle.flow_check.specs.CertificateFaults.{BeginsWith, UnlessMemory, HasFaultAmong}
 use Rattle.flow_check.specs.TwoEnded.{title_line, size_lines, bounds_lines, sequence_lines, IsTwoEnded}
 use Rattle.flow_check.specs.declared.bounds.Bounds.{Bounds}
-use Rattle.flow_check.specs.declared.kind.TextKind.TheVariants.{OfBounds}
+use Rattle.flow_check.specs.declared.kind.TreeKind.TheVariants.{OfBounds}
 use Rattle.flow_check.specs.declared.fault.CheckFault.{CheckFault}
 use Rattle.flow_check.specs.declared.fault.CheckFault.TheVariants.{Memory, Header, Size, Value, Sequence, NotAttained}
 use Rattle.flow_check.specs.declared.fault.CheckFault.TheVariants.{Tree, Low, End}
@@ -121,10 +121,9 @@ EachTwoEndedIsJudged = (shop : Shop) (text : List ℕ) → IsWithinLimits shop �
 
 -- the first fault of a text; `Memory` says nothing of the text
 abbrev pub IsTwoEndedFault : Shop → List ℕ → CheckFault → Type 0
-IsTwoEndedFault shop text Memory = Unit {0}
-IsTwoEndedFault shop text fault = HasTwoEndedFault shop text fault
+IsTwoEndedFault shop text fault = UnlessMemory (HasTwoEndedFault shop text) fault
 
 -- a text with this fault is no lawful two-ended certificate; `Memory` says nothing of the text
 abbrev pub IsNotTwoEnded : Shop → List ℕ → CheckFault → Type 0
-IsNotTwoEnded shop text Memory = Unit {0}
-IsNotTwoEnded shop text fault = (bounds : Bounds) (sequence : List ℕ) → ¬ IsTwoEnded shop text bounds sequence
+IsNotTwoEnded shop text fault =
+    UnlessMemory (λ _. (bounds : Bounds) (sequence : List ℕ) → ¬ IsTwoEnded shop text bounds sequence) fault

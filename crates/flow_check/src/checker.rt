@@ -1,24 +1,25 @@
 //! The checker of certificates and of texts of bounds.
 
-ghost use Rattle.std.specs.Prelude.{◌≡◌, ◌⊎◌, ℕ, IfOk, IfErr, Ok, Err};
+ghost use Rattle.std.specs.Prelude.{◌≡◌, ◌⊎◌, ℕ, List, IfOk, IfErr, IsOkAnd, Ok, Err};
 ghost use Rattle.std.specs.Str.{bytes_eq};
-ghost use Rattle.flow_shop.specs.Sequences.{IsLeastMakespan};
+ghost use Rattle.flow_shop.specs.Paths.{span};
+ghost use Rattle.flow_shop.specs.Sequences.{IsLeastMakespan, IsSequence};
 ghost use Rattle.flow_shop.specs.Shop.{IsWithinLimits};
 ghost use Rattle.flow_check.specs.Certificate.{IsCertificate, IsBoundsText, AreBounds};
 ghost use Rattle.flow_check.specs.TextLines.{line, ending};
-ghost use Rattle.flow_check.specs.Certificate.{IsLawful};
-ghost use Rattle.flow_check.specs.TextLines.{Stated, stated_bounds};
 ghost use Rattle.flow_check.specs.Check.{IsFirstFault, IsOfNoValue, IsBoundsFault, IsOfNoBounds};
-ghost use Rattle.flow_check.specs.Check.{IsFaultAs, IsUnlawfulAs};
+ghost use Rattle.flow_check.specs.Check.{IsTreeTextFault, IsNotTreeText};
+ghost use Rattle.flow_check.specs.Stated.{GivesSequence, IsTreeText};
 ghost use Rattle.flow_check.specs.declared.bounds.Bounds.{Bounds};
 ghost use Rattle.flow_check.specs.declared.fault.CheckFault.TheVariants.{Memory};
 
 use crate::bounds::Bounds;
 use crate::fault::CheckFault;
 use crate::heading::read_heading;
-use crate::kind::TextKind;
+use crate::kind::TreeKind;
+use crate::shown::Shown;
 use crate::trees::trees_end;
-use flow_shop::Instance;
+use flow_shop::{Instance, Sequence};
 use std::alloc::Global;
 
 /// The last line, with its end.
@@ -31,27 +32,31 @@ pub(crate) fn is_ending(text: &[u8]) -> bool
     text == ENDING
 }
 
-/// The bounds that a lawful text of a kind states, or its first fault. The value of a certificate is both bounds.
-pub(crate) fn check_as(
+/// What a lawful text of a kind shows, or its first fault. The value of a certificate is both bounds.
+pub(crate) fn check_tree_text(
     alloc: Global,
-    kind: TextKind,
+    kind: TreeKind,
     instance: &Instance,
     bytes: &[u8],
-) -> Result<Bounds, CheckFault>
+) -> Result<Shown, CheckFault>
     ensures limits { IsWithinLimits instance.now }
-    ensures stated { IfOk result (λ bounds. (stated : Stated kind) × (bounds ≡ stated_bounds kind stated)
-        × IsLawful kind instance.now bytes.now stated) }
-    ensures lawful { (stated : Stated kind) → IsLawful kind instance.now bytes.now stated →
-        (result ≡ Ok (stated_bounds kind stated)) ⊎ (result ≡ Err Memory) }
-    ensures fault { IfErr result (λ fault. IsFaultAs kind instance.now bytes.now fault) }
-    ensures none { IfErr result (λ fault. IsUnlawfulAs kind instance.now bytes.now fault) }
+    ensures text { IfOk result (λ shown. IsTreeText kind instance.now bytes.now shown.bounds shown.sequence) }
+    ensures each { IfOk result (λ shown. IsSequence instance.now.jobs shown.sequence) }
+    ensures bounds { IfOk result (λ shown. AreBounds instance.now shown.bounds) }
+    ensures lawful { (bounds : Bounds) (sequence : List ℕ) → IsTreeText kind instance.now bytes.now bounds sequence →
+        IsOkAnd result (λ shown. (shown.bounds ≡ bounds) × (shown.sequence ≡ sequence)) ⊎ (result ≡ Err Memory) }
+    ensures fault { IfErr result (λ fault. IsTreeTextFault kind instance.now bytes.now fault) }
+    ensures none { IfErr result (λ fault. IsNotTreeText kind instance.now bytes.now fault) }
 {
-    let heading = read_heading(kind, instance, bytes)?;
+    let heading = read_heading(alloc, kind, instance, bytes)?;
     let end = trees_end(alloc, instance, &heading)?;
     if !is_ending(&heading.trees[end..]) {
         return Err(CheckFault::End);
     }
-    Ok(heading.bounds)
+    Ok(Shown {
+        bounds: heading.bounds,
+        sequence: heading.sequence,
+    })
 }
 
 /// The value of a lawful certificate, which is the instance's least makespan, or the first fault of the text. Any
@@ -65,8 +70,8 @@ pub fn check(alloc: Global, instance: &Instance, bytes: &[u8]) -> Result<u64, Ch
     ensures fault { IfErr result (λ fault. IsFirstFault instance.now bytes.now fault) }
     ensures none { IfErr result (λ fault. IsOfNoValue instance.now bytes.now fault) }
 {
-    let bounds = check_as(alloc, TextKind::Certificate, instance, bytes)?;
-    Ok(bounds.lower)
+    let shown = check_tree_text(alloc, TreeKind::Certificate, instance, bytes)?;
+    Ok(shown.bounds.lower)
 }
 
 /// The bounds that a lawful text of bounds proves, between which the instance's least makespan lies, or the first fault
@@ -80,5 +85,23 @@ pub fn check_bounds(alloc: Global, instance: &Instance, bytes: &[u8]) -> Result<
     ensures fault { IfErr result (λ fault. IsBoundsFault instance.now bytes.now fault) }
     ensures none { IfErr result (λ fault. IsOfNoBounds instance.now bytes.now fault) }
 {
-    check_as(alloc, TextKind::OfBounds, instance, bytes)
+    let shown = check_tree_text(alloc, TreeKind::OfBounds, instance, bytes)?;
+    Ok(shown.bounds)
+}
+
+/// The sequence of a lawful certificate, whose makespan is the instance's least, or the first fault of the text.
+/// Accepts and refuses what `check` does.
+pub fn check_sequence(
+    alloc: Global,
+    instance: &Instance,
+    bytes: &[u8],
+) -> Result<Sequence, CheckFault>
+    ensures sequence { IfOk result (GivesSequence instance.now bytes.now) }
+    ensures each { IfOk result (IsSequence instance.now.jobs) }
+    ensures least { IfOk result (λ sequence. IsLeastMakespan instance.now (span instance.now sequence)) }
+    ensures fault { IfErr result (λ fault. IsFirstFault instance.now bytes.now fault) }
+    ensures none { IfErr result (λ fault. IsOfNoValue instance.now bytes.now fault) }
+{
+    let Shown { sequence, .. } = check_tree_text(alloc, TreeKind::Certificate, instance, bytes)?;
+    Ok(sequence)
 }

@@ -4,23 +4,24 @@ ghost use Rattle.std.specs.Prelude.{◌≡◌, ℕ, ◌+◌, ◌-◌, ◌<◌, �
 ghost use Rattle.std.specs.Option.{IsSomeAnd};
 ghost use Rattle.flow_shop.specs.Shop.{IsWithinLimits};
 ghost use Rattle.flow_shop.specs.Paths.{span};
+ghost use Rattle.flow_check.specs.CertificateFaults.{UnlessMemory};
 ghost use Rattle.flow_check.specs.TextLines.{IsVersion, Stated, stated_bounds, line, title, opening};
 ghost use Rattle.flow_check.specs.internal.Reading.{text_value};
 ghost use Rattle.flow_check.specs.internal.Heading.{BeginsWithJob, BeginsWithSize, BeginsWithSequence, end_of};
-ghost use Rattle.flow_check.specs.internal.Heading.{BeginsWithStated, IsHeadingOf};
+ghost use Rattle.flow_check.specs.internal.Heading.{BeginsWithHeading, BeginsWithStated, IsHeadingOf, IsSequenceFault};
 ghost use Rattle.flow_check.specs.declared.bounds.Bounds.{Bounds};
-ghost use Rattle.flow_check.specs.declared.kind.TextKind.TheVariants.{Certificate, OfBounds};
+ghost use Rattle.flow_check.specs.declared.kind.TreeKind.TheVariants.{Certificate, OfBounds};
 
 use crate::bounds::Bounds;
 use crate::fault::CheckFault;
-use crate::kind::TextKind;
+use crate::kind::TreeKind;
 use crate::number::read_number;
 use flow_limits::{MAX_DEPTH, MAX_VERSION, MIN_VERSION};
-use flow_shop::{Front, Instance, JobSet, front_push};
+use flow_shop::{Front, Instance, JobSet, Sequence, front_push};
+use std::alloc::Global;
 
-/// What the four lines before the trees say, where they have no fault. The sequence is not kept, since its makespan is
-/// the upper bound.
-#[derive(Clone, Copy)]
+/// What the four lines before the trees say, where they have no fault.
+#[derive(Drop)]
 pub(crate) struct Heading<'a> {
     /// The version of the text: 1 or 2. Each has its own bound of lists.
     pub(crate) version: u32,
@@ -28,23 +29,36 @@ pub(crate) struct Heading<'a> {
     pub(crate) depth: u16,
     /// The bounds. In a certificate its value is both.
     pub(crate) bounds: Bounds,
+    /// The sequence, whose makespan is the upper bound.
+    pub(crate) sequence: Sequence,
     /// The text that follows, from the first tree on.
     pub(crate) trees: &'a [u8],
 }
 
+/// The line of a sequence, and what follows it.
+#[derive(Drop)]
+pub(crate) struct SequenceLine<'a> {
+    /// The sequence.
+    pub(crate) sequence: Sequence,
+    /// Its makespan.
+    pub(crate) makespan: u64,
+    /// The text after the line.
+    pub(crate) rest: &'a [u8],
+}
+
 /// The text after the words with which a text of a kind begins.
-fn after_opening(kind: TextKind, text: &[u8]) -> Option<&[u8]>
+fn after_opening(kind: TreeKind, text: &[u8]) -> Option<&[u8]>
     ensures found { IfSome result (λ rest. text.now ≡ opening kind ++ rest.now) }
     ensures only { (rest : List ℕ) → text.now ≡ opening kind ++ rest → IsSomeAnd result (λ r. r.now ≡ rest) }
 {
     match kind {
-        TextKind::Certificate => text.strip_prefix(b"flowshop certificate "),
-        TextKind::OfBounds => text.strip_prefix(b"flowshop bounds "),
+        TreeKind::Certificate => text.strip_prefix(b"flowshop certificate "),
+        TreeKind::OfBounds => text.strip_prefix(b"flowshop bounds "),
     }
 }
 
 /// The version that the first line names, where a text begins with that line, and the text after it.
-pub(crate) fn read_title(kind: TextKind, text: &[u8]) -> Option<(u32, &[u8])>
+pub(crate) fn read_title(kind: TreeKind, text: &[u8]) -> Option<(u32, &[u8])>
     ensures found { IfSome result (λ r. IsVersion r.0 × (text.now ≡ line (title kind r.0) ++ r.1.now)) }
     ensures only { (version : ℕ) (rest : List ℕ) → IsVersion version → text.now ≡ line (title kind version) ++ rest →
         IsSomeAnd result (λ r. (r.0 ≡ version) × (r.1.now ≡ rest)) }
@@ -59,7 +73,7 @@ pub(crate) fn read_title(kind: TextKind, text: &[u8]) -> Option<(u32, &[u8])>
 
 /// The depth in the line of the sizes, with which a text begins, and the text after that line. `None` where the text
 /// begins with no such line of so many jobs and machines.
-pub(crate) fn read_size(jobs: u16, machines: u16, text: &[u8]) -> Option<(u16, &[u8])>
+fn read_size(jobs: u16, machines: u16, text: &[u8]) -> Option<(u16, &[u8])>
     ensures found { IfSome result (λ r. BeginsWithSize jobs machines text.now r.0 r.1.now) }
     ensures only { (depth : ℕ) (rest : List ℕ) → BeginsWithSize jobs machines text.now depth rest →
         IsSomeAnd result (λ r. (r.0 ≡ depth) × (r.1.now ≡ rest)) }
@@ -103,20 +117,20 @@ pub(crate) fn read_bounds(text: &[u8]) -> Option<(Bounds, &[u8])>
 }
 
 /// The bounds that the third line of a text of a kind states, and the text after that line.
-pub(crate) fn read_stated(kind: TextKind, text: &[u8]) -> Option<(Bounds, &[u8])>
+fn read_stated(kind: TreeKind, text: &[u8]) -> Option<(Bounds, &[u8])>
     ensures found { IfSome result (λ r. (stated : Stated kind) × BeginsWithStated kind text.now stated r.1.now
         × (r.0 ≡ stated_bounds kind stated)) }
     ensures only { (stated : Stated kind) (rest : List ℕ) → BeginsWithStated kind text.now stated rest →
         IsSomeAnd result (λ r. (r.0 ≡ stated_bounds kind stated) × (r.1.now ≡ rest)) }
 {
     match kind {
-        TextKind::Certificate => read_value(text),
-        TextKind::OfBounds => read_bounds(text),
+        TreeKind::Certificate => read_value(text),
+        TreeKind::OfBounds => read_bounds(text),
     }
 }
 
 /// The job with which a text begins, from 1 to `jobs`, and the text after the byte that ends it.
-pub(crate) fn read_job(text: &[u8], end: u8, jobs: u16) -> Option<(u16, &[u8])>
+fn read_job(text: &[u8], end: u8, jobs: u16) -> Option<(u16, &[u8])>
     requires { end < 48 }
     ensures found { IfSome result (λ r. BeginsWithJob jobs text.now end r.0 r.1.now) }
     ensures only { (job : ℕ) (rest : List ℕ) → BeginsWithJob jobs text.now end job rest →
@@ -130,48 +144,62 @@ pub(crate) fn read_job(text: &[u8], end: u8, jobs: u16) -> Option<(u16, &[u8])>
 }
 
 /// The byte that ends the job at a place, counted from 1, in a line of so many jobs.
-pub(crate) fn end_after(place: u16, jobs: u16) -> u8
+fn end_after(place: u16, jobs: u16) -> u8
     ensures value { result ≡ end_of (jobs + 1 - place) }
     ensures small { result < 48 }
 {
     if place == jobs { b'\n' } else { b' ' }
 }
 
-/// The makespan of the sequence in the line with which a text begins, and the text after that line.
-fn read_sequence<'a>(instance: &Instance, text: &'a [u8]) -> Option<(u64, &'a [u8])>
-    ensures found { IfSome result (λ r. (jobs : List ℕ)
-        × BeginsWithSequence instance.now.jobs text.now jobs r.1.now × (span instance.now jobs ≡ r.0)) }
-    ensures only { (jobs rest : List ℕ) → BeginsWithSequence instance.now.jobs text.now jobs rest →
-        IsSomeAnd result (λ r. (r.0 ≡ span instance.now jobs) × (r.1.now ≡ rest)) }
+/// Reads the line of a sequence, with which a text begins. Its jobs go to memory that is reserved before.
+pub(crate) fn read_sequence_line<'a>(
+    alloc: Global,
+    instance: &Instance,
+    text: &'a [u8],
+) -> Result<SequenceLine<'a>, CheckFault>
+    ensures found { IfOk result (λ line.
+        BeginsWithSequence instance.now.jobs text.now line.sequence line.rest.now) }
+    ensures makespan { IfOk result (λ line. span instance.now line.sequence ≡ line.makespan) }
+    ensures fault { IfErr result (λ fault. IsSequenceFault instance.now.jobs text.now fault) }
 {
     let jobs = instance.jobs();
     let machines = instance.machines();
+    let mut found = Vec::with_capacity(alloc, jobs as usize)?;
     let mut scheduled = JobSet::none();
     let mut front = Front::empty();
     let mut rest = text;
     for place in 1..jobs + 1 {
         let end = end_after(place, jobs);
-        let (job, after) = read_job(rest, end, jobs)?;
+        let Some((job, after)) = read_job(rest, end, jobs) else {
+            return Err(CheckFault::Sequence);
+        };
         if scheduled.contains(job) {
-            return None;
+            return Err(CheckFault::Sequence);
         }
         scheduled.insert(job);
         front_push(instance, &mut front, job);
+        found.push(job)?;
         rest = after;
     }
-    Some((front.at(machines), rest))
+    Ok(SequenceLine {
+        sequence: Sequence::of_known(alloc, found.as_slice())?,
+        makespan: front.at(machines),
+        rest,
+    })
 }
 
 /// Reads the lines before the trees of a text of a kind. Returns what they say, or their first fault.
 pub(crate) fn read_heading<'a>(
-    kind: TextKind,
+    alloc: Global,
+    kind: TreeKind,
     instance: &Instance,
     text: &'a [u8],
 ) -> Result<Heading<'a>, CheckFault>
     ensures limits { IsWithinLimits instance.now }
     ensures depth { IfOk result (λ heading. heading.depth ≤ instance.now.jobs) }
     ensures found { IfOk result (λ heading. IsHeadingOf kind instance.now text.now heading) }
-    ensures fault { IfErr result (λ fault. text_value kind instance.now text.now ≡ Err fault) }
+    ensures lines { IfOk result (λ heading. BeginsWithHeading kind instance.now text.now heading) }
+    ensures fault { IfErr result (UnlessMemory (λ fault. text_value kind instance.now text.now ≡ Err fault)) }
 {
     let jobs = instance.jobs();
     let machines = instance.machines();
@@ -184,16 +212,15 @@ pub(crate) fn read_heading<'a>(
     let Some((bounds, sequence_text)) = read_stated(kind, stated_text) else {
         return Err(CheckFault::Value);
     };
-    let Some((makespan, trees)) = read_sequence(instance, sequence_text) else {
-        return Err(CheckFault::Sequence);
-    };
-    if makespan != bounds.upper {
+    let line = read_sequence_line(alloc, instance, sequence_text)?;
+    if line.makespan != bounds.upper {
         return Err(CheckFault::NotAttained);
     }
     Ok(Heading {
         version,
         depth,
         bounds,
-        trees,
+        sequence: line.sequence,
+        trees: line.rest,
     })
 }

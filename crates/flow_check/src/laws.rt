@@ -2,6 +2,7 @@
 
 ghost use Rattle.flow_check.specs.Certificate.{BoundsAreSound, CertificateIsSound, StatesOne, ValueIsOne};
 ghost use Rattle.flow_check.specs.CertificateFaults.{EachTextIsJudged};
+ghost use Rattle.flow_check.specs.Kinds.{KindIsOne};
 ghost use Rattle.flow_check.specs.TwoEnded.{TwoEndedIsSound, TwoEndedStatesOne};
 ghost use Rattle.flow_check.specs.TwoEndedFaults.{EachTwoEndedIsJudged};
 ghost use Rattle.flow_check.specs.internal.Reading.{ValueIsExact, FaultIsExact};
@@ -49,4 +50,9 @@ pub fn two_ended_states_one()
 /// A text is a lawful two-ended certificate of some bounds, with a sequence, or has one first fault, and not both.
 pub fn two_ended_fault_is_exact()
     ensures { EachTwoEndedIsJudged }
+{}
+
+/// A text is read as one kind.
+pub fn kind_is_one()
+    ensures { KindIsOne }
 {}

@@ -16,19 +16,21 @@ mod node;
 mod number;
 mod reader;
 mod release;
-mod stated;
+mod shown;
+mod text;
 mod tree;
 mod trees;
 mod trees_text;
 mod two_ended;
 
 pub use bounds::Bounds;
-pub use checker::{check, check_bounds};
+pub use checker::{check, check_bounds, check_sequence};
 pub use fault::CheckFault;
-pub use kind::{TextKind, kind_of};
+pub use kind::{TextKind, TreeKind, kind_of};
 pub use laws::{
-    bounds_are_sound, certificate_is_sound, fault_is_exact, text_states_one,
+    bounds_are_sound, certificate_is_sound, fault_is_exact, kind_is_one, text_states_one,
     two_ended_fault_is_exact, two_ended_is_sound, two_ended_states_one, value_is_exact,
 };
-pub use stated::{Shown, check_sequence, check_text};
+pub use shown::Shown;
+pub use text::check_text;
 pub use two_ended::check_two_ended;

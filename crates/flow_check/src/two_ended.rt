@@ -11,13 +11,13 @@ ghost use Rattle.flow_check.specs.internal.TwoEndedLines.{IsEndFault};
 ghost use Rattle.flow_check.specs.declared.bounds.Bounds.{Bounds};
 ghost use Rattle.flow_check.specs.declared.fault.CheckFault.TheVariants.{Memory};
 
-mod heading;
+pub(crate) mod heading;
 mod marks;
 mod walk;
 
 use crate::checker::is_ending;
 use crate::fault::CheckFault;
-use crate::stated::Shown;
+use crate::shown::Shown;
 use flow_shop::Instance;
 use heading::read_two_ended_heading;
 use std::alloc::Global;

@@ -4,7 +4,7 @@ use Rattle.std.proofs.Common.{length, map, get_or, ap, sym, ◌∙◌, inl, inr,
 use Rattle.std.specs.Prelude.{IsBitSet, ◌↔◌, bit_and, replicate}
 use Rattle.std.specs.Simd.Lanes.{zip2, sel_l, top, mask_l}
 use Rattle.std.proofs.lemmas.Bool.{cases_lt, lt-ltb, le-ltb}
-use Rattle.std.proofs.lemmas.List.{length-map, get_or-map}
+use Rattle.std.proofs.lemmas.List.{length-map, get_or-map, get_or_past}
 use Rattle.std.proofs.lemmas.Nat.{bit_set_by_shift, and_mask}
 use Rattle.std.proofs.lemmas.Simd.{tops_compared, length-sel_l, get_or-sel_l, length-zip2, get_or-zip2}
 use Rattle.std.proofs.lemmas.Simd.{length-replicate, get_or-replicate, bitmask_splat, bit_mask_l}
@@ -120,3 +120,21 @@ is-below w cap width xs lane value number few small x =
       λ below. (bit_set_by_shift mask lane).0
           (low ∙ bit ∙ ap (λ t. cond t 1 0) (lt-ltb (get_or xs lane 0) number (omega (arith, x.value, below, small)))),
     )
+
+-- no bit of the mask is set that no lane has
+pub none-above : (w : Width) (width : ℕ) (xs : List ℕ) (lane number : ℕ) → length xs ≡ width → width ≤ 64 →
+    width ≤ lane →
+    ¬ IsBitSet (mask_l (map (top (hbits w)) (zip2 (λ a b. cond (ltb a b) (2 ^ bits w - 1) 0) xs (replicate width number)))
+    % 2 ^ 64) lane
+none-above w width xs lane number count few above set =
+    let tests = map (λ a. ltb a number) xs in
+    let mask = mask_l tests in
+    let bit : mask / 2 ^ lane % 2 ≡ 0 =
+    bit_mask_l tests lane
+    ∙ ap (λ t. cond t 1 0)
+    (get_or_past tests lane false (omega (arith, count, above, length-map xs (λ a. ltb a number)))) in
+    let low : bit_and (mask / 2 ^ lane) 1 ≡ mask / 2 ^ lane % 2 = and_mask (mask / 2 ^ lane) 1 in
+    let one : bit_and (mask / 2 ^ lane) 1 ≡ 1 =
+    (bit_set_by_shift mask lane).1
+    (subst (λ m. IsBitSet m lane) (bitmask_splat w ltb xs width number count few) set) in
+    absurd (omega (arith, low, bit, one))

@@ -73,16 +73,17 @@ impl Node {
         }
     }
 
-    /// The children below a number, of those that put the jobs of a group at an end: a bit for each lane. The bit of a
-    /// lane whose job is not left may be set or not.
+    /// The children below a number, of those that put the jobs of a group at an end: a bit for each lane, and no other
+    /// bits. The bit of a lane whose job is not left may be set or not.
     #[inline(always)]
     pub fn children_below<V: Lanes>(&self, end: End, group: &[V], number: u32) -> u64
         requires machines { length group.now ≤ most_machines }
         requires number { number ≤ V.CAP }
-        ensures { (shop : Shop) (first last jobs : List ℕ) (lane : ℕ) → IsNode shop first last self.now →
+        ensures each { (shop : Shop) (first last jobs : List ℕ) (lane : ℕ) → IsNode shop first last self.now →
             IsGroup V.list V.CAP V.WIDTH shop jobs group.now → lane < V.WIDTH →
             has (first ++ last) (slice_index jobs lane) ≡ false →
             IsBitSet result lane ↔ (child_bound shop end first last (slice_index jobs lane) < number) }
+        ensures none { (lane : ℕ) → V.WIDTH ≤ lane → ¬ IsBitSet result lane }
     {
         self.child_bounds(end, group).below(number)
     }

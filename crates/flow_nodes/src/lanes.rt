@@ -36,11 +36,12 @@ pub trait Lanes: Copy {
         ensures { (lane one two : ℕ) → HasLane CAP WIDTH (list self) lane one →
             HasLane CAP WIDTH (list other) lane two → HasLane CAP WIDTH (list result) lane (one + two) };
 
-    /// The lanes below a number, a bit for each.
+    /// The lanes below a number, a bit for each, and no other bits.
     fn below(self, number: u32) -> u64
         requires { number ≤ CAP }
-        ensures { (lane value : ℕ) → HasLane CAP WIDTH (list self) lane value →
-            IsBitSet result lane ↔ (value < number) };
+        ensures each { (lane value : ℕ) → HasLane CAP WIDTH (list self) lane value →
+            IsBitSet result lane ↔ (value < number) }
+        ensures none { (lane : ℕ) → WIDTH ≤ lane → ¬ IsBitSet result lane };
 
     /// The number of a lane.
     fn at(self, lane: usize) -> u32

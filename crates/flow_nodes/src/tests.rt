@@ -1,6 +1,6 @@
 //! The bounds of children that were worked out by hand.
 
-ghost use Rattle.std.specs.Prelude.{◌≡◌, ◌<◌, ◌≤◌, length};
+ghost use Rattle.std.specs.Prelude.{◌≡◌, ℕ, ◌+◌, ◌<◌, ◌≤◌, length, slice_index};
 ghost use Rattle.flow_nodes.specs.Nodes.{IsJob};
 
 use crate::{Lanes, Node, write_group};
@@ -86,5 +86,85 @@ fn bounds_above_the_cap(rt: HostRuntime) -> Result<(), Fail> {
         90_000
     );
     assert_eq!(rt; root.children_below(End::Back, &narrow, 65_535), 0);
+    Ok(())
+}
+
+/// The names of the first jobs.
+fn first_jobs() -> [u16; 32]
+    ensures count { length result ≡ 32 }
+    ensures each { (lane : ℕ) → lane < 32 → slice_index result lane ≡ lane + 1 }
+{
+    let mut names = [0; 32];
+    for lane in 0..32 {
+        names[lane] = lane as u16 + 1;
+    }
+    names
+}
+
+/// The group of all jobs, one for each lane.
+fn write_all<V: Lanes>(instance: &Instance, group: &mut [V])
+    requires machines { length group.old ≡ instance.now.machines }
+    requires jobs { instance.now.jobs ≡ V.WIDTH }
+    requires few { V.WIDTH ≤ 32 }
+    ensures { length group.new ≡ instance.now.machines }
+{
+    write_group(instance, &first_jobs()[..V::WIDTH], group);
+}
+
+/// Sixteen jobs on two machines, of which job `j` takes `j` on the first and `17 - j` on the second, so all take 136 on
+/// each. Whatever job is first leaves the second machine at 17, so its child at the front has the bound `136 + j`; and
+/// whatever job is last needs 17 from its start, so its child at the back has the bound `153 - j`.
+#[test]
+fn bounds_of_sixteen_jobs(rt: HostRuntime) -> Result<(), Fail> {
+    let times = [
+        1, 2, 3, 4, 5, 6, 7, 8, 9, 10, 11, 12, 13, 14, 15, 16, 16, 15, 14, 13, 12, 11, 10, 9, 8, 7,
+        6, 5, 4, 3, 2, 1,
+    ];
+    let instance = Instance::new(rt.alloc(), 16, 2, &times)?;
+    let root = Node::root(&instance);
+    let mut narrow = [u16x16::splat(0); 2];
+    let mut great = [u32x16::splat(0); 2];
+    write_all(&instance, &mut narrow);
+    write_all(&instance, &mut great);
+    for lane in 0..16_usize {
+        let front = 137 + lane as u32;
+        let back = 152 - lane as u32;
+        assert_eq!(rt; root.child_bounds(End::Front, &narrow).at(lane), front);
+        assert_eq!(rt; root.child_bounds(End::Front, &great).at(lane), front);
+        assert_eq!(rt; root.child_bounds(End::Back, &narrow).at(lane), back);
+        assert_eq!(rt; root.child_bounds(End::Back, &great).at(lane), back);
+    }
+    assert_eq!(rt; root.children_below(End::Front, &narrow, 145), 0x00FF);
+    assert_eq!(rt; root.children_below(End::Front, &great, 145), 0x00FF);
+    assert_eq!(rt; root.children_below(End::Back, &narrow, 145), 0xFF00);
+    assert_eq!(rt; root.children_below(End::Back, &great, 145), 0xFF00);
+    Ok(())
+}
+
+/// Thirty-two jobs of the same kind: the children at the front have the bounds `528 + j`, and those at the back
+/// `561 - j`.
+#[test]
+fn bounds_of_thirty_two_jobs(rt: HostRuntime) -> Result<(), Fail> {
+    let times = [
+        1, 2, 3, 4, 5, 6, 7, 8, 9, 10, 11, 12, 13, 14, 15, 16, 17, 18, 19, 20, 21, 22, 23, 24, 25,
+        26, 27, 28, 29, 30, 31, 32, 32, 31, 30, 29, 28, 27, 26, 25, 24, 23, 22, 21, 20, 19, 18, 17,
+        16, 15, 14, 13, 12, 11, 10, 9, 8, 7, 6, 5, 4, 3, 2, 1,
+    ];
+    let instance = Instance::new(rt.alloc(), 32, 2, &times)?;
+    let root = Node::root(&instance);
+    let mut wide = [u16x32::splat(0); 2];
+    write_all(&instance, &mut wide);
+    for lane in 0..32_usize {
+        assert_eq!(rt;
+            root.child_bounds(End::Front, &wide).at(lane),
+            529 + lane as u32
+        );
+        assert_eq!(rt;
+            root.child_bounds(End::Back, &wide).at(lane),
+            560 - lane as u32
+        );
+    }
+    assert_eq!(rt; root.children_below(End::Front, &wide, 539), 0x0000_03FF);
+    assert_eq!(rt; root.children_below(End::Back, &wide, 539), 0xFFC0_0000);
     Ok(())
 }

@@ -1,16 +1,18 @@
 -- What is kept of the nodes whose children are read.
-use Rattle.std.specs.Prelude.{ℕ, ◌≡◌, ◌+◌, ◌*◌, ◌/◌, ◌<◌, ◌≤◌, false, List, [], ◌∷◌, ◌++◌, length, slice_index}
-use Rattle.std.specs.Prelude.{slice_index_or}
+use Rattle.std.specs.Prelude.{ℕ, ◌≡◌, ◌+◌, ◌-◌, ◌*◌, ◌/◌, ◌<◌, ◌≤◌, false, List, [], ◌∷◌, ◌++◌, length, slice_index}
+use Rattle.std.specs.Prelude.{slice_index_or, take}
 use Rattle.std.specs.Global.{Vec}
 use Rattle.flow_shop.specs.Shop.{Shop, IsWithinLimits}
 use Rattle.flow_shop.specs.Sequences.{has}
 use Rattle.flow_shop.specs.Directions.{first_with, last_with}
 use Rattle.flow_shop.specs.declared.end.End.{End}
+use Rattle.flow_shop.specs.declared.end.End.TheVariants.{Front}
 use Rattle.flow_nodes.specs.Nodes.{IsNode}
 use Rattle.flow_nodes.specs.Groups.{IsGroup, child_bound}
 use Rattle.flow_check.specs.internal.Marks.{mark}
 use Rattle.flow_check.specs.declared.two_ended.marks.Marks.{Marks}
 use Rattle.flow_check.specs.declared.two_ended.walk.Frame.{Frame}
+use Rattle.flow_check.specs.declared.two_ended.walk.Path.{Path}
 
 -- a group, whose lanes have sixteen jobs in increasing order, up to the last job of the instance
 pub record IsGroupFrom {V : Type 0} (list : V → List ℕ) (cap width : ℕ) (shop : Shop) (before : ℕ) (group : List V) :
@@ -32,19 +34,24 @@ pub record AreLeft (shop : Shop) (first last : List ℕ) (marks : Marks) : Type 
   pub all : (job : ℕ) → 1 ≤ job → job ≤ shop.jobs → has (first ++ last) job ≡ false → mark marks job ≡ 1
   pub only : (job : ℕ) → 1 ≤ job → mark marks job ≡ 1 → (job ≤ shop.jobs) × (has (first ++ last) job ≡ false)
 
--- the jobs left whose children at an end are below a number are marked, and no others
+-- the jobs left whose children at an end are below a number are marked, and no others of the words of the instance
 pub record AreOpen (shop : Shop) (number : ℕ) (end : End) (first last : List ℕ) (marks : Marks) : Type 0 where
   pub all : (job : ℕ) → 1 ≤ job → job ≤ shop.jobs → has (first ++ last) job ≡ false →
       child_bound shop end first last job < number → mark marks job ≡ 1
-  pub only : (job : ℕ) → 1 ≤ job → mark marks job ≡ 1 →
+  pub only : (job : ℕ) → 1 ≤ job → (job - 1) / 16 < (shop.jobs + 15) / 16 → mark marks job ≡ 1 →
       (job ≤ shop.jobs) × (has (first ++ last) job ≡ false) × (child_bound shop end first last job < number)
 
 -- the frame of a node
 pub record IsFrame (shop : Shop) (number : ℕ) (first last : List ℕ) (frame : Frame) : Type 0 where
   pub is_node : IsNode shop first last frame.node
-  pub are_left : AreLeft shop first last frame.left
   pub are_open : AreOpen shop number frame.end first last frame.below
   pub job : frame.job ≤ shop.jobs
+
+-- the frame of a node whose child is read, which puts the frame's job, one of those left
+pub record IsParent (shop : Shop) (number : ℕ) (first last : List ℕ) (frame : Frame) : Type 0 where
+  pub is_frame : IsFrame shop number first last frame
+  pub some : 1 ≤ frame.job
+  pub left : has (first ++ last) frame.job ≡ false
 
 -- the first list to which frames lead, that of the root first
 abbrev pub first_of : List ℕ → List Frame → List ℕ
@@ -56,9 +63,30 @@ abbrev pub last_of : List ℕ → List Frame → List ℕ
 last_of last [] = last
 last_of last (frame ∷ frames) = last_of (last_with frame.end last frame.job) frames
 
--- the frames of a node, of its child that is read, and so on
+-- the frames of a node, of its child that is read, and so on, of which the last one's child is read too
 abbrev pub AreFrames : Shop → ℕ → List ℕ → List ℕ → List Frame → Type 0
 AreFrames shop number first last [] = Unit {0}
 AreFrames shop number first last (frame ∷ frames) =
-    IsFrame shop number first last frame
+    IsParent shop number first last frame
     × AreFrames shop number (first_with frame.end first frame.job) (last_with frame.end last frame.job) frames
+
+-- the frame at a place; any frame past the end
+abbrev pub frame_at : List Frame → ℕ → Frame
+frame_at frames place = slice_index_or frames place (record {
+  node = record { front = []; back = []; work = [] };
+  end = Front;
+  below = record { words = [] };
+  job = 0;
+})
+
+-- the frame of a path's node
+abbrev pub here : Path → Frame
+here path = frame_at path.frames.items path.depth
+
+-- the frames of the nodes above it, the root's first
+abbrev pub above : Path → List Frame
+above path = take path.depth path.frames.items
+
+-- a frame that reads the child which a job makes
+abbrev pub with_job : Frame → ℕ → Frame
+with_job frame job = record { node = frame.node; end = frame.end; below = frame.below; job = job }

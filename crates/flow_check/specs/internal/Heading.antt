@@ -1,17 +1,20 @@
 -- What the lines before the trees begin with.
-use Rattle.std.specs.Prelude.{ℕ, ◌≡◌, ◌≤◌, ◌<◌, ◌+◌, ◌-◌, ◌*◌, ◌^◌, Bool, cond, ◌&&◌, not, nat_eq, nat_lt, List, []}
-use Rattle.std.specs.Prelude.{◌∷◌, ◌++◌}
+use Rattle.std.specs.Prelude.{ℕ, ◌≡◌, ◌⊎◌, ◌≤◌, ◌<◌, ◌+◌, ◌-◌, ◌*◌, ◌^◌, Bool, cond, ◌&&◌, not, nat_eq, nat_lt, List}
+use Rattle.std.specs.Prelude.{[], ◌∷◌, ◌++◌}
 use Rattle.std.specs.Fmt.{decimal}
 use Rattle.flow_shop.specs.Limits.{greatest_depth}
 use Rattle.flow_shop.specs.Digits.{is_digit}
 use Rattle.flow_shop.specs.Sequences.{IsSequence}
 use Rattle.flow_shop.specs.Shop.{Shop}
 use Rattle.flow_shop.specs.Characters.{line_feed, space}
-use Rattle.flow_check.specs.TextLines.{line, spaced, Stated, IsStated, stated_bounds, numbers_of}
+use Rattle.flow_check.specs.TextLines.{line, spaced, IsVersion, IsDepth, Stated, IsStated, stated_bounds, numbers_of}
+use Rattle.flow_check.specs.TextLines.{heading as lines_before}
 use Rattle.flow_check.specs.internal.Reading.{text_value, stated_once}
 use Rattle.flow_check.specs.internal.ReadTrees.{cut_value}
+use Rattle.flow_check.specs.declared.fault.CheckFault.{CheckFault}
+use Rattle.flow_check.specs.declared.fault.CheckFault.TheVariants.{Memory, Sequence}
 use Rattle.flow_check.specs.declared.heading.Heading.{Heading}
-use Rattle.flow_check.specs.declared.kind.TextKind.{TextKind}
+use Rattle.flow_check.specs.declared.kind.TreeKind.{TreeKind}
 
 -- a text begins with a number below 2^64 in decimal, and a byte that ends it
 abbrev pub BeginsWithNumber : List ℕ → ℕ → ℕ → List ℕ → Type 0
@@ -36,18 +39,31 @@ BeginsWithSize jobs machines text depth rest =
 abbrev pub BeginsWithSequence : ℕ → List ℕ → List ℕ → List ℕ → Type 0
 BeginsWithSequence n text jobs rest = IsSequence n jobs × (text ≡ line (spaced jobs) ++ rest)
 
+-- memory ran out, or a text begins with no line of a sequence
+abbrev pub IsSequenceFault : ℕ → List ℕ → CheckFault → Type 0
+IsSequenceFault jobs text fault =
+    (fault ≡ Memory)
+    ⊎ ((fault ≡ Sequence) × ((sequence : List ℕ) (rest : List ℕ) → ¬ BeginsWithSequence jobs text sequence rest))
+
 -- the byte that ends a number of a line where so many are still to come, with this one
 abbrev pub end_of : ℕ → ℕ
 end_of left = cond (nat_eq left 1) line_feed space
 
 -- a text begins with the third line of a kind
-abbrev pub BeginsWithStated : (kind : TextKind) → List ℕ → Stated kind → List ℕ → Type 0
+abbrev pub BeginsWithStated : (kind : TreeKind) → List ℕ → Stated kind → List ℕ → Type 0
 BeginsWithStated kind text stated rest =
     IsStated kind stated × (text ≡ line (spaced (numbers_of kind stated)) ++ rest)
 
 -- the lines before the trees have no fault, and the trees decide what is read of the text
-abbrev pub IsHeadingOf : TextKind → Shop → List ℕ → Heading → Type 0
+abbrev pub IsHeadingOf : TreeKind → Shop → List ℕ → Heading → Type 0
 IsHeadingOf kind shop text heading =
     (stated : Stated kind) × (heading.bounds ≡ stated_bounds kind stated)
     × (text_value kind shop text
     ≡ stated_once stated (cut_value shop heading.version heading.depth heading.bounds.lower heading.trees.now))
+
+-- a text begins with the lines before the trees that say this
+abbrev pub BeginsWithHeading : TreeKind → Shop → List ℕ → Heading → Type 0
+BeginsWithHeading kind shop text heading =
+    (stated : Stated kind) × IsVersion heading.version × IsDepth shop heading.depth × IsStated kind stated
+    × IsSequence shop.jobs heading.sequence
+    × (text ≡ lines_before kind shop heading.version heading.depth stated heading.sequence ++ heading.trees.now)

@@ -3,19 +3,12 @@ use Rattle.std.specs.Prelude.{ℕ, ◌≡◌, ◌≢◌, ◌⊎◌, List, [], �
 use Rattle.flow_shop.specs.Characters.{line_feed}
 use Rattle.flow_check.specs.TextLines.{line, spaced, ending}
 use Rattle.flow_check.specs.CertificateFaults.{BeginsWith}
-use Rattle.flow_check.specs.internal.Heading.{BeginsWithSequence}
 use Rattle.flow_check.specs.declared.fault.CheckFault.{CheckFault}
-use Rattle.flow_check.specs.declared.fault.CheckFault.TheVariants.{Memory, Sequence, Tree, End}
+use Rattle.flow_check.specs.declared.fault.CheckFault.TheVariants.{Tree, End}
 
 -- a text begins with the line of so many jobs and machines
 abbrev pub BeginsWithJobs : ℕ → ℕ → List ℕ → List ℕ → Type 0
 BeginsWithJobs jobs machines text rest = text ≡ line (spaced (jobs ∷ machines ∷ [])) ++ rest
-
--- memory ran out, or a text begins with no line of a sequence
-abbrev pub IsSequenceFault : ℕ → List ℕ → CheckFault → Type 0
-IsSequenceFault jobs text fault =
-    (fault ≡ Memory)
-    ⊎ ((fault ≡ Sequence) × ((sequence : List ℕ) (rest : List ℕ) → ¬ BeginsWithSequence jobs text sequence rest))
 
 -- a text is not the end of a line and the last line: it does not begin with the end of a line, or does not go on with
 -- the last line alone

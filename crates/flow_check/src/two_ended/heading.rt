@@ -6,14 +6,13 @@ ghost use Rattle.flow_shop.specs.Shop.{IsWithinLimits};
 ghost use Rattle.flow_shop.specs.Paths.{span};
 ghost use Rattle.flow_check.specs.TwoEnded.{title_line};
 ghost use Rattle.flow_check.specs.TwoEndedFaults.{HasFourLines, IsTwoEndedFault};
-ghost use Rattle.flow_check.specs.internal.Heading.{BeginsWithSequence};
-ghost use Rattle.flow_check.specs.internal.TwoEndedLines.{BeginsWithJobs, IsSequenceFault};
+ghost use Rattle.flow_check.specs.internal.TwoEndedLines.{BeginsWithJobs};
 
 use crate::bounds::Bounds;
 use crate::fault::CheckFault;
-use crate::heading::{end_after, read_bounds, read_job};
+use crate::heading::{read_bounds, read_sequence_line};
 use crate::number::read_number;
-use flow_shop::{Front, Instance, JobSet, Sequence, front_push};
+use flow_shop::{Instance, Sequence};
 use std::alloc::Global;
 
 /// What the four lines before the directions say, where they have no fault.
@@ -27,19 +26,8 @@ pub(crate) struct TwoEndedHeading<'a> {
     pub(crate) directions: &'a [u8],
 }
 
-/// The line of a sequence, and what follows it.
-#[derive(Drop)]
-struct SequenceLine<'a> {
-    /// The jobs in order.
-    jobs: Vec<u16>,
-    /// Their makespan.
-    makespan: u64,
-    /// The text after the line.
-    rest: &'a [u8],
-}
-
 /// The text after the first line.
-fn after_title(text: &[u8]) -> Option<&[u8]>
+pub(crate) fn after_title(text: &[u8]) -> Option<&[u8]>
     ensures found { IfSome result (λ rest. text.now ≡ title_line ++ rest.now) }
     ensures only { (rest : List ℕ) → text.now ≡ title_line ++ rest → IsSomeAnd result (λ r. r.now ≡ rest) }
 {
@@ -58,43 +46,6 @@ fn after_size(jobs: u16, machines: u16, text: &[u8]) -> Option<&[u8]>
         return None;
     }
     Some(rest)
-}
-
-/// Reads the line of a sequence, with which a text begins. Its jobs go to memory that is reserved before.
-fn read_sequence_line<'a>(
-    alloc: Global,
-    instance: &Instance,
-    text: &'a [u8],
-) -> Result<SequenceLine<'a>, CheckFault>
-    ensures found { IfOk result (λ line.
-        BeginsWithSequence instance.now.jobs text.now line.jobs.items line.rest.now) }
-    ensures makespan { IfOk result (λ line. span instance.now line.jobs.items ≡ line.makespan) }
-    ensures fault { IfErr result (λ fault. IsSequenceFault instance.now.jobs text.now fault) }
-{
-    let jobs = instance.jobs();
-    let machines = instance.machines();
-    let mut found = Vec::with_capacity(alloc, jobs as usize)?;
-    let mut scheduled = JobSet::none();
-    let mut front = Front::empty();
-    let mut rest = text;
-    for place in 1..jobs + 1 {
-        let end = end_after(place, jobs);
-        let Some((job, after)) = read_job(rest, end, jobs) else {
-            return Err(CheckFault::Sequence);
-        };
-        if scheduled.contains(job) {
-            return Err(CheckFault::Sequence);
-        }
-        scheduled.insert(job);
-        front_push(instance, &mut front, job);
-        found.push(job)?;
-        rest = after;
-    }
-    Ok(SequenceLine {
-        jobs: found,
-        makespan: front.at(machines),
-        rest,
-    })
 }
 
 /// Reads the lines before the directions. Returns what they say, or their first fault.
@@ -124,10 +75,9 @@ pub(crate) fn read_two_ended_heading<'a>(
     if line.makespan != bounds.upper {
         return Err(CheckFault::NotAttained);
     }
-    let sequence = Sequence::of_known(alloc, line.jobs.as_slice())?;
     Ok(TwoEndedHeading {
         bounds,
-        sequence,
+        sequence: line.sequence,
         directions: line.rest,
     })
 }

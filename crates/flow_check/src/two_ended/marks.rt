@@ -1,6 +1,6 @@
 //! Marks of jobs, sixteen to a word, as the lanes of a group have their jobs.
 
-ghost use Rattle.std.specs.Prelude.{◌≡◌, ◌≢◌, ℕ, ◌/◌, ◌<◌, ◌≤◌, length, slice_index, IfSome, IfNone};
+ghost use Rattle.std.specs.Prelude.{◌≡◌, ◌≢◌, ℕ, ◌+◌, ◌-◌, ◌/◌, ◌<◌, ◌≤◌, length, slice_index, IfSome, IfNone};
 ghost use Rattle.flow_shop.specs.Limits.{most_jobs};
 ghost use Rattle.flow_check.specs.internal.Marks.{mark};
 
@@ -41,29 +41,38 @@ impl Marks {
     {
         let mut marks = Marks::none();
         for job in 1..jobs + 1 {
-            let place = job as usize - 1;
-            marks.words[place / LANES] |= 1 << (place % LANES);
+            marks.set(job);
         }
         marks
     }
 
-    /// The marks without that of a job.
-    pub(crate) fn without(&self, job: u16) -> Marks
+    /// Marks a job.
+    pub(crate) fn set(&mut self, job: u16)
         requires from { 1 ≤ job }
         requires to { job ≤ most_jobs }
-        ensures others { (other : ℕ) → 1 ≤ other → other ≢ job → mark result other ≡ mark self.now other }
-        ensures same { mark result job ≡ 0 }
+        ensures others { (other : ℕ) → 1 ≤ other → other ≢ job → mark self.new other ≡ mark self.old other }
+        ensures same { mark self.new job ≡ 1 }
     {
-        let mut marks = *self;
         let place = job as usize - 1;
-        marks.words[place / LANES] &= !(1 << (place % LANES));
-        marks
+        self.words[place / LANES] |= 1 << (place % LANES);
+    }
+
+    /// Takes away the mark of a job.
+    pub(crate) fn clear(&mut self, job: u16)
+        requires from { 1 ≤ job }
+        requires to { job ≤ most_jobs }
+        ensures others { (other : ℕ) → 1 ≤ other → other ≢ job → mark self.new other ≡ mark self.old other }
+        ensures same { mark self.new job ≡ 0 }
+    {
+        let place = job as usize - 1;
+        self.words[place / LANES] &= !(1 << (place % LANES));
     }
 
     /// The least marked job that is greater than one, of so many.
     pub(crate) fn next(&self, job: u16, jobs: u16) -> Option<u16>
         requires { jobs ≤ most_jobs }
         ensures above { IfSome result (λ next. job < next) }
+        ensures within { IfSome result (λ next. (next - 1) / 16 < (jobs + 15) / 16) }
         ensures marked { IfSome result (λ next. mark self.now next ≡ 1) }
         ensures least { IfSome result (λ next. (other : ℕ) → job < other → other < next → mark self.now other ≡ 0) }
         ensures none { IfNone result ((other : ℕ) → job < other → other ≤ jobs → mark self.now other ≡ 0) }

@@ -1,12 +1,15 @@
 //! The walk through the nodes that directions open: where the directions end that prove a number.
 
-ghost use Rattle.std.specs.Prelude.{◌≡◌, ◌⊎◌, ℕ, ◌+◌, ◌≤◌, ◌<◌, min, List, [], length, drop, take, slice_index};
-ghost use Rattle.std.specs.Prelude.{Some, None, Err, IfOk, IfErr, IfSome, IfNone};
+ghost use Rattle.std.specs.Prelude.{◌≡◌, ◌≢◌, ◌⊎◌, ℕ, ◌+◌, ◌-◌, ◌/◌, ◌≤◌, ◌<◌, min, false, List, [], ◌∷◌, ◌++◌};
+ghost use Rattle.std.specs.Prelude.{length, drop, take, slice_index, Err, IfOk, IfErr, IfSome, IfNone};
+ghost use Rattle.flow_limits.specs.Limits.{most_jobs};
 ghost use Rattle.flow_shop.specs.Shop.{Shop};
-ghost use Rattle.flow_shop.specs.Directions.{Proves};
-ghost use Rattle.flow_nodes.specs.Nodes.{IsNode};
+ghost use Rattle.flow_shop.specs.Sequences.{has};
+ghost use Rattle.flow_shop.specs.Directions.{Proves, first_with, last_with};
+ghost use Rattle.flow_nodes.specs.Nodes.{IsJob, IsNode};
 ghost use Rattle.flow_check.specs.TwoEndedFaults.{HasDirectionsFault};
-ghost use Rattle.flow_check.specs.internal.Frames.{AreGroups, AreLeft, AreOpen, IsFrame};
+ghost use Rattle.flow_check.specs.internal.Marks.{mark};
+ghost use Rattle.flow_check.specs.internal.Frames.{AreGroups, AreLeft, AreOpen, IsFrame, frame_at, here, above, with_job};
 ghost use Rattle.flow_check.specs.internal.ReadDirections.{EndsAt, first_end, read_node};
 ghost use Rattle.flow_check.specs.declared.fault.CheckFault.TheVariants.{Memory};
 
@@ -31,12 +34,21 @@ pub(crate) struct Frame {
     pub(crate) node: Node,
     /// The end.
     pub(crate) end: End,
-    /// The jobs left.
-    pub(crate) left: Marks,
     /// The jobs left whose children are below the number.
     pub(crate) below: Marks,
     /// The job of the child that is read, or 0 before the first.
     pub(crate) job: u16,
+}
+
+/// A node whose children are read, and the nodes above it, each of which is a child of the one before.
+#[derive(Drop)]
+pub(crate) struct Path {
+    /// The frames of the nodes, the root's first; and behind them memory for those of the nodes below.
+    pub(crate) frames: Vec<Frame>,
+    /// How many nodes are above the node.
+    pub(crate) depth: usize,
+    /// The jobs left at the node.
+    pub(crate) left: Marks,
 }
 
 /// The end whose sign stands at a place of a text.
@@ -88,67 +100,158 @@ fn groups<V: Lanes>(alloc: Global, instance: &Instance) -> Result<Vec<Vec<V>>, A
     Ok(groups)
 }
 
-/// Of the children of a node that put a job left at an end, those below a number.
+/// Marks the children below a number, of those of a node that put a job left at an end.
+#[inline(always)]
 fn open_children<V: Lanes>(
     groups: &[Vec<V>],
     node: &Node,
     end: End,
     left: &Marks,
     number: u64,
-) -> Marks
+    below: &mut Marks,
+)
     requires wide { V.WIDTH ≡ 16 }
     requires number { min number 4294967295 ≤ V.CAP }
     requires at { (shop : Shop) × AreGroups V.list V.CAP V.WIDTH shop groups.now }
     ensures { (shop : Shop) (first last : List ℕ) → AreGroups V.list V.CAP V.WIDTH shop groups.now →
         IsNode shop first last node.now → AreLeft shop first last left.now →
-        AreOpen shop number end first last result }
+        AreOpen shop number end first last below.new }
 {
     let limit = number.min(ABOVE_BOUNDS) as u32;
-    let mut marks = Marks::none();
     for group in 0..groups.len() {
         let word = left.words[group];
         if word != 0 {
             let bits = node.children_below(end, groups[group].as_slice(), limit);
-            marks.words[group] = (bits & u64::from(word)) as u16;
+            below.words[group] = (bits & u64::from(word)) as u16;
+        } else {
+            below.words[group] = 0;
         }
     }
-    marks
 }
 
-/// The frame of a node below a number with jobs left, by the sign at a place of a text; or none where none stands
-/// there.
-fn frame_at<V: Lanes>(
-    groups: &[Vec<V>],
-    number: u64,
-    node: Node,
-    left: Marks,
-    text: &[u8],
-    place: usize,
-) -> Option<Frame>
-    requires wide { V.WIDTH ≡ 16 }
-    requires number { min number 4294967295 ≤ V.CAP }
-    requires at { (shop : Shop) × AreGroups V.list V.CAP V.WIDTH shop groups.now }
-    requires place { place ≤ length text.now }
-    ensures none { IfNone result (first_end (drop place text.now) ≡ None) }
-    ensures some { IfSome result (λ frame. first_end (drop place text.now) ≡ Some frame.end) }
-    ensures within { IfSome result (λ frame. place < length text.now) }
-    ensures before { IfSome result (λ frame. frame.job ≡ 0) }
-    ensures frame { (shop : Shop) (first last : List ℕ) → AreGroups V.list V.CAP V.WIDTH shop groups.now →
-        IsNode shop first last node → AreLeft shop first last left →
-        IfSome result (λ frame. IsFrame shop number first last frame) }
+/// A frame for each job, all with the same node.
+fn all_frames(alloc: Global, jobs: u16, node: Node) -> Result<Vec<Frame>, AllocError>
+    ensures size { IfOk result (λ frames. length frames.items ≡ jobs) }
+    ensures each { IfOk result (λ frames. (place : ℕ) → place < jobs → (frame_at frames.items place).node ≡ node) }
 {
-    match end_at(text, place) {
-        None => None,
-        Some(end) => {
-            let below = open_children(groups, &node, end, &left, number);
-            Some(Frame {
-                node,
-                end,
-                left,
-                below,
-                job: 0,
-            })
-        }
+    let mut frames = Vec::with_capacity(alloc, jobs as usize)?;
+    'frames: while frames.len() < jobs as usize {
+        frames.push(Frame {
+            node,
+            end: End::Front,
+            below: Marks::none(),
+            job: 0,
+        })?;
+    }
+    Ok(frames)
+}
+
+impl Path {
+    /// The path of a root, at which all jobs are left, with memory for so many nodes as there are jobs.
+    fn new(alloc: Global, jobs: u16, node: Node) -> Result<Path, AllocError>
+        requires { jobs ≤ most_jobs }
+        ensures size { IfOk result (λ path. length path.frames.items ≡ jobs) }
+        ensures depth { IfOk result (λ path. path.depth ≡ 0) }
+        ensures node { IfOk result (λ path. 0 < jobs → (here path).node ≡ node) }
+        ensures marked { IfOk result (λ path. (job : ℕ) → 1 ≤ job → job ≤ jobs → mark path.left job ≡ 1) }
+        ensures others { IfOk result (λ path. (job : ℕ) → jobs < job → mark path.left job ≡ 0) }
+    {
+        Ok(Path {
+            frames: all_frames(alloc, jobs, node)?,
+            depth: 0,
+            left: Marks::first(jobs),
+        })
+    }
+
+    /// Begins with the children of the node at an end, of those below a number.
+    #[inline(always)]
+    fn open<V: Lanes>(&mut self, groups: &[Vec<V>], end: End, number: u64)
+        requires wide { V.WIDTH ≡ 16 }
+        requires number { min number 4294967295 ≤ V.CAP }
+        requires at { (shop : Shop) × AreGroups V.list V.CAP V.WIDTH shop groups.now }
+        requires within { self.old.depth < length self.old.frames.items }
+        ensures depth { self.new.depth ≡ self.old.depth }
+        ensures size { length self.new.frames.items ≡ length self.old.frames.items }
+        ensures above { above self.new ≡ above self.old }
+        ensures left { self.new.left ≡ self.old.left }
+        ensures end { (here self.new).end ≡ end }
+        ensures before { (here self.new).job ≡ 0 }
+        ensures frame { (shop : Shop) (first last : List ℕ) → AreGroups V.list V.CAP V.WIDTH shop groups.now →
+            IsNode shop first last (here self.old).node → AreLeft shop first last self.old.left →
+            IsFrame shop number first last (here self.new) }
+    {
+        let frame = &mut self.frames[self.depth];
+        frame.end = end;
+        frame.job = 0;
+        open_children(
+            groups,
+            &frame.node,
+            end,
+            &self.left,
+            number,
+            &mut frame.below,
+        );
+    }
+
+    /// The next job to be put at the node, as its child is below the number.
+    #[inline(always)]
+    fn next(&self, jobs: u16) -> Option<u16>
+        requires jobs { jobs ≤ most_jobs }
+        requires within { self.now.depth < length self.now.frames.items }
+        ensures above { IfSome result (λ next. (here self.now).job < next) }
+        ensures within { IfSome result (λ next. (next - 1) / 16 < (jobs + 15) / 16) }
+        ensures marked { IfSome result (λ next. mark (here self.now).below next ≡ 1) }
+        ensures least { IfSome result (λ next. (other : ℕ) → (here self.now).job < other → other < next →
+            mark (here self.now).below other ≡ 0) }
+        ensures none { IfNone result ((other : ℕ) → (here self.now).job < other → other ≤ jobs →
+            mark (here self.now).below other ≡ 0) }
+    {
+        let frame = &self.frames[self.depth];
+        frame.below.next(frame.job, jobs)
+    }
+
+    /// Goes to the child of the node that a job makes, at the end of the node.
+    #[inline(always)]
+    fn put(&mut self, instance: &Instance, job: u16)
+        requires job { IsJob instance.now job }
+        requires few { job ≤ most_jobs }
+        requires room { self.old.depth + 1 < length self.old.frames.items }
+        requires left { (first : List ℕ) × (last : List ℕ) × IsNode instance.now first last (here self.old).node
+            × (has (first ++ last) job ≡ false) }
+        ensures depth { self.new.depth ≡ self.old.depth + 1 }
+        ensures size { length self.new.frames.items ≡ length self.old.frames.items }
+        ensures above { above self.new ≡ above self.old ++ with_job (here self.old) job ∷ [] }
+        ensures node { (first last : List ℕ) → IsNode instance.now first last (here self.old).node →
+            has (first ++ last) job ≡ false →
+            IsNode instance.now (first_with (here self.old).end first job) (last_with (here self.old).end last job)
+            (here self.new).node }
+        ensures others { (other : ℕ) → 1 ≤ other → other ≢ job → mark self.new.left other ≡ mark self.old.left other }
+        ensures same { mark self.new.left job ≡ 0 }
+    {
+        let depth = self.depth;
+        let end = self.frames[depth].end;
+        self.frames[depth].job = job;
+        self.frames[depth + 1].node = self.frames[depth].node;
+        self.frames[depth + 1].node.put(instance, end, job);
+        self.left.clear(job);
+        self.depth = depth + 1;
+    }
+
+    /// Goes back to the node above.
+    #[inline(always)]
+    fn back(&mut self)
+        requires above { 0 < self.old.depth }
+        requires within { self.old.depth < length self.old.frames.items }
+        requires from { 1 ≤ (frame_at self.old.frames.items (self.old.depth - 1)).job }
+        requires to { (frame_at self.old.frames.items (self.old.depth - 1)).job ≤ most_jobs }
+        ensures depth { self.new.depth ≡ self.old.depth - 1 }
+        ensures frames { self.new.frames.items ≡ self.old.frames.items }
+        ensures others { (other : ℕ) → 1 ≤ other → other ≢ (here self.new).job →
+            mark self.new.left other ≡ mark self.old.left other }
+        ensures same { mark self.new.left (here self.new).job ≡ 1 }
+    {
+        self.depth -= 1;
+        self.left.set(self.frames[self.depth].job);
     }
 }
 
@@ -171,34 +274,30 @@ fn walk<V: Lanes>(
     }
     let jobs = instance.jobs();
     let groups = groups::<V>(alloc, instance)?;
-    let mut frames = Vec::with_capacity(alloc, jobs as usize)?;
-    let mut frame = match frame_at(groups.as_slice(), number, root, Marks::first(jobs), text, 0) {
-        None => return Err(CheckFault::Tree(DIRECTIONS)),
-        Some(frame) => frame,
+    let mut path = Path::new(alloc, jobs, root)?;
+    let Some(end) = end_at(text, 0) else {
+        return Err(CheckFault::Tree(DIRECTIONS));
     };
+    path.open(groups.as_slice(), end, number);
     let mut place = 1;
     'walk: loop {
-        match frame.below.next(frame.job, jobs) {
-            None => match frames.pop() {
-                None => return Ok(place),
-                Some(above) => frame = above,
-            },
+        match path.next(jobs) {
+            None => {
+                if path.depth == 0 {
+                    return Ok(place);
+                }
+                path.back();
+            }
             Some(job) => {
-                if frames.len() + 1 == jobs as usize {
+                if path.depth + 1 == jobs as usize {
                     return Err(CheckFault::Low(DIRECTIONS));
                 }
-                let mut node = frame.node;
-                node.put(instance, frame.end, job);
-                let left = frame.left.without(job);
-                match frame_at(groups.as_slice(), number, node, left, text, place) {
-                    None => return Err(CheckFault::Tree(DIRECTIONS)),
-                    Some(child) => {
-                        frame.job = job;
-                        frames.push_reserved(frame);
-                        frame = child;
-                        place += 1;
-                    }
-                }
+                let Some(end) = end_at(text, place) else {
+                    return Err(CheckFault::Tree(DIRECTIONS));
+                };
+                path.put(instance, job);
+                path.open(groups.as_slice(), end, number);
+                place += 1;
             }
         }
     }

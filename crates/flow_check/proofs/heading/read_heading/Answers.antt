@@ -2,6 +2,7 @@ use Rattle.std.proofs.Common.{◌≡◌, ◌≢◌, Bool, true, false, nat_eq, a
 use Rattle.std.proofs.lemmas.Bool.{eq-eqb, ne_eqb}
 use Rattle.flow_shop.specs.Paths.{span}
 use Rattle.flow_check.specs.TextLines.{stated_bounds}
+use Rattle.flow_check.specs.CertificateFaults.{UnlessMemory}
 use Rattle.flow_check.specs.internal.Reading.{text_value, header_value, after_heading, stated_once, on_line}
 use Rattle.flow_check.specs.internal.ReadTrees.{cut_value}
 use Rattle.flow_check.specs.declared.bounds.Bounds.{Bounds}
@@ -9,9 +10,11 @@ use Rattle.flow_check.specs.declared.fault.CheckFault.TheVariants.{Header, Value
 use Rattle.flow_check.proofs.Exact.{after_size, after_stated}
 use Rattle.flow_check.proofs.HeadingLines.{title-read, title-refused, size-is, is-size, size-read, size-refused}
 use Rattle.flow_check.proofs.HeadingLines.{stated-read, stated-refused, sequence-read, sequence-refused}
+use Rattle.flow_check.proofs.Exits.{at_exit}
+use Rattle.flow_check.proofs.StatedLines.{begins-heading, sequence-fails}
 use Rattle.flow_check.proofs.heading.read_heading.Goals as goal
 use Rattle.flow_check.proofs.heading.read_heading.Goals.{In-Some-read_size, In-Some-read_stated}
-use Rattle.flow_check.proofs.heading.read_heading.Goals.{In-Some-read_sequence}
+use Rattle.flow_check.proofs.heading.read_heading.Goals.{In_ok-line}
 
 pub returns-in_default-clause-fault : goal.returns-in_default-clause-fault
 unfolding text_value
@@ -56,22 +59,20 @@ third c =
     c.in-Some-read_stated.ensures.found.1
 
 -- what the line of the sequence makes of it
-sequenced : (c : In-Some-read_sequence) (same : Bool) →
-    nat_eq (span c.args.instance.now c.in-Some-read_sequence.ensures.found.0)
+sequenced : (c : In_ok-line) (same : Bool) →
+    nat_eq (span c.args.instance.now c.in_ok-line.line.sequence)
     (stated_bounds c.args.kind c.in-Some-read_stated.ensures.found.0).upper ≡ same →
     on_line Sequence (after_stated c.args.kind c.args.instance.now c.in-Some.version c.in-Some-read_size.depth
     c.in-Some-read_stated.ensures.found.0)
     c.in-Some-read_stated.sequence_text.now
     ≡ cond same (after_heading c.args.kind c.args.instance.now c.in-Some.version c.in-Some-read_size.depth
-    c.in-Some-read_stated.ensures.found.0 c.in-Some-read_sequence.trees.now) (Err NotAttained)
+    c.in-Some-read_stated.ensures.found.0 c.in_ok-line.line.rest.now) (Err NotAttained)
 sequenced c same is =
     sequence-read c.args.kind c.args.instance.now c.in-Some.version c.in-Some-read_stated.sequence_text.now
-    c.in-Some-read_size.depth
-    c.in-Some-read_stated.ensures.found.0 _ c.in-Some-read_sequence.trees.now c.jobs-jobs.ensures.limits
-    c.in-Some-read_sequence.ensures.found.1
+    c.in-Some-read_size.depth c.in-Some-read_stated.ensures.found.0 c.in_ok-line.line.sequence
+    c.in_ok-line.line.rest.now c.jobs-jobs.ensures.limits c.in_ok-line.ensures.found
     ∙ ap (λ b. cond b (after_heading c.args.kind c.args.instance.now c.in-Some.version c.in-Some-read_size.depth
-    c.in-Some-read_stated.ensures.found.0
-    c.in-Some-read_sequence.trees.now) (Err NotAttained)) is
+    c.in-Some-read_stated.ensures.found.0 c.in_ok-line.line.rest.now) (Err NotAttained)) is
 
 pub returns-in_default-read_stated-clause-fault : goal.returns-in_default-read_stated-clause-fault
 unfolding text_value
@@ -80,30 +81,33 @@ returns-in_default-read_stated-clause-fault c =
     ∙ stated-refused c.args.kind c.args.instance.now c.in-Some.version c.in-Some-read_size.stated_text.now
     c.in-Some-read_size.depth c.in_default-read_stated.ensures.only
 
-pub returns-in_default-read_sequence-clause-fault : goal.returns-in_default-read_sequence-clause-fault
+pub returns-in_err-line-clause-fault : goal.returns-in_err-line-clause-fault
 unfolding text_value
-returns-in_default-read_sequence-clause-fault c =
-    let at = goal.at.returns-in_default-read_sequence-clause-fault c in
-    sized at.In-Some-read_size ∙ third at.In-Some-read_stated
+returns-in_err-line-clause-fault c =
+    let at = goal.at.returns-in_err-line-clause-fault c in
+    at_exit c.from_residual.result c.in_err-line.field-0.0
+    (UnlessMemory (λ fault. text_value c.args.kind c.args.instance.now c.args.text.now ≡ Err fault))
+    c.from_residual.ensures.1
+    (sequence-fails c.args.kind c.args.instance.now c.args.text.now c.in-Some-read_stated.sequence_text.now
+    c.in_err-line.field-0.0 (λ none. sized at.In-Some-read_size ∙ third at.In-Some-read_stated
     ∙ sequence-refused c.args.kind c.args.instance.now c.in-Some.version c.in-Some-read_stated.sequence_text.now
-    c.in-Some-read_size.depth
-    c.in-Some-read_stated.ensures.found.0 c.jobs-jobs.ensures.limits c.in_default-read_sequence.ensures.only
+    c.in-Some-read_size.depth c.in-Some-read_stated.ensures.found.0 c.jobs-jobs.ensures.limits none)
+    c.in_err-line.ensures.fault)
 
 -- the makespan that is compared
-upper : (c : In-Some-read_sequence) →
+upper : (c : In_ok-line) →
     c.in-Some-read_stated.bounds.upper ≡ (stated_bounds c.args.kind c.in-Some-read_stated.ensures.found.0).upper
 upper c = ap (λ (b : Bounds). b.upper) c.in-Some-read_stated.ensures.found.2
 
-pub returns-then-makespan-bounds-clause-fault : goal.returns-then-makespan-bounds-clause-fault
+pub returns-then-line-bounds-clause-fault : goal.returns-then-line-bounds-clause-fault
 unfolding text_value
-returns-then-makespan-bounds-clause-fault c =
-    let at = goal.at.returns-then-makespan-bounds-clause-fault c in
-    let other : span c.args.instance.now c.in-Some-read_sequence.ensures.found.0
+returns-then-line-bounds-clause-fault c =
+    let at = goal.at.returns-then-line-bounds-clause-fault c in
+    let other : span c.args.instance.now c.in_ok-line.line.sequence
     ≢ (stated_bounds c.args.kind c.in-Some-read_stated.ensures.found.0).upper =
-    λ e. c.if-makespan-bounds.true (sym c.in-Some-read_sequence.ensures.found.2 ∙ e
-    ∙ sym (upper at.In-Some-read_sequence)) in
+    λ e. c.if-line-bounds.true (sym c.in_ok-line.ensures.makespan ∙ e ∙ sym (upper at.In_ok-line)) in
     sized at.In-Some-read_size ∙ third at.In-Some-read_stated
-    ∙ sequenced at.In-Some-read_sequence false (ne_eqb _ _ other)
+    ∙ sequenced at.In_ok-line false (ne_eqb _ _ other)
 
 pub returns-clause-found : goal.returns-clause-found
 unfolding text_value
@@ -112,10 +116,26 @@ returns-clause-found c =
       c.in-Some-read_stated.ensures.found.0,
       c.in-Some-read_stated.ensures.found.2,
       sized at.In-Some-read_size ∙ third at.In-Some-read_stated
-          ∙ sequenced at.In-Some-read_sequence true (eq-eqb _ _
-          (c.in-Some-read_sequence.ensures.found.2 ∙ c.if-makespan-bounds.false
-          ∙ upper at.In-Some-read_sequence))
+          ∙ sequenced at.In_ok-line true (eq-eqb _ _
+          (c.in_ok-line.ensures.makespan ∙ c.if-line-bounds.false ∙ upper at.In_ok-line))
           ∙ ap (λ (b : Bounds). stated_once c.in-Some-read_stated.ensures.found.0
           (cut_value c.args.instance.now c.in-Some.version c.in-Some-read_size.depth b.lower
-          c.in-Some-read_sequence.trees.now)) (sym c.in-Some-read_stated.ensures.found.2),
+          c.in_ok-line.line.rest.now)) (sym c.in-Some-read_stated.ensures.found.2),
+    )
+
+pub returns-clause-lines : goal.returns-clause-lines
+returns-clause-lines c =
+    let size = size-is c.args.instance.now c.jobs-jobs.result c.machines-machines.result c.in-Some.size_text.now
+    c.in-Some-read_size.depth c.in-Some-read_size.stated_text.now c.jobs-jobs.ensures.value
+    c.machines-machines.ensures.value c.in-Some-read_size.ensures.found in (
+      c.in-Some-read_stated.ensures.found.0,
+      c.in-Some.ensures.found.0,
+      (size.0, size.1),
+      c.in-Some-read_stated.ensures.found.1.0,
+      c.in_ok-line.ensures.found.0,
+      begins-heading c.args.kind c.args.instance.now c.args.text.now c.in-Some.size_text.now
+          c.in-Some-read_size.stated_text.now c.in-Some-read_stated.sequence_text.now c.in_ok-line.line.rest.now
+          c.in-Some.version c.in-Some-read_size.depth c.in-Some-read_stated.ensures.found.0
+          c.in_ok-line.line.sequence c.in-Some.ensures.found.1 size c.in-Some-read_stated.ensures.found.1
+          c.in_ok-line.ensures.found,
     )

@@ -1,6 +1,6 @@
 use Rattle.std.proofs.Common.{refl, ap}
 use Rattle.flow_check.specs.TextLines.{stated_bounds}
-use Rattle.flow_check.specs.declared.kind.TextKind.TheVariants.{Certificate}
+use Rattle.flow_check.specs.declared.kind.TreeKind.TheVariants.{Certificate}
 use Rattle.flow_check.proofs.SizeLine.{value-number, number-value}
 use Rattle.flow_check.proofs.heading.read_value.Goals as goal
 

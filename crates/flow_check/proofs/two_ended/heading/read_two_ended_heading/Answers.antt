@@ -1,4 +1,4 @@
-use Rattle.std.proofs.Common.{◌≡◌, ◌++◌, List, ℕ, refl, sym, subst, ◌∙◌}
+use Rattle.std.proofs.Common.{◌≡◌, ◌++◌, sym, ◌∙◌}
 use Rattle.flow_check.specs.TwoEnded.{size_lines, bounds_lines}
 use Rattle.flow_check.specs.TwoEndedFaults.{HasFourLines, IsTwoEndedFault}
 use Rattle.flow_check.proofs.Exits.{at_exit}
@@ -50,28 +50,24 @@ returns-in_err-line-clause-fault c =
     (bounded at.In-Some-read_bounds (sized at.In-Some-after_size)) c.in_err-line.ensures.fault)
 
 -- four lines are lawful
-four : (c : In_ok-line) → (jobs : List ℕ) → jobs ≡ c.in_ok-line.line.jobs.items →
-    c.args.text.now ≡ bounds_lines c.args.instance.now c.in-Some-read_bounds.bounds
+four : (c : In_ok-line) → c.args.text.now ≡ bounds_lines c.args.instance.now c.in-Some-read_bounds.bounds
     ++ c.in-Some-read_bounds.sequence_text.now →
-    HasFourLines c.args.instance.now c.args.text.now c.in-Some-read_bounds.bounds jobs c.in_ok-line.line.rest.now
-four c jobs same is =
-    subst (λ jobs. HasFourLines c.args.instance.now c.args.text.now c.in-Some-read_bounds.bounds jobs
-    c.in_ok-line.line.rest.now) (sym same)
-    (read-four c.args.instance.now c.args.text.now c.in-Some-read_bounds.sequence_text.now
-    c.in-Some-read_bounds.bounds c.in_ok-line.line.jobs.items c.in_ok-line.line.rest.now
-    c.in-Some-read_bounds.ensures.found.0 is c.in_ok-line.ensures.found)
+    HasFourLines c.args.instance.now c.args.text.now c.in-Some-read_bounds.bounds c.in_ok-line.line.sequence
+    c.in_ok-line.line.rest.now
+four c is =
+    read-four c.args.instance.now c.args.text.now c.in-Some-read_bounds.sequence_text.now
+    c.in-Some-read_bounds.bounds c.in_ok-line.line.sequence c.in_ok-line.line.rest.now
+    c.in-Some-read_bounds.ensures.found.0 is c.in_ok-line.ensures.found
 
 pub returns-then-line-bounds-clause-fault : goal.returns-then-line-bounds-clause-fault
 returns-then-line-bounds-clause-fault c =
     let at = goal.at.returns-then-line-bounds-clause-fault c in
-    misses-upper c.args.instance.now c.args.text.now c.in-Some-read_bounds.bounds c.in_ok-line.line.jobs.items
+    misses-upper c.args.instance.now c.args.text.now c.in-Some-read_bounds.bounds c.in_ok-line.line.sequence
     c.in_ok-line.line.rest.now
-    (four at.In_ok-line c.in_ok-line.line.jobs.items refl
-    (bounded at.In-Some-read_bounds (sized at.In-Some-after_size)))
+    (four at.In_ok-line (bounded at.In-Some-read_bounds (sized at.In-Some-after_size)))
     (λ e. c.if-line-bounds.true (sym c.in_ok-line.ensures.makespan ∙ e))
 
 pub returns-clause-four : goal.returns-clause-four
 returns-clause-four c =
     let at = goal.at.returns-clause-four c in
-    four at.In_ok-line c.in_ok-sequence.sequence (c.in_ok-sequence.ensures ∙ c.as_slice.ensures.value)
-    (bounded at.In-Some-read_bounds (sized at.In-Some-after_size))
+    four at.In_ok-line (bounded at.In-Some-read_bounds (sized at.In-Some-after_size))

@@ -1,44 +1,30 @@
 use Rattle.std.proofs.Common.{◌≡◌, ◌-◌, ◌*◌, ◌/◌, ◌<◌, length, refl, ap, sym, ◌∙◌, subst, arith, inl, inr}
 use Rattle.std.proofs.lemmas.Bool.{cases_lt}
 use Rattle.std.proofs.lemmas.List.{length-set}
-use Rattle.flow_check.specs.internal.Marks.{mark}
 use Rattle.flow_check.specs.internal.Frames.{IsGroupFrom}
-use Rattle.flow_check.proofs.OpenSteps.{IsOpen, rest-kept, word-before, word-open, word-none, group-tells}
+use Rattle.flow_check.proofs.OpenSteps.{IsOpen, word-before, word-open, word-none, group-tells}
 use Rattle.flow_check.proofs.two_ended.walk.open_children.Goals as goal
 use Rattle.flow_check.proofs.two_ended.walk.open_children.Goals.{then-word-ne0, else-word-ne0}
 
 pub loop-group-preserved : goal.loop-group-preserved
 loop-group-preserved g c =
     let group = c.loop-group.group in
-    let words = c.loop-group.marks.words in
+    let words = c.loop-group.below.words in
+    let few : group < length words = omega (
+      arith,
+      c.loop-group.invariant.size,
+      c.loop-group-test.true,
+      c.requires.at.1.count,
+      c.requires.at.1.limits.jobs,
+    ) in
     record {
       size = elim c.if-word-ne0.branch [
-        | then-word-ne0 w ↦ ap (λ m. length m.words) w.marks-is ∙ length-set words group _ ∙ c.loop-group.invariant.size
-        | else-word-ne0 w ↦ ap (λ m. length m.words) w.marks-is ∙ c.loop-group.invariant.size
-      ];
-      rest = λ job high. elim c.if-word-ne0.branch [
-        | then-word-ne0 w ↦
-            let few : group < length words = omega (
-              arith,
-              c.loop-group.invariant.size,
-              c.loop-group-test.true,
-              c.requires.at.1.count,
-              c.requires.at.1.limits.jobs,
-            ) in
-            ap (λ m. mark m job) w.marks-is ∙ rest-kept words group _ few c.loop-group.invariant.rest job high
-        | else-word-ne0 w ↦
-            ap (λ m. mark m job) w.marks-is ∙ c.loop-group.invariant.rest job (omega (arith, high))
+        | then-word-ne0 w ↦ ap (λ m. length m.words) w.below-is ∙ length-set words group _ ∙ c.loop-group.invariant.size
+        | else-word-ne0 w ↦ ap (λ m. length m.words) w.below-is ∙ length-set words group _ ∙ c.loop-group.invariant.size
       ];
       done = λ shop first last groups is left job low high. elim c.if-word-ne0.branch [
         | then-word-ne0 w ↦
-            let few : group < length words = omega (
-              arith,
-              c.loop-group.invariant.size,
-              c.loop-group-test.true,
-              c.requires.at.1.count,
-              c.requires.at.1.limits.jobs,
-            ) in
-            subst (λ m. IsOpen shop c.args.number c.args.end first last m job) (sym w.marks-is)
+            subst (λ m. IsOpen shop c.args.number c.args.end first last m job) (sym w.below-is)
             (elim (cases_lt ((job - 1) / 16) group) [
               | inl under ↦ word-before words group _ few shop c.args.number c.args.end first last c.args.left.now left
                   job low under (c.loop-group.invariant.done shop first last groups is left job low under)
@@ -54,17 +40,18 @@ loop-group-preserved g c =
                   (λ within fresh. group-tells g.V.Lanes.list g.V.Lanes.CAP g.V.Lanes.WIDTH c.requires.wide shop
                   c.args.number c.min-limit.result c.args.end first last c.args.node.now group w.as_slice.result.now
                   w.children_below-bits.result job is from (omega (arith, c.min-limit.ensures))
-                  (λ names lane are inside out. w.children_below-bits.ensures shop first last names lane is are inside
-                  out) low there within fresh)
+                  (λ names lane are inside out. w.children_below-bits.ensures.each shop first last names lane is are
+                  inside out) low there within fresh)
             ])
         | else-word-ne0 w ↦
-            subst (λ m. IsOpen shop c.args.number c.args.end first last m job) (sym w.marks-is)
+            subst (λ m. IsOpen shop c.args.number c.args.end first last m job) (sym w.below-is)
             (elim (cases_lt ((job - 1) / 16) group) [
-              | inl under ↦ c.loop-group.invariant.done shop first last groups is left job low under
+              | inl under ↦ word-before words group 0 few shop c.args.number c.args.end first last c.args.left.now left
+                  job low under (c.loop-group.invariant.done shop first last groups is left job low under)
               | inr above ↦
                   let there : (job - 1) / 16 ≡ group = omega (arith, above, high) in
-                  word-none shop c.args.number c.args.end first last c.args.left.now c.loop-group.marks left job low group
-                  _ w.if-word-ne0.false refl there (c.loop-group.invariant.rest job (omega (arith, there)))
+                  word-none words group few shop c.args.number c.args.end first last c.args.left.now left job low _
+                  w.if-word-ne0.false refl there
             ])
       ];
     }
@@ -75,8 +62,7 @@ returns g c shop first last groups is left =
       all = λ job low high fresh below.
           let within : (job - 1) / 16 < c.loop-group.group = omega (arith, high, c.loop-group-test.false, groups.count) in
           (c.loop-group.invariant.done shop first last groups is left job low within).all high fresh below;
-      only = λ job low marked. elim (cases_lt ((job - 1) / 16) c.loop-group.group) [
-        | inl under ↦ (c.loop-group.invariant.done shop first last groups is left job low under).only marked
-        | inr above ↦ absurd (omega (arith, marked, c.loop-group.invariant.rest job above))
-      ];
+      only = λ job low inside marked.
+          let within : (job - 1) / 16 < c.loop-group.group = omega (arith, inside, c.loop-group-test.false, groups.count) in
+          (c.loop-group.invariant.done shop first last groups is left job low within).only marked;
     }

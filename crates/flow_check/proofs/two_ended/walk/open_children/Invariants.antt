@@ -1,18 +1,16 @@
 use Rattle.std.proofs.Common.{◌≡◌, ℕ, ◌-◌, ◌/◌, ◌<◌, ◌≤◌, List, length}
 use Rattle.flow_shop.specs.Shop.{Shop}
 use Rattle.flow_nodes.specs.Nodes.{IsNode}
-use Rattle.flow_check.specs.internal.Marks.{mark}
 use Rattle.flow_check.specs.internal.Frames.{AreGroups, AreLeft}
 use Rattle.flow_check.proofs.OpenSteps.{IsOpen}
 use Rattle.flow_check.proofs.two_ended.walk.open_children.Given as goal
 
--- the words so far have their marks, and the others have none
+-- the words so far have their marks
 abbrev pub invariant-loop-group : goal.invariant-loop-group
 invariant-loop-group g l = record {
-  size : length l.marks.words ≡ 50;
-  rest : (job : ℕ) → l.group ≤ (job - 1) / 16 → mark l.marks job ≡ 0;
+  size : length l.below.words ≡ 50;
   done : (shop : Shop) (first last : List ℕ) →
       AreGroups g.V.Lanes.list g.V.Lanes.CAP g.V.Lanes.WIDTH shop l.groups → IsNode shop first last l.node →
       AreLeft shop first last l.left → (job : ℕ) → 1 ≤ job → (job - 1) / 16 < l.group →
-      IsOpen shop l.number l.end first last l.marks job;
+      IsOpen shop l.number l.end first last l.below job;
 }

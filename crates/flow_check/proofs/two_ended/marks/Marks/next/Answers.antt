@@ -1,7 +1,18 @@
 use Rattle.std.proofs.Common.{◌/◌, ◌%◌, ◌^◌, ◌<◌, slice_index, ap, arith, inl, inr}
 use Rattle.std.proofs.lemmas.Bool.{cases_lt}
-use Rattle.flow_check.proofs.MarkSteps.{found, none-under, none-behind}
+use Rattle.flow_check.proofs.MarkSteps.{inside, found, none-under, none-behind}
 use Rattle.flow_check.proofs.two_ended.marks.Marks.next.Goals as goal
+
+pub returns-then-rest-ne0-clause-within : goal.returns-then-rest-ne0-clause-within
+returns-then-rest-ne0-clause-within c =
+    let fits : slice_index c.args.self.now.words (c.words.place / 16) < 2 ^ 16 =
+    omega (arith, c.word.ensures, c.word.type_inv) in
+    omega (
+      arith,
+      c.words-test.true,
+      inside c.args.self.now c.words.place _ (ap (λ w. w / 2 ^ (c.words.place % 16)) c.word.ensures) fits
+          c.if-rest-ne0.true,
+    )
 
 pub returns-then-rest-ne0-clause-marked : goal.returns-then-rest-ne0-clause-marked
 returns-then-rest-ne0-clause-marked c =

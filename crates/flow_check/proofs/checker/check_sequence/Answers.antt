@@ -1,5 +1,5 @@
 use Rattle.flow_check.proofs.StatedLines.{value-gives}
-use Rattle.flow_check.proofs.stated.check_sequence.Goals as goal
+use Rattle.flow_check.proofs.checker.check_sequence.Goals as goal
 
 pub returns-clause-sequence : goal.returns-clause-sequence
 returns-clause-sequence c =

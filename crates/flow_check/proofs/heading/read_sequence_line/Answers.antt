@@ -2,10 +2,13 @@ use Rattle.std.proofs.Common.{◌≡◌, ℕ, ◌+◌, ◌-◌, ◌≤◌, List,
 use Rattle.std.proofs.Common.{arith}
 use Rattle.std.proofs.lemmas.Bool.{false≢true}
 use Rattle.flow_shop.specs.Limits.{most_jobs}
-use Rattle.flow_shop.specs.Sequences.{has}
+use Rattle.flow_shop.specs.Paths.{span}
+use Rattle.flow_shop.specs.Sequences.{IsSequence, has}
 use Rattle.flow_shop.proofs.Fronts.{front-within}
+use Rattle.flow_check.specs.internal.Heading.{BeginsWithSequence}
 use Rattle.flow_check.proofs.SequenceLine.{IsDone, none-done, at-job, done-more, all-done}
-use Rattle.flow_check.proofs.two_ended.heading.read_sequence_line.Goals as goal
+use Rattle.flow_check.proofs.heading.read_sequence_line.Goals as goal
+use Rattle.flow_check.proofs.heading.read_sequence_line.Goals.{After-loop-place}
 
 pub loop-place-init : goal.loop-place-init
 loop-place-init c =
@@ -57,16 +60,32 @@ loop-place-preserved c =
     (sym c.contains.ensures.value ∙ c.if-contains.false) c.contains.ensures.size c.insert.ensures.value
     (c.front_push.ensures.front done is.times))
 
-pub returns-clause-found : goal.returns-clause-found
-returns-clause-found c =
+-- the whole line is read
+read : (c : After-loop-place) → BeginsWithSequence c.args.instance.now.jobs c.args.text.now
+    c.loop-place.found.items c.loop-place.rest.now
+read c =
     let last : c.loop-place.place ≡ c.args.instance.now.jobs + 1 =
     omega (arith, c.loop-place-test.false, c.loop-place.auto.place-end, c.jobs-jobs.ensures.value) in
     all-done c.args.instance.now c.args.text.now c.loop-place.place c.loop-place.scheduled c.loop-place.front
     c.loop-place.rest.now c.loop-place.found.items c.loop-place.invariant last
     c.jobs-jobs.ensures.limits.some_job
 
+pub of_known-requires : goal.of_known-requires
+of_known-requires c =
+    let own : List ℕ = c.as_slice.result.now in
+    let is = subst (λ jobs. IsSequence c.args.instance.now.jobs jobs) (sym c.as_slice.ensures.value)
+    (read (goal.at.of_known-requires c).After-loop-place).0 in
+    subst (λ n. IsSequence n own) (sym is.whole) is
+
+pub returns-clause-found : goal.returns-clause-found
+returns-clause-found c =
+    subst (λ jobs. BeginsWithSequence c.args.instance.now.jobs c.args.text.now jobs c.loop-place.rest.now)
+    (sym (c.in_ok-of_known.ensures ∙ c.as_slice.ensures.value))
+    (read (goal.at.returns-clause-found c).After-loop-place)
+
 pub returns-clause-makespan : goal.returns-clause-makespan
 returns-clause-makespan c =
     let limits = c.jobs-jobs.ensures.limits in
-    sym (c.at.ensures ∙ ap (λ m. slice_index c.loop-place.front (m - 1)) c.machines-machines.ensures.value
+    ap (span c.args.instance.now) (c.in_ok-of_known.ensures ∙ c.as_slice.ensures.value)
+    ∙ sym (c.at.ensures ∙ ap (λ m. slice_index c.loop-place.front (m - 1)) c.machines-machines.ensures.value
     ∙ c.loop-place.invariant.times c.args.instance.now.machines limits.some_machine (omega arith))

@@ -1,0 +1,43 @@
+//! The checker of texts of all kinds.
+
+ghost use Rattle.std.specs.Prelude.{◌≡◌, ◌⊎◌, ℕ, List, IfOk, IfErr, IsOkAnd, Err};
+ghost use Rattle.flow_shop.specs.Sequences.{IsLeastMakespan, IsSequence};
+ghost use Rattle.flow_check.specs.Certificate.{AreBounds};
+ghost use Rattle.flow_check.specs.Check.{IsFaultAs, IsUnlawfulAs};
+ghost use Rattle.flow_check.specs.Stated.{GivesAs};
+ghost use Rattle.flow_check.specs.declared.bounds.Bounds.{Bounds};
+ghost use Rattle.flow_check.specs.declared.fault.CheckFault.TheVariants.{Memory};
+
+use crate::checker::check_tree_text;
+use crate::fault::CheckFault;
+use crate::kind::{TextKind, TreeKind};
+use crate::shown::Shown;
+use crate::two_ended::check_two_ended;
+use flow_shop::Instance;
+use std::alloc::Global;
+
+/// What a lawful text of a kind shows, or the first fault of the text. Its bounds hold, and where both are one number,
+/// it is the least makespan. Any lawful text of the kind is accepted, whoever made it; `Memory` only where memory ran
+/// out.
+pub fn check_text(
+    alloc: Global,
+    kind: TextKind,
+    instance: &Instance,
+    bytes: &[u8],
+) -> Result<Shown, CheckFault>
+    ensures text { IfOk result (λ shown. GivesAs kind instance.now bytes.now shown.bounds shown.sequence) }
+    ensures each { IfOk result (λ shown. IsSequence instance.now.jobs shown.sequence) }
+    ensures bounds { IfOk result (λ shown. AreBounds instance.now shown.bounds) }
+    ensures least { IfOk result (λ shown. shown.bounds.lower ≡ shown.bounds.upper →
+        IsLeastMakespan instance.now shown.bounds.lower) }
+    ensures lawful { (bounds : Bounds) (sequence : List ℕ) → GivesAs kind instance.now bytes.now bounds sequence →
+        IsOkAnd result (λ shown. (shown.bounds ≡ bounds) × (shown.sequence ≡ sequence)) ⊎ (result ≡ Err Memory) }
+    ensures fault { IfErr result (λ fault. IsFaultAs kind instance.now bytes.now fault) }
+    ensures none { IfErr result (λ fault. IsUnlawfulAs kind instance.now bytes.now fault) }
+{
+    match kind {
+        TextKind::Certificate => check_tree_text(alloc, TreeKind::Certificate, instance, bytes),
+        TextKind::OfBounds => check_tree_text(alloc, TreeKind::OfBounds, instance, bytes),
+        TextKind::TwoEnded => check_two_ended(alloc, instance, bytes),
+    }
+}
