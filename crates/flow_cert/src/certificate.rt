@@ -1,6 +1,6 @@
 //! Writing a certificate, or a text of bounds.
 
-ghost use Rattle.std.specs.Prelude.{◌≡◌, ◌↔◌, ◌++◌, false, true, length, map, decimal, is_err, IsErr, OnOk, OnErr};
+ghost use Rattle.std.specs.Prelude.{◌≡◌, ◌↔◌, ◌++◌, false, true, length, map, is_err, IsErr, OnOk, OnErr};
 ghost use Rattle.std.specs.List.{flat_map};
 ghost use Rattle.std.specs.Io.KnownBytes.{Appends};
 ghost use Rattle.flow_text.specs.Bytes.{AddsProperPrefix};
@@ -11,7 +11,7 @@ ghost use Rattle.flow_check.specs.TextLines.{line, opening, title};
 ghost use Rattle.flow_cert.specs.internal.Gathered.{HandsOn};
 ghost use Rattle.flow_cert.specs.FindingCertificates.{finding_text, HasLawfulText};
 ghost use Rattle.flow_cert.specs.PlanCertificates.{certificate_of, text_with};
-ghost use Rattle.flow_cert.specs.internal.HeadingText.{size_line, bounds_line, claim_line, heading_with, whole_text};
+ghost use Rattle.flow_cert.specs.internal.HeadingText.{size_line, claim_line, heading_with, whole_text};
 ghost use Rattle.flow_cert.specs.internal.HeadingText.{kind_of};
 
 use crate::gathered::Gathered;
@@ -83,37 +83,6 @@ fn add_sizes<S: Sink>(gathered: &mut Gathered, out: &mut S, plan: &Plan) -> Resu
     gathered.add_numbers(out, &[jobs, machines, depth])
 }
 
-/// Adds the line of the value.
-fn add_value<S: Sink>(gathered: &mut Gathered, out: &mut S, value: u64) -> Result<(), WriteFault>
-    requires { S.has_failed out.old ≡ false }
-    ensures failed { S.has_failed out.new ≡ is_err result }
-    ensures ok { OnOk result
-        (HandsOn (S.taken out.old) (S.taken out.new) gathered.old (line (decimal value)) gathered.new) }
-    ensures err { OnErr result
-        (AddsProperPrefix (S.taken out.old) (S.taken out.new) (gathered.old ++ line (decimal value))) }
-{
-    gathered.add_number(out, value)?;
-    gathered.add(out, b"\n")
-}
-
-/// Adds the line of two bounds.
-fn add_bounds<S: Sink>(
-    gathered: &mut Gathered,
-    out: &mut S,
-    bounds: Bounds,
-) -> Result<(), WriteFault>
-    requires { S.has_failed out.old ≡ false }
-    ensures failed { S.has_failed out.new ≡ is_err result }
-    ensures ok { OnOk result
-        (HandsOn (S.taken out.old) (S.taken out.new) gathered.old (bounds_line bounds) gathered.new) }
-    ensures err { OnErr result
-        (AddsProperPrefix (S.taken out.old) (S.taken out.new) (gathered.old ++ bounds_line bounds)) }
-{
-    gathered.add_number(out, bounds.lower)?;
-    gathered.add(out, b" ")?;
-    add_value(gathered, out, bounds.upper)
-}
-
 /// Adds the third line.
 fn add_claim<S: Sink>(gathered: &mut Gathered, out: &mut S, claim: Claim) -> Result<(), WriteFault>
     requires { S.has_failed out.old ≡ false }
@@ -124,8 +93,8 @@ fn add_claim<S: Sink>(gathered: &mut Gathered, out: &mut S, claim: Claim) -> Res
         (AddsProperPrefix (S.taken out.old) (S.taken out.new) (gathered.old ++ claim_line claim)) }
 {
     match claim {
-        Claim::Least(value) => add_value(gathered, out, value),
-        Claim::Between(bounds) => add_bounds(gathered, out, bounds),
+        Claim::Least(value) => gathered.add_value(out, value),
+        Claim::Between(bounds) => gathered.add_bounds(out, bounds),
     }
 }
 

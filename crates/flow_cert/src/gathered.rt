@@ -6,7 +6,9 @@ ghost use Rattle.std.specs.Io.KnownBytes.{Appends};
 ghost use Rattle.flow_text.specs.Bytes.{AddsProperPrefix};
 ghost use Rattle.flow_check.specs.TextLines.{line, spaced};
 ghost use Rattle.flow_cert.specs.internal.Gathered.{HandsOn};
+ghost use Rattle.flow_cert.specs.internal.HeadingText.{bounds_line};
 
+use flow_check::Bounds;
 use flow_text::{Sink, WriteFault, put_all};
 use itoa::Buffer;
 use std::marker::Model;
@@ -117,5 +119,36 @@ impl Gathered {
             gap = b" ";
         }
         self.add(out, b"\n")
+    }
+
+    /// Adds the line of a value.
+    pub(crate) fn add_value<S: Sink>(&mut self, out: &mut S, value: u64) -> Result<(), WriteFault>
+        requires { S.has_failed out.old ≡ false }
+        ensures failed { S.has_failed out.new ≡ is_err result }
+        ensures ok { OnOk result
+            (HandsOn (S.taken out.old) (S.taken out.new) self.old (line (decimal value)) self.new) }
+        ensures err { OnErr result
+            (AddsProperPrefix (S.taken out.old) (S.taken out.new) (self.old ++ line (decimal value))) }
+    {
+        self.add_number(out, value)?;
+        self.add(out, b"\n")
+    }
+
+    /// Adds the line of two bounds.
+    pub(crate) fn add_bounds<S: Sink>(
+        &mut self,
+        out: &mut S,
+        bounds: Bounds,
+    ) -> Result<(), WriteFault>
+        requires { S.has_failed out.old ≡ false }
+        ensures failed { S.has_failed out.new ≡ is_err result }
+        ensures ok { OnOk result
+            (HandsOn (S.taken out.old) (S.taken out.new) self.old (bounds_line bounds) self.new) }
+        ensures err { OnErr result
+            (AddsProperPrefix (S.taken out.old) (S.taken out.new) (self.old ++ bounds_line bounds)) }
+    {
+        self.add_number(out, bounds.lower)?;
+        self.add(out, b" ")?;
+        self.add_value(out, bounds.upper)
     }
 }

@@ -3,13 +3,13 @@ use Rattle.std.specs.Prelude.{ℕ, List, [], ◌∷◌}
 use Rattle.flow_search.specs.Plans.{Planned}
 use Rattle.flow_check.specs.TextLines.{line, spaced, Stated, numbers_of, heading, text_of}
 use Rattle.flow_check.specs.declared.bounds.Bounds.{Bounds}
-use Rattle.flow_check.specs.declared.kind.TextKind.{TextKind}
-use Rattle.flow_check.specs.declared.kind.TextKind.TheVariants.{Certificate, OfBounds}
+use Rattle.flow_check.specs.declared.kind.TreeKind.{TreeKind}
+use Rattle.flow_check.specs.declared.kind.TreeKind.TheVariants.{Certificate, OfBounds}
 use Rattle.flow_cert.specs.declared.certificate.Claim.{Claim}
 use Rattle.flow_cert.specs.declared.certificate.Claim.TheVariants.{Least, Between}
 
 -- the kind of a text, by what it proves
-abbrev pub kind_of : Claim → TextKind
+abbrev pub kind_of : Claim → TreeKind
 kind_of (Least value) = Certificate
 kind_of (Between bounds) = OfBounds
 

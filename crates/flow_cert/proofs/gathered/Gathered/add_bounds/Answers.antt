@@ -7,7 +7,7 @@ use Rattle.flow_cert.specs.internal.Gathered.{HandsOn}
 use Rattle.flow_cert.specs.internal.HeadingText.{bounds_line}
 use Rattle.flow_cert.proofs.HandedOn.{on-err, then-hands, then-stops, stops-early}
 use Rattle.flow_cert.proofs.WrittenLines.{two-numbers}
-use Rattle.flow_cert.proofs.certificate.add_bounds.Goals as goal
+use Rattle.flow_cert.proofs.gathered.Gathered.add_bounds.Goals as goal
 
 -- the line in pieces
 abbrev pieces : Bounds → List ℕ
@@ -28,26 +28,26 @@ pub returns-in_err-add_number-clause-err : goal.returns-in_err-add_number-clause
 returns-in_err-add_number-clause-err g c =
     let bounds : Bounds = c.args.bounds in
     on-err c.from_residual.result
-    (stops bounds _ _ c.args.gathered.now (stops-early _ _ c.args.gathered.now (decimal bounds.lower) ((32 ∷ [])
+    (stops bounds _ _ c.args.self.now (stops-early _ _ c.args.self.now (decimal bounds.lower) ((32 ∷ [])
     ∷ line (decimal bounds.upper) ∷ []) c.in_err-add_number.ensures.err))
 
 pub returns-in_err-add-clause-err : goal.returns-in_err-add-clause-err
 returns-in_err-add-clause-err g c =
     let bounds : Bounds = c.args.bounds in
     on-err c.from_residual-in_err-add.result
-    (stops bounds _ _ c.args.gathered.now (stops-early _ _ c.args.gathered.now (decimal bounds.lower ++ 32 ∷ [])
+    (stops bounds _ _ c.args.self.now (stops-early _ _ c.args.self.now (decimal bounds.lower ++ 32 ∷ [])
     (line (decimal bounds.upper) ∷ [])
     (then-stops _ (32 ∷ []) c.in_ok-add_number.ensures.ok c.in_err-add.ensures.err)))
 
 pub returns-clause-ok : goal.returns-clause-ok
 returns-clause-ok g c =
     on_ok_weaker c.add_value.result
-    (λ h. hands c.args.bounds _ _ c.args.gathered.now _
+    (λ h. hands c.args.bounds _ _ c.args.self.now _
     (then-hands (then-hands c.in_ok-add_number.ensures.ok c.in_ok-add.ensures.ok) h)) c.add_value.ensures.ok
 
 pub returns-clause-err : goal.returns-clause-err
 returns-clause-err g c =
     on_err_weaker c.add_value.result
-    (λ h. stops c.args.bounds _ _ c.args.gathered.now
+    (λ h. stops c.args.bounds _ _ c.args.self.now
     (then-stops _ (line (decimal c.args.bounds.upper))
     (then-hands c.in_ok-add_number.ensures.ok c.in_ok-add.ensures.ok) h)) c.add_value.ensures.err
