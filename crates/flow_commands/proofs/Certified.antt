@@ -88,8 +88,8 @@ wrote-own number shop sink (inr w) = inr (w.0, w.1, w.3, inl w.4, w.5)
 wrote-mirrored : {K : Type 0} (number : ℕ) (shop : Shop) (sink : SinkRun K) →
     WroteCertificate (mirrored shop) sink ⊎ WroteBounds number (mirrored shop) sink → WroteCertified true shop sink
 wrote-mirrored number shop sink (inl w) =
-    inl (w.0, w.1, w.2, inr (refl, w.3), (mirror-keeps-least shop w.1).0 w.4)
-wrote-mirrored number shop sink (inr w) = inr (w.0, w.1, w.3, inr (refl, w.4), bounds-turned shop w.1 w.5)
+    inl (w.0, w.1, w.2, inr w.3, (mirror-keeps-least shop w.1).0 w.4)
+wrote-mirrored number shop sink (inr w) = inr (w.0, w.1, w.3, inr w.4, bounds-turned shop w.1 w.5)
 
 wrote-from : {K : Type 0} (version : ℕ) (shop : Shop) (jobs : List ℕ) (plan : Planned) (number : ℕ)
     (sink : SinkRun K) → IsFrom version shop jobs plan →
@@ -118,7 +118,7 @@ wrote-of shop plan verdict sink (inl of) is_plan is_verdict adds =
     (w.0, w.1, w.2, inl w.3, w.4)
 wrote-of shop plan verdict sink (inr of) is_plan is_verdict adds =
     let w = wrote-certificate (mirrored shop) plan verdict sink of is_plan is_verdict adds in
-    (w.0, w.1, w.2, inr (refl, w.3), (mirror-keeps-least shop w.1).0 w.4)
+    (w.0, w.1, w.2, inr w.3, (mirror-keeps-least shop w.1).0 w.4)
 
 certified-of : {K : Type 0} (bounds : Bool) (shop : Shop) (sink : SinkRun K) → WroteEither shop sink →
     WroteCertified bounds shop sink

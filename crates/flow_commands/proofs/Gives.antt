@@ -75,6 +75,7 @@ of-two-kinds shop text Holds of_text of_jobs (command.Choice fault) never = absu
 of-two-kinds shop text Holds of_text of_jobs (command.Plan fault) never = absurd never
 of-two-kinds shop text Holds of_text of_jobs (command.Run fault) never = absurd never
 of-two-kinds shop text Holds of_text of_jobs (command.Certificate fault) never = absurd never
+of-two-kinds shop text Holds of_text of_jobs (command.Bounds lower upper) never = absurd never
 of-two-kinds shop text Holds of_text of_jobs (command.Write fault) never = absurd never
 
 claim-met : (shop : Shop) (jobs : List ℕ) (claim : Option Claim) →

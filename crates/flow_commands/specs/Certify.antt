@@ -2,6 +2,7 @@
 use Rattle.std.specs.Prelude.{◌≡◌, ◌⊎◌, ℕ, Bool, true, false, List, [], ◌∷◌, Option, Some, None, unwrap_or, Ok, Err}
 use Rattle.std.specs.Int.{is_in_range}
 use Rattle.flow_core.specs.Shop.{Shop}
+use Rattle.flow_core.specs.Mirror.{mirrored}
 use Rattle.flow_core.specs.Sequences.{IsLeastMakespan}
 use Rattle.flow_core.specs.Limits.{least_version, greatest_version}
 use Rattle.flow_core.specs.Refusals.{fault_unless, first_fault}
@@ -10,15 +11,13 @@ use Rattle.flow_search.specs.Targets.{target_of}
 use Rattle.flow_search.specs.declared.finding.Finding.{Finding}
 use Rattle.flow_search.specs.declared.options.OptionFault.TheVariants.{Version}
 use Rattle.flow_pool.specs.declared.run.solve.SolveFault.TheVariants.{OverBudget}
-use Rattle.flow_check.specs.Certificate.{AreBounds}
+use Rattle.flow_check.specs.Certificate.{AreBounds, IsBoundsText, IsCertificate}
 use Rattle.flow_check.specs.declared.bounds.Bounds.{Bounds}
-use Rattle.flow_check.specs.declared.kind.TextKind.TheVariants.{OfBounds}
 use Rattle.flow_cert.specs.FindingCertificates.{finding_text}
 use Rattle.flow_certify.specs.Raised.{IsProved}
 use Rattle.flow_certify.specs.Tries.{certified}
 use Rattle.flow_requests.specs.declared.CertifyRequest.{CertifyRequest}
 use Rattle.flow_commands.specs.Answer.{Answer}
-use Rattle.flow_commands.specs.Check.{IsAccepted, IsAcceptedAs}
 use Rattle.flow_commands.specs.Improve.{IsImproved, improve_fault}
 use Rattle.flow_commands.specs.Runs.{SinkRun, Took}
 use Rattle.flow_commands.specs.declared.fault.CommandFault.{CommandFault}
@@ -64,13 +63,14 @@ AnswersCertify request shop given answer = elim (certify_fault request) [
 abbrev pub WroteEither : {K : Type 0} → Shop → SinkRun K → Type 0
 WroteEither shop sink =
     (certificate : List ℕ) × (value : ℕ) × Took certificate sink
-    × IsAccepted true shop certificate value × IsLeastMakespan shop value
+    × (IsCertificate shop certificate value ⊎ IsCertificate (mirrored shop) certificate value)
+    × IsLeastMakespan shop value
 
 -- a sink took a lawful text of bounds of a shop or of the mirrored one, and the bounds hold of both
 abbrev pub WroteBoundsOfEither : {K : Type 0} → Shop → SinkRun K → Type 0
 WroteBoundsOfEither shop sink =
     (text : List ℕ) × (bounds : Bounds) × Took text sink
-    × IsAcceptedAs OfBounds true shop text bounds × AreBounds shop bounds
+    × (IsBoundsText shop text bounds ⊎ IsBoundsText (mirrored shop) text bounds) × AreBounds shop bounds
 
 -- a sink took such a certificate; or, where bounds are asked for, such a text of bounds
 abbrev pub WroteCertified : {K : Type 0} → Bool → Shop → SinkRun K → Type 0

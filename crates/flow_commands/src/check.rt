@@ -1,6 +1,6 @@
 //! The command `check`.
 
-ghost use Rattle.std.specs.Prelude.{◌≡◌, ◌↔◌, ◌⊎◌, false, true, Ok};
+ghost use Rattle.std.specs.Prelude.{◌≡◌, ◌↔◌, ◌⊎◌, false, true};
 ghost use Rattle.std.specs.Prelude.{IfOk, OnOk, IfErr, IsErrOf};
 ghost use Rattle.flow_core.specs.Bytes.{Grows};
 ghost use Rattle.flow_core.specs.Paths.{span};
@@ -8,11 +8,11 @@ ghost use Rattle.flow_core.specs.Shop.{Shop};
 ghost use Rattle.flow_core.specs.Sequences.{IsSequence};
 ghost use Rattle.flow_core.specs.declared.bytes.fault.ReadFault.TheVariants as read;
 ghost use Rattle.flow_core.specs.declared.bytes.fault.WriteFault.TheVariants as write;
-ghost use Rattle.flow_commands.specs.Check.{AnswersCheck, GivesEither, IsTakenAs, Proves, SaysProved, WroteLeast};
-ghost use Rattle.flow_commands.specs.Check.{checked_text, proved_line};
+ghost use Rattle.flow_commands.specs.Check.{AnswersCheck, FallsShortOf, GivesEither, IsTakenAs, Proves, SaysProved};
+ghost use Rattle.flow_commands.specs.Check.{SufficesFor, WroteLeast, WroteOptimum, checked_text, proved_line};
 ghost use Rattle.flow_commands.specs.Runs.{CameFor, Ends, EndsBoth, WroteBoth, WroteFor, sink_run, source_run};
 ghost use Rattle.flow_core.specs.Limits.{most_certificate};
-ghost use Rattle.flow_commands.specs.internal.Checked.{IsRefused, IsRefusedAs, ran_out};
+ghost use Rattle.flow_commands.specs.internal.Checked.{IsRefusedAs, ran_out};
 
 use crate::block::read_block;
 use crate::fault::CommandFault;
@@ -43,7 +43,7 @@ fn checked(
     ensures each { IfOk result (λ shown. IsSequence instance.now.jobs shown.sequence) }
     ensures upper { IfOk result (λ shown. span instance.now shown.sequence ≡ shown.bounds.upper) }
     ensures proved { IfOk result (λ shown. Proves kind instance.now shown.bounds) }
-    ensures refused { IfErr result (λ fault. IsRefusedAs kind request instance.now bytes.now fault) }
+    ensures refused { IfErr result (λ fault. IsRefusedAs kind request.either instance.now bytes.now fault) }
 {
     let own = match check_text(alloc, kind, instance, bytes) {
         Ok(shown) => return Ok(shown),
@@ -77,11 +77,12 @@ fn proved_line(alloc: Global, kind: TextKind, bounds: Bounds) -> Result<Vec<u8>,
 {
     match kind {
         TextKind::Certificate => optimal_line(alloc, bounds.lower),
-        TextKind::OfBounds => bounds_line(alloc, bounds.lower, bounds.upper),
+        TextKind::TwoEnded if bounds.lower == bounds.upper => optimal_line(alloc, bounds.lower),
+        TextKind::OfBounds | TextKind::TwoEnded => bounds_line(alloc, bounds.lower, bounds.upper),
     }
 }
 
-/// The kind as which bytes are read: a certificate, where texts of bounds are not accepted.
+/// The kind as which bytes are read: a certificate, where texts of other kinds are not accepted.
 fn kind_among(bytes: &[u8], bounds: bool) -> TextKind
     ensures { IsTakenAs bounds bytes.now result }
 {
@@ -108,24 +109,16 @@ fn printed_text(
     proved_line(alloc, kind, shown.bounds)
 }
 
-/// What is printed for a certificate or a text of bounds.
-fn checked_text(
-    alloc: Global,
-    instance: &Instance,
-    bytes: &[u8],
-    request: CheckRequest,
-) -> Result<Vec<u8>, CheckFault>
-    ensures text { IfOk result (λ text. AnswersCheck request instance.now bytes.now (Ok text.items)) }
-    ensures proved { IfOk result (λ text. SaysProved request instance.now bytes.now (Ok text.items)) }
-    ensures refused { IfErr result (λ fault. IsRefused request instance.now bytes.now fault) }
+/// Whether bounds fall short of a request.
+fn falls_short(request: CheckRequest, bounds: Bounds) -> bool
+    ensures yes { result ≡ true → FallsShortOf request bounds }
+    ensures no { result ≡ false → SufficesFor request bounds }
 {
-    let kind = kind_among(bytes, request.bounds);
-    let shown = checked(alloc, kind, instance, bytes, request)?;
-    Ok(printed_text(alloc, kind, &shown, request.sequence)?)
+    request.optimal && bounds.lower != bounds.upper
 }
 
 /// Reads a text of an instance, or, where either is asked for, one of the mirrored instance, and writes what it proves,
-/// or its sequence.
+/// or its sequence; or refuses its bounds.
 fn check_certificate<C: Source, K: Sink>(
     alloc: Global,
     instance: &Instance,
@@ -145,8 +138,15 @@ fn check_certificate<C: Source, K: Sink>(
     ensures write_device { IsErrOf result (CommandFault.Write write.Device) ↔ (K.has_failed out.new ≡ true) }
     ensures stands { Grows (C.given cert.old) (C.given cert.new) }
 {
-    let bytes = read_all(alloc, cert, MAX_CERTIFICATE)?;
-    let text = checked_text(alloc, instance, bytes.as_slice(), request)?;
+    let given = read_all(alloc, cert, MAX_CERTIFICATE)?;
+    let bytes = given.as_slice();
+    let kind = kind_among(bytes, request.bounds);
+    let shown = checked(alloc, kind, instance, bytes, request)?;
+    if falls_short(request, shown.bounds) {
+        let Bounds { lower, upper } = shown.bounds;
+        return Err(CommandFault::Bounds { lower, upper });
+    }
+    let text = printed_text(alloc, kind, &shown, request.sequence)?;
     put_all(out, text.as_slice())?;
     Ok(())
 }
@@ -163,13 +163,13 @@ pub fn run_check<S: Source, C: Source, K: Sink>(
     requires cert_works { C.has_failed cert.old ≡ false }
     requires out_works { K.has_failed out.old ≡ false }
     ensures written { OnOk result (WroteBoth most_certificate
-        (AnswersCheck (record { either = false; bounds = false; sequence = false })) index
+        (AnswersCheck (record { either = false; bounds = false; sequence = false; optimal = false })) index
         (source_run S.given S.has_ended file.old file.new) (source_run C.given C.has_ended cert.old cert.new)
         (sink_run K.taken out.old out.new)) }
     ensures least { OnOk result (CameFor index (λ shop. WroteLeast shop (sink_run K.taken out.old out.new))
         (source_run S.given S.has_ended file.old file.new)) }
     ensures ended { IfErr result (EndsBoth most_certificate
-        (AnswersCheck (record { either = false; bounds = false; sequence = false })) index
+        (AnswersCheck (record { either = false; bounds = false; sequence = false; optimal = false })) index
         (source_run S.given S.has_ended file.old file.new) (source_run C.given C.has_ended cert.old cert.new)
         (sink_run K.taken out.old out.new)) }
     ensures read_device { IsErrOf result (CommandFault.Read read.Device)
@@ -187,13 +187,14 @@ pub fn run_check<S: Source, C: Source, K: Sink>(
             either: false,
             bounds: false,
             sequence: false,
+            optimal: false,
         },
         out,
     )
 }
 
-/// Writes what a certificate or a text of bounds proves of the block that an index names, or its sequence and the
-/// makespan of that, where a request says which texts are accepted and what is written.
+/// Writes what a text proves of the block that an index names, or its sequence and the makespan of that, where a request
+/// says which texts are accepted, what is written, and whether it has to be the least makespan.
 pub fn run_check_as<S: Source, C: Source, K: Sink>(
     alloc: Global,
     file: &mut S,
@@ -211,6 +212,9 @@ pub fn run_check_as<S: Source, C: Source, K: Sink>(
     ensures proved { OnOk result (WroteBoth most_certificate (SaysProved request) index
         (source_run S.given S.has_ended file.old file.new) (source_run C.given C.has_ended cert.old cert.new)
         (sink_run K.taken out.old out.new)) }
+    ensures optimal { request.optimal ≡ true → OnOk result (CameFor index
+        (λ shop. WroteOptimum request.sequence shop (sink_run K.taken out.old out.new))
+        (source_run S.given S.has_ended file.old file.new)) }
     ensures ended { IfErr result (EndsBoth most_certificate (AnswersCheck request) index
         (source_run S.given S.has_ended file.old file.new) (source_run C.given C.has_ended cert.old cert.new)
         (sink_run K.taken out.old out.new)) }

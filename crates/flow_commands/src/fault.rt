@@ -76,6 +76,14 @@ pub enum CommandFault {
     /// The bytes are no lawful certificate of the instance.
     #[error("refused certificate {0}")]
     Certificate(CheckFault),
+    /// The bytes prove bounds that are not one number, and a least makespan was asked for.
+    #[error("refused bounds {lower} {upper}")]
+    Bounds {
+        /// No sequence has a makespan below it.
+        lower: u64,
+        /// A sequence has this makespan.
+        upper: u64,
+    },
     /// The sink refused.
     #[error("failed write {0}")]
     Write(WriteFault),

@@ -48,10 +48,12 @@ pub struct CertifyRequest {
 pub struct CheckRequest {
     /// Whether a text of the mirrored instance is accepted too.
     pub either: bool,
-    /// Whether a text of bounds is accepted too, by its first line.
+    /// Whether a text of bounds or a two-ended certificate is accepted too, by its first line.
     pub bounds: bool,
     /// Whether the sequence is printed, in the place of the value or the bounds.
     pub sequence: bool,
+    /// Whether a text is refused whose bounds are not one number.
+    pub optimal: bool,
 }
 
 /// In which form a schedule is written.

@@ -197,7 +197,7 @@ static SOLVE: [Word; 9] = [
     },
 ];
 
-static CHECK: [Word; 5] = [
+static CHECK: [Word; 6] = [
     FILE,
     INDEX,
     Word {
@@ -214,6 +214,11 @@ static CHECK: [Word; 5] = [
         name: "sequence",
         kind: Kind::Flag,
         help: "Prints the sequence of the text for the instance, and its makespan, in the form that neh prints",
+    },
+    Word {
+        name: "optimal",
+        kind: Kind::Flag,
+        help: "Refuses a text that does not prove a least makespan: one whose bounds differ",
     },
 ];
 

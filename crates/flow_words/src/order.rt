@@ -211,6 +211,7 @@ fn check_order<'a>(given: &ArgMatches<'a>) -> Option<Order<'a>> {
             either: given.get_flag("either"),
             bounds: true,
             sequence: given.get_flag("sequence"),
+            optimal: given.get_flag("optimal"),
         },
     })
 }

@@ -112,7 +112,7 @@ static LONG: [(&str, usize, &[u8], &str); 3] = [
         b"Least makespans of permutation flow shops",
         "",
     ),
-    ("--help", 10, b"", "failed write Device"),
+    ("--help", 10, b"Least make", "failed write Device"),
 ];
 
 #[test]

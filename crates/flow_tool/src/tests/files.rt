@@ -37,11 +37,14 @@ pub(crate) const OF_MIRROR: &[u8] = b"flowshop certificate 1\n3 3 0\n12\n2 1 3\n
 /// A text of bounds of the instance of three machines, which has the least makespan 12.
 pub(crate) const BOUNDS: &[u8] = b"flowshop bounds 1\n3 3 0\n11 13\n2 1 3\n+BB+AB\nend\n";
 
+/// A two-ended certificate of the instance of three machines.
+const TWO_ENDED: &[u8] = b"flowshop two-ended 1\n3 3\n12 12\n3 1 2\n++\nend\n";
+
 /// A start of the instance of three machines.
 pub(crate) const START: &[u8] = b"sequence 1 2 3\nmakespan 15\n";
 
 /// What each file holds, but for the one of the name `stdin`; and how many bytes it gives before it refuses.
-static FILES: [(&str, &[u8], Option<usize>); 13] = [
+static FILES: [(&str, &[u8], Option<usize>); 14] = [
     ("text_three", THREE_MACHINES, None),
     ("text_both", BOTH, None),
     ("./stdin", THREE_MACHINES, None),
@@ -51,6 +54,7 @@ static FILES: [(&str, &[u8], Option<usize>); 13] = [
     ("generated", GENERATED, None),
     ("of_mirror", OF_MIRROR, None),
     ("bounds", BOUNDS, None),
+    ("two_ended", TWO_ENDED, None),
     ("start", START, None),
     ("other_start", b"sequence 1 2 3\nmakespan 14\n", None),
     ("best_start", b"sequence 3 1 2\n", None),

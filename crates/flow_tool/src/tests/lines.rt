@@ -281,12 +281,25 @@ pub(crate) static SCHEDULE: [Row; 11] = [
 ];
 
 /// The files of `check`, texts of bounds, sequences, and certificates of the mirrored instance.
-pub(crate) static CHECK: [Row; 32] = [
+pub(crate) static CHECK: [Row; 37] = [
     ("text_three 1 of_three", b"optimal 12\n", ""),
     ("text_three 1 bounds", b"bounds 11 13\n", ""),
     (
         "text_three 1 bounds --sequence",
         b"sequence 2 1 3\nmakespan 13\n",
+        "",
+    ),
+    ("text_three 1 of_three --optimal", b"optimal 12\n", ""),
+    ("text_three 1 bounds --optimal", b"", "refused bounds 11 13"),
+    (
+        "text_three 1 bounds --optimal --sequence",
+        b"",
+        "refused bounds 11 13",
+    ),
+    ("text_three 1 two_ended", b"optimal 12\n", ""),
+    (
+        "text_three 1 two_ended --optimal --sequence",
+        b"sequence 3 1 2\nmakespan 12\n",
         "",
     ),
     ("stdin 1 bounds", b"", "refused certificate Size"),

@@ -44,7 +44,7 @@ const OTHER: ImproveRequest = ImproveRequest {
 };
 
 /// Command lines, and the orders that they are read as.
-const ORDERS: [(&str, Order); 7] = [
+const ORDERS: [(&str, Order); 8] = [
     (
         "check FILE 1 CERT --either",
         Order::Check {
@@ -55,6 +55,21 @@ const ORDERS: [(&str, Order); 7] = [
                 either: true,
                 bounds: true,
                 sequence: false,
+                optimal: false,
+            },
+        },
+    ),
+    (
+        "check FILE 1 CERT --optimal --sequence",
+        Order::Check {
+            file: "FILE",
+            index: 1,
+            cert: "CERT",
+            request: CheckRequest {
+                either: false,
+                bounds: true,
+                sequence: true,
+                optimal: true,
             },
         },
     ),
