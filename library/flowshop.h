@@ -83,16 +83,16 @@ enum flowshop_status {
 
     FLOWSHOP_OVER_BUDGET = 50, /* a tree is longer than the budget; place: its prefix, counted from 0 */
 
-    /* The text is no lawful certificate of the shop, or no lawful text of bounds. */
+    /* The text is no lawful one of its kind, of the shop. */
     FLOWSHOP_HEADER = 60, /* line 1 */
     FLOWSHOP_SIZE = 61, /* line 2 */
     FLOWSHOP_VALUE = 62, /* line 3 */
     FLOWSHOP_SEQUENCE = 63, /* line 4 is no sequence of the shop */
     FLOWSHOP_NOT_ATTAINED = 64, /* the makespan of the sequence is not the value, or not the upper bound */
-    FLOWSHOP_TREE = 65, /* a line is not one tree; place: the line */
+    FLOWSHOP_TREE = 65, /* a line is not one tree, or no directions that prove the bound; place: the line */
     FLOWSHOP_WEAK = 66, /* a bound is below the value, or below the lower bound; place: the line */
     FLOWSHOP_LOW = 67, /* a makespan is below the value, or below the lower bound; place: the line */
-    FLOWSHOP_END = 68, /* what follows the trees is not the last line alone */
+    FLOWSHOP_END = 68, /* what follows the trees or the directions is not the last line alone */
 
     /* The text is no benchmark text; place: the line, counted from 1, or the one after the last where the text ends. */
     FLOWSHOP_NO_BLOCK = 70, /* it has no line that is not blank; place: 0 */
@@ -162,7 +162,8 @@ uint32_t flowshop_improve(uint32_t jobs, uint32_t machines, const uint32_t *time
                           uint32_t work, uint16_t *sequence, size_t sequence_count, uint64_t *value, size_t *place);
 
 /* The least makespan, as a certificate proves it, and a sequence that has it: the one that the certificate states, in
- * the first `jobs` entries of `sequence`. Every lawful certificate is accepted, whoever made it, and nothing else.
+ * the first `jobs` entries of `sequence`. Every lawful certificate of version 1 or 2 is accepted, whoever made it, and
+ * nothing else: a two-ended one is HEADER here, and flowshop_check_bounds reads it.
  * With `either`, one of the mirrored shop, whose machines are in reverse order, is accepted too, where the text is
  * none of the shop; then `mirrored` becomes true, and the sequence is that of the certificate in reverse order, so
  * that it is one of the shop with the same makespan. A fault is that of the text as a certificate of the shop.
@@ -172,10 +173,11 @@ uint32_t flowshop_check(uint32_t jobs, uint32_t machines, const uint32_t *times,
                         size_t sequence_count, uint64_t *value, bool *mirrored, size_t *place);
 
 /* The bounds that a text proves, between which the least makespan lies, and the sequence that it states, whose
- * makespan is the upper bound, in the first `jobs` entries of `sequence`. A text whose line 1 is that of a text of
- * bounds is read as one; every other text as a certificate, whose value becomes both bounds. Bounds that are equal are
- * the least makespan. Every lawful text of its kind is accepted, whoever made it, and nothing else. `either` and
- * `mirrored` are as in flowshop_check. A fault is that of the text, as one of its kind, of the shop.
+ * makespan is the upper bound, in the first `jobs` entries of `sequence`. A text whose line 1 is that of a two-ended
+ * certificate or of a text of bounds is read as one; every other text as a certificate, whose value becomes both
+ * bounds. Bounds that are equal are the least makespan. Every lawful text of its kind is accepted, whoever made it, and
+ * nothing else. `either` and `mirrored` are as in flowshop_check. A fault is that of the text, as one of its kind, of
+ * the shop.
  * Faults in order: JOBS, MACHINES, COUNT, TIME; ROOM; HEADER to END. */
 uint32_t flowshop_check_bounds(uint32_t jobs, uint32_t machines, const uint32_t *times, size_t times_count,
                                const uint8_t *text, size_t text_count, bool either, uint16_t *sequence,

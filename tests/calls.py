@@ -543,6 +543,44 @@ def compare_bounds():
         equal(f"{old!r} as {new!r}", check_bounds(SHOP, text.replace(old, new, 1)), wanted)
 
 
+def compare_directions():
+    """Two-ended certificates, each read by hand, and the first fault of changed ones."""
+    text = b"flowshop two-ended 1\n3 3\n11 13\n2 1 3\n-\nend\n"
+    least = b"flowshop two-ended 1\n3 3\n12 12\n3 1 2\n+-\nend\n"
+    turned = least.replace(b"3 1 2", b"2 1 3")
+    for got, wanted in [
+        (check_bounds(SHOP, text), ([2, 1, 3], 11, 13, False)),
+        (check_bounds(SHOP, text, True), ([2, 1, 3], 11, 13, False)),
+        (check_bounds(SHOP, text, room=5), ([2, 1, 3], 11, 13, False)),
+        (check_bounds(SHOP, text, room=2), ("ROOM", 3)),
+        (check_bounds((3, 3, [1]), text, room=2), ("COUNT", 0)),
+        (check_bounds(SHOP, least), ([3, 1, 2], 12, 12, False)),
+        (check_bounds(SHOP, turned), ("NOT_ATTAINED", 0)),
+        (check_bounds(SHOP, turned, True), ([3, 1, 2], 12, 12, True)),
+        (check_bounds((1, 1, [7]), b"flowshop two-ended 1\n1 1\n7 7\n1\n\nend\n"), ([1], 7, 7, False)),
+        (check_bounds((1, 1, [7]), b"flowshop two-ended 1\n1 1\n8 7\n1\n+\nend\n"), ("LOW", 5)),
+        (check(SHOP, least), ("HEADER", 0)),
+        (check(SHOP, least, True), ("HEADER", 0)),
+    ]:
+        equal("directions", got, wanted)
+    for old, new, wanted in [
+        (b"two-ended 1", b"two-ended 2", ("HEADER", 0)),
+        (b"3 3", b"3 2", ("SIZE", 0)),
+        (b"3 3", b"3 3 0", ("SIZE", 0)),
+        (b"11 13", b"11", ("VALUE", 0)),
+        (b"11 13", b"11 18446744073709551616", ("VALUE", 0)),
+        (b"2 1 3", b"2 1 2", ("SEQUENCE", 0)),
+        (b"11 13", b"11 14", ("NOT_ATTAINED", 0)),
+        (b"11 13", b"10 13", ("TREE", 5)),
+        (b"11 13", b"12 13", ("TREE", 5)),
+        (b"-\n", b"\n", ("TREE", 5)),
+        (b"-\n", b"-+\n", ("TREE", 5)),
+        (b"11 13\n2 1 3\n-", b"13 12\n3 1 2\n+++", ("LOW", 5)),
+        (b"end", b"end\n", ("END", 0)),
+    ]:
+        equal(f"{old!r} as {new!r}", check_bounds(SHOP, text.replace(old, new, 1)), wanted)
+
+
 def compare_certify():
     """Certificates and bounds, worked out by hand, and each status of the arguments."""
     start = [2, 1, 3]
@@ -651,6 +689,7 @@ def compare_at_once():
 
 compare_statuses()
 compare_bounds()
+compare_directions()
 compare_certify()
 compare_blocks()
 draw = random.Random(20_261_125)

@@ -83,6 +83,14 @@ equal("bounds", checked, (11, 13, [2, 1, 3], False, bounds))
 equal("bounds that are not equal", (checked.value, checked.is_least), (13, False))
 turned_bounds = b"flowshop bounds 2\n3 3 0\n10 13\n3 1 2\nB\nend\n"
 equal("bounds of the mirrored shop", shop.check(turned_bounds, either=True)[:4], (10, 13, [2, 1, 3], True))
+# The two-ended certificates that it reads by hand.
+directions = b"flowshop two-ended 1\n3 3\n11 13\n2 1 3\n-\nend\n"
+checked = shop.check(directions)
+equal("bounds by directions", (checked, checked.is_least), ((11, 13, [2, 1, 3], False, directions), False))
+directions = b"flowshop two-ended 1\n3 3\n12 12\n3 1 2\n++\nend\n"
+checked = shop.check(directions)
+equal("a least value by directions", (checked[:4], checked.is_least), ((12, 12, [3, 1, 2], False), True))
+equal("directions that do not", refused(lambda: shop.check(directions[:-6] + b"\nend\n")), ("TREE", 5))
 certificate = b"flowshop certificate 1\n3 3 0\n12\n3 1 2\n+BC++.B\nend\n"
 few = {"width": 0, "rounds": 0, "seed": 1, "work": 0}
 equal("a certificate", shop.certify([2, 1, 3], version=1, **few), (12, 12, [3, 1, 2], False, certificate))

@@ -70,8 +70,8 @@ class Picture(str):
 
 class Certificate(NamedTuple):
     """What a text proves of a shop: no sequence has a makespan below `lower`, in the unit of the times, and `sequence`,
-    as job numbers from 1, has `upper`. Both are the least makespan where they are equal, as for every certificate.
-    `mirrored` says whether the text is one of the mirrored shop."""
+    as job numbers from 1, has `upper`. Both are the least makespan where they are equal, as for every certificate
+    that is not two-ended. `mirrored` says whether the text is one of the mirrored shop."""
 
     lower: int
     upper: int
@@ -308,10 +308,10 @@ class Shop:
         return list(sequence), text
 
     def check(self, text: bytes, *, either: bool = False) -> Certificate:
-        """What a certificate or a text of bounds proves, with the sequence that it states; line 1 tells which of the
-        two it is. With `either`, a text of the mirrored shop, whose machines are in reverse order, is accepted too; its
-        sequence is turned round, so that it is one of this shop. FlowshopError with the first fault of the text and its
-        line where it is not lawful."""
+        """What a certificate, two-ended or not, or a text of bounds proves, with the sequence that it states; line 1
+        tells which it is. The least makespan is proved where `is_least` is true. With `either`, a text of the mirrored
+        shop, whose machines are in reverse order, is accepted too; its sequence is turned round, so that it is one of
+        this shop. FlowshopError with the first fault of the text and its line where it is not lawful."""
         data = bytes(text)
         sequence, mirrored = (_library.u16 * self.jobs)(), _library.flag(False)
         lower, upper = _library.u64(0), _library.u64(0)

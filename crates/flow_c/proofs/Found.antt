@@ -1,9 +1,8 @@
 -- What the text of a finding is read as, and what it gives; and what a search for a certificate found.
 use Rattle.std.proofs.Common.{◌≡◌, ◌⊎◌, ◌<◌, ◌≤◌, ◌^◌, refl, inl, inr, ℕ, min, Bool, true, false, List, [], ◌∷◌}
-use Rattle.std.proofs.Common.{◌++◌, map, length, slice_index_or, nat_eq, Option, unwrap_or, subst, sym, ap, ◌∙◌}
+use Rattle.std.proofs.Common.{◌++◌, map, length, Option, unwrap_or, subst, sym, ap, ◌∙◌}
 use Rattle.std.proofs.Common.{arith, append_assoc}
 use Rattle.std.proofs.Math.Nat.{min-le_right}
-use Rattle.std.proofs.lemmas.Bool.{false≢true}
 use Rattle.std.specs.List.{flat_map}
 use Rattle.flow_limits.specs.Limits.{least_version, greatest_version}
 use Rattle.flow_shop.specs.Shop.{Shop}
@@ -19,11 +18,12 @@ use Rattle.flow_search.proofs.Findings.{finding_is_least}
 use Rattle.flow_check.specs.TextLines.{IsVersion, Stated, heading, line, ending, numbers_of, spaced, text_of}
 use Rattle.flow_check.specs.TextLines.{upto_sizes, upto_stated, upto_title}
 use Rattle.flow_check.specs.CertificateFaults.{BeginsWith}
-use Rattle.flow_check.specs.Kinds.{IsReadAs, OpensBounds}
+use Rattle.flow_check.specs.Kinds.{IsReadAs}
 use Rattle.flow_check.specs.Certificate.{GivesSequenceAs}
 use Rattle.flow_check.specs.Stated.{GivesAs, GivesSequence}
-use Rattle.flow_check.specs.declared.kind.TextKind.{TextKind}
-use Rattle.flow_check.specs.declared.kind.TextKind.TheVariants.{Certificate, OfBounds}
+use Rattle.flow_check.specs.declared.kind.TreeKind.{TreeKind}
+use Rattle.flow_check.specs.declared.kind.TreeKind.TheVariants as kinds
+use Rattle.flow_check.proofs.KindsRead.{read-as-certificate}
 use Rattle.flow_cert.specs.FindingCertificates.{bounds_at, finding_text}
 use Rattle.flow_cert.specs.PlanCertificates.{certificate_of, text_with}
 use Rattle.flow_cert.proofs.Lawful.{span-fits, text-of-plan}
@@ -42,7 +42,7 @@ begins-more : (text start more : List ℕ) → BeginsWith text start → BeginsW
 begins-more text start more (rest, is) = (rest ++ more, ap (λ t. t ++ more) is ∙ append_assoc start rest more)
 
 -- a text begins with its first line
-begins : (kind : TextKind) (shop : Shop) (version depth : ℕ) (stated : Stated kind) (sequence : List ℕ)
+begins : (kind : TreeKind) (shop : Shop) (version depth : ℕ) (stated : Stated kind) (sequence : List ℕ)
     (trees : List (List ℕ)) →
     BeginsWith (text_of kind shop version depth stated sequence trees) (upto_title kind version)
 begins kind shop version depth stated sequence trees =
@@ -52,20 +52,6 @@ begins kind shop version depth stated sequence trees =
     (begins-more (upto_stated kind shop version depth stated) start (line (spaced sequence))
     (begins-more (upto_sizes kind shop version depth) start (line (spaced (numbers_of kind stated)))
     (line (spaced (shop.jobs ∷ shop.machines ∷ depth ∷ [])), refl))))
-
--- the tenth bytes of the first lines differ
-lines-differ : (version other : ℕ) (rest more : List ℕ) →
-    ¬ (upto_title Certificate version ++ rest ≡ upto_title OfBounds other ++ more)
-lines-differ version other rest more same =
-    let tenth : false ≡ true = ap (λ bytes. nat_eq (slice_index_or bytes 9 0) 98) same in
-    absurd (false≢true tenth)
-
--- a certificate does not begin with the first line of a text of bounds
-no-bounds : (shop : Shop) (version depth value : ℕ) (sequence : List ℕ) (trees : List (List ℕ)) →
-    ¬ OpensBounds (text_of Certificate shop version depth value sequence trees)
-no-bounds shop version depth value sequence trees (other, known, (more, is)) =
-    let own = begins Certificate shop version depth value sequence trees in
-    lines-differ version other own.0 more (sym own.1 ∙ is)
 
 -- the version of a plan is one of both
 known-version : (target : Targeted) → IsTarget target → IsVersion target.plan.options.version
@@ -77,12 +63,13 @@ known-version target is =
 pub is-read : (target : Targeted) (finding : Finding) → IsTarget target →
     IsReadAs (finding_text target finding) (kind_in finding)
 is-read target (Least verdict) is =
-    no-bounds target.plan.shop target.plan.options.version target.plan.options.depth verdict.value verdict.sequence
-    (map (λ tree. tree.items) verdict.trees.items)
+    read-as-certificate (finding_text target (Least verdict)) target.plan.options.version
+    (begins kinds.Certificate target.plan.shop target.plan.options.version target.plan.options.depth verdict.value
+    verdict.sequence (map (λ tree. tree.items) verdict.trees.items))
 is-read target (Bound trees) is = (
   target.plan.options.version,
   known-version target is,
-  begins OfBounds target.plan.shop target.plan.options.version target.plan.options.depth (bounds_at target)
+  begins kinds.OfBounds target.plan.shop target.plan.options.version target.plan.options.depth (bounds_at target)
       target.plan.start.sequence (map (λ tree. tree.items) trees.items),
 )
 
@@ -160,7 +147,7 @@ verdict-given plan verdict is of =
     let given = is-given (target_of plan plan.start.value) (Least verdict) (is-target plan plan.start.value is)
     (verdict-found plan verdict of) in
     subst (λ text. GivesSequence plan.shop text verdict.sequence) (text-of-plan plan verdict of)
-    (subst (λ v. GivesSequenceAs Certificate plan.shop (text_with plan verdict) v verdict.sequence)
+    (subst (λ v. GivesSequenceAs kinds.Certificate plan.shop (text_with plan verdict) v verdict.sequence)
     (sym given.2.3.attained) given.2)
 
 -- a certificate that was found

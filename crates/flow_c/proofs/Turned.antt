@@ -8,8 +8,7 @@ use Rattle.flow_shop.specs.Mirror.{mirrored}
 use Rattle.flow_shop.specs.InstanceFaults.{instance_fault}
 use Rattle.flow_shop.proofs.MirrorLemmas.{mirror-keeps-least, mirror-lists}
 use Rattle.flow_shop.proofs.ReversedSequence.{sequence-reverse}
-use Rattle.flow_check.specs.Certificate.{AreBounds, IsLawful}
-use Rattle.flow_check.specs.TextLines.{Stated}
+use Rattle.flow_check.specs.Certificate.{AreBounds}
 use Rattle.flow_check.specs.Check.{IsFaultAs, IsUnlawfulAs}
 use Rattle.flow_check.specs.Stated.{GivesAs}
 use Rattle.flow_check.specs.declared.bounds.Bounds.{Bounds}
@@ -17,24 +16,20 @@ use Rattle.flow_check.specs.declared.fault.CheckFault.{CheckFault}
 use Rattle.flow_check.specs.declared.fault.CheckFault.TheVariants.{Memory, Header, Size, Value, Sequence, NotAttained}
 use Rattle.flow_check.specs.declared.fault.CheckFault.TheVariants.{Tree, Weak, Low, End}
 use Rattle.flow_check.specs.declared.kind.TextKind.{TextKind}
+use Rattle.flow_check.proofs.TextGiven.{given-sequence, given-upper}
 use Rattle.flow_c.specs.Statuses.{number, memory}
 use Rattle.flow_c.specs.Faults.{shop_of, instance_room_fault, room_fault}
-use Rattle.flow_c.specs.Checks.{IsAcceptedAs, IsRefusedAs}
+use Rattle.flow_c.specs.Checks.{IsAcceptedAs, IsRefusedAs, IsTextAs}
 use Rattle.flow_c.specs.declared.fault.Fault.TheVariants.{Certificate}
 use Rattle.flow_c.specs.internal.Checked.{IsFaultFound, ran_out}
 
--- the sequence of a text has the upper bound as its makespan
-pub upper-attained : (kind : TextKind) (shop : Shop) (bytes jobs : List ℕ) (bounds : Bounds) →
-    GivesAs kind shop bytes bounds jobs → span shop jobs ≡ bounds.upper
-upper-attained kind shop bytes jobs bounds gives =
-    gives.2.3.attained ∙ sym (ap (λ (b : Bounds). b.upper) gives.1)
-
--- and so has the turned sequence
+-- the turned sequence of a text of the mirrored shop has the upper bound as its makespan
 pub turned-attained : (kind : TextKind) (shop : Shop) (bytes back jobs : List ℕ) (bounds : Bounds) →
     GivesAs kind (mirrored shop) bytes bounds back → jobs ≡ reverse back → span shop jobs ≡ bounds.upper
 turned-attained kind shop bytes back jobs bounds gives is =
-    ap (span shop) is ∙ sym (mirror-lists shop back gives.2.3.whole.each.range)
-    ∙ upper-attained kind (mirrored shop) bytes back bounds gives
+    let whole = given-sequence kind (mirrored shop) bytes bounds back gives in
+    ap (span shop) is ∙ sym (mirror-lists shop back whole.each.range)
+    ∙ given-upper kind (mirrored shop) bytes bounds back gives
 
 -- bounds of the mirrored shop are bounds of the shop
 pub bounds-turned : (shop : Shop) (bounds : Bounds) → AreBounds (mirrored shop) bounds → AreBounds shop bounds
@@ -54,16 +49,15 @@ bounds-turned shop bounds are = record {
 
 -- no lawful text of the instance, and none of the mirrored one where that is asked for
 none-accepted : (kind : TextKind) (either : Bool) (shop : Shop) (bytes : List ℕ) →
-    ((stated : Stated kind) → ¬ IsLawful kind shop bytes stated) →
-    (either ≡ true → (stated : Stated kind) → ¬ IsLawful kind (mirrored shop) bytes stated) →
-    (stated : Stated kind) → ¬ IsAcceptedAs kind either shop bytes stated
-none-accepted kind either shop bytes own other stated (inl lawful) = own stated lawful
-none-accepted kind either shop bytes own other stated (inr (asked, lawful)) = other asked stated lawful
+    ((bounds : Bounds) (jobs : List ℕ) → ¬ GivesAs kind shop bytes bounds jobs) →
+    (either ≡ true → ¬ IsTextAs kind (mirrored shop) bytes) → ¬ IsAcceptedAs kind either shop bytes
+none-accepted kind either shop bytes own other (inl (bounds, jobs, gives)) = own bounds jobs gives
+none-accepted kind either shop bytes own other (inr (asked, lawful)) = other asked lawful
 
 -- a fault of the bytes as a text of the instance, where they are none of the mirrored one
 pub is-refused : (kind : TextKind) (either : Bool) (shop : Shop) (bytes : List ℕ) (fault : CheckFault) →
     IsFaultAs kind shop bytes fault → IsUnlawfulAs kind shop bytes fault →
-    (either ≡ true → (stated : Stated kind) → ¬ IsLawful kind (mirrored shop) bytes stated) →
+    (either ≡ true → ¬ IsTextAs kind (mirrored shop) bytes) →
     IsFaultFound kind either shop bytes fault
 is-refused kind either shop bytes Memory first none other = tt
 is-refused kind either shop bytes Header first none other = (first, none-accepted kind either shop bytes none other)
@@ -82,17 +76,17 @@ is-refused kind either shop bytes End first none other = (first, none-accepted k
 
 -- a check that did not end because memory ran out says that the bytes are no lawful text
 pub no-text : (kind : TextKind) (shop : Shop) (bytes : List ℕ) (fault : CheckFault) → ran_out fault ≡ false →
-    IsUnlawfulAs kind shop bytes fault → (stated : Stated kind) → ¬ IsLawful kind shop bytes stated
-no-text kind shop bytes Memory known none = absurd (cc known)
-no-text kind shop bytes Header known none = none
-no-text kind shop bytes Size known none = none
-no-text kind shop bytes Value known none = none
-no-text kind shop bytes Sequence known none = none
-no-text kind shop bytes NotAttained known none = none
-no-text kind shop bytes (Tree line) known none = none
-no-text kind shop bytes (Weak line) known none = none
-no-text kind shop bytes (Low line) known none = none
-no-text kind shop bytes End known none = none
+    IsUnlawfulAs kind shop bytes fault → ¬ IsTextAs kind shop bytes
+no-text kind shop bytes Memory known none given = absurd (cc known)
+no-text kind shop bytes Header known none (bounds, jobs, gives) = none bounds jobs gives
+no-text kind shop bytes Size known none (bounds, jobs, gives) = none bounds jobs gives
+no-text kind shop bytes Value known none (bounds, jobs, gives) = none bounds jobs gives
+no-text kind shop bytes Sequence known none (bounds, jobs, gives) = none bounds jobs gives
+no-text kind shop bytes NotAttained known none (bounds, jobs, gives) = none bounds jobs gives
+no-text kind shop bytes (Tree line) known none (bounds, jobs, gives) = none bounds jobs gives
+no-text kind shop bytes (Weak line) known none (bounds, jobs, gives) = none bounds jobs gives
+no-text kind shop bytes (Low line) known none (bounds, jobs, gives) = none bounds jobs gives
+no-text kind shop bytes End known none (bounds, jobs, gives) = none bounds jobs gives
 
 -- what is answered of bytes that are not accepted
 is-known : (kind : TextKind) (either : Bool) (shop : Shop) (bytes : List ℕ) (first : CheckFault) →

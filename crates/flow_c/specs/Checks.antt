@@ -1,10 +1,8 @@
--- What the check of a certificate, or of a text of either kind, reports.
+-- What the check of a certificate, or of a text of any kind, reports.
 use Rattle.std.specs.Prelude.{ℕ, ◌≡◌, ◌⊎◌, Bool, true, false, List, reverse, Option, Some, None}
 use Rattle.flow_shop.specs.Shop.{Shop}
 use Rattle.flow_shop.specs.Mirror.{mirrored}
-use Rattle.flow_check.specs.Certificate.{IsLawful}
-use Rattle.flow_check.specs.TextLines.{Stated}
-use Rattle.flow_check.specs.CertificateFaults.{HasFaultAs}
+use Rattle.flow_check.specs.Check.{HasFaultAs}
 use Rattle.flow_check.specs.Kinds.{IsReadAs}
 use Rattle.flow_check.specs.Stated.{GivesAs, GivesSequence}
 use Rattle.flow_check.specs.declared.bounds.Bounds.{Bounds}
@@ -27,10 +25,14 @@ abbrev pub jobs_if : Bool → List ℕ → List ℕ
 jobs_if true jobs = reverse jobs
 jobs_if false jobs = jobs
 
--- the bytes are a lawful text of a kind, of the shop; or, where either is asked for, of the mirrored shop
-abbrev pub IsAcceptedAs : (kind : TextKind) → Bool → Shop → List ℕ → Stated kind → Type 0
-IsAcceptedAs kind either shop bytes stated =
-    IsLawful kind shop bytes stated ⊎ ((either ≡ true) × IsLawful kind (mirrored shop) bytes stated)
+-- the bytes are a lawful text of a kind, of the shop
+abbrev pub IsTextAs : TextKind → Shop → List ℕ → Type 0
+IsTextAs kind shop bytes = (bounds : Bounds) × (jobs : List ℕ) × GivesAs kind shop bytes bounds jobs
+
+-- the bytes are one of the shop, or, where either is asked for, of the mirrored shop
+abbrev pub IsAcceptedAs : TextKind → Bool → Shop → List ℕ → Type 0
+IsAcceptedAs kind either shop bytes =
+    IsTextAs kind shop bytes ⊎ ((either ≡ true) × IsTextAs kind (mirrored shop) bytes)
 
 -- the bytes are a lawful text of a kind, of the shop, that states these bounds and jobs; or, where that is said, of the
 -- mirrored shop, and they state the jobs in reverse order
@@ -46,7 +48,7 @@ GivesJobs is_mirrored shop bytes jobs = GivesSequence (shop_if is_mirrored shop)
 -- the mirrored shop is meant only where either is asked for, and the bytes are no lawful text of a kind of the shop
 abbrev pub IsMirroredOnlyAs : TextKind → Bool → Shop → List ℕ → Bool → Type 0
 IsMirroredOnlyAs kind either shop bytes is_mirrored =
-    is_mirrored ≡ true → (either ≡ true) × ((stated : Stated kind) → ¬ IsLawful kind shop bytes stated)
+    is_mirrored ≡ true → (either ≡ true) × ¬ IsTextAs kind shop bytes
 
 -- the same of a certificate
 abbrev pub IsMirroredOnly : Bool → Shop → List ℕ → Bool → Type 0
@@ -56,7 +58,7 @@ IsMirroredOnly either shop bytes is_mirrored = IsMirroredOnlyAs kinds.Certificat
 abbrev pub IsRefusedAs : TextKind → Bool → Shop → List ℕ → Fault → Type 0
 IsRefusedAs kind either shop bytes fault =
     (first : CheckFault) × (fault ≡ Certificate first) × HasFaultAs kind shop bytes first
-    × ((stated : Stated kind) → ¬ IsAcceptedAs kind either shop bytes stated)
+    × ¬ IsAcceptedAs kind either shop bytes
 
 -- the same of a certificate
 abbrev pub IsRefused : Bool → Shop → List ℕ → Fault → Type 0

@@ -1,4 +1,4 @@
-//! The check of a text of either kind.
+//! The check of a text of any kind.
 
 ghost use Rattle.std.specs.Prelude.{◌≡◌, ◌⊎◌, length, take, drop};
 ghost use Rattle.flow_shop.specs.InstanceFaults.{instance_fault};
@@ -15,10 +15,11 @@ use crate::room::fill;
 use flow_check::kind_of;
 use std::alloc::Global;
 
-/// The bounds that a certificate or a text of bounds proves, between which the least makespan lies, and a sequence that
-/// has the upper one. Those of a certificate are both its value. The first line tells the kind. With `either`, a text
-/// of the mirrored instance is accepted too, and `mirrored` says whether it was one. The times are machine by machine.
-/// The first entries of `sequence` become the jobs, in the order of the instance.
+/// The bounds that a text proves, between which the least makespan lies, and a sequence that has the upper one. Where
+/// both are one number, it is the least makespan. The text is a two-ended certificate, a text of bounds or a
+/// certificate, whose bounds are both its value; the first line tells which. With `either`, a text of the mirrored
+/// instance is accepted too, and `mirrored` says whether it was one. The times are machine by machine. The first entries
+/// of `sequence` become the jobs, in the order of the instance.
 #[unsafe(no_mangle)]
 pub extern "C" fn flowshop_check_bounds(
     alloc: Global,

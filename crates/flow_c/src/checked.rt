@@ -1,4 +1,4 @@
-//! What a text of either kind proves of an instance, or of the mirrored one.
+//! What a text proves of an instance, or of the mirrored one.
 
 ghost use Rattle.std.specs.Prelude.{◌≡◌, ◌⊎◌, None, Some, IfOk, OnOk, IfErr};
 ghost use Rattle.flow_shop.specs.InstanceFaults.{instance_fault};

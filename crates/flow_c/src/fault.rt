@@ -45,7 +45,7 @@ pub enum Fault {
     Plan(PlanFault),
     /// A tree is longer than the budget.
     Run(RunFault),
-    /// The bytes are no lawful certificate, or no lawful text of bounds.
+    /// The bytes are no lawful text of their kind.
     Certificate(CheckFault),
     /// The bytes are no benchmark text.
     Text(TextFault),

@@ -1,8 +1,7 @@
 -- Why no text of an instance was accepted.
 use Rattle.std.specs.Prelude.{ℕ, Bool, true, false, List}
 use Rattle.flow_shop.specs.Shop.{Shop}
-use Rattle.flow_check.specs.TextLines.{Stated}
-use Rattle.flow_check.specs.CertificateFaults.{HasFaultAs}
+use Rattle.flow_check.specs.Check.{HasFaultAs}
 use Rattle.flow_check.specs.declared.fault.CheckFault.{CheckFault}
 use Rattle.flow_check.specs.declared.fault.CheckFault.TheVariants.{Memory}
 use Rattle.flow_check.specs.declared.kind.TextKind.{TextKind}
@@ -17,4 +16,4 @@ ran_out fault = false
 abbrev pub IsFaultFound : TextKind → Bool → Shop → List ℕ → CheckFault → Type 0
 IsFaultFound kind either shop bytes Memory = Unit {0}
 IsFaultFound kind either shop bytes fault =
-    HasFaultAs kind shop bytes fault × ((stated : Stated kind) → ¬ IsAcceptedAs kind either shop bytes stated)
+    HasFaultAs kind shop bytes fault × ¬ IsAcceptedAs kind either shop bytes

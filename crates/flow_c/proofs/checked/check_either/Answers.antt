@@ -1,14 +1,15 @@
 use Rattle.std.proofs.Common.{subst, sym}
 use Rattle.flow_shop.specs.Shop.{Shop}
-use Rattle.flow_check.specs.Certificate.{AreBounds, IsLawful}
+use Rattle.flow_check.specs.Certificate.{AreBounds}
 use Rattle.flow_check.specs.Stated.{GivesAs}
+use Rattle.flow_c.specs.Checks.{IsTextAs}
 use Rattle.flow_c.proofs.Turned.{bounds-turned, is-refused, no-text, turned-attained}
 use Rattle.flow_c.proofs.checked.check_either.Goals as goal
 
 pub returns-then-not-either-clause-refused : goal.returns-then-not-either-clause-refused
 returns-then-not-either-clause-refused c =
     is-refused c.args.kind c.args.either c.args.instance.now c.args.bytes.now c.in-Err.fault c.in-Err.ensures.fault
-    c.in-Err.ensures.none (λ asked stated lawful. absurd (cc (c.if-not-either.true, asked)))
+    c.in-Err.ensures.none (λ asked lawful. absurd (cc (c.if-not-either.true, asked)))
 
 pub returns-in-Ok-check_text-clause-only : goal.returns-in-Ok-check_text-clause-only
 returns-in-Ok-check_text-clause-only c = λ mirrored. (
@@ -35,6 +36,6 @@ pub returns-clause-refused : goal.returns-clause-refused
 returns-clause-refused c =
     is-refused c.args.kind c.args.either c.args.instance.now c.args.bytes.now c.in-Err.fault c.in-Err.ensures.fault
     c.in-Err.ensures.none
-    (λ asked stated lawful. no-text c.args.kind _ c.args.bytes.now c.in-Err-check_text.other
-    (cc (c.ran_out-2.ensures, c.if-ran_out-2.false)) c.in-Err-check_text.ensures.none stated
-    (subst (λ (shop : Shop). IsLawful c.args.kind shop c.args.bytes.now stated) (sym c.in_ok-mirror.ensures) lawful))
+    (λ asked lawful. no-text c.args.kind _ c.args.bytes.now c.in-Err-check_text.other
+    (cc (c.ran_out-2.ensures, c.if-ran_out-2.false)) c.in-Err-check_text.ensures.none
+    (subst (λ (shop : Shop). IsTextAs c.args.kind shop c.args.bytes.now) (sym c.in_ok-mirror.ensures) lawful))
