@@ -1,4 +1,4 @@
-//! The directions of a two-ended text: why no sequence has a makespan below `L`.
+//! The directions of a two-ended certificate: why no sequence has a makespan below `L`.
 //!
 //! A node has two lists with no job twice: one that begins the sequence, and one that ends it. At the root both are
 //! empty. Line 5 has one sign for each node that has to be opened, in the order in which the walk comes to them:

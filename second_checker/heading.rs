@@ -1,6 +1,6 @@
 //! The lines of a text before its proof: what it is, of which sizes, what it claims, and its sequence.
 //!
-//! | Line | Certificate | Text of bounds | Two-ended text |
+//! | Line | Certificate | Text of bounds | Two-ended certificate |
 //! |---|---|---|---|
 //! | 1 | `flowshop certificate 1` or `2` | `flowshop bounds 1` or `2` | `flowshop two-ended 1` |
 //! | 2 | jobs, machines, depth | jobs, machines, depth | jobs, machines |
@@ -117,7 +117,7 @@ fn kind_of(line: &[u8]) -> Option<Kind> {
     }
 }
 
-/// The depth on line 2, whose jobs and machines are those of the shop. A two-ended text has no depth.
+/// The depth on line 2, whose jobs and machines are those of the shop. A two-ended certificate has none.
 fn depth_of(shop: &Shop, kind: Kind, line: &[u8]) -> Option<usize> {
     let jobs = shop.jobs.len() as u64;
     let (sizes, depth) = match kind {

@@ -1,4 +1,4 @@
-//! A second checker of certificates, of texts of bounds and of two-ended texts of permutation flow shops.
+//! A second checker of certificates, two-ended or not, and of texts of bounds, of permutation flow shops.
 //!
 //! It is a program of its own, in plain safe Rust. It was written apart from the proved checker of `flowshop`, by the
 //! same authors, from the rules of the texts alone. It is not proved, and shares no source file with a solver.
@@ -9,7 +9,7 @@
 //! - `blocks.rs`: the benchmark text;
 //! - `heading.rs`: lines 1 to 4 of a text, which say what it claims;
 //! - `trees.rs`: the trees of a certificate or of a text of bounds;
-//! - `directions.rs`: the directions of a two-ended text;
+//! - `directions.rs`: the directions of a two-ended certificate;
 //! - `files.rs`, `fault.rs`: files, and the lines of refused runs.
 //!
 //! Jobs and machines count from 0 in the program, and from 1 in texts. A run holds the text that it checks, and little
@@ -40,7 +40,7 @@ Usage: second check FILE INDEX CERT [--either] [--sequence] [--optimal]
 
   FILE        The file of the benchmark text, or stdin for standard input
   INDEX       The number of the block in the text, from 1
-  CERT        The file of the certificate, of the text of bounds or of the two-ended text; /dev/stdin for a pipe
+  CERT        The file of the certificate, two-ended or not, or of the text of bounds; /dev/stdin for a pipe
   --either    Accepts a text of the mirrored instance too
   --sequence  Prints the sequence of the text for the instance, and its makespan
   --optimal   Refuses a text whose bounds differ

@@ -1,4 +1,4 @@
-"""Checks a two-ended text of a shop: python3 examples/python/check_two_ended.py FILE INDEX TEXT
+"""Checks a two-ended certificate of a shop: python3 examples/python/check_two_ended.py FILE INDEX TEXT
 
 FILE is a benchmark text without faults, and INDEX the number of a block, from 1. This was written from the rules of the
 text alone, and uses nothing of the program. It prints `optimal V`, where V is the least makespan; or `bounds L U`,

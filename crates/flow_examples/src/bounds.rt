@@ -1,6 +1,6 @@
 //! Bounds, and the starting sequence.
 
-ghost use Rattle.std.specs.Prelude.{◌≡◌, ℕ, ◌<◌, false, length, IfOk};
+ghost use Rattle.std.specs.Prelude.{◌≡◌, ℕ, ◌<◌, false, length, IfSome};
 ghost use Rattle.flow_core.specs.Front.{IsWithinFront};
 ghost use Rattle.flow_core.specs.JobSet.{contains, members};
 
@@ -11,36 +11,38 @@ use flow_core::{Front, Instance, JobSet, Sequence, front_push};
 use std::alloc::Global;
 use std::test::Fail;
 
-/// The front of a list, and the jobs that it leaves.
-fn node(instance: &Instance, jobs: &[u16]) -> Result<(Front, JobSet), Fail>
-    ensures within { IfOk result (λ node. IsWithinFront instance.now node.0) }
-    ensures left { IfOk result (λ node. (job : ℕ) → instance.now.jobs < job → contains node.1 job ≡ false) }
-    ensures some { IfOk result (λ node. 0 < length (members node.1)) }
+/// The front of a list, and the jobs that it leaves; none where they are no jobs of the instance, or leave none.
+fn node(instance: &Instance, jobs: &[u16]) -> Option<(Front, JobSet)>
+    ensures within { IfSome result (λ node. IsWithinFront instance.now node.0) }
+    ensures left { IfSome result (λ node. (job : ℕ) → instance.now.jobs < job → contains node.1 job ≡ false) }
+    ensures some { IfSome result (λ node. 0 < length (members node.1)) }
 {
     let most = instance.jobs();
     if jobs.len() > most as usize {
-        return Err(Fail::from("more jobs than the instance has"));
+        return None;
     }
     let mut front = Front::empty();
     let mut left = JobSet::all(instance);
     for job in jobs {
         if *job < 1 || *job > most {
-            return Err(Fail::from("no job of the instance"));
+            return None;
         }
         front_push(instance, &mut front, *job);
         left.remove(*job);
     }
     if left.count() == 0 {
-        return Err(Fail::from("no job is left"));
+        return None;
     }
-    Ok((front, left))
+    Some((front, left))
 }
 
 /// One job on one machine.
 const ONE_JOB: Shop = Shop::Seed(1, 1, 2_147_483_646);
 
-/// Lists, and for each machine the completion time and the bound.
-static BOUNDS: [(Shop, &[u16], &[(u64, u64)]); 15] = [
+/// A list, and for each machine the completion time and the bound.
+type Bounded = (Shop, &'static [u16], &'static [(u64, u64)]);
+
+static BOUNDS: [Bounded; 15] = [
     (Shop::Three, &[], &[(0, 7), (0, 10), (0, 5)]),
     (Shop::Three, &[1], &[(4, 7), (4, 14), (8, 9)]),
     (Shop::Three, &[2], &[(0, 7), (8, 11), (8, 13)]),
@@ -59,32 +61,34 @@ static BOUNDS: [(Shop, &[u16], &[(u64, u64)]); 15] = [
 ];
 
 /// Whether each machine has this completion time and this bound at a list.
-fn has_bounds(alloc: Global, shop: Shop, jobs: &[u16], row: &[(u64, u64)]) -> Result<bool, Fail> {
-    let instance = made(alloc, shop)?;
-    let (front, left) = node(&instance, jobs)?;
-    if row.len() != instance.machines() as usize {
-        return Ok(false);
-    }
+fn has_bounds(alloc: Global, row: &Bounded) -> bool {
+    let (shop, jobs, wanted) = *row;
+    let Ok(instance) = made(alloc, shop) else {
+        return false;
+    };
+    let Some((front, left)) = node(&instance, jobs) else {
+        return false;
+    };
     for machine in 1..instance.machines() + 1 {
         let found = (front.at(machine), bound(&instance, &front, &left, machine));
-        if row.get(machine as usize - 1) != Some(&found) {
-            return Ok(false);
+        if wanted.get(machine as usize - 1) != Some(&found) {
+            return false;
         }
     }
-    Ok(true)
+    wanted.len() == instance.machines() as usize
 }
 
 #[test]
-fn bounds_are_the_worked_ones(rt: HostRuntime) -> Result<(), Fail> {
-    for &(shop, jobs, row) in BOUNDS.iter() {
-        let holds = has_bounds(rt.alloc(), shop, jobs, row)?;
-        assert!(rt; holds, "at {jobs:?}");
+fn bounds_are_the_worked_ones(rt: HostRuntime) {
+    for (number, row) in BOUNDS.iter().enumerate() {
+        assert!(rt; has_bounds(rt.alloc(), row), "row {number}");
     }
-    Ok(())
 }
 
-/// Lists, and the released bound of each machine.
-static RELEASED_BOUNDS: [(Shop, &[u16], &[u64]); 4] = [
+/// A list, and the released bound of each machine.
+type Released = (Shop, &'static [u16], &'static [u64]);
+
+static RELEASED_BOUNDS: [Released; 4] = [
     (Shop::Two, &[], &[8, 9]),
     (Shop::Three, &[], &[7, 10, 7]),
     (Shop::Three, &[3], &[8, 10, 8]),
@@ -92,30 +96,30 @@ static RELEASED_BOUNDS: [(Shop, &[u16], &[u64]); 4] = [
 ];
 
 /// Whether each machine has this released bound at a list, by the jobs left and by the rest that they are.
-fn has_released(alloc: Global, shop: Shop, jobs: &[u16], row: &[u64]) -> Result<bool, Fail> {
-    let instance = made(alloc, shop)?;
-    let (front, left) = node(&instance, jobs)?;
+fn has_released(alloc: Global, row: &Released) -> bool {
+    let (shop, jobs, wanted) = *row;
+    let Ok(instance) = made(alloc, shop) else {
+        return false;
+    };
+    let Some((front, left)) = node(&instance, jobs) else {
+        return false;
+    };
     let rest = Rest::of(&instance, &left);
-    if row.len() != instance.machines() as usize {
-        return Ok(false);
-    }
     for machine in 1..instance.machines() + 1 {
         let found = released_bound(&instance, &front, &left, machine);
         let of_rest = rest.released_bound(&front, machine);
-        if found != of_rest || row.get(machine as usize - 1) != Some(&found) {
-            return Ok(false);
+        if found != of_rest || wanted.get(machine as usize - 1) != Some(&found) {
+            return false;
         }
     }
-    Ok(true)
+    wanted.len() == instance.machines() as usize
 }
 
 #[test]
-fn released_bounds_are_the_worked_ones(rt: HostRuntime) -> Result<(), Fail> {
-    for &(shop, jobs, row) in RELEASED_BOUNDS.iter() {
-        let holds = has_released(rt.alloc(), shop, jobs, row)?;
-        assert!(rt; holds, "at {jobs:?}");
+fn released_bounds_are_the_worked_ones(rt: HostRuntime) {
+    for (number, row) in RELEASED_BOUNDS.iter().enumerate() {
+        assert!(rt; has_released(rt.alloc(), row), "row {number}");
     }
-    Ok(())
 }
 
 /// Whether each machine has this sum and least tail in a rest, and this bound behind a front.
@@ -123,9 +127,6 @@ fn has_rest(instance: &Instance, rest: &Rest, front: &Front, row: &[(u32, u32, u
     requires machines { rest.now.loads.machines ≡ instance.now.machines }
     requires within { IsWithinFront instance.now front.now }
 {
-    if row.len() != instance.machines() as usize {
-        return false;
-    }
     for machine in 1..instance.machines() + 1 {
         let bound = rest.bound(front, machine);
         let found = (rest.sum(machine), rest.tail(machine), bound);
@@ -133,88 +134,120 @@ fn has_rest(instance: &Instance, rest: &Rest, front: &Front, row: &[(u32, u32, u
             return false;
         }
     }
-    true
+    row.len() == instance.machines() as usize
 }
 
 /// The rest of a set with one job more, and the rest of the set by a step from it.
-fn rests(instance: &Instance, after: &JobSet, job: u16) -> Result<(Rest, Rest), Fail>
+fn rests(instance: &Instance, after: &JobSet, job: u16) -> Option<(Rest, Rest)>
     requires some { 0 < length (members after.now) }
     requires left { (job : ℕ) → instance.now.jobs < job → contains after.now job ≡ false }
-    ensures before { IfOk result (λ rests. rests.0.loads.machines ≡ instance.now.machines) }
-    ensures after { IfOk result (λ rests. rests.1.loads.machines ≡ instance.now.machines) }
+    ensures before { IfSome result (λ rests. rests.0.loads.machines ≡ instance.now.machines) }
+    ensures after { IfSome result (λ rests. rests.1.loads.machines ≡ instance.now.machines) }
 {
     if job < 1 || job > instance.jobs() || after.contains(job) {
-        return Err(Fail::from("no other job of the instance"));
+        return None;
     }
     let mut before = *after;
     before.insert(job);
     if before.count() == 0 {
-        return Err(Fail::from("no job is left"));
+        return None;
     }
     let rest = Rest::of(instance, &before);
-    Ok((rest, rest.step(instance, after, job)))
+    Some((rest, rest.step(instance, after, job)))
+}
+
+/// The rests of all three jobs and of those behind job 3, at each machine: the sum, the least tail, and the bound.
+static OF_ALL: [(u32, u32, u64); 3] = [(4, 3, 7), (10, 0, 10), (5, 0, 5)];
+
+static BEHIND_3: [(u32, u32, u64); 3] = [(4, 4, 8), (8, 0, 10), (4, 0, 7)];
+
+/// Whether the instance with three machines has these rests, the second by a step from the first and anew.
+fn has_rests(instance: &Instance) -> bool {
+    let Some((empty, _left)) = node(instance, &[]) else {
+        return false;
+    };
+    let Some((front, left)) = node(instance, &[3]) else {
+        return false;
+    };
+    let Some((all, step)) = rests(instance, &left, 3) else {
+        return false;
+    };
+    has_rest(instance, &all, &empty, &OF_ALL)
+        && has_rest(instance, &step, &front, &BEHIND_3)
+        && has_rest(instance, &Rest::of(instance, &left), &front, &BEHIND_3)
 }
 
 #[test]
 fn rests_of_three_machines_are_the_worked_ones(rt: HostRuntime) -> Result<(), Fail> {
-    let instance = three_machines(rt.alloc())?;
-    let (empty, _left) = node(&instance, &[])?;
-    let (front, left) = node(&instance, &[3])?;
-    let (all, step) = rests(&instance, &left, 3)?;
-    let of_all = [(4, 3, 7), (10, 0, 10), (5, 0, 5)];
-    assert!(rt; has_rest(&instance, &all, &empty, &of_all));
-    let behind = [(4, 4, 8), (8, 0, 10), (4, 0, 7)];
-    assert!(rt; has_rest(&instance, &step, &front, &behind));
-    assert!(rt; has_rest(&instance, &Rest::of(&instance, &left), &front, &behind));
+    assert!(rt; has_rests(&three_machines(rt.alloc())?));
     Ok(())
+}
+
+/// Two jobs of the instance with two machines, and when they leave the second.
+static ENDS: [(&[u16], u64); 2] = [(&[2, 1], 7), (&[1, 2], 9)];
+
+/// Whether two jobs leave the second machine so.
+fn ends_at(alloc: Global, row: &(&[u16], u64)) -> bool {
+    let Ok(instance) = two_machines(alloc) else {
+        return false;
+    };
+    match node(&instance, row.0) {
+        Some((front, _left)) => front.at(2) == row.1,
+        None => false,
+    }
 }
 
 #[test]
-fn two_jobs_end_sooner_with_the_second_first(rt: HostRuntime) -> Result<(), Fail> {
-    let instance = two_machines(rt.alloc())?;
-    let (front, _left) = node(&instance, &[2, 1])?;
-    assert_eq!(rt; front.at(2), 7);
-    let (front, _left) = node(&instance, &[1, 2])?;
-    assert_eq!(rt; front.at(2), 9);
-    Ok(())
+fn two_jobs_end_sooner_with_the_second_first(rt: HostRuntime) {
+    for (number, row) in ENDS.iter().enumerate() {
+        assert!(rt; ends_at(rt.alloc(), row), "row {number}");
+    }
 }
 
-/// The makespans of the first jobs of a sequence with the next job put in at each place.
-fn spans_with_next(
+/// Whether these are the makespans of the first jobs of a sequence with the next job put in at each place.
+fn has_spans(
     alloc: Global,
     instance: &Instance,
     sequence: &Sequence,
     count: usize,
-) -> Result<Vec<u64>, Fail> {
+    spans: &[u64],
+) -> bool {
     let jobs = sequence.jobs();
     if jobs.len() != instance.jobs() as usize || count >= jobs.len() {
-        return Err(Fail::from("no job is next"));
+        return false;
     }
-    Ok(insertion_spans(alloc, instance, &jobs[..count], jobs[count])?)
+    match insertion_spans(alloc, instance, &jobs[..count], jobs[count]) {
+        Ok(found) => found.as_slice() == spans,
+        Err(_) => false,
+    }
 }
 
-/// Whether these are the makespans for jobs of the instance with three machines.
-fn has_spans(alloc: Global, jobs: &[u16], count: usize, spans: &[u64]) -> Result<bool, Fail> {
-    let instance = three_machines(alloc)?;
-    let sequence = Sequence::new(alloc, &instance, jobs)?;
-    let found = spans_with_next(alloc, &instance, &sequence, count)?;
-    Ok(found.as_slice() == spans)
-}
+/// The first jobs of a sequence of three jobs, how many they are, and the makespans with the next job put in.
+type Inserted = (&'static [u16], usize, &'static [u64]);
 
-/// The first jobs of sequences of three jobs, how many they are, and the makespans with the next job put in.
-static INSERTIONS: [(&[u16], usize, &[u64]); 3] = [
+static INSERTIONS: [Inserted; 3] = [
     (&[2, 1, 3], 2, &[14, 15, 13]),
     (&[1, 2, 3], 1, &[12, 12]),
     (&[1, 2, 3], 0, &[8]),
 ];
 
-#[test]
-fn insertions_are_the_worked_ones(rt: HostRuntime) -> Result<(), Fail> {
-    for &(jobs, count, spans) in INSERTIONS.iter() {
-        let holds = has_spans(rt.alloc(), jobs, count, spans)?;
-        assert!(rt; holds, "{count} of {jobs:?}");
+/// Whether a job of the instance with three machines is put in so.
+fn is_inserted(alloc: Global, row: &Inserted) -> bool {
+    let (jobs, count, spans) = *row;
+    let Ok(instance) = three_machines(alloc) else {
+        return false;
+    };
+    match Sequence::new(alloc, &instance, jobs) {
+        Ok(sequence) => has_spans(alloc, &instance, &sequence, count, spans),
+        Err(_) => false,
     }
-    Ok(())
+}
+
+#[test]
+fn insertions_are_the_worked_ones(rt: HostRuntime) {
+    for (number, row) in INSERTIONS.iter().enumerate() {
+        assert!(rt; is_inserted(rt.alloc(), row), "row {number}");
+    }
 }
 
 /// Starting sequences and their makespans.
@@ -226,19 +259,21 @@ static STARTS: [(Shop, &[u16], u64); 4] = [
 ];
 
 /// Whether the starting sequence of an instance has these jobs and this makespan.
-fn starts_with(alloc: Global, shop: Shop, jobs: &[u16], value: u64) -> Result<bool, Fail> {
-    let instance = made(alloc, shop)?;
-    let (sequence, makespan) = neh(alloc, &instance)?;
-    Ok(sequence.jobs() == jobs && makespan == value)
+fn starts_with(alloc: Global, row: &(Shop, &[u16], u64)) -> bool {
+    let Ok(instance) = made(alloc, row.0) else {
+        return false;
+    };
+    match neh(alloc, &instance) {
+        Ok((sequence, makespan)) => sequence.jobs() == row.1 && makespan == row.2,
+        Err(_) => false,
+    }
 }
 
 #[test]
-fn starting_sequences_are_the_worked_ones(rt: HostRuntime) -> Result<(), Fail> {
-    for &(shop, jobs, value) in STARTS.iter() {
-        let holds = starts_with(rt.alloc(), shop, jobs, value)?;
-        assert!(rt; holds, "at {jobs:?}");
+fn starting_sequences_are_the_worked_ones(rt: HostRuntime) {
+    for (number, row) in STARTS.iter().enumerate() {
+        assert!(rt; starts_with(rt.alloc(), row), "row {number}");
     }
-    Ok(())
 }
 
 /// Instances and their bounds. That of the last was published with the instance.
@@ -250,11 +285,17 @@ static TAILLARD_BOUNDS: [(Shop, u64); 5] = [
     (Shop::Seed(20, 5, 873_654_221), 1_232),
 ];
 
-#[test]
-fn taillard_bounds_are_the_worked_ones(rt: HostRuntime) -> Result<(), Fail> {
-    for &(shop, bound) in TAILLARD_BOUNDS.iter() {
-        let instance = made(rt.alloc(), shop)?;
-        assert_eq!(rt; taillard_bound(&instance), bound);
+/// Whether an instance has this bound.
+fn has_bound(alloc: Global, row: &(Shop, u64)) -> bool {
+    match made(alloc, row.0) {
+        Ok(instance) => taillard_bound(&instance) == row.1,
+        Err(_) => false,
     }
-    Ok(())
+}
+
+#[test]
+fn taillard_bounds_are_the_worked_ones(rt: HostRuntime) {
+    for (number, row) in TAILLARD_BOUNDS.iter().enumerate() {
+        assert!(rt; has_bound(rt.alloc(), row), "row {number}");
+    }
 }

@@ -7,18 +7,20 @@ use flow_core::{
     MemorySink, MemorySource, ReadFault, Refused, Sink, Source, StdSink, StdSource, WriteFault,
     put_all, read_all,
 };
-use std::alloc::Global;
+use std::alloc::{AllocError, Global};
 use std::io::{self, ErrorKind, Read, Write};
-use std::test::Fail;
 
 /// How many bytes a sink takes, the answer, and what it has then.
-static PUT: [(usize, Result<(), WriteFault>, &[u8]); 2] = [
+type Put = (usize, Result<(), WriteFault>, &'static [u8]);
+
+static PUT: [Put; 2] = [
     (10, Err(WriteFault::Device), b"number of "),
     (200, Ok(()), TWO_MACHINES_TEXT),
 ];
 
 /// Whether a sink that takes so many bytes gives this answer for a text, and has these bytes then.
-fn puts(alloc: Global, limit: usize, answer: Result<(), WriteFault>, bytes: &[u8]) -> bool {
+fn puts(alloc: Global, row: &Put) -> bool {
+    let (limit, answer, bytes) = *row;
     let mut sink = MemorySink::new(alloc, limit);
     let was_failed = sink.failed();
     let found = put_all(&mut sink, TWO_MACHINES_TEXT);
@@ -27,8 +29,8 @@ fn puts(alloc: Global, limit: usize, answer: Result<(), WriteFault>, bytes: &[u8
 
 #[test]
 fn put_all_puts_what_the_sink_takes(rt: HostRuntime) {
-    for &(limit, answer, bytes) in PUT.iter() {
-        assert!(rt; puts(rt.alloc(), limit, answer, bytes), "in {limit} bytes");
+    for (number, row) in PUT.iter().enumerate() {
+        assert!(rt; puts(rt.alloc(), row), "row {number}");
     }
 }
 
@@ -48,19 +50,27 @@ fn reads<S: Source>(
 }
 
 /// The limit, how many of the bytes a source gives before it refuses, and what is read of five bytes in pieces of two.
-static READ: [(usize, Option<usize>, Result<&[u8], ReadFault>); 3] = [
+type Listed = (usize, Option<usize>, Result<&'static [u8], ReadFault>);
+
+static READ: [Listed; 3] = [
     (5, None, Ok(b"abcde")),
     (4, None, Err(ReadFault::TooLong)),
     (5, Some(3), Err(ReadFault::Device)),
 ];
 
+/// Whether five bytes are read so.
+fn reads_five(alloc: Global, row: &Listed) -> bool {
+    let (limit, most, answer) = *row;
+    let mut source = MemorySource::new(b"abcde", 2, most);
+    !source.failed()
+        && reads(alloc, &mut source, limit, answer)
+        && source.failed() == most.is_some()
+}
+
 #[test]
 fn read_all_reads_to_the_end_or_names_its_fault(rt: HostRuntime) {
-    for &(limit, most, answer) in READ.iter() {
-        let mut source = MemorySource::new(b"abcde", 2, most);
-        assert!(rt; !source.failed());
-        assert!(rt; reads(rt.alloc(), &mut source, limit, answer), "{answer:?}");
-        assert_eq!(rt; source.failed(), most.is_some());
+    for (number, row) in READ.iter().enumerate() {
+        assert!(rt; reads_five(rt.alloc(), row), "row {number}");
     }
 }
 
@@ -88,28 +98,39 @@ impl Source for Endless {
     }
 }
 
+/// Whether `read_all` stops an endless source behind the first byte over its limit.
+fn asks_once_more(alloc: Global) -> bool {
+    let mut source = Endless { calls: 0 };
+    reads(alloc, &mut source, 5, Err(ReadFault::TooLong)) && source.calls == 6
+}
+
 #[test]
 fn read_all_asks_once_more_than_its_limit(rt: HostRuntime) {
-    let mut source = Endless { calls: 0 };
-    assert!(rt; reads(rt.alloc(), &mut source, 5, Err(ReadFault::TooLong)));
-    assert_eq!(rt; source.calls, 6);
+    assert!(rt; asks_once_more(rt.alloc()));
+}
+
+/// Whether a reader of the library is read to its end.
+fn is_read(alloc: Global) -> bool {
+    let mut source = StdSource::new(b"flow shop".as_slice());
+    !source.failed() && reads(alloc, &mut source, 100, Ok(b"flow shop"))
 }
 
 #[test]
 fn readers_of_the_library_are_sources(rt: HostRuntime) {
-    let mut source = StdSource::new(b"flow shop".as_slice());
-    assert!(rt; !source.failed());
-    assert!(rt; reads(rt.alloc(), &mut source, 100, Ok(b"flow shop")));
+    assert!(rt; is_read(rt.alloc()));
+}
+
+/// Whether a writer of the library takes all bytes.
+fn is_written(alloc: Global) -> bool {
+    let mut kept: Vec<u8> = Vec::new(alloc);
+    let mut sink = StdSink::new(&mut kept);
+    let is_put = !sink.failed() && put_all(&mut sink, b"flow shop").is_ok() && !sink.failed();
+    is_put && kept.as_slice() == b"flow shop".as_slice()
 }
 
 #[test]
 fn writers_of_the_library_are_sinks(rt: HostRuntime) {
-    let mut kept: Vec<u8> = Vec::new(rt.alloc());
-    let mut sink = StdSink::new(&mut kept);
-    assert!(rt; !sink.failed());
-    assert_eq!(rt; put_all(&mut sink, b"flow shop"), Ok(()));
-    assert!(rt; !sink.failed());
-    assert!(rt; kept.as_slice() == b"flow shop".as_slice());
+    assert!(rt; is_written(rt.alloc()));
 }
 
 /// Gives its bytes in pieces, each after so many interrupted reads, and then ends or fails. It counts its reads.
@@ -155,48 +176,69 @@ impl<'a> Read for FakeReader<'a> {
     }
 }
 
-#[test]
-fn std_source_reads_again_where_it_was_interrupted(rt: HostRuntime) {
+/// Whether a source gives these bytes next.
+fn gives<R: Read>(source: &mut StdSource<R>, bytes: &[u8]) -> bool {
     let mut buffer = [0u8; 4];
+    match source.get(&mut buffer) {
+        Ok(count) => buffer.get(..count) == Some(bytes),
+        Err(_) => false,
+    }
+}
+
+/// Whether a source refuses, and has not failed before.
+fn refuses<R: Read>(source: &mut StdSource<R>) -> bool {
+    let mut buffer = [0u8; 4];
+    !source.failed() && source.get(&mut buffer) == Err(Refused) && source.failed()
+}
+
+/// Whether a source reads on behind 999 interruptions of each read: three pieces and the end.
+fn reads_on(alloc: Global) -> bool {
     let mut reader = FakeReader::new(b"flow shop", 3, 999, false);
     let mut source = StdSource::new(&mut reader);
-    assert_eq!(rt; source.get(&mut buffer), Ok(3));
-    assert_eq!(rt; &buffer[..3], b"flo".as_slice());
-    assert!(rt; !source.failed());
-    assert!(rt; reads(rt.alloc(), &mut source, 100, Ok(b"w shop")));
-    // Two pieces more, and the end.
-    assert_eq!(rt; reader.reads, 4_000);
+    let is_read = gives(&mut source, b"flo")
+        && !source.failed()
+        && reads(alloc, &mut source, 100, Ok(b"w shop"));
+    is_read && reader.reads == 4_000
+}
+
+/// Whether a source refuses behind 1,000 interruptions.
+fn gives_up() -> bool {
     let mut reader = FakeReader::new(b"flow shop", 3, 1_000, false);
+    let refused = refuses(&mut StdSource::new(&mut reader));
+    refused && reader.reads == 1_000
+}
+
+#[test]
+fn std_source_reads_again_where_it_was_interrupted(rt: HostRuntime) {
+    assert!(rt; reads_on(rt.alloc()) && gives_up());
+}
+
+/// Whether a source refuses once its reader fails, and does not ask again.
+fn refuses_once() -> bool {
+    let mut reader = FakeReader::new(b"flow", 3, 0, true);
     let mut source = StdSource::new(&mut reader);
-    assert_eq!(rt; source.get(&mut buffer), Err(Refused));
-    assert!(rt; source.failed());
-    assert_eq!(rt; reader.reads, 1_000);
+    let refused = gives(&mut source, b"flo") && gives(&mut source, b"w") && refuses(&mut source);
+    refused && reader.reads == 3
 }
 
 #[test]
 fn std_source_refuses_where_its_reader_fails(rt: HostRuntime) {
-    let mut buffer = [0u8; 4];
-    let mut reader = FakeReader::new(b"flow", 3, 0, true);
-    let mut source = StdSource::new(&mut reader);
-    assert_eq!(rt; source.get(&mut buffer), Ok(3));
-    assert_eq!(rt; source.get(&mut buffer), Ok(1));
-    assert!(rt; !source.failed());
-    assert_eq!(rt; source.get(&mut buffer), Err(Refused));
-    assert!(rt; source.failed());
-    // It does not ask again.
-    assert_eq!(rt; reader.reads, 3);
+    assert!(rt; refuses_once());
+}
+
+/// Whether `read_all` names the fault of a reader, and the source has failed then.
+fn names_fault(alloc: Global) -> bool {
+    let mut source = StdSource::new(FakeReader::new(b"flow", 3, 0, true));
+    !source.failed() && reads(alloc, &mut source, 100, Err(ReadFault::Device)) && source.failed()
 }
 
 #[test]
 fn read_all_names_the_fault_of_a_reader(rt: HostRuntime) {
-    let mut source = StdSource::new(FakeReader::new(b"flow", 3, 0, true));
-    assert!(rt; !source.failed());
-    assert!(rt; reads(rt.alloc(), &mut source, 100, Err(ReadFault::Device)));
-    assert!(rt; source.failed());
+    assert!(rt; names_fault(rt.alloc()));
 }
 
 /// `count` bytes, each different from the one before it.
-fn many_bytes(alloc: Global, count: u32) -> Result<Vec<u8>, Fail> {
+fn many_bytes(alloc: Global, count: u32) -> Result<Vec<u8>, AllocError> {
     let mut bytes = Vec::new(alloc);
     for index in 0..count {
         bytes.push((index % 251) as u8)?;
@@ -204,16 +246,23 @@ fn many_bytes(alloc: Global, count: u32) -> Result<Vec<u8>, Fail> {
     Ok(bytes)
 }
 
+/// Whether a source gives all bytes of a reader that gives pieces of this length.
+fn gives_all(alloc: Global, bytes: &[u8], piece: usize) -> bool {
+    let mut source = StdSource::new(FakeReader::new(bytes, piece, 0, false));
+    !source.failed() && reads(alloc, &mut source, 140_000, Ok(bytes)) && !source.failed()
+}
+
+/// The lengths of pieces.
+static PIECES: [usize; 5] = [1, 1_000, 65_536, 65_537, 140_000];
+
 #[test]
-fn std_source_gives_every_piece(rt: HostRuntime) -> Result<(), Fail> {
+fn std_source_gives_every_piece(rt: HostRuntime) -> Result<(), AllocError> {
     let bytes = many_bytes(rt.alloc(), 140_000)?;
-    for piece in [1usize, 1_000, 65_536, 65_537, 140_000] {
-        let reader = FakeReader::new(bytes.as_slice(), piece, 0, false);
-        let mut source = StdSource::new(reader);
-        assert!(rt; !source.failed());
-        let holds = reads(rt.alloc(), &mut source, 140_000, Ok(bytes.as_slice()));
-        assert!(rt; holds, "pieces of {piece}");
-        assert!(rt; !source.failed());
+    for piece in &PIECES {
+        assert!(rt;
+            gives_all(rt.alloc(), bytes.as_slice(), *piece),
+            "pieces of {piece}"
+        );
     }
     Ok(())
 }
@@ -268,7 +317,9 @@ impl Write for FakeWriter {
 }
 
 /// Interruptions of each write, bytes in a write, bytes in all; the bytes kept, and the number of writes.
-static WRITTEN: [(u32, usize, usize, &[u8], u32); 7] = [
+type Written = (u32, usize, usize, &'static [u8], u32);
+
+static WRITTEN: [Written; 7] = [
     (0, 100, 100, b"flow shop", 1),
     (0, 1, 100, b"flow shop", 9),
     (999, 4, 100, b"flow shop", 3_000),
@@ -278,16 +329,21 @@ static WRITTEN: [(u32, usize, usize, &[u8], u32); 7] = [
     (0, 9, 0, b"", 1),
 ];
 
+/// Whether a sink over a writer puts nine bytes so.
+fn writes(alloc: Global, row: &Written) -> bool {
+    let (interruptions, piece, limit, kept, writes) = *row;
+    let is_whole = kept.len() == 9;
+    let mut writer = FakeWriter::new(alloc, piece, interruptions, limit);
+    let mut sink = StdSink::new(&mut writer);
+    let is_right = !sink.failed()
+        && put_all(&mut sink, b"flow shop").is_ok() == is_whole
+        && sink.failed() != is_whole;
+    is_right && writer.bytes.as_slice() == kept && writer.writes == writes
+}
+
 #[test]
 fn std_sink_writes_again_until_its_writer_refuses(rt: HostRuntime) {
-    for &(interruptions, piece, limit, kept, writes) in WRITTEN.iter() {
-        let mut writer = FakeWriter::new(rt.alloc(), piece, interruptions, limit);
-        let mut sink = StdSink::new(&mut writer);
-        assert!(rt; !sink.failed());
-        let is_whole = kept.len() == 9;
-        assert_eq!(rt; put_all(&mut sink, b"flow shop").is_ok(), is_whole);
-        assert_eq!(rt; sink.failed(), !is_whole);
-        assert_eq!(rt; writer.bytes.as_slice(), kept);
-        assert_eq!(rt; writer.writes, writes);
+    for (number, row) in WRITTEN.iter().enumerate() {
+        assert!(rt; writes(rt.alloc(), row), "row {number}");
     }
 }

@@ -3,7 +3,8 @@
 use crate::instances::{CERTIFICATE_AT_DEPTH_0, three_machines};
 use crate::shops::{Shop, made};
 use flow_check::{CheckFault, check};
-use std::alloc::Global;
+use flow_core::Instance;
+use std::alloc::{AllocError, Global};
 use std::test::Fail;
 
 /// The first line of version 1.
@@ -12,28 +13,27 @@ const TITLE: &[u8] = b"flowshop certificate 1\n";
 /// The first line of version 2.
 const TITLE_2: &[u8] = b"flowshop certificate 2\n";
 
-/// The first lines of both versions.
-static TITLES: [&[u8]; 2] = [TITLE, TITLE_2];
+/// An instance, a first line, what stands behind it, and the answer.
+type Row = (Shop, &'static [u8], &'static [u8], Result<u64, CheckFault>);
 
-/// Whether the checker answers so for an instance, where these bytes stand behind a first line.
+/// Whether the checker answers so, where these bytes stand behind a first line.
 fn answers(
     alloc: Global,
-    shop: Shop,
+    instance: &Instance,
     title: &[u8],
     rest: &[u8],
     answer: Result<u64, CheckFault>,
-) -> Result<bool, Fail> {
-    let instance = made(alloc, shop)?;
-    let mut text = Vec::from_slice(alloc, title)?;
-    text.extend_from_slice(rest)?;
-    Ok(check(alloc, &instance, text.as_slice()) == answer)
+) -> bool {
+    let Ok(mut text) = Vec::from_slice(alloc, title) else {
+        return false;
+    };
+    text.extend_from_slice(rest).is_ok() && check(alloc, instance, text.as_slice()) == answer
 }
 
 /// One job on one machine, with time 0.
 const ONE_JOB: Shop = Shop::Times(1, 1, &[0]);
 
-/// Instances, first lines, what stands behind them, and the answer.
-static ANSWERS: [(Shop, &[u8], &[u8], Result<u64, CheckFault>); 24] = [
+static ANSWERS: [Row; 24] = [
     (
         Shop::Three,
         TITLE,
@@ -160,13 +160,20 @@ static ANSWERS: [(Shop, &[u8], &[u8], Result<u64, CheckFault>); 24] = [
     ),
 ];
 
-#[test]
-fn check_answers_certificates(rt: HostRuntime) -> Result<(), Fail> {
-    for &(shop, title, rest, answer) in ANSWERS.iter() {
-        let holds = answers(rt.alloc(), shop, title, rest, answer)?;
-        assert!(rt; holds, "for {rest:?}");
+/// Whether the checker answers as a row says.
+fn is_answered(alloc: Global, row: &Row) -> bool {
+    let (shop, title, rest, answer) = *row;
+    match made(alloc, shop) {
+        Ok(instance) => answers(alloc, &instance, title, rest, answer),
+        Err(_) => false,
     }
-    Ok(())
+}
+
+#[test]
+fn check_answers_certificates(rt: HostRuntime) {
+    for (number, row) in ANSWERS.iter().enumerate() {
+        assert!(rt; is_answered(rt.alloc(), row), "row {number}");
+    }
 }
 
 /// What stands behind a first line for the instance with three machines, and its first fault in either version.
@@ -201,15 +208,23 @@ static FIRST_FAULTS: [(&[u8], CheckFault); 18] = [
     (b"3 3 1\n12\n3 1 2\nB\nC\n++.B\nend", CheckFault::End),
 ];
 
-#[test]
-fn checker_names_first_fault(rt: HostRuntime) -> Result<(), Fail> {
-    for &title in TITLES.iter() {
-        for &(rest, fault) in FIRST_FAULTS.iter() {
-            let holds = answers(rt.alloc(), Shop::Three, title, rest, Err(fault))?;
-            assert!(rt; holds, "for {rest:?}");
+/// Whether the instance with three machines has this first fault, in either version.
+fn has_fault(alloc: Global, row: &(&[u8], CheckFault)) -> bool {
+    let (rest, fault) = *row;
+    match three_machines(alloc) {
+        Ok(three) => {
+            answers(alloc, &three, TITLE, rest, Err(fault))
+                && answers(alloc, &three, TITLE_2, rest, Err(fault))
         }
+        Err(_) => false,
     }
-    Ok(())
+}
+
+#[test]
+fn checker_names_first_fault(rt: HostRuntime) {
+    for (number, row) in FIRST_FAULTS.iter().enumerate() {
+        assert!(rt; has_fault(rt.alloc(), row), "row {number}");
+    }
 }
 
 /// A certificate of the instance with three machines, whose trees are single letters.
@@ -229,24 +244,40 @@ fn answer_of(letter: u8, strong: &[u8], line: usize) -> Result<u64, CheckFault> 
     }
 }
 
+/// Whether the checker answers so where each of the letters is the tree of an index, and no other has changed.
+fn tests_letters(alloc: Global, instance: &Instance, index: usize, strong: &[u8]) -> bool {
+    for letter in b'A'..=b'D' {
+        let mut text = LETTERS;
+        let place = index.saturating_mul(2).saturating_add(38);
+        if let Some(byte) = text.get_mut(place) {
+            *byte = letter;
+        }
+        let answer = answer_of(letter, strong, index.saturating_add(5));
+        if check(alloc, instance, &text) != answer {
+            return false;
+        }
+    }
+    true
+}
+
 #[test]
 fn checker_tests_each_single_letter(rt: HostRuntime) -> Result<(), Fail> {
     let instance = three_machines(rt.alloc())?;
-    for index in 0..6usize {
-        for letter in b'A'..=b'D' {
-            let mut text = LETTERS;
-            text[38 + 2 * index] = letter;
-            let found = check(rt.alloc(), &instance, &text);
-            assert_eq!(rt; found, answer_of(letter, STRONG[index], 5 + index));
-        }
+    for (index, strong) in STRONG.iter().enumerate() {
+        assert!(rt;
+            tests_letters(rt.alloc(), &instance, index, strong),
+            "at {index}"
+        );
     }
     Ok(())
 }
 
-/// Instances on one machine, the depth, a tree, how many lines have this tree, and the answer. 48 jobs have
-/// 48 * 47 * 46 = 103,776 lists of three, more than the prefixes of a plan. 4 jobs have 24 lists of three, and as many
-/// of four.
-static EQUAL_TREES: [(Shop, u32, &[u8], usize, Result<u64, CheckFault>); 5] = [
+/// An instance on one machine, the depth, a tree, how many lines have this tree, and the answer.
+type Equal = (Shop, u32, &'static [u8], usize, Result<u64, CheckFault>);
+
+/// 48 jobs have 48 * 47 * 46 = 103,776 lists of three, more than the prefixes of a plan. 4 jobs have 24 lists of three,
+/// and as many of four.
+static EQUAL_TREES: [Equal; 5] = [
     (Shop::Times(48, 1, &[0; 48]), 3, b"A\n", 103_776, Ok(0)),
     (
         Shop::Times(48, 1, &[0; 48]),
@@ -280,7 +311,7 @@ fn text_of(
     depth: u32,
     tree: &[u8],
     count: usize,
-) -> Result<Vec<u8>, Fail> {
+) -> Result<Vec<u8>, AllocError> {
     let mut text = Vec::from_slice(alloc, TITLE)?;
     text.extend_from_slice(format!(in alloc; "{jobs} 1 {depth}\n0\n1")?.as_bytes())?;
     for job in 2..jobs.saturating_add(1) {
@@ -292,21 +323,35 @@ fn text_of(
     Ok(text)
 }
 
-#[test]
-fn checker_reads_a_tree_for_each_list_of_the_depth(rt: HostRuntime) -> Result<(), Fail> {
-    for &(shop, depth, tree, count, answer) in EQUAL_TREES.iter() {
-        let instance = made(rt.alloc(), shop)?;
-        let text = text_of(rt.alloc(), instance.jobs(), depth, tree, count)?;
-        assert_eq!(rt; check(rt.alloc(), &instance, text.as_slice()), answer);
+/// Whether the checker answers so where each tree is the same.
+fn reads_equal_trees(alloc: Global, row: &Equal) -> bool {
+    let (shop, depth, tree, count, answer) = *row;
+    let Ok(instance) = made(alloc, shop) else {
+        return false;
+    };
+    match text_of(alloc, instance.jobs(), depth, tree, count) {
+        Ok(text) => check(alloc, &instance, text.as_slice()) == answer,
+        Err(_) => false,
     }
-    Ok(())
+}
+
+#[test]
+fn checker_reads_a_tree_for_each_list_of_the_depth(rt: HostRuntime) {
+    for (number, row) in EQUAL_TREES.iter().enumerate() {
+        assert!(rt; reads_equal_trees(rt.alloc(), row), "row {number}");
+    }
 }
 
 /// The lines of the certificate at depth 0 behind the first, without their ends.
 static LINES_AT_DEPTH_0: [&[u8]; 5] = [b"3 3 0", b"12", b"3 1 2", b"+BC++.B", b"end"];
 
 /// The certificate at depth 0 behind a first line, with other bytes as one of its lines, counted from 1.
-fn with_line(alloc: Global, title: &[u8], changed: usize, bytes: &[u8]) -> Result<Vec<u8>, Fail> {
+fn with_line(
+    alloc: Global,
+    title: &[u8],
+    changed: usize,
+    bytes: &[u8],
+) -> Result<Vec<u8>, AllocError> {
     let mut text = Vec::new(alloc);
     if changed == 1 {
         text.extend_from_slice(bytes)?;
@@ -323,26 +368,26 @@ fn with_line(alloc: Global, title: &[u8], changed: usize, bytes: &[u8]) -> Resul
 }
 
 /// Whether the certificate at depth 0 has these bytes as this line.
-fn is_line(alloc: Global, title: &[u8], number: usize, bytes: &[u8]) -> Result<bool, Fail> {
-    let text = with_line(alloc, title, number, bytes)?;
-    Ok(text.as_slice() == CERTIFICATE_AT_DEPTH_0.as_slice())
+fn is_line(alloc: Global, title: &[u8], number: usize, bytes: &[u8]) -> bool {
+    match with_line(alloc, title, number, bytes) {
+        Ok(text) => text.as_slice() == CERTIFICATE_AT_DEPTH_0.as_slice(),
+        Err(_) => false,
+    }
 }
 
 #[test]
-fn lines_make_the_certificate(rt: HostRuntime) -> Result<(), Fail> {
-    assert!(rt; is_line(rt.alloc(), TITLE_2, 1, b"flowshop certificate 1")?);
+fn lines_make_the_certificate(rt: HostRuntime) {
+    assert!(rt; is_line(rt.alloc(), TITLE_2, 1, b"flowshop certificate 1"));
     for (index, line) in LINES_AT_DEPTH_0.iter().enumerate() {
-        assert!(rt;
-            is_line(rt.alloc(), TITLE, index + 2, line)?,
-            "line {index}"
-        );
+        assert!(rt; is_line(rt.alloc(), TITLE, index + 2, line), "line {index}");
     }
-    Ok(())
 }
 
 /// The number of a line, its fault, and bytes that have this fault in either version as that line of the certificate at
 /// depth 0.
-static CHANGED_LINES: [(usize, CheckFault, &[&[u8]]); 9] = [
+type Changed = (usize, CheckFault, &'static [&'static [u8]]);
+
+static CHANGED_LINES: [Changed; 9] = [
     (
         1,
         CheckFault::Header,
@@ -422,53 +467,64 @@ static CHANGED_LINES: [(usize, CheckFault, &[&[u8]]); 9] = [
     (6, CheckFault::End, &[b"", b"END", b"end\r"]),
 ];
 
-/// The first of these lines for which the checker answers anything but this fault.
-fn first_other<'a>(
-    alloc: Global,
-    title: &[u8],
-    line: usize,
-    fault: CheckFault,
-    changes: &[&'a [u8]],
-) -> Result<Option<&'a [u8]>, Fail> {
-    let instance = three_machines(alloc)?;
+/// Whether the certificate at depth 0 behind this first line has this fault with these bytes as a line.
+fn is_faulty(alloc: Global, title: &[u8], line: usize, bytes: &[u8], fault: CheckFault) -> bool {
+    let Ok(instance) = three_machines(alloc) else {
+        return false;
+    };
+    match with_line(alloc, title, line, bytes) {
+        Ok(text) => check(alloc, &instance, text.as_slice()) == Err(fault),
+        Err(_) => false,
+    }
+}
+
+/// The first of the changed lines of a row that has another fault in either version.
+fn first_other(alloc: Global, row: &Changed) -> Option<&'static [u8]> {
+    let (line, fault, changes) = *row;
     for bytes in changes {
-        let text = with_line(alloc, title, line, bytes)?;
-        if check(alloc, &instance, text.as_slice()) != Err(fault) {
-            return Ok(Some(bytes));
+        if !is_faulty(alloc, TITLE, line, bytes, fault)
+            || !is_faulty(alloc, TITLE_2, line, bytes, fault)
+        {
+            return Some(*bytes);
         }
     }
-    Ok(None)
+    None
 }
 
 #[test]
-fn checker_names_fault_of_each_changed_line(rt: HostRuntime) -> Result<(), Fail> {
-    for &title in TITLES.iter() {
-        for &(line, fault, changes) in CHANGED_LINES.iter() {
-            let other = first_other(rt.alloc(), title, line, fault, changes)?;
-            assert_eq!(rt; other, None, "for {fault} in line {line}");
-        }
+fn checker_names_fault_of_each_changed_line(rt: HostRuntime) {
+    for row in &CHANGED_LINES {
+        let other = first_other(rt.alloc(), row);
+        assert!(rt; other.is_none(), "{other:?} in line {}", row.0);
     }
-    Ok(())
 }
 
-/// The fault of the first bytes of the certificate at depth 0, where there are `length` of them.
-fn fault_of_prefix(length: usize) -> CheckFault {
-    match length {
-        0..=22 => CheckFault::Header,
-        23..=28 => CheckFault::Size,
-        29..=31 => CheckFault::Value,
-        32..=37 => CheckFault::Sequence,
-        38..=45 => CheckFault::Tree(5),
-        _ => CheckFault::End,
+/// How many bytes of the certificate at depth 0 there are, from a first number up to another one, and their fault.
+static BEGINNINGS: [(usize, usize, CheckFault); 6] = [
+    (0, 23, CheckFault::Header),
+    (23, 29, CheckFault::Size),
+    (29, 32, CheckFault::Value),
+    (32, 38, CheckFault::Sequence),
+    (38, 46, CheckFault::Tree(5)),
+    (46, 50, CheckFault::End),
+];
+
+/// Whether each of these beginnings has its fault.
+fn are_faulty(alloc: Global, instance: &Instance, row: &(usize, usize, CheckFault)) -> bool {
+    for length in row.0..row.1 {
+        let text = CERTIFICATE_AT_DEPTH_0.get(..length).unwrap_or(b"");
+        if text.len() != length || check(alloc, instance, text) != Err(row.2) {
+            return false;
+        }
     }
+    true
 }
 
 #[test]
 fn checker_names_first_fault_of_each_prefix(rt: HostRuntime) -> Result<(), Fail> {
     let instance = three_machines(rt.alloc())?;
-    for length in 0..50 {
-        let found = check(rt.alloc(), &instance, &CERTIFICATE_AT_DEPTH_0[..length]);
-        assert_eq!(rt; found, Err(fault_of_prefix(length)), "at {length} bytes");
+    for (number, row) in BEGINNINGS.iter().enumerate() {
+        assert!(rt; are_faulty(rt.alloc(), &instance, row), "row {number}");
     }
     Ok(())
 }
@@ -480,22 +536,34 @@ static CLOSE_CERTIFICATES: [&[u8]; 2] = [
     b"flowshop certificate 2\n3 3 0\n12\n3 1 2\n+BC++.B\nend\n",
 ];
 
+/// How many of the certificates with another byte in this place are accepted; none where one is that is not close, or
+/// with another makespan.
+fn accepted_at(alloc: Global, instance: &Instance, place: usize) -> Option<usize> {
+    let mut count: usize = 0;
+    for change in 1..=255u8 {
+        let mut text = CERTIFICATE_AT_DEPTH_0;
+        if let Some(byte) = text.get_mut(place) {
+            *byte ^= change;
+        }
+        if let Ok(value) = check(alloc, instance, &text) {
+            if value != 12 || !CLOSE_CERTIFICATES.contains(&text.as_slice()) {
+                return None;
+            }
+            count = count.saturating_add(1);
+        }
+    }
+    Some(count)
+}
+
 #[test]
 fn checker_accepts_two_of_all_changed_bytes(rt: HostRuntime) -> Result<(), Fail> {
     let instance = three_machines(rt.alloc())?;
-    let mut accepted: u64 = 0;
-    for place in 0..50 {
-        for change in 1..=255u8 {
-            let mut text = CERTIFICATE_AT_DEPTH_0;
-            text[place] ^= change;
-            let found = check(rt.alloc(), &instance, &text);
-            if found.is_ok() {
-                accepted = accepted.saturating_add(1);
-                assert!(rt; found == Ok(12));
-                assert!(rt; CLOSE_CERTIFICATES.contains(&text.as_slice()));
-            }
-        }
+    let mut accepted: usize = 0;
+    for place in 0..CERTIFICATE_AT_DEPTH_0.len() {
+        let count = accepted_at(rt.alloc(), &instance, place);
+        assert!(rt; count.is_some(), "at {place}");
+        accepted = accepted.saturating_add(count.unwrap_or(0));
     }
-    assert_eq!(rt; accepted, 2);
+    assert!(rt; accepted == 2);
     Ok(())
 }

@@ -36,6 +36,8 @@ mod trees;
 #[cfg(test)]
 mod two_ended;
 #[cfg(test)]
+mod two_ended_drawn;
+#[cfg(test)]
 mod values;
 #[cfg(test)]
 mod writer;

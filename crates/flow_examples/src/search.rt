@@ -8,41 +8,60 @@ use flow_search::{
     solve_plain,
 };
 use std::alloc::Global;
-use std::test::Fail;
 
-/// Workers, depth and budget, and the first fault.
-static OPTION_FAULTS: [(u32, u32, u32, OptionFault); 5] = [
-    (0, 0, 1, OptionFault::Workers),
-    (65, 4, 0, OptionFault::Workers),
-    (1, 4, 0, OptionFault::Depth),
-    (1, 0, 0, OptionFault::Budget),
-    (1, 0, 100_000_001, OptionFault::Budget),
+/// Workers, depth and budget, and the first fault, if there is one.
+static OPTIONS: [(u32, u32, u32, Option<OptionFault>); 6] = [
+    (0, 0, 1, Some(OptionFault::Workers)),
+    (65, 4, 0, Some(OptionFault::Workers)),
+    (1, 4, 0, Some(OptionFault::Depth)),
+    (1, 0, 0, Some(OptionFault::Budget)),
+    (1, 0, 100_000_001, Some(OptionFault::Budget)),
+    (64, 3, 100_000_000, None),
 ];
 
-#[test]
-fn options_name_first_fault(rt: HostRuntime) -> Result<(), Fail> {
-    for &(workers, depth, budget, fault) in OPTION_FAULTS.iter() {
-        assert_eq!(rt; Options::new(workers, depth, budget), Err(fault));
+/// Whether options of these numbers have them, or this fault.
+fn are_options(row: &(u32, u32, u32, Option<OptionFault>)) -> bool {
+    let (workers, depth, budget, fault) = *row;
+    match Options::new(workers, depth, budget) {
+        Ok(options) => {
+            let parts = (options.workers(), options.depth(), options.budget());
+            fault.is_none() && parts == (workers, depth, budget)
+        }
+        Err(found) => fault == Some(found),
     }
-    let options = Options::new(64, 3, 100_000_000)?;
-    let parts = (options.workers(), options.depth(), options.budget());
-    assert_eq!(rt; parts, (64, 3, 100_000_000));
-    Ok(())
 }
 
 #[test]
-fn with_version_takes_1_and_2(rt: HostRuntime) -> Result<(), Fail> {
-    let options = Options::new(3, 2, 7)?;
-    assert_eq!(rt; options.version(), 1);
-    for version in [0, 3] {
-        assert_eq!(rt; options.with_version(version), Err(OptionFault::Version));
+fn options_name_first_fault(rt: HostRuntime) {
+    for (number, row) in OPTIONS.iter().enumerate() {
+        assert!(rt; are_options(row), "row {number}");
     }
-    for version in 1..3u32 {
-        let chosen = options.with_version(version)?;
-        let parts = (chosen.workers(), chosen.depth(), chosen.budget());
-        assert_eq!(rt; (chosen.version(), parts), (version, (3, 2, 7)));
+}
+
+/// Versions, and whether they are taken.
+static VERSIONS: [(u32, bool); 4] = [(0, false), (1, true), (2, true), (3, false)];
+
+/// Whether options of version 1 take another version, and keep their other parts; or name their fault.
+fn is_version(row: &(u32, bool)) -> bool {
+    let (version, is_taken) = *row;
+    let Ok(options) = Options::new(3, 2, 7) else {
+        return false;
+    };
+    let answered = match options.with_version(version) {
+        Ok(chosen) => {
+            let parts = (chosen.workers(), chosen.depth(), chosen.budget());
+            is_taken && chosen.version() == version && parts == (3, 2, 7)
+        }
+        Err(fault) => !is_taken && fault == OptionFault::Version,
+    };
+    answered && options.version() == 1
+}
+
+#[test]
+fn with_version_takes_1_and_2(rt: HostRuntime) {
+    for (number, row) in VERSIONS.iter().enumerate() {
+        assert!(rt; is_version(row), "row {number}");
     }
-    Ok(())
 }
 
 /// Instances on one machine, and the fault of their plans at depth 3.
@@ -51,64 +70,113 @@ static PLAN_FAULTS: [(Shop, PlanFault); 2] = [
     (Shop::Times(2, 1, &[0; 2]), PlanFault::Depth),
 ];
 
+/// Whether a plan at depth 3 has this fault.
+fn has_fault(alloc: Global, row: &(Shop, PlanFault)) -> bool {
+    let Ok(options) = Options::new(1, 3, AMPLE) else {
+        return false;
+    };
+    let Ok(instance) = made(alloc, row.0) else {
+        return false;
+    };
+    prepare(alloc, &instance, options).err() == Some(row.1)
+}
+
 #[test]
-fn prepare_names_first_fault(rt: HostRuntime) -> Result<(), Fail> {
-    let options = Options::new(1, 3, AMPLE)?;
-    for &(shop, fault) in PLAN_FAULTS.iter() {
-        let instance = made(rt.alloc(), shop)?;
-        let plan = prepare(rt.alloc(), &instance, options);
-        assert_eq!(rt; plan.err(), Some(fault));
+fn prepare_names_first_fault(rt: HostRuntime) {
+    for (number, row) in PLAN_FAULTS.iter().enumerate() {
+        assert!(rt; has_fault(rt.alloc(), row), "row {number}");
     }
-    Ok(())
 }
 
-/// Whether a plan has this prefix.
-fn has_prefix(plan: &Plan, number: u32, jobs: &[u16]) -> bool {
-    number < plan.prefixes() && plan.prefix(number) == jobs
-}
+/// Prefixes by their numbers.
+type Prefixes = &'static [(u32, &'static [u16])];
 
-/// An instance that has the most prefixes that a plan may have.
-static LARGEST: Shop = Shop::Times(47, 1, &[0; 47]);
-
-#[test]
-fn prepare_numbers_the_largest_cut(rt: HostRuntime) -> Result<(), Fail> {
-    let options = Options::new(1, 3, AMPLE)?;
-    let instance = made(rt.alloc(), LARGEST)?;
-    let plan = prepare(rt.alloc(), &instance, options)?;
-    assert_eq!(rt; plan.prefixes(), 97_290);
-    assert!(rt; has_prefix(&plan, 0, &[1, 2, 3]));
-    assert!(rt; has_prefix(&plan, 97_289, &[47, 46, 45]));
-    Ok(())
-}
-
-/// The prefixes of three jobs at depth 2.
-static PREFIXES: [(u32, &[u16]); 6] = [
-    (0, &[1, 2]),
-    (1, &[1, 3]),
-    (2, &[2, 1]),
-    (3, &[2, 3]),
-    (4, &[3, 1]),
-    (5, &[3, 2]),
+/// Instances, the depth, how many prefixes the plan has, and some of them. The first has the most that a plan may have.
+static PLANS: [(Shop, u32, u32, Prefixes); 2] = [
+    (
+        Shop::Times(47, 1, &[0; 47]),
+        3,
+        97_290,
+        &[(0, &[1, 2, 3]), (97_289, &[47, 46, 45])],
+    ),
+    (
+        Shop::Three,
+        2,
+        6,
+        &[
+            (0, &[1, 2]),
+            (1, &[1, 3]),
+            (2, &[2, 1]),
+            (3, &[2, 3]),
+            (4, &[3, 1]),
+            (5, &[3, 2]),
+        ],
+    ),
 ];
 
-#[test]
-fn plan_gives_its_parts(rt: HostRuntime) -> Result<(), Fail> {
-    let options = Options::new(2, 2, AMPLE)?;
-    let instance = three_machines(rt.alloc())?;
-    let plan = prepare(rt.alloc(), &instance, options)?;
-    let sizes = (plan.instance().machines(), plan.options().workers());
-    assert_eq!(rt; sizes, (3, 2));
-    assert!(rt; plan.start().jobs() == [2, 1, 3].as_slice());
-    assert_eq!(rt; (plan.start_value(), plan.prefixes()), (13, 6));
-    for &(number, jobs) in PREFIXES.iter() {
-        assert!(rt; has_prefix(&plan, number, jobs), "at {number}");
+/// Whether a plan has so many prefixes, and these.
+fn has_prefixes(plan: &Plan, count: u32, prefixes: Prefixes) -> bool {
+    for (number, jobs) in prefixes {
+        if *number >= plan.prefixes() || plan.prefix(*number) != *jobs {
+            return false;
+        }
     }
-    Ok(())
+    plan.prefixes() == count
 }
 
-/// The prefixes of the instance with three machines at depth 1, the value and the sequence of their best, and their
-/// trees.
-static ANSWERS: [(u32, Option<(u64, &[u16])>, &[u8]); 3] = [
+/// Whether the plan of an instance at a depth has so many prefixes, and these.
+fn is_cut(alloc: Global, row: &(Shop, u32, u32, Prefixes)) -> bool {
+    let (shop, depth, count, prefixes) = *row;
+    let Ok(options) = Options::new(1, depth, AMPLE) else {
+        return false;
+    };
+    let Ok(instance) = made(alloc, shop) else {
+        return false;
+    };
+    match prepare(alloc, &instance, options) {
+        Ok(plan) => has_prefixes(&plan, count, prefixes),
+        Err(_) => false,
+    }
+}
+
+#[test]
+fn prepare_numbers_prefixes(rt: HostRuntime) {
+    for (number, row) in PLANS.iter().enumerate() {
+        assert!(rt; is_cut(rt.alloc(), row), "row {number}");
+    }
+}
+
+/// Whether a plan is one of three machines for two workers, from the starting sequence.
+fn has_parts(plan: &Plan) -> bool {
+    plan.instance().machines() == 3
+        && plan.options().workers() == 2
+        && plan.start().jobs() == [2, 1, 3].as_slice()
+        && plan.start_value() == 13
+}
+
+/// Whether a plan gives the parts that it was made of.
+fn gives_parts(alloc: Global) -> bool {
+    let Ok(options) = Options::new(2, 2, AMPLE) else {
+        return false;
+    };
+    let Ok(instance) = three_machines(alloc) else {
+        return false;
+    };
+    match prepare(alloc, &instance, options) {
+        Ok(plan) => has_parts(&plan),
+        Err(_) => false,
+    }
+}
+
+#[test]
+fn plan_gives_its_parts(rt: HostRuntime) {
+    assert!(rt; gives_parts(rt.alloc()));
+}
+
+/// A prefix of the instance with three machines at depth 1, the value and the sequence of its best, and its tree.
+type Answered = (u32, Option<(u64, &'static [u16])>, &'static [u8]);
+
+static ANSWERS: [Answered; 3] = [
     (0, None, b"B"),
     (1, None, b"C"),
     (2, Some((12, &[3, 1, 2])), b"++.B"),
@@ -133,18 +201,31 @@ fn is_done(outcome: &Outcome, best: Option<(u64, &[u16])>, tree: &[u8]) -> bool 
     is_best && bytes.as_slice() == tree
 }
 
-#[test]
-fn answer_succeeds(rt: HostRuntime) -> Result<(), Fail> {
-    let options = Options::new(1, 1, AMPLE)?;
-    let instance = three_machines(rt.alloc())?;
-    let plan = prepare(rt.alloc(), &instance, options)?;
-    assert!(rt; plan.prefixes() == 3);
-    for &(number, best, tree) in ANSWERS.iter() {
-        assert!(rt; number < 3);
-        let outcome = answer(rt.alloc(), &plan, number);
-        assert!(rt; is_done(&outcome, best, tree), "at {number}");
+/// Whether one of the three prefixes of a plan is answered so.
+fn answers(alloc: Global, plan: &Plan, row: &Answered) -> bool {
+    let (number, best, tree) = *row;
+    plan.prefixes() == 3 && number < 3 && is_done(&answer(alloc, plan, number), best, tree)
+}
+
+/// Whether a prefix of the instance with three machines is answered so at depth 1.
+fn is_answered(alloc: Global, row: &Answered) -> bool {
+    let Ok(options) = Options::new(1, 1, AMPLE) else {
+        return false;
+    };
+    let Ok(instance) = three_machines(alloc) else {
+        return false;
+    };
+    match prepare(alloc, &instance, options) {
+        Ok(plan) => answers(alloc, &plan, row),
+        Err(_) => false,
     }
-    Ok(())
+}
+
+#[test]
+fn answer_succeeds(rt: HostRuntime) {
+    for (number, row) in ANSWERS.iter().enumerate() {
+        assert!(rt; is_answered(rt.alloc(), row), "row {number}");
+    }
 }
 
 /// What a table says of a verdict: its value, its sequence and its trees; or why there is none.
@@ -167,26 +248,39 @@ static CONCLUDED: [(u32, Listed); 2] = [
     (TIGHT, Err(RunFault::OverBudget(2))),
 ];
 
+/// Whether the outcomes of all prefixes of a plan come to this verdict.
+fn concludes(alloc: Global, plan: &Plan, listed: Listed) -> bool {
+    match all_outcomes(alloc, plan) {
+        Ok(outcomes) => is_listed(conclude(alloc, plan, outcomes), listed),
+        Err(_) => false,
+    }
+}
+
 /// Whether the outcomes of the instance with three machines come to this verdict at depth 1.
-fn concludes(alloc: Global, budget: u32, listed: Listed) -> Result<bool, Fail> {
-    let options = Options::new(1, 1, budget)?;
-    let instance = three_machines(alloc)?;
-    let plan = prepare(alloc, &instance, options)?;
-    let outcomes = all_outcomes(alloc, &plan)?;
-    Ok(is_listed(conclude(alloc, &plan, outcomes), listed))
+fn is_concluded(alloc: Global, row: &(u32, Listed)) -> bool {
+    let Ok(options) = Options::new(1, 1, row.0) else {
+        return false;
+    };
+    let Ok(instance) = three_machines(alloc) else {
+        return false;
+    };
+    match prepare(alloc, &instance, options) {
+        Ok(plan) => concludes(alloc, &plan, row.1),
+        Err(_) => false,
+    }
 }
 
 #[test]
-fn conclude_takes_the_outcomes_of_all_prefixes(rt: HostRuntime) -> Result<(), Fail> {
-    for &(budget, listed) in CONCLUDED.iter() {
-        let holds = concludes(rt.alloc(), budget, listed)?;
-        assert!(rt; holds, "at {budget}");
+fn conclude_takes_the_outcomes_of_all_prefixes(rt: HostRuntime) {
+    for (number, row) in CONCLUDED.iter().enumerate() {
+        assert!(rt; is_concluded(rt.alloc(), row), "row {number}");
     }
-    Ok(())
 }
 
-/// Instances, with depth, version and budget, and their verdicts.
-static SOLVED: [(Shop, (u32, u32, u32), Listed); 12] = [
+/// An instance, with depth, version and budget, and its verdict.
+type Solved = (Shop, (u32, u32, u32), Listed);
+
+static SOLVED: [Solved; 12] = [
     (
         Shop::Three,
         (0, 1, AMPLE),
@@ -235,25 +329,28 @@ static SOLVED: [(Shop, (u32, u32, u32), Listed); 12] = [
     (Shop::Two, (0, 2, 1), Ok((9, &[2, 3, 1], &[b"B"]))),
 ];
 
-/// Whether the plan of an instance, with this depth, version and budget, has the verdict of a table.
-fn solves(
-    alloc: Global,
-    shop: Shop,
-    choice: (u32, u32, u32),
-    listed: Listed,
-) -> Result<bool, Fail> {
-    let (depth, version, budget) = choice;
-    let options = Options::new(1, depth, budget)?.with_version(version)?;
-    let instance = made(alloc, shop)?;
-    let plan = prepare(alloc, &instance, options)?;
-    Ok(is_listed(solve_plain(alloc, &plan), listed))
+/// The options of one worker with this depth, version and budget.
+fn options_of((depth, version, budget): (u32, u32, u32)) -> Result<Options, OptionFault> {
+    Options::new(1, depth, budget)?.with_version(version)
+}
+
+/// Whether the plan of an instance has the verdict of a table.
+fn is_solved(alloc: Global, row: &Solved) -> bool {
+    let Ok(options) = options_of(row.1) else {
+        return false;
+    };
+    let Ok(instance) = made(alloc, row.0) else {
+        return false;
+    };
+    match prepare(alloc, &instance, options) {
+        Ok(plan) => is_listed(solve_plain(alloc, &plan), row.2),
+        Err(_) => false,
+    }
 }
 
 #[test]
-fn solve_plain_gives_the_worked_verdicts(rt: HostRuntime) -> Result<(), Fail> {
-    for &(shop, choice, listed) in SOLVED.iter() {
-        let holds = solves(rt.alloc(), shop, choice, listed)?;
-        assert!(rt; holds, "at {choice:?}");
+fn solve_plain_gives_the_worked_verdicts(rt: HostRuntime) {
+    for (number, row) in SOLVED.iter().enumerate() {
+        assert!(rt; is_solved(rt.alloc(), row), "row {number}");
     }
-    Ok(())
 }

@@ -9,34 +9,62 @@ use std::test::Fail;
 /// A block of a table: its seed, upper bound and lower bound, and its instance.
 type Listed = ((u32, u32, u32), Shop);
 
-/// Whether a text is read as these blocks.
-fn is_read_as(alloc: Global, text: &[u8], blocks: &[Listed]) -> Result<bool, Fail> {
-    let found = read_blocks(alloc, text)?;
-    if found.len() != blocks.len() {
-        return Ok(false);
+/// Whether a block is that of a table.
+fn is_listed(alloc: Global, block: &Block, listed: &Listed) -> bool {
+    let (numbers, shop) = *listed;
+    match made(alloc, shop) {
+        Ok(instance) => {
+            (block.seed, block.upper, block.lower) == numbers && block.instance == instance
+        }
+        Err(_) => false,
     }
-    for (block, (numbers, shop)) in found.iter().zip(blocks) {
-        let instance = made(alloc, *shop)?;
-        if (block.seed, block.upper, block.lower) != *numbers || block.instance != instance {
-            return Ok(false);
+}
+
+/// Whether these are the blocks of a table.
+fn are_listed(alloc: Global, blocks: &[Block], listed: &[Listed]) -> bool {
+    for (block, wanted) in blocks.iter().zip(listed) {
+        if !is_listed(alloc, block, wanted) {
+            return false;
         }
     }
-    Ok(true)
+    blocks.len() == listed.len()
+}
+
+/// Whether a text is read as these blocks.
+fn is_read_as(alloc: Global, text: &[u8], listed: &[Listed]) -> bool {
+    match read_blocks(alloc, text) {
+        Ok(blocks) => are_listed(alloc, blocks.as_slice(), listed),
+        Err(_) => false,
+    }
+}
+
+/// Puts the text of a block behind others. Whether there was memory.
+fn put_block(alloc: Global, listed: &Listed, text: &mut Vec<u8>) -> bool {
+    let ((seed, upper, lower), shop) = *listed;
+    let Ok(instance) = made(alloc, shop) else {
+        return false;
+    };
+    let block = Block {
+        seed,
+        upper,
+        lower,
+        instance,
+    };
+    match block_text(alloc, &block) {
+        Ok(mut bytes) => text.append(&mut bytes).is_ok(),
+        Err(_) => false,
+    }
 }
 
 /// The texts of these blocks, one behind another.
-fn text_of(alloc: Global, blocks: &[Listed]) -> Result<Vec<u8>, Fail> {
+fn text_of(alloc: Global, blocks: &[Listed]) -> Option<Vec<u8>> {
     let mut text = Vec::new(alloc);
-    for ((seed, upper, lower), shop) in blocks {
-        let block = Block {
-            seed: *seed,
-            upper: *upper,
-            lower: *lower,
-            instance: made(alloc, *shop)?,
-        };
-        text.append(&mut block_text(alloc, &block)?)?;
+    for listed in blocks {
+        if !put_block(alloc, listed, &mut text) {
+            return None;
+        }
     }
-    Ok(text)
+    Some(text)
 }
 
 /// One job on one machine, which takes 5.
@@ -67,11 +95,10 @@ static LENIENT: [(&[u8], Listed); 5] = [
 ];
 
 #[test]
-fn lenient_texts_are_read(rt: HostRuntime) -> Result<(), Fail> {
-    for &(text, block) in LENIENT.iter() {
-        assert!(rt; is_read_as(rt.alloc(), text, &[block])?, "{text:?}");
+fn lenient_texts_are_read(rt: HostRuntime) {
+    for (number, (text, block)) in LENIENT.iter().enumerate() {
+        assert!(rt; is_read_as(rt.alloc(), text, &[*block]), "row {number}");
     }
-    Ok(())
 }
 
 /// Texts, and the first fault of each.
@@ -96,10 +123,15 @@ static FIRST_FAULTS: [(&[u8], TextFault); 15] = [
     ),
 ];
 
+/// Whether a text has this first fault.
+fn has_fault(alloc: Global, text: &[u8], fault: TextFault) -> bool {
+    read_blocks(alloc, text).err() == Some(fault)
+}
+
 #[test]
 fn first_fault_of_a_text_is_named(rt: HostRuntime) {
-    for &(text, fault) in FIRST_FAULTS.iter() {
-        assert_eq!(rt; read_blocks(rt.alloc(), text).err(), Some(fault));
+    for (number, (text, fault)) in FIRST_FAULTS.iter().enumerate() {
+        assert!(rt; has_fault(rt.alloc(), text, *fault), "row {number}");
     }
 }
 
@@ -107,8 +139,7 @@ fn first_fault_of_a_text_is_named(rt: HostRuntime) {
 fn number_of_a_thousand_digits_is_named(rt: HostRuntime) -> Result<(), Fail> {
     let mut text = Vec::from_slice(rt.alloc(), b"a\n1")?;
     text.append(&mut b"0".repeat(rt.alloc(), 1_000)?)?;
-    let found = read_blocks(rt.alloc(), text.as_slice());
-    assert_eq!(rt; found.err(), Some(TextFault::Number(2)));
+    assert!(rt; has_fault(rt.alloc(), text.as_slice(), TextFault::Number(2)));
     Ok(())
 }
 
@@ -129,14 +160,21 @@ static TEN_SEEDS: [Listed; 10] = [
     ((10, 9, 8), Shop::Two),
 ];
 
+/// Whether blocks are written as a text that is read as the same blocks; and as this text, if there is one.
+fn are_written(alloc: Global, blocks: &[Listed], wanted: Option<&[u8]>) -> bool {
+    match text_of(alloc, blocks) {
+        Some(text) => {
+            let is_wanted = wanted.is_none() || wanted == Some(text.as_slice());
+            is_wanted && is_read_as(alloc, text.as_slice(), blocks)
+        }
+        None => false,
+    }
+}
+
 #[test]
-fn blocks_are_written_in_one_form_and_read_again(rt: HostRuntime) -> Result<(), Fail> {
-    let text = text_of(rt.alloc(), &GENERATED)?;
-    assert_eq!(rt; text.as_slice(), GENERATED_TEXT);
-    assert!(rt; is_read_as(rt.alloc(), GENERATED_TEXT, &GENERATED)?);
-    let text = text_of(rt.alloc(), &TEN_SEEDS)?;
-    assert!(rt; is_read_as(rt.alloc(), text.as_slice(), &TEN_SEEDS)?);
-    Ok(())
+fn blocks_are_written_in_one_form_and_read_again(rt: HostRuntime) {
+    assert!(rt; are_written(rt.alloc(), &GENERATED, Some(GENERATED_TEXT)));
+    assert!(rt; are_written(rt.alloc(), &TEN_SEEDS, None));
 }
 
 /// Nine times the block of `TWO_MACHINES_TEXT`, and another.
@@ -157,34 +195,37 @@ static NINE_AND_ONE: [Listed; 10] = [
 fn repeated_text_is_read_as_so_many_blocks(rt: HostRuntime) -> Result<(), Fail> {
     let mut text = TWO_MACHINES_TEXT.repeat(rt.alloc(), 9)?;
     text.extend_from_slice(b"a\n1 1 7 6 5\nb\n4\n")?;
-    assert!(rt; is_read_as(rt.alloc(), text.as_slice(), &NINE_AND_ONE)?);
+    assert!(rt; is_read_as(rt.alloc(), text.as_slice(), &NINE_AND_ONE));
     Ok(())
 }
 
-/// The fault of the first bytes of the text with two machines, where there are `length` of them. The lines of the head
-/// have 80 and 10 bytes, and the times end with byte 121. The next line has the number `line`.
-fn missing(length: usize, line: usize) -> TextFault {
-    match length {
-        0 => TextFault::NoBlock,
-        1..=88 => TextFault::Head(line),
-        89..=90 => TextFault::Label(line),
-        _ => TextFault::Times(line),
+/// How many bytes of the text with two machines there are, from a first number up to another one, and their fault. Its
+/// lines have 80, 10, 19, 6 and 6 bytes.
+static BEGINNINGS: [(usize, usize, TextFault); 7] = [
+    (0, 1, TextFault::NoBlock),
+    (1, 81, TextFault::Head(2)),
+    (81, 89, TextFault::Head(3)),
+    (89, 91, TextFault::Label(3)),
+    (91, 110, TextFault::Times(4)),
+    (110, 116, TextFault::Times(5)),
+    (116, 120, TextFault::Times(6)),
+];
+
+/// Whether each of these beginnings has its fault.
+fn are_faulty(alloc: Global, row: &(usize, usize, TextFault)) -> bool {
+    for length in row.0..row.1 {
+        let text = TWO_MACHINES_TEXT.get(..length).unwrap_or(b"");
+        if text.len() != length || !has_fault(alloc, text, row.2) {
+            return false;
+        }
     }
+    true
 }
 
 #[test]
 fn prefixes_of_a_text_miss_the_rest(rt: HostRuntime) {
-    let whole = TWO_MACHINES_TEXT;
-    assert_eq!(rt; whole.len(), 121);
-    let mut line = 1usize;
-    for length in 0..120usize {
-        // `line` is the number of lines of the prefix, plus 1.
-        if length > 0 && (length == 1 || whole[length - 2] == b'\n') {
-            line = line.wrapping_add(1);
-        }
-        let found = read_blocks(rt.alloc(), &whole[..length]);
-        let fault = missing(length, line);
-        assert_eq!(rt; found.err(), Some(fault), "at {length}");
+    for (number, row) in BEGINNINGS.iter().enumerate() {
+        assert!(rt; are_faulty(rt.alloc(), row), "row {number}");
     }
 }
 
@@ -200,10 +241,17 @@ static PRINTED: [(TextFault, &str); 8] = [
     (TextFault::Times(9), "Times 9"),
 ];
 
-#[test]
-fn text_faults_are_printed_with_their_line(rt: HostRuntime) -> Result<(), Fail> {
-    for &(fault, text) in PRINTED.iter() {
-        assert_eq!(rt; format!(in rt.alloc(); "{fault}")?.as_str(), text);
+/// Whether a fault is printed so.
+fn is_printed(alloc: Global, row: &(TextFault, &str)) -> bool {
+    match format!(in alloc; "{}", row.0) {
+        Ok(text) => text.as_str() == row.1,
+        Err(_) => false,
     }
-    Ok(())
+}
+
+#[test]
+fn text_faults_are_printed_with_their_line(rt: HostRuntime) {
+    for (number, row) in PRINTED.iter().enumerate() {
+        assert!(rt; is_printed(rt.alloc(), row), "row {number}");
+    }
 }

@@ -4,7 +4,6 @@ use crate::plain::{bound, completion, has};
 use flow_core::{Instance, generate};
 use flow_search::{Options, Outcome, answer, prepare};
 use std::alloc::{AllocError, Global};
-use std::test::Fail;
 
 /// Writes the tree of a list that leaves so many jobs. The value is the makespan in force.
 fn walk(
@@ -63,31 +62,46 @@ fn has_tree(outcome: &Outcome, tree: &[u8]) -> bool {
     }
 }
 
-/// How long the tree of an instance is in a version; an error where a plain recursion finds another tree.
-fn length_of(alloc: Global, instance: &Instance, version: u32) -> Result<usize, Fail> {
-    let options = Options::new(1, 0, 100_000_000)?.with_version(version)?;
-    let plan = prepare(alloc, instance, options)?;
-    let tree = plain_tree(alloc, instance, version, plan.start_value())?;
+/// How long the tree of an instance is in a version; none where a plain recursion finds another tree.
+fn length_of(alloc: Global, instance: &Instance, version: u32) -> Option<usize> {
+    let Ok(usual) = Options::new(1, 0, 100_000_000) else {
+        return None;
+    };
+    let Ok(options) = usual.with_version(version) else {
+        return None;
+    };
+    let Ok(plan) = prepare(alloc, instance, options) else {
+        return None;
+    };
+    let Ok(tree) = plain_tree(alloc, instance, version, plan.start_value()) else {
+        return None;
+    };
     if has_tree(&answer(alloc, &plan, 0), tree.as_slice()) {
-        Ok(tree.len())
+        Some(tree.len())
     } else {
-        Err(Fail::from("another tree than that of the plain recursion"))
+        None
     }
 }
 
+/// How much shorter the tree of the instance of a seed is in version 2; none where a plain recursion finds another
+/// tree.
+fn gain_of(alloc: Global, seed: u32) -> Option<usize> {
+    let Ok(instance) = generate(alloc, 10, seed.saturating_add(2), seed) else {
+        return None;
+    };
+    let first = length_of(alloc, &instance, 1)?;
+    let second = length_of(alloc, &instance, 2)?;
+    first.checked_sub(second)
+}
+
 #[test]
-fn answers_have_the_trees_of_a_plain_recursion(rt: HostRuntime) -> Result<(), Fail> {
-    let mut differ = 0u32;
+fn answers_have_the_trees_of_a_plain_recursion(rt: HostRuntime) {
+    let mut differ = false;
     for seed in 1..5u32 {
-        let instance = generate(rt.alloc(), 10, 2 + seed, seed)?;
-        let first = length_of(rt.alloc(), &instance, 1)?;
-        let second = length_of(rt.alloc(), &instance, 2)?;
-        assert!(rt; second <= first);
-        if second < first {
-            differ = differ.saturating_add(1);
-        }
+        let gain = gain_of(rt.alloc(), seed);
+        assert!(rt; gain.is_some(), "seed {seed}");
+        differ = differ || gain != Some(0);
     }
     // Else the two versions were not told apart.
-    assert!(rt; differ > 0);
-    Ok(())
+    assert!(rt; differ);
 }

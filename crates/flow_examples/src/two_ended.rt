@@ -170,7 +170,7 @@ fn check_two_ended_answers_texts(rt: HostRuntime) -> Result<(), Fail> {
 const CERTIFICATE: &[u8] = b"flowshop two-ended 1\n3 3\n12 12\n3 1 2\n++\nend\n";
 
 /// Its lines, without their ends.
-const LINES: [&[u8]; 6] = [
+static LINES: [&[u8]; 6] = [
     b"flowshop two-ended 1",
     b"3 3",
     b"12 12",
@@ -303,50 +303,98 @@ fn check_two_ended_names_the_first_fault(rt: HostRuntime) -> Result<(), Fail> {
     Ok(())
 }
 
-/// The first fault of each beginning of the certificate: how many bytes it has less than, and the fault.
-const BEGINNINGS: [(usize, CheckFault); 6] = [
-    (21, CheckFault::Header),
-    (25, CheckFault::Size),
-    (31, CheckFault::Value),
-    (37, CheckFault::Sequence),
-    (40, CheckFault::Tree(5)),
-    (44, CheckFault::End),
+/// How many bytes of the certificate there are, from a first number up to another one, and their first fault.
+type Beginnings = (usize, usize, CheckFault);
+
+static BEGINNINGS: [Beginnings; 6] = [
+    (0, 21, CheckFault::Header),
+    (21, 25, CheckFault::Size),
+    (25, 31, CheckFault::Value),
+    (31, 37, CheckFault::Sequence),
+    (37, 40, CheckFault::Tree(5)),
+    (40, 44, CheckFault::End),
 ];
+
+/// Whether each of these beginnings has its fault.
+fn are_faulty(alloc: Global, instance: &Instance, row: &Beginnings) -> bool {
+    for length in row.0..row.1 {
+        let text = CERTIFICATE.get(..length).unwrap_or(b"");
+        if text.len() != length || answer_of(alloc, instance, text) != Err(row.2) {
+            return false;
+        }
+    }
+    true
+}
 
 #[test]
 fn check_two_ended_names_the_first_fault_of_each_beginning(rt: HostRuntime) -> Result<(), Fail> {
     let instance = three_machines(rt.alloc())?;
-    let mut count = 0usize;
-    for (end, fault) in BEGINNINGS {
-        for length in count..end {
-            let text = CERTIFICATE.get(..length).unwrap_or(b"");
-            let found = answer_of(rt.alloc(), &instance, text);
-            assert_eq!(rt; found, Err(fault), "of {length} bytes");
-        }
-        count = end;
+    for (number, row) in BEGINNINGS.iter().enumerate() {
+        assert!(rt; are_faulty(rt.alloc(), &instance, row), "row {number}");
     }
-    assert_eq!(rt; count, CERTIFICATE.len());
+    assert!(rt; CERTIFICATE.len() == 44);
     Ok(())
 }
 
-/// Texts of the instance with three machines, and how many texts with one other byte are lawful too. Of the first, `++`
-/// proves 11 as well, and `-+` and `+-` prove 12.
-const CLOSE: [(&[u8], usize); 2] = [
-    (CERTIFICATE, 3),
-    (b"flowshop two-ended 1\n3 3\n11 13\n2 1 3\n-\nend\n", 0),
+/// Texts of the instance with three machines, and the texts with one other byte that are lawful too: `-`, `++` and `+-`
+/// prove 11, all four strings of two signs prove 12, and none other proves either.
+static CLOSE: [(&[u8], &[&[u8]]); 5] = [
+    (
+        CERTIFICATE,
+        &[
+            b"flowshop two-ended 1\n3 3\n11 12\n3 1 2\n++\nend\n",
+            b"flowshop two-ended 1\n3 3\n12 12\n3 1 2\n-+\nend\n",
+            b"flowshop two-ended 1\n3 3\n12 12\n3 1 2\n+-\nend\n",
+        ],
+    ),
+    (
+        b"flowshop two-ended 1\n3 3\n12 12\n3 1 2\n--\nend\n",
+        &[
+            b"flowshop two-ended 1\n3 3\n12 12\n3 1 2\n+-\nend\n",
+            b"flowshop two-ended 1\n3 3\n12 12\n3 1 2\n-+\nend\n",
+        ],
+    ),
+    (
+        b"flowshop two-ended 1\n3 3\n12 13\n2 1 3\n-+\nend\n",
+        &[
+            b"flowshop two-ended 1\n3 3\n12 13\n2 1 3\n++\nend\n",
+            b"flowshop two-ended 1\n3 3\n12 13\n2 1 3\n--\nend\n",
+        ],
+    ),
+    (
+        b"flowshop two-ended 1\n3 3\n11 13\n2 1 3\n+-\nend\n",
+        &[
+            b"flowshop two-ended 1\n3 3\n12 13\n2 1 3\n+-\nend\n",
+            b"flowshop two-ended 1\n3 3\n11 13\n2 1 3\n++\nend\n",
+        ],
+    ),
+    (b"flowshop two-ended 1\n3 3\n11 13\n2 1 3\n-\nend\n", &[]),
 ];
 
-#[test]
-fn check_two_ended_accepts_three_of_all_changed_bytes(rt: HostRuntime) -> Result<(), Fail> {
-    let instance = three_machines(rt.alloc())?;
-    for (text, wanted) in CLOSE {
-        let mut count = 0usize;
-        for close in close_texts(rt.alloc(), Change::Other, text)?.iter() {
-            if answer_of(rt.alloc(), &instance, close.as_slice()).is_ok() {
-                count = count.saturating_add(1);
-            }
+/// Whether of the texts with one other byte these are lawful, in this order. Not where memory ran out.
+fn lawful_are(alloc: Global, instance: &Instance, text: &[u8], lawful: &[&[u8]]) -> bool {
+    let Ok(texts) = close_texts(alloc, Change::Other, text) else {
+        return false;
+    };
+    let mut left = lawful.iter();
+    for close in &texts {
+        if answer_of(alloc, instance, close.as_slice()).is_ok()
+            && left.next().copied() != Some(close.as_slice())
+        {
+            return false;
         }
-        assert_eq!(rt; count, wanted, "for {text:?}");
+    }
+    left.next().is_none()
+}
+
+#[test]
+fn check_two_ended_accepts_these_of_all_changed_bytes(rt: HostRuntime) -> Result<(), Fail> {
+    let instance = three_machines(rt.alloc())?;
+    for (number, (text, lawful)) in CLOSE.iter().enumerate() {
+        assert!(rt;
+            lawful_are(rt.alloc(), &instance, text, lawful),
+            "row {number}"
+        );
     }
     Ok(())
 }

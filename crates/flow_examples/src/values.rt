@@ -3,55 +3,96 @@
 use crate::instances::{three_machines, two_machines};
 use crate::shops::{Shop, made};
 use flow_core::{
-    Front, Instance, InstanceFault, JobSet, Sequence, SequenceFault, Taillard, front_push,
-    generate, makespan, rows,
+    Instance, InstanceFault, JobSet, Row, Sequence, SequenceFault, Taillard, generate, makespan,
+    rows,
 };
 use std::alloc::Global;
-use std::test::Fail;
 
 /// Jobs, machines and times, and the first fault.
-static INSTANCE_FAULTS: [(u32, u32, &[u32], InstanceFault); 4] = [
+type Refused = (u32, u32, &'static [u32], InstanceFault);
+
+static INSTANCE_FAULTS: [Refused; 4] = [
     (801, 1, &[], InstanceFault::Jobs),
     (1, 27, &[], InstanceFault::Machines),
     (2, 1, &[7], InstanceFault::Count),
     (1, 2, &[0, 1_000_000], InstanceFault::Time(2)),
 ];
 
+/// Whether an instance is refused so.
+fn is_refused(alloc: Global, row: &Refused) -> bool {
+    let (jobs, machines, times, fault) = *row;
+    Instance::new(alloc, jobs, machines, times).err() == Some(fault)
+}
+
 #[test]
 fn instance_names_first_fault(rt: HostRuntime) {
-    for &(jobs, machines, times, fault) in INSTANCE_FAULTS.iter() {
-        let made = Instance::new(rt.alloc(), jobs, machines, times);
-        assert_eq!(rt; made.err(), Some(fault));
+    for (number, row) in INSTANCE_FAULTS.iter().enumerate() {
+        assert!(rt; is_refused(rt.alloc(), row), "row {number}");
+    }
+}
+
+/// Whether the instance with two machines has its sizes and its times.
+fn gives_parts(alloc: Global) -> bool {
+    match two_machines(alloc) {
+        Ok(two) => (two.jobs(), two.machines(), two.time(3, 1), two.time(2, 2)) == (3, 2, 2, 4),
+        Err(_) => false,
     }
 }
 
 #[test]
-fn instance_gives_its_parts(rt: HostRuntime) -> Result<(), Fail> {
-    let two = two_machines(rt.alloc())?;
-    let found = (two.jobs(), two.machines(), two.time(3, 1), two.time(2, 2));
-    assert_eq!(rt; found, (3, 2, 2, 4));
-    Ok(())
+fn instance_gives_its_parts(rt: HostRuntime) {
+    assert!(rt; gives_parts(rt.alloc()));
 }
 
 /// The times and tails of the three jobs on the two machines.
 static ROWS: [([u32; 2], [u32; 2]); 3] = [([3, 2], [2, 0]), ([1, 4], [4, 0]), ([2, 2], [2, 0])];
 
-#[test]
-fn rows_have_times_and_tails(rt: HostRuntime) -> Result<(), Fail> {
-    let two = two_machines(rt.alloc())?;
-    let rows = rows(rt.alloc(), &two)?;
-    assert_eq!(rt; rows.len(), 3);
-    for (row, (times, tails)) in rows.iter().zip(ROWS.iter()) {
-        assert!(rt; row.times.starts_with(times) && row.tails.starts_with(tails));
+/// Whether rows have the times and tails of the three jobs.
+fn are_rows(rows: &[Row]) -> bool {
+    if rows.len() != 3 {
+        return false;
     }
-    Ok(())
+    for (row, (times, tails)) in rows.iter().zip(ROWS.iter()) {
+        if !row.times.starts_with(times) || !row.tails.starts_with(tails) {
+            return false;
+        }
+    }
+    true
+}
+
+/// Whether the instance with two machines has these rows.
+fn has_rows(alloc: Global) -> bool {
+    let Ok(two) = two_machines(alloc) else {
+        return false;
+    };
+    match rows(alloc, &two) {
+        Ok(rows) => are_rows(rows.as_slice()),
+        Err(_) => false,
+    }
 }
 
 #[test]
-fn mirrored_instance_has_its_machines_in_reverse_order(rt: HostRuntime) -> Result<(), Fail> {
-    let mirrored = two_machines(rt.alloc())?.mirrored(rt.alloc())?;
-    assert!(rt; mirrored == made(rt.alloc(), MIRRORED)?);
-    Ok(())
+fn rows_have_times_and_tails(rt: HostRuntime) {
+    assert!(rt; has_rows(rt.alloc()));
+}
+
+/// Whether the mirrored instance with two machines is that of the table.
+fn is_mirrored(alloc: Global) -> bool {
+    let Ok(two) = two_machines(alloc) else {
+        return false;
+    };
+    let Ok(wanted) = made(alloc, MIRRORED) else {
+        return false;
+    };
+    match two.mirrored(alloc) {
+        Ok(mirrored) => mirrored == wanted,
+        Err(_) => false,
+    }
+}
+
+#[test]
+fn mirrored_instance_has_its_machines_in_reverse_order(rt: HostRuntime) {
+    assert!(rt; is_mirrored(rt.alloc()));
 }
 
 /// Jobs of the instance with two machines, and the first fault.
@@ -61,14 +102,19 @@ static SEQUENCE_FAULTS: [(&[u16], SequenceFault); 3] = [
     (&[0, 1, 2], SequenceFault::Job(1)),
 ];
 
-#[test]
-fn sequence_names_first_fault(rt: HostRuntime) -> Result<(), Fail> {
-    let two = two_machines(rt.alloc())?;
-    for &(jobs, fault) in SEQUENCE_FAULTS.iter() {
-        let made = Sequence::new(rt.alloc(), &two, jobs);
-        assert_eq!(rt; made.err(), Some(fault));
+/// Whether jobs are no sequence of the instance with two machines, with this fault.
+fn has_fault(alloc: Global, row: &(&[u16], SequenceFault)) -> bool {
+    match two_machines(alloc) {
+        Ok(two) => Sequence::new(alloc, &two, row.0).err() == Some(row.1),
+        Err(_) => false,
     }
-    Ok(())
+}
+
+#[test]
+fn sequence_names_first_fault(rt: HostRuntime) {
+    for (number, row) in SEQUENCE_FAULTS.iter().enumerate() {
+        assert!(rt; has_fault(rt.alloc(), row), "row {number}");
+    }
 }
 
 /// The instance with two machines, mirrored. On it a sequence takes as long as the reversed one on the instance itself.
@@ -93,57 +139,71 @@ static MAKESPANS: [(Shop, &[u16], u64); 15] = [
     (Shop::Times(1, 1, &[999_999]), &[1], 999_999),
 ];
 
-/// The makespan of these jobs in this order.
-fn span(alloc: Global, shop: Shop, jobs: &[u16]) -> Result<u64, Fail> {
-    let instance = made(alloc, shop)?;
-    let sequence = Sequence::new(alloc, &instance, jobs)?;
-    if sequence.jobs().len() != instance.jobs() as usize || sequence.jobs() != jobs {
-        return Err(Fail::from("another sequence"));
+/// Whether these jobs are a sequence of this makespan.
+fn has_makespan(alloc: Global, row: &(Shop, &[u16], u64)) -> bool {
+    let (shop, jobs, value) = *row;
+    let Ok(instance) = made(alloc, shop) else {
+        return false;
+    };
+    let Ok(sequence) = Sequence::new(alloc, &instance, jobs) else {
+        return false;
+    };
+    sequence.jobs().len() == instance.jobs() as usize
+        && sequence.jobs() == jobs
+        && makespan(&instance, &sequence) == value
+}
+
+#[test]
+fn makespans_are_those_of_the_worked_sequences(rt: HostRuntime) {
+    for (number, row) in MAKESPANS.iter().enumerate() {
+        assert!(rt; has_makespan(rt.alloc(), row), "row {number}");
     }
-    Ok(makespan(&instance, &sequence))
 }
 
-#[test]
-fn makespans_are_those_of_the_worked_sequences(rt: HostRuntime) -> Result<(), Fail> {
-    for &(shop, jobs, value) in MAKESPANS.iter() {
-        let found = span(rt.alloc(), shop, jobs)?;
-        assert!(rt; found == value, "at {jobs:?}");
+/// Whether a sequence of four jobs has its jobs backwards once it is reversed.
+fn is_reversed(alloc: Global) -> bool {
+    let Ok(instance) = Instance::new(alloc, 4, 1, &[1, 2, 3, 4]) else {
+        return false;
+    };
+    match Sequence::new(alloc, &instance, &[2, 4, 1, 3]) {
+        Ok(sequence) => sequence.reversed().jobs() == [3, 1, 4, 2].as_slice(),
+        Err(_) => false,
     }
-    Ok(())
 }
 
 #[test]
-fn a_reversed_sequence_has_its_jobs_backwards(rt: HostRuntime) -> Result<(), Fail> {
-    let instance = made(rt.alloc(), Shop::Times(4, 1, &[1, 2, 3, 4]))?;
-    let reversed = Sequence::new(rt.alloc(), &instance, &[2, 4, 1, 3])?.reversed();
-    assert_eq!(rt; reversed.jobs(), [3, 1, 4, 2].as_slice());
-    Ok(())
+fn a_reversed_sequence_has_its_jobs_backwards(rt: HostRuntime) {
+    assert!(rt; is_reversed(rt.alloc()));
 }
 
-#[test]
-fn front_push_puts_a_job_behind_the_others(rt: HostRuntime) -> Result<(), Fail> {
-    let three = three_machines(rt.alloc())?;
-    let mut front = Front::empty();
-    assert!(rt; (front.at(1), front.at(2), front.at(3)) == (0, 0, 0));
-    front_push(&three, &mut front, 2);
-    assert!(rt; (front.at(1), front.at(2), front.at(3)) == (0, 8, 8));
-    Ok(())
-}
-
-#[test]
-fn job_set_is_a_set(rt: HostRuntime) -> Result<(), Fail> {
-    let mut set = JobSet::all(&three_machines(rt.alloc())?);
-    assert_eq!(rt; set.count(), 3);
+/// Whether a set of three jobs loses one of them, and no other.
+fn loses_one(alloc: Global) -> bool {
+    let Ok(three) = three_machines(alloc) else {
+        return false;
+    };
+    let mut set = JobSet::all(&three);
+    let before = set.count();
     set.remove(2);
-    let has = (set.contains(1), set.contains(2), set.contains(3));
-    assert_eq!(rt; has, (true, false, true));
-    assert_eq!(rt; (set.contains(4), set.count()), (false, 2));
-    let mut other = JobSet::none();
-    assert_eq!(rt; other.count(), 0);
-    other.insert(800);
-    let found = (other.contains(800), other.contains(799), other.count());
-    assert_eq!(rt; found, (true, false, 1));
-    Ok(())
+    let has = [
+        set.contains(1),
+        set.contains(2),
+        set.contains(3),
+        set.contains(4),
+    ];
+    before == 3 && has == [true, false, true, false] && set.count() == 2
+}
+
+/// Whether a set of no job gains one job, and no other.
+fn gains_one() -> bool {
+    let mut set = JobSet::none();
+    let before = set.count();
+    set.insert(800);
+    before == 0 && set.contains(800) && !set.contains(799) && set.count() == 1
+}
+
+#[test]
+fn job_set_is_a_set(rt: HostRuntime) {
+    assert!(rt; loses_one(rt.alloc()) && gains_one());
 }
 
 /// Seeds, and for each step the state and the number from 1 to 99.
@@ -182,19 +242,24 @@ fn goes(seed: u32, steps: &[(u32, u32)]) -> bool {
 
 #[test]
 fn generator_follows_its_vectors(rt: HostRuntime) {
-    for &(seed, steps) in STEPS.iter() {
-        assert!(rt; goes(seed, steps), "after {seed}");
+    for (seed, steps) in &STEPS {
+        assert!(rt; goes(*seed, steps), "after {seed}");
     }
-    assert!(rt; Taillard::new(0).is_none());
-    assert!(rt; Taillard::new(2_147_483_647).is_none());
+}
+
+/// Whether seeds out of range have no generator; and whether one draws from the whole range: the state 16807 stands for
+/// 16807 * 2^32 / 2147483647, rounded down.
+fn has_limits() -> bool {
+    let Some(mut generator) = Taillard::new(1) else {
+        return false;
+    };
+    let drawn = generator.next(0, u32::MAX);
+    drawn == 33_614 && Taillard::new(0).is_none() && Taillard::new(2_147_483_647).is_none()
 }
 
 #[test]
-fn generator_draws_from_the_whole_range(rt: HostRuntime) -> Result<(), Fail> {
-    let mut generator = Taillard::new(1).ok_or("no generator")?;
-    // The state 16807 stands for 16807 * 2^32 / 2147483647, rounded down.
-    assert_eq!(rt; generator.next(0, u32::MAX), 33_614);
-    Ok(())
+fn generator_draws_from_the_whole_range(rt: HostRuntime) {
+    assert!(rt; has_limits());
 }
 
 /// Jobs, machines and seeds, and the first fault.
@@ -206,19 +271,34 @@ static GENERATE_FAULTS: [(u32, u32, u32, InstanceFault); 5] = [
     (2, 2, 2_147_483_647, InstanceFault::Seed),
 ];
 
+/// Whether no instance is generated, with this fault.
+fn is_not_generated(alloc: Global, row: &(u32, u32, u32, InstanceFault)) -> bool {
+    let (jobs, machines, seed, fault) = *row;
+    generate(alloc, jobs, machines, seed).err() == Some(fault)
+}
+
 #[test]
 fn generate_names_first_fault(rt: HostRuntime) {
-    for &(jobs, machines, seed, fault) in GENERATE_FAULTS.iter() {
-        let made = generate(rt.alloc(), jobs, machines, seed);
-        assert_eq!(rt; made.err(), Some(fault));
+    for (number, row) in GENERATE_FAULTS.iter().enumerate() {
+        assert!(rt; is_not_generated(rt.alloc(), row), "row {number}");
+    }
+}
+
+/// Whether the first published instance of 20 jobs on 5 machines begins as it was published.
+fn begins_as_published(alloc: Global) -> bool {
+    let Ok(instance) = generate(alloc, 20, 5, 873_654_221) else {
+        return false;
+    };
+    match instance.times(alloc) {
+        Ok(times) => {
+            let sizes = (instance.jobs(), instance.machines());
+            sizes == (20, 5) && times.as_slice().starts_with(&[54, 83, 15])
+        }
+        Err(_) => false,
     }
 }
 
 #[test]
-fn generated_instances_begin_as_published(rt: HostRuntime) -> Result<(), Fail> {
-    let instance = generate(rt.alloc(), 20, 5, 873_654_221)?;
-    assert_eq!(rt; (instance.jobs(), instance.machines()), (20, 5));
-    let times = instance.times(rt.alloc())?;
-    assert!(rt; times.as_slice().starts_with(&[54, 83, 15]));
-    Ok(())
+fn generated_instances_begin_as_published(rt: HostRuntime) {
+    assert!(rt; begins_as_published(rt.alloc()));
 }

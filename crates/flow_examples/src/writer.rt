@@ -1,11 +1,12 @@
-//! Certificates as they are written.
+//! Certificates and two-ended certificates as they are written.
 
 ghost use Rattle.std.specs.Prelude.{◌≡◌, false};
 
 use crate::instances::CERTIFICATE_AT_DEPTH_0;
 use crate::shops::{Shop, made};
-use flow_cert::write_certificate;
-use flow_core::{Instance, MemorySink, WriteFault};
+use flow_cert::{write_certificate, write_two_ended};
+use flow_check::Bounds;
+use flow_core::{Instance, MemorySink, Sequence, WriteFault};
 use flow_search::{Options, prepare, solve_plain};
 use std::alloc::Global;
 use std::test::Fail;
@@ -49,8 +50,10 @@ const TEN: Shop = Shop::Times(
     ],
 );
 
-/// Instances and depths, how many bytes the sink takes, the answer, and what the sink has then.
-static CERTIFICATES: [(Shop, u32, usize, Result<(), WriteFault>, &[u8]); 11] = [
+/// An instance and a depth, how many bytes the sink takes, the answer, and what the sink has then.
+type Row = (Shop, u32, usize, Result<(), WriteFault>, &'static [u8]);
+
+static CERTIFICATES: [Row; 11] = [
     (Shop::Three, 0, 50, Ok(()), &CERTIFICATE_AT_DEPTH_0),
     (Shop::Three, 0, 10, Err(WriteFault::Device), b"flowshop c"),
     // A tree for each prefix.
@@ -130,15 +133,9 @@ static CERTIFICATES: [(Shop, u32, usize, Result<(), WriteFault>, &[u8]); 11] = [
     ),
 ];
 
-/// Whether a sink of so many bytes gives this answer for an instance at a depth, and has these bytes then.
-fn writes(
-    alloc: Global,
-    shop: Shop,
-    depth: u32,
-    room: usize,
-    answer: Result<(), WriteFault>,
-    text: &[u8],
-) -> Result<bool, Fail> {
+/// Whether a sink of so many bytes gives the answer of a row, and has its bytes then.
+fn is_written(alloc: Global, row: &Row) -> Result<bool, Fail> {
+    let (shop, depth, room, answer, text) = *row;
     let instance = made(alloc, shop)?;
     let mut sink = MemorySink::new(alloc, room);
     let found = write(alloc, &instance, depth, &mut sink)?;
@@ -147,9 +144,118 @@ fn writes(
 
 #[test]
 fn write_certificate_writes_what_the_sink_takes(rt: HostRuntime) -> Result<(), Fail> {
-    for &(shop, depth, room, answer, text) in CERTIFICATES.iter() {
-        let holds = writes(rt.alloc(), shop, depth, room, answer, text)?;
-        assert!(rt; holds, "{text:?}");
+    for (number, row) in CERTIFICATES.iter().enumerate() {
+        assert!(rt; is_written(rt.alloc(), row)?, "row {number}");
+    }
+    Ok(())
+}
+
+/// An instance, two bounds, a sequence and the signs of directions, how many bytes the sink takes, the answer, and what
+/// the sink has then.
+type TwoEnded = (
+    Shop,
+    (u64, u64),
+    &'static [u16],
+    &'static [u8],
+    usize,
+    Result<(), WriteFault>,
+    &'static [u8],
+);
+
+/// Whether a sink gives this answer for a two-ended certificate, and has these bytes then.
+fn writes_two_ended(alloc: Global, row: &TwoEnded) -> Result<bool, Fail> {
+    let (shop, (lower, upper), jobs, directions, room, answer, text) = *row;
+    let instance = made(alloc, shop)?;
+    let sequence = Sequence::new(alloc, &instance, jobs)?;
+    let bounds = Bounds { lower, upper };
+    let mut sink = MemorySink::new(alloc, room);
+    let found = write_two_ended(&instance, bounds, &sequence, directions, &mut sink);
+    Ok(found == answer && sink.bytes() == text)
+}
+
+/// Two-ended certificates; the last text is none, and is written as it is given.
+static TWO_ENDED: [TwoEnded; 8] = [
+    (
+        Shop::Seed(20, 5, 873_654_221),
+        (1_278, 1_278),
+        &[
+            9, 15, 14, 17, 3, 6, 18, 4, 2, 7, 11, 13, 19, 1, 5, 16, 8, 10, 20, 12,
+        ],
+        b"-----+-",
+        99,
+        Ok(()),
+        b"flowshop two-ended 1\n20 5\n1278 1278\n9 15 14 17 3 6 18 4 2 7 11 13 19 1 5 16 8 10 20 12\n\
+-----+-\nend\n",
+    ),
+    (
+        Shop::Three,
+        (12, 12),
+        &[3, 1, 2],
+        b"++",
+        44,
+        Ok(()),
+        b"flowshop two-ended 1\n3 3\n12 12\n3 1 2\n++\nend\n",
+    ),
+    (
+        Shop::Three,
+        (11, 13),
+        &[2, 1, 3],
+        b"-",
+        1_000,
+        Ok(()),
+        b"flowshop two-ended 1\n3 3\n11 13\n2 1 3\n-\nend\n",
+    ),
+    (
+        Shop::Two,
+        (9, 9),
+        &[2, 3, 1],
+        b"",
+        1_000,
+        Ok(()),
+        b"flowshop two-ended 1\n3 2\n9 9\n2 3 1\n\nend\n",
+    ),
+    (
+        Shop::Times(1, 1, &[0]),
+        (0, 0),
+        &[1],
+        b"",
+        1_000,
+        Ok(()),
+        b"flowshop two-ended 1\n1 1\n0 0\n1\n\nend\n",
+    ),
+    (
+        Shop::Three,
+        (12, 12),
+        &[3, 1, 2],
+        b"++",
+        43,
+        Err(WriteFault::Device),
+        b"flowshop two-ended 1\n3 3\n12 12\n3 1 2\n++\nend",
+    ),
+    (
+        Shop::Three,
+        (12, 12),
+        &[3, 1, 2],
+        b"++",
+        0,
+        Err(WriteFault::Device),
+        b"",
+    ),
+    (
+        Shop::Three,
+        (18_446_744_073_709_551_615, 0),
+        &[1, 2, 3],
+        b"x\n",
+        1_000,
+        Ok(()),
+        b"flowshop two-ended 1\n3 3\n18446744073709551615 0\n1 2 3\nx\n\nend\n",
+    ),
+];
+
+#[test]
+fn write_two_ended_writes_what_the_sink_takes(rt: HostRuntime) -> Result<(), Fail> {
+    for row in &TWO_ENDED {
+        assert!(rt; writes_two_ended(rt.alloc(), row)?, "{:?}", row.6);
     }
     Ok(())
 }

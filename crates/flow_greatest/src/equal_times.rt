@@ -3,16 +3,15 @@
 
 ghost use Rattle.std.specs.Prelude.{◌≡◌, IfOk};
 
+use crate::written::is_written;
 use flow_bound::{insertion_spans, neh};
-use flow_cert::write_certificate;
 use flow_check::{CheckFault, check};
-use flow_core::{Instance, MemorySink, Sequence, makespan, rows};
-use flow_search::{Options, Outcome, PlanFault, answer, prepare, solve_plain};
-use std::alloc::Global;
-use std::test::Fail;
+use flow_core::{Instance, InstanceFault, Row, Sequence, makespan, rows};
+use flow_search::{Options, Outcome, PlanFault, answer, prepare};
+use std::alloc::{AllocError, Global};
 
 /// The instance.
-fn equal_times(alloc: Global) -> Result<Instance, Fail>
+fn equal_times(alloc: Global) -> Result<Instance, InstanceFault>
     ensures { IfOk result (λ instance. (instance.jobs ≡ 800) × (instance.machines ≡ 26)) }
 {
     let times = vec![in alloc; 999_999; 20_800]?;
@@ -20,7 +19,7 @@ fn equal_times(alloc: Global) -> Result<Instance, Fail>
 }
 
 /// The jobs 1 to 800.
-fn upwards(alloc: Global) -> Result<Vec<u16>, Fail> {
+fn upwards(alloc: Global) -> Result<Vec<u16>, AllocError> {
     let mut jobs = Vec::new(alloc);
     for job in 1..801u16 {
         jobs.push(job)?;
@@ -30,164 +29,298 @@ fn upwards(alloc: Global) -> Result<Vec<u16>, Fail> {
 
 /// The jobs 800 to 1. This is the starting sequence: all totals are equal, so the jobs are put in from 1 on, and all
 /// places are equally good, so each is put in first.
-fn backwards(alloc: Global) -> Result<Vec<u16>, Fail> {
+fn backwards(alloc: Global) -> Result<Vec<u16>, AllocError> {
     let mut jobs = upwards(alloc)?;
     jobs.as_mut_slice().reverse();
     Ok(jobs)
 }
 
-#[test]
-fn parts_of_the_instance_are_made(rt: HostRuntime) -> Result<(), Fail> {
-    let alloc = rt.alloc();
-    let instance = equal_times(alloc)?;
-    let times = vec![in alloc; 999_999u32; 20_800]?;
-    assert!(rt; instance.times(alloc)?.as_slice() == times.as_slice());
-    assert!(rt; instance.mirrored(alloc)? == instance);
-    let made = rows(alloc, &instance)?;
-    assert_eq!(rt; made.len(), 800);
-    for row in &made {
-        assert_eq!(rt; row.times, [999_999; 26]);
-        assert_eq!(rt; (row.tails[0], row.tails[25]), (24_999_975, 0));
+/// The times of a job on all machines.
+static TIMES: [u32; 26] = [999_999; 26];
+
+/// Whether all rows have these times, and the tails of the first and the last machine.
+fn are_rows(rows: &[Row]) -> bool {
+    for row in rows {
+        if row.times != TIMES || row.tails[0] != 24_999_975 || row.tails[25] != 0 {
+            return false;
+        }
     }
-    Ok(())
+    rows.len() == 800
+}
+
+/// Whether the instance has these rows.
+fn has_rows(alloc: Global) -> bool {
+    let Ok(instance) = equal_times(alloc) else {
+        return false;
+    };
+    match rows(alloc, &instance) {
+        Ok(rows) => are_rows(rows.as_slice()),
+        Err(_) => false,
+    }
+}
+
+/// Whether the instance has its times.
+fn has_times(alloc: Global) -> bool {
+    let Ok(wanted) = vec![in alloc; 999_999u32; 20_800] else {
+        return false;
+    };
+    let Ok(instance) = equal_times(alloc) else {
+        return false;
+    };
+    match instance.times(alloc) {
+        Ok(times) => times.as_slice() == wanted.as_slice(),
+        Err(_) => false,
+    }
+}
+
+/// Whether the instance is its own mirror.
+fn is_own_mirror(alloc: Global) -> bool {
+    let Ok(instance) = equal_times(alloc) else {
+        return false;
+    };
+    match instance.mirrored(alloc) {
+        Ok(mirrored) => mirrored == instance,
+        Err(_) => false,
+    }
 }
 
 #[test]
-fn sequences_have_the_makespan(rt: HostRuntime) -> Result<(), Fail> {
-    let alloc = rt.alloc();
-    let instance = equal_times(alloc)?;
-    let jobs = upwards(alloc)?;
-    let sequence = Sequence::new(alloc, &instance, jobs.as_slice())?;
-    assert_eq!(rt; makespan(&instance, &sequence), 824_999_175);
-    let (start, value) = neh(alloc, &instance)?;
-    assert_eq!(rt; value, 824_999_175);
-    assert!(rt; start.jobs() == backwards(alloc)?.as_slice());
-    Ok(())
+fn parts_of_the_instance_are_made(rt: HostRuntime) {
+    assert!(rt; has_times(rt.alloc()) && is_own_mirror(rt.alloc()) && has_rows(rt.alloc()));
 }
 
-/// The makespans of the first jobs of a sequence with the next job put in at each place.
-fn spans_with_next(
+/// Whether the sequence of the jobs upwards has the makespan.
+fn has_makespan(alloc: Global) -> bool {
+    let Ok(instance) = equal_times(alloc) else {
+        return false;
+    };
+    let Ok(jobs) = upwards(alloc) else {
+        return false;
+    };
+    match Sequence::new(alloc, &instance, jobs.as_slice()) {
+        Ok(sequence) => makespan(&instance, &sequence) == 824_999_175,
+        Err(_) => false,
+    }
+}
+
+/// Whether the starting sequence has the jobs backwards, and the makespan.
+fn starts_backwards(alloc: Global) -> bool {
+    let Ok(instance) = equal_times(alloc) else {
+        return false;
+    };
+    let Ok(jobs) = backwards(alloc) else {
+        return false;
+    };
+    match neh(alloc, &instance) {
+        Ok((start, value)) => value == 824_999_175 && start.jobs() == jobs.as_slice(),
+        Err(_) => false,
+    }
+}
+
+#[test]
+fn sequences_have_the_makespan(rt: HostRuntime) {
+    assert!(rt; has_makespan(rt.alloc()) && starts_backwards(rt.alloc()));
+}
+
+/// Whether these are the makespans of the first jobs of a sequence with the next job put in at each place.
+fn has_spans(
     alloc: Global,
     instance: &Instance,
     sequence: &Sequence,
     count: usize,
-) -> Result<Vec<u64>, Fail> {
+    spans: &[u64],
+) -> bool {
     let jobs = sequence.jobs();
     if jobs.len() != instance.jobs() as usize || count >= jobs.len() {
-        return Err(Fail::from("no job is next"));
+        return false;
     }
-    Ok(insertion_spans(alloc, instance, &jobs[..count], jobs[count])?)
+    match insertion_spans(alloc, instance, &jobs[..count], jobs[count]) {
+        Ok(found) => found.as_slice() == spans,
+        Err(_) => false,
+    }
+}
+
+/// One job more than 3 or 799 ends after 3 + 26 or 799 + 26 times, in each of so many places.
+static PLACES: [(usize, usize, u64); 2] = [(3, 4, 28_999_971), (799, 800, 824_999_175)];
+
+/// Whether all places for the next job are so good.
+fn are_equally_good(alloc: Global, row: &(usize, usize, u64)) -> bool {
+    let Ok(instance) = equal_times(alloc) else {
+        return false;
+    };
+    let Ok(jobs) = upwards(alloc) else {
+        return false;
+    };
+    let Ok(spans) = vec![in alloc; row.2; row.1] else {
+        return false;
+    };
+    match Sequence::new(alloc, &instance, jobs.as_slice()) {
+        Ok(sequence) => has_spans(alloc, &instance, &sequence, row.0, spans.as_slice()),
+        Err(_) => false,
+    }
 }
 
 #[test]
-fn all_places_are_equally_good(rt: HostRuntime) -> Result<(), Fail> {
-    let alloc = rt.alloc();
-    let instance = equal_times(alloc)?;
-    let jobs = upwards(alloc)?;
-    let sequence = Sequence::new(alloc, &instance, jobs.as_slice())?;
-    // One job more than 3 or 799 ends after 3 + 26 or 799 + 26 times.
-    for (count, places, span) in [(3, 4, 28_999_971), (799, 800, 824_999_175)] {
-        let found = spans_with_next(alloc, &instance, &sequence, count)?;
-        let spans = vec![in alloc; span; places]?;
-        assert_eq!(rt; found.as_slice(), spans.as_slice());
+fn all_places_are_equally_good(rt: HostRuntime) {
+    for (number, row) in PLACES.iter().enumerate() {
+        assert!(rt; are_equally_good(rt.alloc(), row), "row {number}");
     }
-    Ok(())
+}
+
+/// Whether an outcome has no better sequence, and the tree of one letter: machine 1 is never idle, so its bound is
+/// exact.
+fn is_letter_a(outcome: &Outcome) -> bool {
+    match outcome {
+        Outcome::Done { best, tree } => best.is_none() && tree.as_slice() == b"A".as_slice(),
+        _ => false,
+    }
+}
+
+/// Whether the plan at depth 0 is answered so in a version.
+fn is_answered(alloc: Global, version: u32) -> bool {
+    let Ok(usual) = Options::new(1, 0, 1) else {
+        return false;
+    };
+    let Ok(options) = usual.with_version(version) else {
+        return false;
+    };
+    let Ok(instance) = equal_times(alloc) else {
+        return false;
+    };
+    match prepare(alloc, &instance, options) {
+        Ok(plan) => is_letter_a(&answer(alloc, &plan, 0)),
+        Err(_) => false,
+    }
+}
+
+/// Whether there is no plan at depth 2: 800 jobs have 800 * 799 = 639,200 lists of two.
+fn has_too_many_prefixes(alloc: Global) -> bool {
+    let Ok(options) = Options::new(1, 2, 1) else {
+        return false;
+    };
+    match equal_times(alloc) {
+        Ok(instance) => prepare(alloc, &instance, options).err() == Some(PlanFault::Prefixes),
+        Err(_) => false,
+    }
 }
 
 #[test]
-fn plans_are_answered(rt: HostRuntime) -> Result<(), Fail> {
-    let alloc = rt.alloc();
-    let instance = equal_times(alloc)?;
-    for version in 1..3u32 {
-        let options = Options::new(1, 0, 1)?.with_version(version)?;
-        let plan = prepare(alloc, &instance, options)?;
-        let Outcome::Done { best, tree } = answer(alloc, &plan, 0) else {
-            return Err(Fail::from("the prefix was not answered"));
-        };
-        assert!(rt; best.is_none());
-        // Machine 1 is never idle, so its bound is exact.
-        assert_eq!(rt; tree.as_slice(), b"A".as_slice());
-    }
-    match prepare(alloc, &instance, Options::new(1, 2, 1)?) {
-        Ok(_) => Err(Fail::from("a plan was made")),
-        Err(fault) => {
-            // 800 jobs have 800 * 799 = 639,200 lists of two.
-            assert_eq!(rt; fault, PlanFault::Prefixes);
-            Ok(())
-        }
-    }
+fn plans_are_answered(rt: HostRuntime) {
+    assert!(rt; is_answered(rt.alloc(), 1) && is_answered(rt.alloc(), 2));
+    assert!(rt; has_too_many_prefixes(rt.alloc()));
 }
 
-/// The lines 3 and 4 of a certificate whose sequence has these jobs.
-fn value_and_sequence(alloc: Global, jobs: &[u16]) -> Result<Vec<u8>, Fail> {
-    let mut lines = Vec::from_slice(alloc, b"824999175")?;
+/// A certificate with this version and these sizes, a sequence of these jobs, and these trees.
+fn text_of(
+    alloc: Global,
+    heading: &[u8],
+    jobs: &[u16],
+    trees: &[u8],
+) -> Result<Vec<u8>, AllocError> {
+    let mut text = Vec::from_slice(alloc, b"flowshop certificate ")?;
+    text.extend_from_slice(heading)?;
+    text.extend_from_slice(b"\n824999175")?;
     let mut mark = b'\n';
     for job in jobs {
-        lines.push(mark)?;
-        lines.extend_from_slice(format!(in alloc; "{}", job)?.as_bytes())?;
+        text.push(mark)?;
+        text.extend_from_slice(format!(in alloc; "{}", job)?.as_bytes())?;
         mark = b' ';
     }
-    lines.push(b'\n')?;
-    Ok(lines)
-}
-
-#[test]
-fn certificate_at_depth_1_is_written_and_accepted(rt: HostRuntime) -> Result<(), Fail> {
-    let alloc = rt.alloc();
-    let instance = equal_times(alloc)?;
-    let plan = prepare(alloc, &instance, Options::new(1, 1, 1)?)?;
-    let verdict = solve_plain(alloc, &plan)?;
-    let mut sink = MemorySink::new(alloc, 10_000);
-    let written = write_certificate(&plan, &verdict, &mut sink);
-    assert_eq!(rt; written, Ok(()));
-    let mut text = Vec::from_slice(alloc, b"flowshop certificate 1\n800 26 1\n")?;
-    let jobs = backwards(alloc)?;
-    text.append(&mut value_and_sequence(alloc, jobs.as_slice())?)?;
-    text.append(&mut b"A\n".repeat(alloc, 800)?)?;
+    text.push(b'\n')?;
+    text.extend_from_slice(trees)?;
     text.extend_from_slice(b"end\n")?;
-    assert!(rt; sink.bytes() == text.as_slice());
-    assert_eq!(rt; check(alloc, &instance, text.as_slice()), Ok(824_999_175));
-    Ok(())
+    Ok(text)
 }
 
-/// What the checker answers for a certificate at depth 0 with this version and this tree.
-fn checked(alloc: Global, version: u8, tree: &[u8]) -> Result<Result<u64, CheckFault>, Fail> {
-    let instance = equal_times(alloc)?;
-    let mut text = Vec::from_slice(alloc, b"flowshop certificate ")?;
-    text.push(version)?;
-    text.extend_from_slice(b"\n800 26 0\n")?;
-    let jobs = upwards(alloc)?;
-    text.append(&mut value_and_sequence(alloc, jobs.as_slice())?)?;
-    text.extend_from_slice(tree)?;
-    text.extend_from_slice(b"\nend\n")?;
-    Ok(check(alloc, &instance, text.as_slice()))
+/// The certificate at depth 1.
+fn at_depth_1(alloc: Global) -> Result<Vec<u8>, AllocError> {
+    let jobs = backwards(alloc)?;
+    let trees = b"A\n".repeat(alloc, 800)?;
+    text_of(alloc, b"1\n800 26 1", jobs.as_slice(), trees.as_slice())
 }
 
-#[test]
-fn letter_z_needs_the_release_of_machine_26(rt: HostRuntime) -> Result<(), Fail> {
-    let alloc = rt.alloc();
-    // Released by machine 1, machine 26 begins after 25 times. In version 1 it begins at once.
-    assert_eq!(rt; checked(alloc, b'2', b"Z")?, Ok(824_999_175));
-    assert_eq!(rt; checked(alloc, b'1', b"Z")?, Err(CheckFault::Weak(5)));
-    Ok(())
-}
-
-#[test]
-fn tree_of_all_depths_is_accepted(rt: HostRuntime) -> Result<(), Fail> {
-    let alloc = rt.alloc();
-    // The lists 1 2 .. are branched on up to the whole sequence. Then come 1 + 2 + .. + 799 lists that leave it, the
-    // last of which has one job. Behind a job every bound is exact.
-    for letter in [b'A', b'M', b'Z'] {
-        let mut tree = b"+".repeat(alloc, 800)?;
-        tree.push(b'.')?;
-        tree.append(&mut [letter].repeat(alloc, 319_600)?)?;
-        assert_eq!(rt; checked(alloc, b'1', tree.as_slice())?, Ok(824_999_175));
-        assert_eq!(rt; checked(alloc, b'2', tree.as_slice())?, Ok(824_999_175));
-        tree.push(letter)?;
-        assert_eq!(rt;
-            checked(alloc, b'2', tree.as_slice())?,
-            Err(CheckFault::Tree(5))
-        );
+/// Whether the certificate at depth 1 is written and accepted.
+fn is_written_at_depth_1(alloc: Global) -> bool {
+    let Ok(instance) = equal_times(alloc) else {
+        return false;
+    };
+    match at_depth_1(alloc) {
+        Ok(text) => is_written(alloc, &instance, 1, 800, text.as_slice(), 824_999_175),
+        Err(_) => false,
     }
-    Ok(())
+}
+
+#[test]
+fn certificate_at_depth_1_is_written_and_accepted(rt: HostRuntime) {
+    assert!(rt; is_written_at_depth_1(rt.alloc()));
+}
+
+/// Versions and sizes of certificates at depth 0.
+const VERSION_1: &[u8] = b"1\n800 26 0";
+
+const VERSION_2: &[u8] = b"2\n800 26 0";
+
+/// The makespan, where a text is a certificate.
+const ACCEPTED: Result<u64, CheckFault> = Ok(824_999_175);
+
+/// Whether the checker answers so for a certificate with this heading and this tree.
+fn answers(alloc: Global, heading: &[u8], tree: &[u8], answer: Result<u64, CheckFault>) -> bool {
+    let Ok(instance) = equal_times(alloc) else {
+        return false;
+    };
+    let Ok(jobs) = upwards(alloc) else {
+        return false;
+    };
+    match text_of(alloc, heading, jobs.as_slice(), tree) {
+        Ok(text) => check(alloc, &instance, text.as_slice()) == answer,
+        Err(_) => false,
+    }
+}
+
+/// Released by machine 1, machine 26 begins after 25 times. In version 1 it begins at once.
+#[test]
+fn letter_z_needs_the_release_of_machine_26(rt: HostRuntime) {
+    assert!(rt; answers(rt.alloc(), VERSION_2, b"Z\n", ACCEPTED));
+    assert!(rt; answers(rt.alloc(), VERSION_1, b"Z\n", Err(CheckFault::Weak(5))));
+}
+
+/// A tree with more of a letter, and the end of its line. The lists 1 2 .. are branched on up to the whole sequence.
+/// Then come 1 + 2 + .. + 799 lists that leave it, the last of which has one job. Behind a job every bound is exact.
+fn tree_of(alloc: Global, letter: u8, more: usize) -> Result<Vec<u8>, AllocError> {
+    let mut tree = b"+".repeat(alloc, 800)?;
+    tree.push(b'.')?;
+    for _ in 0..more.saturating_add(319_600) {
+        tree.push(letter)?;
+    }
+    tree.push(b'\n')?;
+    Ok(tree)
+}
+
+/// How many letters more a tree has, its version, and the answer.
+type Tree = (usize, &'static [u8], Result<u64, CheckFault>);
+
+static TREES: [Tree; 3] = [
+    (0, VERSION_1, ACCEPTED),
+    (0, VERSION_2, ACCEPTED),
+    (1, VERSION_2, Err(CheckFault::Tree(5))),
+];
+
+/// Whether a row comes true with a letter.
+fn is_tree(alloc: Global, letter: u8, row: &Tree) -> bool {
+    match tree_of(alloc, letter, row.0) {
+        Ok(tree) => answers(alloc, row.1, tree.as_slice(), row.2),
+        Err(_) => false,
+    }
+}
+
+#[test]
+fn tree_of_all_depths_is_accepted(rt: HostRuntime) {
+    for letter in b"AMZ" {
+        for (number, row) in TREES.iter().enumerate() {
+            assert!(rt;
+                is_tree(rt.alloc(), *letter, row),
+                "row {number} with {letter}"
+            );
+        }
+    }
 }

@@ -4,6 +4,8 @@
 #![tactic(auto)]
 
 #[cfg(test)]
+mod directions;
+#[cfg(test)]
 mod equal_times;
 #[cfg(test)]
 mod letters;
@@ -11,3 +13,5 @@ mod letters;
 mod long_trees;
 #[cfg(test)]
 mod many_prefixes;
+#[cfg(test)]
+mod written;

@@ -1,21 +1,17 @@
 //! 316 jobs on one machine, which all take 0. At depth 2 they have 316 * 315 = 99,540 prefixes.
 
-use flow_cert::write_certificate;
-use flow_check::check;
-use flow_core::{Instance, MemorySink};
-use flow_search::{Options, prepare, solve_plain};
-use std::alloc::Global;
-use std::test::Fail;
+use crate::written::is_written;
+use flow_core::{Instance, InstanceFault};
+use std::alloc::{AllocError, Global};
 
 /// The instance.
-fn one_machine(alloc: Global) -> Result<Instance, Fail> {
-    let times = vec![in alloc; 0; 316]?;
-    Ok(Instance::new(alloc, 316, 1, times.as_slice())?)
+fn one_machine(alloc: Global) -> Result<Instance, InstanceFault> {
+    Instance::new(alloc, 316, 1, &[0; 316])
 }
 
 /// The certificate at depth 2. All totals are equal, and so are all places: each job is put in before those of a lower
 /// number. Every bound is 0, so machine 1 ends each tree at once.
-fn expected(alloc: Global) -> Result<Vec<u8>, Fail> {
+fn expected(alloc: Global) -> Result<Vec<u8>, AllocError> {
     let mut text = Vec::from_slice(alloc, b"flowshop certificate 1\n316 1 2\n0\n316")?;
     for below in 1..316u16 {
         text.extend_from_slice(format!(in alloc; " {}", 316 - below)?.as_bytes())?;
@@ -26,19 +22,20 @@ fn expected(alloc: Global) -> Result<Vec<u8>, Fail> {
     Ok(text)
 }
 
+/// Whether the certificate, of 200,273 bytes, is written and accepted.
+fn is_expected(alloc: Global) -> bool {
+    let Ok(instance) = one_machine(alloc) else {
+        return false;
+    };
+    match expected(alloc) {
+        Ok(text) => {
+            text.len() == 200_273 && is_written(alloc, &instance, 2, 99_540, text.as_slice(), 0)
+        }
+        Err(_) => false,
+    }
+}
+
 #[test]
-fn certificate_of_99_540_prefixes_is_written_and_accepted(rt: HostRuntime) -> Result<(), Fail> {
-    let alloc = rt.alloc();
-    let instance = one_machine(alloc)?;
-    let plan = prepare(alloc, &instance, Options::new(1, 2, 1)?)?;
-    assert_eq!(rt; plan.prefixes(), 99_540);
-    let verdict = solve_plain(alloc, &plan)?;
-    let mut sink = MemorySink::new(alloc, 200_273);
-    let written = write_certificate(&plan, &verdict, &mut sink);
-    assert_eq!(rt; written, Ok(()));
-    let text = expected(alloc)?;
-    assert_eq!(rt; text.len(), 200_273);
-    assert!(rt; sink.bytes() == text.as_slice());
-    assert_eq!(rt; check(alloc, &instance, text.as_slice()), Ok(0));
-    Ok(())
+fn certificate_of_99_540_prefixes_is_written_and_accepted(rt: HostRuntime) {
+    assert!(rt; is_expected(rt.alloc()));
 }

@@ -5,10 +5,10 @@ ghost use Rattle.flow_search.specs.Plans.{prefixes_of};
 
 use crate::groups::refused_where;
 use crate::search::planned;
-use flow_cert::write_certificate;
-use flow_check::{CheckFault, check, check_sequence, check_two_ended};
+use flow_cert::{write_certificate, write_two_ended};
+use flow_check::{Bounds, CheckFault, check, check_sequence, check_two_ended};
 use flow_commands::CommandFault;
-use flow_core::{Instance, MemorySink};
+use flow_core::{Instance, MemorySink, Sequence};
 use flow_examples::{AMPLE, CERTIFICATE_AT_DEPTH_0, WEAK_CERTIFICATE};
 use flow_pool::SolveFault;
 use flow_search::{Plan, Verdict, solve_plain};
@@ -60,12 +60,31 @@ pub(crate) fn certified_sequence_is_given(
     Ok(sequence.jobs() == [3, 1, 2].as_slice())
 }
 
+/// A lawful two-ended certificate of the instance with three machines.
+const TWO_ENDED: &[u8] = b"flowshop two-ended 1\n3 3\n12 12\n3 1 2\n++\nend\n";
+
+/// `write_two_ended`.
+pub(crate) fn two_ended_text_is_written(
+    alloc: Global,
+    three: &Instance,
+) -> Result<bool, CommandFault> {
+    let sequence = Sequence::new(alloc, three, &[3, 1, 2])?;
+    let bounds = Bounds {
+        lower: 12,
+        upper: 12,
+    };
+    let mut sink = MemorySink::new(alloc, 1_000);
+    if write_two_ended(three, bounds, &sequence, b"++", &mut sink).is_err() {
+        return refused_where(sink.bytes().is_empty());
+    }
+    Ok(sink.bytes() == TWO_ENDED)
+}
+
 /// `check_two_ended` of a lawful text.
 pub(crate) fn two_ended_text_is_checked(
     alloc: Global,
     three: &Instance,
 ) -> Result<bool, CommandFault> {
-    let text = b"flowshop two-ended 1\n3 3\n12 12\n3 1 2\n++\nend\n";
-    let shown = check_two_ended(alloc, three, text)?;
+    let shown = check_two_ended(alloc, three, TWO_ENDED)?;
     Ok(shown.bounds.lower == 12 && shown.sequence.jobs() == [3, 1, 2].as_slice())
 }

@@ -54,6 +54,9 @@ const STARTED_CERTIFICATE: &[u8] = b"flowshop certificate 1\n3 3 0\n12\n2 1 3\n+
 /// A text of bounds of the text with three machines.
 const BOUNDS_OF_11: &[u8] = b"flowshop bounds 1\n3 3 0\n11 13\n2 1 3\n+BB+AB\nend\n";
 
+/// A two-ended certificate of the text with three machines.
+const TWO_ENDED: &[u8] = b"flowshop two-ended 1\n3 3\n12 12\n3 1 2\n++\nend\n";
+
 /// What is printed for a certificate whose sequence is asked for.
 const CHECKED_LINES: &[u8] = b"sequence 3 1 2\nmakespan 12\n";
 
@@ -82,16 +85,23 @@ const MIRRORED: SolveRequest = SolveRequest {
     target: None,
 };
 
-/// `check` of texts of either instance and of bounds too.
+/// `check` of all kinds of texts, of either instance.
 const CHECK: CheckRequest = CheckRequest {
     either: true,
     bounds: true,
     sequence: false,
+    optimal: false,
 };
 
 /// The same, where the sequence is printed.
 const CHECK_SEQUENCE: CheckRequest = CheckRequest {
     sequence: true,
+    ..CHECK
+};
+
+/// The same, where a least makespan has to be proved.
+const CHECK_OPTIMAL: CheckRequest = CheckRequest {
+    optimal: true,
     ..CHECK
 };
 
@@ -133,7 +143,7 @@ pub(crate) struct Run {
 }
 
 /// All runs.
-pub(crate) static RUNS: [Run; 22] = [
+pub(crate) static RUNS: [Run; 24] = [
     Run {
         name: "run_span",
         text: TWO_MACHINES_TEXT,
@@ -280,6 +290,23 @@ pub(crate) static RUNS: [Run; 22] = [
         beside: Some(BOUNDS_OF_11),
         command: Command::CheckAs(CHECK),
         wanted: Wanted::Text(b"bounds 11 13\n"),
+    },
+    Run {
+        name: "run_check_as of bounds for an optimum",
+        text: THREE_MACHINES_TEXT,
+        beside: Some(BOUNDS_OF_11),
+        command: Command::CheckAs(CHECK_OPTIMAL),
+        wanted: Wanted::Fault(CommandFault::Bounds {
+            lower: 11,
+            upper: 13,
+        }),
+    },
+    Run {
+        name: "run_check_as of a two-ended certificate",
+        text: THREE_MACHINES_TEXT,
+        beside: Some(TWO_ENDED),
+        command: Command::CheckAs(CHECK_OPTIMAL),
+        wanted: Wanted::Text(b"optimal 12\n"),
     },
     Run {
         name: "run_schedule of a table",

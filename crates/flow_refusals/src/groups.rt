@@ -6,7 +6,7 @@ use crate::bounds::{
 };
 use crate::certificates::{
     certificate_is_written, certificates_are_checked, certified_sequence_is_given,
-    two_ended_text_is_checked,
+    two_ended_text_is_checked, two_ended_text_is_written,
 };
 use crate::instances::{
     instance_is_generated, instance_is_mirrored, instances_are_made, rows_are_made,
@@ -88,6 +88,7 @@ pub(crate) enum Three {
     Bound,
     Picture,
     Written,
+    WrittenTwoEnded,
     Checked,
     CheckedSequence,
     CheckedTwoEnded,
@@ -102,7 +103,7 @@ pub(crate) enum Start {
 }
 
 /// All groups of library calls, but for those of workers, each with its name.
-pub(crate) static GROUPS: [(&str, Group); 26] = [
+pub(crate) static GROUPS: [(&str, Group); 27] = [
     (
         "Instance::new, Sequence::new",
         Group::Alone(Alone::Instances),
@@ -128,6 +129,7 @@ pub(crate) static GROUPS: [(&str, Group); 26] = [
     ("timetable, timetable_csv", Group::Two(Two::Table)),
     ("timetable_picture", Group::Three(Three::Picture)),
     ("write_certificate", Group::Three(Three::Written)),
+    ("write_two_ended", Group::Three(Three::WrittenTwoEnded)),
     ("check of a text", Group::Three(Three::Checked)),
     (
         "check_sequence of a certificate",
@@ -191,6 +193,7 @@ impl Three {
             Three::Bound => bound_is_raised(alloc, &three),
             Three::Picture => picture_is_made(alloc, &three),
             Three::Written => certificate_is_written(alloc, &three),
+            Three::WrittenTwoEnded => two_ended_text_is_written(alloc, &three),
             Three::Checked => certificates_are_checked(alloc, &three),
             Three::CheckedSequence => certified_sequence_is_given(alloc, &three),
             Three::CheckedTwoEnded => two_ended_text_is_checked(alloc, &three),

@@ -1,4 +1,5 @@
-//! What the two-ended beam search comes to, which no contract says.
+//! What the two-ended beam search comes to, which no contract says. Makespans and sequences are those of the plain
+//! program bench/improve.rs without rounds, where nothing else is said.
 
 use crate::searches::{ANY, DOWN, comes_to, start_of};
 use flow_core::{Instance, generate};
@@ -22,10 +23,10 @@ type Row = (
 );
 
 static ROWS: [Row; 23] = [
-    // Worked out apart from the program: the pass of width 8 by bounds drops no child.
+    // The pass of width 8 by bounds drops no child.
     ([20, 5, 379_008_056], ANY, 8, WORK, 1359, WHOLE, true),
     ([20, 5, 379_008_056], ANY, 4096, WORK, 1359, WHOLE, true),
-    // The makespans were worked out apart from the program.
+    // Some pass drops a child.
     (
         [15, 8, 7],
         ANY,
@@ -61,8 +62,8 @@ static ROWS: [Row; 23] = [
     // A pass of width 1 may take 15 * 16 * 8 steps, so with fewer there is none.
     ([15, 8, 7], ANY, 32, 0, 1247, NEH, false),
     ([15, 8, 7], ANY, 32, 15 * 16 * 8 - 1, 1247, NEH, false),
-    // Steps, and the makespan that the plain program bench/improve.rs comes to where no more are allowed: each is the
-    // least number with which one more pass is made, or one less.
+    // Steps, and the makespan where no more are allowed: each is the least number with which one more pass is made, or
+    // one less.
     ([20, 10, 587_595_453], ANY, 4096, 34_579, 1680, ANY, false),
     ([20, 10, 587_595_453], ANY, 4096, 34_580, 1657, ANY, false),
     ([20, 10, 587_595_453], ANY, 4096, 82_199, 1657, ANY, false),
@@ -75,8 +76,7 @@ static ROWS: [Row; 23] = [
     ([20, 10, 587_595_453], ANY, 4096, 480_040, 1601, ANY, false),
     // One job has one sequence, whose makespan is the bound: the search ends before its first pass.
     ([1, 3, 5], ANY, 4, WORK, 145, &[1], true),
-    // Worked out by the plain program bench/improve.rs: the second pass of width 1, which is the last one, has the
-    // bound.
+    // The second pass of width 1, which is the last one, has the bound.
     (
         [30, 5, 129],
         ANY,
@@ -89,8 +89,8 @@ static ROWS: [Row; 23] = [
         ],
         true,
     ),
-    // With no pass, with no steps; and on one machine, where the start has the bound, since all sequences have one
-    // makespan.
+    // With no pass, with no steps, the start and its makespan, by the recurrence; and on one machine, where the start
+    // has the bound, the sum of its times, since all sequences have one makespan.
     ([6, 4, 8], DOWN, 0, WORK, 413, DOWN, false),
     ([6, 4, 8], DOWN, 8, 0, 413, DOWN, false),
     ([6, 1, 8], DOWN, 8, WORK, 180, DOWN, true),
@@ -102,7 +102,7 @@ const WHOLE: &[u16] = &[
     6, 10, 17, 7, 3, 18, 12, 15, 1, 13, 11, 9, 16, 20, 19, 4, 5, 2, 14, 8,
 ];
 
-/// The starting sequence of fifteen jobs on eight machines, worked out apart from the program.
+/// The starting sequence of fifteen jobs on eight machines.
 const NEH: &[u16] = &[4, 3, 7, 5, 15, 8, 10, 11, 6, 9, 2, 1, 12, 14, 13];
 
 /// What the search comes to from a start of an instance.

@@ -131,7 +131,6 @@ static ROWS: [Row; 24] = [
         true,
     ),
     // From here on rounds without a beam, of which both runs are the same.
-    // Worked out apart from the program.
     (
         [20, 10, 587_595_453],
         ANY,
@@ -142,8 +141,7 @@ static ROWS: [Row; 24] = [
         ],
         false,
     ),
-    // Worked out apart from the program: the starting sequence. A round that takes a worse list for the best returns
-    // another.
+    // The starting sequence. A round that takes a worse list for the best returns another.
     (
         [20, 5, 873_654_221],
         ANY,
@@ -234,7 +232,8 @@ static ROWS: [Row; 24] = [
     ([3, 4, 1], ANY, [0, 6, 5, 8_500], 272, &[1, 3, 2], false),
     // One job has one sequence; its makespan is the sum of its times, which are the generator's first three numbers.
     ([1, 3, 5], ANY, [0, 4, 9, 8_500], 145, &[1], true),
-    // With no round; and on one machine, where all sequences have one makespan and none is below that of the start.
+    // With no round, the start and its makespan, by the recurrence; and on one machine, where all sequences have one
+    // makespan, the sum of the times, and none is below that of the start.
     ([6, 4, 8], DOWN, [0, 0, 3, 8_500], 413, DOWN, false),
     ([6, 1, 8], DOWN, [0, 9, 3, 8_500], 180, DOWN, true),
 ];
@@ -276,8 +275,7 @@ fn beam_and_rounds_improve_the_start(rt: HostRuntime) -> Result<(), Fail> {
     Ok(())
 }
 
-/// Jobs, machines and seed of an instance; the makespan of its starting sequence, and its bound. Worked out apart from
-/// the program.
+/// Jobs, machines and seed of an instance; the makespan of its starting sequence, and its bound.
 static STARTS: [([u32; 3], u64, u64); 5] = [
     ([20, 5, 379_008_056], 1365, 1290),
     ([15, 8, 7], 1247, 1151),

@@ -8,7 +8,6 @@ use flow_search::{
 use flow_shop::Instance;
 use std::alloc::Global;
 use std::sync::Wait;
-use std::test::Fail;
 use std::thread::Threads;
 
 /// A budget that no tree exceeds.
@@ -96,8 +95,8 @@ fn is_worked(verdict: &Verdict, trees: &[&[u8]]) -> bool {
 }
 
 /// Whether that came of a run by `solve` or by `solve_limited`.
-fn came(solved: Result<Report, SolveFault>, run: &Run) -> bool {
-    match (&solved, run.wanted) {
+fn came(solved: &Result<Report, SolveFault>, run: &Run) -> bool {
+    match (solved, run.wanted) {
         (Ok(report), Wanted::Worked(trees)) => {
             is_worked(&report.verdict, trees) && report.lanes.len() == run.workers as usize
         }
@@ -111,9 +110,12 @@ fn came(solved: Result<Report, SolveFault>, run: &Run) -> bool {
 
 /// Whether one thread finds the verdict of a run.
 fn is_plain(alloc: Global, plan: &Plan, run: &Run) -> bool {
-    match (solve_plain(alloc, plan), run.wanted) {
-        (Ok(verdict), Wanted::Worked(trees)) => is_worked(&verdict, trees),
-        _ => false,
+    let Wanted::Worked(trees) = run.wanted else {
+        return false;
+    };
+    match solve_plain(alloc, plan) {
+        Ok(verdict) => is_worked(&verdict, trees),
+        Err(_) => false,
     }
 }
 
@@ -124,18 +126,22 @@ fn is_below<R: Threads + Wait + Sync>(
     plan: &Plan,
     number: u64,
     run: &Run,
-) -> Result<bool, SolveFault> {
-    let target = Target::new(plan, number);
-    let report = solve_below(rt, alloc, &target, &Open)?;
-    let plain = solve_plain_below(alloc, &target)?;
+) -> bool {
     let Wanted::Bound(bound) = run.wanted else {
-        return Ok(false);
+        return false;
     };
-    Ok(
-        report.finding == plain
-            && matches!(plain, Finding::Bound { .. }) == bound
-            && report.lanes.len() == run.workers as usize,
-    )
+    let target = Target::new(plan, number);
+    let Ok(report) = solve_below(rt, alloc, &target, &Open) else {
+        return false;
+    };
+    match solve_plain_below(alloc, &target) {
+        Ok(plain) => {
+            report.finding == plain
+                && matches!(plain, Finding::Bound { .. }) == bound
+                && report.lanes.len() == run.workers as usize
+        }
+        Err(_) => false,
+    }
 }
 
 /// A plan with the workers, the depth and the budget of these options.
@@ -143,42 +149,62 @@ pub(crate) fn planned<'a>(
     alloc: Global,
     instance: &'a Instance,
     options: (u32, u32, u32),
-) -> Result<Plan<'a>, Fail> {
+) -> Option<Plan<'a>> {
     let (workers, depth, budget) = options;
-    let options = Options::new(workers, depth, budget)?;
-    Ok(prepare(alloc, instance, options)?)
+    match Options::new(workers, depth, budget) {
+        Ok(options) => prepare(alloc, instance, options).ok(),
+        Err(_) => None,
+    }
+}
+
+/// Whether a run of a plan comes to what it should.
+fn comes_right<R: Threads + Wait + Sync, G: Gate + Sync>(
+    rt: &R,
+    alloc: Global,
+    plan: &Plan,
+    run: &Run,
+    gate: &G,
+) -> bool {
+    match run.how {
+        How::Solve => came(&solve(rt, alloc, plan, gate), run),
+        How::Limited(starts) => came(&solve_limited(rt, alloc, plan, gate, starts), run),
+        How::Plain => is_plain(alloc, plan, run),
+        How::Below(number) => is_below(rt, alloc, plan, number, run),
+    }
 }
 
 /// Whether a run comes to what it should.
 fn is_right<R: Threads + Wait + Sync, G: Gate + Sync>(
     rt: &R,
     alloc: Global,
-    run: Run,
+    run: &Run,
     gate: &G,
-) -> Result<bool, Fail> {
+) -> bool {
     let (jobs, machines, times) = run.shop;
-    let instance = Instance::new(alloc, jobs, machines, times)?;
-    let plan = planned(alloc, &instance, (run.workers, run.depth, run.budget))?;
-    match run.how {
-        How::Solve => Ok(came(solve(rt, alloc, &plan, gate), &run)),
-        How::Limited(starts) => Ok(came(solve_limited(rt, alloc, &plan, gate, starts), &run)),
-        How::Plain => Ok(is_plain(alloc, &plan, &run)),
-        How::Below(number) => Ok(is_below(rt, alloc, &plan, number, &run)?),
+    let Ok(instance) = Instance::new(alloc, jobs, machines, times) else {
+        return false;
+    };
+    match planned(alloc, &instance, (run.workers, run.depth, run.budget)) {
+        Some(plan) => comes_right(rt, alloc, &plan, run, gate),
+        None => false,
     }
 }
 
+/// Whether so many workers, and one thread, come to the verdict of the three machines.
+fn succeed<R: Threads + Wait + Sync>(rt: &R, alloc: Global, workers: u32) -> bool {
+    let run = Run { workers, ..RUN };
+    let plain = Run {
+        how: How::Plain,
+        ..run
+    };
+    is_right(rt, alloc, &run, &Open) && is_right(rt, alloc, &plain, &Open)
+}
+
 #[test]
-fn solve_and_serve_succeed(rt: HostRuntime) -> Result<(), Fail> {
+fn solve_and_serve_succeed(rt: HostRuntime) {
     for workers in 1..65u32 {
-        let run = Run { workers, ..RUN };
-        let plain = Run {
-            how: How::Plain,
-            ..run
-        };
-        assert!(rt; is_right(&rt, rt.alloc(), run, &Open)?);
-        assert!(rt; is_right(&rt, rt.alloc(), plain, &Open)?);
+        assert!(rt; succeed(&rt, rt.alloc(), workers), "{workers} workers");
     }
-    Ok(())
 }
 
 /// A run of ten jobs of no time with two workers.
@@ -191,28 +217,47 @@ const ALL_PREFIXES: Run = Run {
 };
 
 #[test]
-fn hub_is_unparked_at_each_prefix(rt: HostRuntime) -> Result<(), Fail> {
+fn hub_is_unparked_at_each_prefix(rt: HostRuntime) {
+    let run = ALL_PREFIXES;
     for _ in 0..20u32 {
-        assert!(rt; is_right(&rt, rt.alloc(), ALL_PREFIXES, &Open)?);
+        assert!(rt; is_right(&rt, rt.alloc(), &run, &Open));
     }
-    Ok(())
+}
+
+/// How many workers there are, the budget, and what is to come.
+type Budgeted = (u32, u32, Wanted);
+
+/// The budget is exceeded by prefix 2.
+const OVER: Wanted = Wanted::Fault(SolveFault::OverBudget(2));
+
+static BUDGETS: [Budgeted; 8] = [
+    (1, 3, OVER),
+    (1, 4, WORKED),
+    (2, 3, OVER),
+    (2, 4, WORKED),
+    (3, 3, OVER),
+    (3, 4, WORKED),
+    (64, 3, OVER),
+    (64, 4, WORKED),
+];
+
+/// Whether a run within a budget comes to what it should.
+fn is_budgeted<R: Threads + Wait + Sync>(rt: &R, alloc: Global, row: &Budgeted) -> bool {
+    let (workers, budget, wanted) = *row;
+    let run = Run {
+        workers,
+        budget,
+        wanted,
+        ..RUN
+    };
+    is_right(rt, alloc, &run, &Open)
 }
 
 #[test]
-fn budget_is_exceeded_by_the_same_prefix(rt: HostRuntime) -> Result<(), Fail> {
-    let over = Wanted::Fault(SolveFault::OverBudget(2));
-    for workers in [1, 2, 3, 64] {
-        for (budget, wanted) in [(3, over), (4, WORKED)] {
-            let run = Run {
-                workers,
-                budget,
-                wanted,
-                ..RUN
-            };
-            assert!(rt; is_right(&rt, rt.alloc(), run, &Open)?);
-        }
+fn budget_is_exceeded_by_the_same_prefix(rt: HostRuntime) {
+    for (number, row) in BUDGETS.iter().enumerate() {
+        assert!(rt; is_budgeted(&rt, rt.alloc(), row), "row {number}");
     }
-    Ok(())
 }
 
 /// For how many turns a worker is held so that the hub parks.
@@ -249,16 +294,19 @@ static HELD: [Held; 3] = [
     ),
 ];
 
+/// Whether a run comes to what it should where its workers are held, none of them gives up, and its prefixes are
+/// reached.
+fn is_held<R: Threads + Wait + Sync>(rt: &R, alloc: Global, row: &Held) -> bool {
+    let gate = Holding::new(row.1);
+    is_right(rt, alloc, &row.0, &gate) && gate.has_reached(row.2) && !gate.is_late()
+}
+
 /// Workers run side by side, and the hub is unparked before the gate is told.
 #[test]
-fn solve_runs_workers_side_by_side(rt: HostRuntime) -> Result<(), Fail> {
-    for (run, holds, bits) in &HELD {
-        let gate = Holding::new(*holds);
-        assert!(rt; is_right(&rt, rt.alloc(), *run, &gate)?);
-        assert!(rt; gate.has_reached(*bits));
-        assert!(rt; !gate.is_late());
+fn solve_runs_workers_side_by_side(rt: HostRuntime) {
+    for (number, row) in HELD.iter().enumerate() {
+        assert!(rt; is_held(&rt, rt.alloc(), row), "row {number}");
     }
-    Ok(())
 }
 
 /// Runs whose calls of the gate are noted, and how many prefixes they have.
@@ -295,79 +343,119 @@ fn are_told(calls: &Calls, prefixes: u32, workers: u32) -> bool {
     calls.count() == prefixes as usize
 }
 
-#[test]
-fn gate_is_told_once_of_each_prefix(rt: HostRuntime) -> Result<(), Fail> {
-    for (run, prefixes) in &TOLD {
-        let calls = Calls::new(rt.alloc(), *prefixes)?;
-        assert!(rt; is_right(&rt, rt.alloc(), *run, &calls)?);
-        assert!(rt; are_told(&calls, *prefixes, run.workers));
+/// Whether a run comes to what it should, and each of its prefixes was told once.
+fn is_told<R: Threads + Wait + Sync>(rt: &R, alloc: Global, row: &(Run, u32)) -> bool {
+    match Calls::new(alloc, row.1) {
+        Ok(calls) => {
+            is_right(rt, alloc, &row.0, &calls) && are_told(&calls, row.1, row.0.workers)
+        }
+        Err(_) => false,
     }
-    Ok(())
 }
 
-/// Until the hub takes an answer, a worker was sent nine prefixes at most: four answers stand in its lane, it holds a
-/// fifth, and four tasks stand in its other lane.
 #[test]
-fn run_over_its_budget_ends_soon(rt: HostRuntime) -> Result<(), Fail> {
+fn gate_is_told_once_of_each_prefix(rt: HostRuntime) {
+    for (number, row) in TOLD.iter().enumerate() {
+        assert!(rt; is_told(&rt, rt.alloc(), row), "row {number}");
+    }
+}
+
+/// How often the gate is told in a run; none where the run does not come to what it should.
+fn told<R: Threads + Wait + Sync>(rt: &R, alloc: Global, run: &Run) -> Option<usize> {
+    match Calls::new(alloc, 0) {
+        Ok(calls) => {
+            if is_right(rt, alloc, run, &calls) {
+                Some(calls.count())
+            } else {
+                None
+            }
+        }
+        Err(_) => None,
+    }
+}
+
+/// Whether a run over its budget ends soon. Until the hub takes an answer, a worker was sent nine prefixes at most:
+/// four answers stand in its lane, it holds a fifth, and four tasks stand in its other lane.
+fn ends_soon<R: Threads + Wait + Sync>(rt: &R, alloc: Global, workers: u32) -> bool {
+    let run = Run {
+        shop: ONE_LONG_JOB,
+        workers,
+        depth: 2,
+        budget: 1,
+        wanted: Wanted::Fault(SolveFault::OverBudget(0)),
+        ..RUN
+    };
+    match told(rt, alloc, &run) {
+        Some(count) => count as u64 <= 9 * u64::from(workers),
+        None => false,
+    }
+}
+
+#[test]
+fn run_over_its_budget_ends_soon(rt: HostRuntime) {
     for workers in 1..5u32 {
-        let run = Run {
-            shop: ONE_LONG_JOB,
-            workers,
-            depth: 2,
-            budget: 1,
-            wanted: Wanted::Fault(SolveFault::OverBudget(0)),
-            ..RUN
-        };
-        let calls = Calls::new(rt.alloc(), 0)?;
-        assert!(rt; is_right(&rt, rt.alloc(), run, &calls)?);
-        assert!(rt; calls.count() <= 9 * workers as usize);
+        assert!(rt; ends_soon(&rt, rt.alloc(), workers), "{workers} workers");
     }
-    Ok(())
 }
 
-/// Runs with three workers of which some may start, and how often the gate is told.
-static LIMITED: [(u32, Wanted, usize); 4] = [
+/// How many of three workers may start, what is to come of it, and how often the gate is told.
+type Limited = (u32, Wanted, usize);
+
+static LIMITED: [Limited; 4] = [
     (0, Wanted::Fault(SolveFault::Threads), 0),
     (1, Wanted::Fault(SolveFault::Threads), 0),
     (2, Wanted::Fault(SolveFault::Threads), 0),
     (3, WORKED, 3),
 ];
 
-#[test]
-fn no_prefix_is_reached_where_a_start_fails(rt: HostRuntime) -> Result<(), Fail> {
-    for (starts, wanted, told) in &LIMITED {
-        let run = Run {
-            workers: 3,
-            how: How::Limited(*starts),
-            wanted: *wanted,
-            ..RUN
-        };
-        let calls = Calls::new(rt.alloc(), 0)?;
-        assert!(rt;
-            is_right(&rt, rt.alloc(), run, &calls)?,
-            "after {starts} starts"
-        );
-        assert!(rt; calls.count() == *told, "after {starts} starts");
-    }
-    Ok(())
+/// Whether a run with so many workers comes to what it should.
+fn is_limited<R: Threads + Wait + Sync>(rt: &R, alloc: Global, row: &Limited) -> bool {
+    let (starts, wanted, count) = *row;
+    let run = Run {
+        workers: 3,
+        how: How::Limited(starts),
+        wanted,
+        ..RUN
+    };
+    told(rt, alloc, &run) == Some(count)
 }
 
-/// The starting sequence has the makespan 13, and no sequence is below 12.
 #[test]
-fn workers_find_below_a_target_what_one_thread_finds(rt: HostRuntime) -> Result<(), Fail> {
-    for (workers, depth) in [(1, 0), (2, 0), (4, 0), (1, 1), (2, 1), (4, 1)] {
+fn no_prefix_is_reached_where_a_start_fails(rt: HostRuntime) {
+    for (number, row) in LIMITED.iter().enumerate() {
+        assert!(rt; is_limited(&rt, rt.alloc(), row), "row {number}");
+    }
+}
+
+/// Workers and depths.
+static SEARCHES: [(u32, u32); 6] = [(1, 0), (2, 0), (4, 0), (1, 1), (2, 1), (4, 1)];
+
+/// Whether workers find at a depth below a number what they should: the starting sequence has the makespan 13, and no
+/// sequence is below 12.
+fn find_below<R: Threads + Wait + Sync>(
+    rt: &R,
+    alloc: Global,
+    row: &(u32, u32),
+    number: u64,
+) -> bool {
+    let (workers, depth) = *row;
+    let run = Run {
+        workers,
+        depth,
+        how: How::Below(number),
+        wanted: Wanted::Bound(number <= 12),
+        ..RUN
+    };
+    is_right(rt, alloc, &run, &Open)
+}
+
+#[test]
+fn workers_find_below_a_target_what_one_thread_finds(rt: HostRuntime) {
+    for row in &SEARCHES {
         for number in 10..15u64 {
-            let run = Run {
-                workers,
-                depth,
-                how: How::Below(number),
-                wanted: Wanted::Bound(number <= 12),
-                ..RUN
-            };
-            assert!(rt; is_right(&rt, rt.alloc(), run, &Open)?, "below {number}");
+            assert!(rt; find_below(&rt, rt.alloc(), row, number), "below {number}");
         }
     }
-    Ok(())
 }
 
 /// The faults of a run, and how they are printed.
@@ -377,10 +465,17 @@ static FAULTS: [(SolveFault, &str); 3] = [
     (SolveFault::OverBudget(2), "OverBudget 2"),
 ];
 
-#[test]
-fn faults_are_printed_by_their_names(rt: HostRuntime) -> Result<(), Fail> {
-    for (fault, name) in &FAULTS {
-        assert_eq!(rt; format!(in rt.alloc(); "{}", fault)?.as_str(), *name);
+/// Whether a fault is printed so.
+fn is_printed(alloc: Global, row: &(SolveFault, &str)) -> bool {
+    match format!(in alloc; "{}", row.0) {
+        Ok(text) => text.as_str() == row.1,
+        Err(_) => false,
     }
-    Ok(())
+}
+
+#[test]
+fn faults_are_printed_by_their_names(rt: HostRuntime) {
+    for (number, row) in FAULTS.iter().enumerate() {
+        assert!(rt; is_printed(rt.alloc(), row), "row {number}");
+    }
 }

@@ -3,8 +3,8 @@
 use super::texts::{
     BOUNDS_OF_10, BOUNDS_OF_11, BOUNDS_OF_12, DEPTH_0, DEPTH_1, DEPTH_2, DEPTH_3, FOUR_MACHINES,
     FROM_BEST, FROM_LAST, FROM_START, GENERATED, NEH, OF_FOUR_MACHINES, OF_ONE_LONG_JOB,
-    OF_ONE_LONGER_JOB, ONE_JOB, ONE_LONG_JOB, ONE_LONGER_JOB, THREE_MACHINES, TWO_MACHINES,
-    VERSION_2,
+    OF_ONE_LONGER_JOB, ONE_JOB, ONE_LONG_JOB, ONE_LONGER_JOB, THREE_MACHINES, TWO_ENDED_10,
+    TWO_ENDED_11, TWO_ENDED_12, TWO_MACHINES, VERSION_2,
 };
 use super::{AMPLE, ROOM, Wanted, all_of, comes_to, fills, is_read, start_of};
 use flow_check::CheckFault;
@@ -33,7 +33,7 @@ const NOT_ATTAINED: Wanted = Err(CommandFault::Certificate(CheckFault::NotAttain
 const WEAK: &[u8] = b"flowshop certificate 1\n3 3 1\n12\n3 1 2\nB\nC\n++.A\nend\n";
 
 /// A text and a certificate; and what is printed where certificates of the text alone are accepted, or the fault.
-static ALONE: [(&[u8], &[u8], Wanted); 14] = [
+static ALONE: [(&[u8], &[u8], Wanted); 16] = [
     (THREE_MACHINES, FROM_START, OPTIMAL),
     (THREE_MACHINES, FROM_LAST, OPTIMAL),
     (THREE_MACHINES, FROM_BEST, OPTIMAL),
@@ -58,6 +58,8 @@ static ALONE: [(&[u8], &[u8], Wanted); 14] = [
     (THREE_MACHINES, BOUNDS_OF_12, HEADER),
     (THREE_MACHINES, BOUNDS_OF_11, HEADER),
     (THREE_MACHINES, BOUNDS_OF_10, HEADER),
+    (THREE_MACHINES, TWO_ENDED_12, HEADER),
+    (THREE_MACHINES, TWO_ENDED_11, HEADER),
     (FOUR_MACHINES, OF_FOUR_MACHINES, NOT_ATTAINED),
     (b"", DEPTH_0, Err(CommandFault::Text(TextFault::NoBlock))),
 ];
@@ -107,15 +109,19 @@ const OF_MIRROR: &[u8] = b"flowshop certificate 1\n3 3 0\n12\n2 1 3\n+BC+AB\nend
 /// the instance itself the makespan of 3 1 2 is 12.
 const BOUNDS_OF_MIRROR: &[u8] = b"flowshop bounds 1\n3 3 0\n10 13\n3 1 2\nB\nend\n";
 
+/// A two-ended certificate of the mirrored instance of three machines. What is put at the back there is put at the front
+/// in the instance itself.
+const TWO_ENDED_OF_MIRROR: &[u8] = b"flowshop two-ended 1\n3 3\n12 12\n2 1 3\n--\nend\n";
+
 /// Two jobs, each with one time on both machines: the mirrored instance is the same, and both sequences have
 /// makespan 5. So each certificate is one of the instance and one of the mirrored instance.
 const OWN_MIRROR: &[u8] = b"a\n2 2 0 0 0\nb\n1 2\n1 2\n";
 
-/// A text, a certificate or a text of bounds, whether the mirrored instance is accepted too, and whether the sequence
+/// A text, a certificate of either form or a text of bounds, whether the mirrored instance is accepted too, and whether the sequence
 /// is asked for; and what is printed, or the fault.
 type Row = (&'static [u8], &'static [u8], &'static [bool], bool, Wanted);
 
-static ASKED: [Row; 31] = [
+static ASKED: [Row; 45] = [
     (THREE_MACHINES, DEPTH_0, BOTH, true, BEST_LINES),
     (THREE_MACHINES, DEPTH_1, BOTH, true, BEST_LINES),
     (THREE_MACHINES, DEPTH_2, BOTH, true, BEST_LINES),
@@ -217,6 +223,74 @@ static ASKED: [Row; 31] = [
         false,
         Err(CommandFault::Certificate(CheckFault::Weak(5))),
     ),
+    (THREE_MACHINES, TWO_ENDED_12, BOTH, false, OPTIMAL),
+    (
+        THREE_MACHINES,
+        TWO_ENDED_11,
+        BOTH,
+        false,
+        Ok(b"bounds 11 13\n"),
+    ),
+    (
+        THREE_MACHINES,
+        TWO_ENDED_10,
+        BOTH,
+        false,
+        Ok(b"bounds 10 13\n"),
+    ),
+    (THREE_MACHINES, TWO_ENDED_12, BOTH, true, BEST_LINES),
+    (THREE_MACHINES, TWO_ENDED_11, BOTH, true, NEH_LINES),
+    (THREE_MACHINES, TWO_ENDED_OF_MIRROR, &[true], false, OPTIMAL),
+    (
+        THREE_MACHINES,
+        TWO_ENDED_OF_MIRROR,
+        &[true],
+        true,
+        BEST_LINES,
+    ),
+    (
+        THREE_MACHINES,
+        TWO_ENDED_OF_MIRROR,
+        &[false],
+        false,
+        NOT_ATTAINED,
+    ),
+    (
+        THREE_MACHINES,
+        b"flowshop two-ended 1\n3 3\n12 12\n3 1 2\n+\nend\n",
+        BOTH,
+        false,
+        Err(CommandFault::Certificate(CheckFault::Tree(5))),
+    ),
+    (
+        THREE_MACHINES,
+        b"flowshop two-ended 1\n3 3\n13 13\n2 1 3\n+++\nend\n",
+        BOTH,
+        false,
+        Err(CommandFault::Certificate(CheckFault::Low(5))),
+    ),
+    (
+        THREE_MACHINES,
+        b"flowshop two-ended 1\n3 2\n12 12\n3 1 2\n++\nend\n",
+        BOTH,
+        false,
+        SIZE,
+    ),
+    (
+        THREE_MACHINES,
+        b"flowshop two-ended 1\n3 3\n12\n3 1 2\n++\nend\n",
+        BOTH,
+        false,
+        VALUE,
+    ),
+    (
+        THREE_MACHINES,
+        b"flowshop two-ended 2\n3 3\n12 12\n3 1 2\n++\nend\n",
+        BOTH,
+        false,
+        HEADER,
+    ),
+    (THREE_MACHINES, b"flowshop two-ended 1", BOTH, false, HEADER),
     // A first line of no known version is that of no text of bounds, so the text is read as a certificate.
     (
         THREE_MACHINES,
@@ -270,14 +344,14 @@ static ASKED: [Row; 31] = [
     ),
 ];
 
-/// Whether `check`, where texts of the mirrored instance are accepted too or not, comes to what a row says.
-fn answers(alloc: Global, row: &Row, either: bool) -> bool {
-    let (text, certificate, _, sequence, wanted) = *row;
-    let request = CheckRequest {
-        either,
-        bounds: true,
-        sequence,
-    };
+/// Whether `check` of a text, and of a certificate of either form or a text of bounds, comes to this.
+fn answers(
+    alloc: Global,
+    text: &[u8],
+    certificate: &[u8],
+    request: CheckRequest,
+    wanted: Wanted,
+) -> bool {
     let mut out = MemorySink::new(alloc, ROOM);
     let mut cert = MemorySource::new(certificate, 9, None);
     let ran = run_check_as(alloc, &mut all_of(text), 1, &mut cert, request, &mut out);
@@ -287,8 +361,90 @@ fn answers(alloc: Global, row: &Row, either: bool) -> bool {
 #[test]
 fn check_prints_what_is_asked_for(rt: HostRuntime) {
     for (number, row) in ASKED.iter().enumerate() {
-        for either in row.2 {
-            assert!(rt; answers(rt.alloc(), row, *either), "row {number}");
+        let (text, certificate, eithers, sequence, wanted) = *row;
+        for either in eithers {
+            let request = CheckRequest {
+                either: *either,
+                bounds: true,
+                sequence,
+                optimal: false,
+            };
+            assert!(rt;
+                answers(rt.alloc(), text, certificate, request, wanted),
+                "row {number}"
+            );
+        }
+    }
+}
+
+/// Bounds of three machines that differ.
+const DIFFER: Wanted = Err(CommandFault::Bounds {
+    lower: 12,
+    upper: 13,
+});
+
+/// Texts of three machines, or of the mirrored instance; and what is printed, without the sequence and with it, where a
+/// least makespan has to be proved.
+static PROVED: [(&[u8], Wanted, Wanted); 10] = [
+    (DEPTH_0, OPTIMAL, BEST_LINES),
+    (OF_MIRROR, OPTIMAL, BEST_LINES),
+    (TWO_ENDED_12, OPTIMAL, BEST_LINES),
+    (TWO_ENDED_OF_MIRROR, OPTIMAL, BEST_LINES),
+    (
+        TWO_ENDED_11,
+        Err(CommandFault::Bounds {
+            lower: 11,
+            upper: 13,
+        }),
+        Err(CommandFault::Bounds {
+            lower: 11,
+            upper: 13,
+        }),
+    ),
+    (
+        b"flowshop two-ended 1\n3 3\n12 13\n2 1 3\n+\nend\n",
+        Err(CommandFault::Certificate(CheckFault::Tree(5))),
+        Err(CommandFault::Certificate(CheckFault::Tree(5))),
+    ),
+    (
+        b"flowshop bounds 1\n3 3 0\n12 12\n3 1 2\n+BC+AB\nend\n",
+        Ok(b"bounds 12 12\n"),
+        BEST_LINES,
+    ),
+    (BOUNDS_OF_12, DIFFER, DIFFER),
+    (
+        BOUNDS_OF_MIRROR,
+        Err(CommandFault::Bounds {
+            lower: 10,
+            upper: 13,
+        }),
+        Err(CommandFault::Bounds {
+            lower: 10,
+            upper: 13,
+        }),
+    ),
+    (
+        b"flowshop bounds 1\n3 3 0\n12 13\n2 1 3\n+BB+AB\nend\n",
+        Err(CommandFault::Certificate(CheckFault::Weak(5))),
+        Err(CommandFault::Certificate(CheckFault::Weak(5))),
+    ),
+];
+
+#[test]
+fn check_refuses_bounds_where_a_least_makespan_has_to_be_proved(rt: HostRuntime) {
+    for (number, row) in PROVED.iter().enumerate() {
+        let (certificate, line, lines) = *row;
+        for (sequence, wanted) in [(false, line), (true, lines)] {
+            let request = CheckRequest {
+                either: true,
+                bounds: true,
+                sequence,
+                optimal: true,
+            };
+            assert!(rt;
+                answers(rt.alloc(), THREE_MACHINES, certificate, request, wanted),
+                "row {number}"
+            );
         }
     }
 }
@@ -306,6 +462,7 @@ fn check_fills_a_sink_up_to_its_limit(rt: HostRuntime) {
             either: true,
             bounds: true,
             sequence,
+            optimal: false,
         };
         for room in 0..30usize {
             let mut out = MemorySink::new(rt.alloc(), room);
@@ -356,6 +513,7 @@ fn is_accepted<R: Threads + Wait + Sync>(
         either: request.mirrored,
         bounds: true,
         sequence: false,
+        optimal: true,
     };
     let mut file = all_of(text);
     let checked = run_check_as(

@@ -5,7 +5,7 @@ use Rattle.std.proofs.lemmas.Bool.Decides.{eqb_tells}
 use Rattle.std.proofs.lemmas.List.Elements.{All-take}
 use Rattle.flow_core.specs.Sequences.{has, AreDistinct, AreJobs, IsSequence}
 use Rattle.flow_bound.proofs.Places.{before-lacks}
-use Rattle.flow_greatest.proofs.equal_times.spans_with_next.Goals as goal
+use Rattle.flow_examples.proofs.bounds.has_spans.Goals as goal
 
 has-take : (count : ℕ) (jobs : List ℕ) (job : ℕ) → has jobs job ≡ false → has (take count jobs) job ≡ false
 has-take zero jobs job lacks = refl
