@@ -576,7 +576,7 @@ def compare_directions():
         (b"-\n", b"\n", ("TREE", 5)),
         (b"-\n", b"-+\n", ("TREE", 5)),
         (b"11 13\n2 1 3\n-", b"13 12\n3 1 2\n+++", ("LOW", 5)),
-        (b"end", b"end\n", ("END", 0)),
+        (b"\nend", b"\nend\n", ("END", 0)),
     ]:
         equal(f"{old!r} as {new!r}", check_bounds(SHOP, text.replace(old, new, 1)), wanted)
 
