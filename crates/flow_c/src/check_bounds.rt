@@ -18,8 +18,8 @@ use std::alloc::Global;
 /// The bounds that a text proves, between which the least makespan lies, and a sequence that has the upper one. Where
 /// both are one number, it is the least makespan. The text is a two-ended certificate, a text of bounds or a
 /// certificate, whose bounds are both its value; the first line tells which. With `either`, a text of the mirrored
-/// instance is accepted too, and `mirrored` says whether it was one. The times are machine by machine. The first entries
-/// of `sequence` become the jobs, in the order of the instance.
+/// instance is accepted too, and `mirrored` says whether it was one. The times are machine by machine. The first
+/// entries of `sequence` become the jobs, in the order of the instance.
 #[unsafe(no_mangle)]
 pub extern "C" fn flowshop_check_bounds(
     alloc: Global,

@@ -1,5 +1,5 @@
--- The lines of texts that prove what no sequence is below: of a certificate, which states one number, and of a text of
--- bounds, which states two.
+-- The lines of texts that prove by trees what no sequence is below: of a certificate, which states one number, and of a
+-- text of bounds, which states two.
 use Rattle.std.specs.Prelude.{ℕ, ◌^◌, ◌<◌, ◌≤◌, List, [], ◌∷◌, ◌++◌, map, codes}
 use Rattle.std.specs.Fmt.{decimal}
 use Rattle.std.specs.List.{flat_map, join_with_byte}
@@ -18,7 +18,7 @@ line text = text ++ line_feed ∷ []
 abbrev pub spaced : List ℕ → List ℕ
 spaced ns = join_with_byte space (map decimal ns)
 
--- the versions of both kinds of text
+-- the versions of both kinds of text that are made of trees
 abbrev pub IsVersion : ℕ → Type 0
 IsVersion version = (least_version ≤ version) × (version ≤ greatest_version)
 

@@ -1,4 +1,4 @@
-//! The bounds that a text of bounds proves.
+//! The bounds that a text proves.
 
 /// Between these the least makespan of an instance lies.
 #[derive(Clone, Copy, Debug, PartialEq, Eq)]

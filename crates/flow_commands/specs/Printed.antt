@@ -8,11 +8,11 @@ use Rattle.flow_core.specs.Paths.{span}
 abbrev pub makespan_line : ℕ → List ℕ
 makespan_line value = codes "makespan " ++ decimal value ++ codes "\n"
 
--- the line of a value that a certificate proves least
+-- the line of a value that a text proves least
 abbrev pub optimal_line : ℕ → List ℕ
 optimal_line value = codes "optimal " ++ decimal value ++ codes "\n"
 
--- the line of the bounds that a text of bounds proves
+-- the line of the bounds that a text proves
 abbrev pub bounds_line : ℕ → ℕ → List ℕ
 bounds_line lower upper = codes "bounds " ++ decimal lower ++ codes " " ++ decimal upper ++ codes "\n"
 

@@ -193,8 +193,8 @@ pub fn run_check<S: Source, C: Source, K: Sink>(
     )
 }
 
-/// Writes what a text proves of the block that an index names, or its sequence and the makespan of that, where a request
-/// says which texts are accepted, what is written, and whether it has to be the least makespan.
+/// Writes what a text proves of the block that an index names, or its sequence and the makespan of that, where a
+/// request says which texts are accepted, what is written, and whether it has to be the least makespan.
 pub fn run_check_as<S: Source, C: Source, K: Sink>(
     alloc: Global,
     file: &mut S,

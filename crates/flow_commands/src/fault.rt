@@ -73,7 +73,7 @@ pub enum CommandFault {
     /// A worker could not be started, or a tree is longer than the budget.
     #[error("refused run {0}")]
     Run(SolveFault),
-    /// The bytes are no lawful certificate of the instance.
+    /// The bytes are no lawful text of their kind, of the instance.
     #[error("refused certificate {0}")]
     Certificate(CheckFault),
     /// The bytes prove bounds that are not one number, and a least makespan was asked for.

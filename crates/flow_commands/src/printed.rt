@@ -13,14 +13,14 @@ pub(crate) fn makespan_line(alloc: Global, value: u64) -> Result<Vec<u8>, AllocE
     value_line(alloc, b"makespan ", value)
 }
 
-/// The line of a value that a certificate proves least.
+/// The line of a value that a text proves least.
 pub(crate) fn optimal_line(alloc: Global, value: u64) -> Result<Vec<u8>, AllocError>
     ensures { IfOk result (λ line. line.items ≡ optimal_line value) }
 {
     value_line(alloc, b"optimal ", value)
 }
 
-/// The line of the bounds that a text of bounds proves.
+/// The line of the bounds that a text proves.
 pub(crate) fn bounds_line(alloc: Global, lower: u64, upper: u64) -> Result<Vec<u8>, AllocError>
     ensures { IfOk result (λ line. line.items ≡ bounds_line lower upper) }
 {

@@ -6,8 +6,8 @@ use flow_core::{Instance, MemorySink};
 use flow_search::{Options, prepare, solve_plain};
 use std::alloc::Global;
 
-/// Whether an instance has so many prefixes at a depth, its certificate there, within a budget of one byte for a tree, is
-/// this text, and the checker accepts it for this makespan. The sink takes no more bytes.
+/// Whether an instance has so many prefixes at a depth, its certificate there, within a budget of one byte for a tree,
+/// is this text, and the checker accepts it for this makespan. The sink takes no more bytes.
 pub(crate) fn is_written(
     alloc: Global,
     instance: &Instance,

@@ -73,13 +73,13 @@ pub enum Order<'a> {
         /// How the block is certified.
         request: CertifyRequest,
     },
-    /// What a certificate or a text of bounds proves, or its sequence.
+    /// What a certificate, two-ended or not, or a text of bounds proves, or its sequence.
     Check {
         /// The name of the text's file.
         file: &'a str,
         /// The block's number in the text.
         index: u32,
-        /// The name of the file of the certificate or of the text of bounds.
+        /// The name of the file of that text.
         cert: &'a str,
         /// Which texts are accepted, and what is printed.
         request: CheckRequest,

@@ -9,7 +9,8 @@ ghost use Rattle.flow_shop.specs.Directions.{Proves, first_with, last_with};
 ghost use Rattle.flow_nodes.specs.Nodes.{IsJob, IsNode};
 ghost use Rattle.flow_check.specs.TwoEndedFaults.{HasDirectionsFault};
 ghost use Rattle.flow_check.specs.internal.Marks.{mark};
-ghost use Rattle.flow_check.specs.internal.Frames.{AreGroups, AreLeft, AreOpen, IsFrame, frame_at, here, above, with_job};
+ghost use Rattle.flow_check.specs.internal.Frames.{AreGroups, AreLeft, AreOpen, IsFrame};
+ghost use Rattle.flow_check.specs.internal.Frames.{frame_at, here, above, with_job};
 ghost use Rattle.flow_check.specs.internal.ReadDirections.{EndsAt, first_end, read_node};
 ghost use Rattle.flow_check.specs.declared.fault.CheckFault.TheVariants.{Memory};
 

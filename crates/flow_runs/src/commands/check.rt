@@ -109,16 +109,16 @@ const OF_MIRROR: &[u8] = b"flowshop certificate 1\n3 3 0\n12\n2 1 3\n+BC+AB\nend
 /// the instance itself the makespan of 3 1 2 is 12.
 const BOUNDS_OF_MIRROR: &[u8] = b"flowshop bounds 1\n3 3 0\n10 13\n3 1 2\nB\nend\n";
 
-/// A two-ended certificate of the mirrored instance of three machines. What is put at the back there is put at the front
-/// in the instance itself.
+/// A two-ended certificate of the mirrored instance of three machines. What is put at the back there is put at the
+/// front in the instance itself.
 const TWO_ENDED_OF_MIRROR: &[u8] = b"flowshop two-ended 1\n3 3\n12 12\n2 1 3\n--\nend\n";
 
 /// Two jobs, each with one time on both machines: the mirrored instance is the same, and both sequences have
 /// makespan 5. So each certificate is one of the instance and one of the mirrored instance.
 const OWN_MIRROR: &[u8] = b"a\n2 2 0 0 0\nb\n1 2\n1 2\n";
 
-/// A text, a certificate of either form or a text of bounds, whether the mirrored instance is accepted too, and whether the sequence
-/// is asked for; and what is printed, or the fault.
+/// A text, a certificate of either form or a text of bounds, whether the mirrored instance is accepted too, and whether
+/// the sequence is asked for; and what is printed, or the fault.
 type Row = (&'static [u8], &'static [u8], &'static [bool], bool, Wanted);
 
 static ASKED: [Row; 45] = [

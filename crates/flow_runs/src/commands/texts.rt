@@ -99,9 +99,9 @@ pub(super) const BOUNDS_OF_11: &[u8] = b"flowshop bounds 1\n3 3 0\n11 13\n2 1 3\
 
 pub(super) const BOUNDS_OF_10: &[u8] = b"flowshop bounds 2\n3 3 0\n10 13\n2 1 3\nB\nend\n";
 
-/// Two-ended certificates of it. The heads of its machines are 0, 0 and 2, their tails 3, 0 and 0, and the bound with no
-/// job put is 10. With 1, 2 and 3 at the back the bounds are 14, 12 and 11, and with them at the front 14, 13 and 10;
-/// with 3 1 and 3 2 at the front they are 12 and 14.
+/// Two-ended certificates of it. The heads of its machines are 0, 0 and 2, their tails 3, 0 and 0, and the bound with
+/// no job put is 10. With 1, 2 and 3 at the back the bounds are 14, 12 and 11, and with them at the front 14, 13 and
+/// 10; with 3 1 and 3 2 at the front they are 12 and 14.
 pub(super) const TWO_ENDED_12: &[u8] = b"flowshop two-ended 1\n3 3\n12 12\n3 1 2\n++\nend\n";
 
 pub(super) const TWO_ENDED_11: &[u8] = b"flowshop two-ended 1\n3 3\n11 13\n2 1 3\n-\nend\n";
