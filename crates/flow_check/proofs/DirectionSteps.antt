@@ -126,7 +126,8 @@ module _ (shop : Shop) (number : ℕ) where
       ap (λ jobs. children_read end left first last jobs text) (left-past shop.jobs (first ++ last) job past)
 
   -- children that are not below the number read nothing
-  pub children-jump : (end : End) (left : ℕ) (first last text : List ℕ) (from count : ℕ) → from + count ≤ shop.jobs + 1 →
+  pub children-jump : (end : End) (left : ℕ) (first last text : List ℕ) (from count : ℕ) →
+      from + count ≤ shop.jobs + 1 →
       ((job : ℕ) → from ≤ job → job < from + count → has (first ++ last) job ≡ false →
       number ≤ child_bound shop end first last job) →
       children_read end left first last (left_from shop.jobs (first ++ last) from) text

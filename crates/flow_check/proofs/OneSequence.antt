@@ -80,7 +80,8 @@ gives-read kind shop bytes lines stated limits (third, known, deep, fit, whole, 
 pub states_one : StatesOne
 states_one kind shop bytes stated other one another limits first second =
     let read : text_value kind shop bytes ≡ Ok stated = (value_is_exact kind shop bytes stated limits).1 (one, first) in
-    let again : text_value kind shop bytes ≡ Ok other = (value_is_exact kind shop bytes other limits).1 (another, second)
+    let again : text_value kind shop bytes ≡ Ok other =
+    (value_is_exact kind shop bytes other limits).1 (another, second)
     in
     let given : fourth bytes ≡ Some one = fourth-given kind shop bytes stated one limits first in
     let given_again : fourth bytes ≡ Some another = fourth-given kind shop bytes other another limits second in

@@ -130,7 +130,8 @@ group-tells list cap width wide shop number limit end first last node group vect
     )
 
 -- one more group
-pub groups-more : {V : Type 0} (list : V → List ℕ) (cap width : ℕ) (shop : Shop) (olds news : List (Vec V)) (x : Vec V) →
+pub groups-more : {V : Type 0} (list : V → List ℕ) (cap width : ℕ) (shop : Shop) (olds news : List (Vec V))
+    (x : Vec V) →
     news ≡ olds ++ x ∷ [] →
     ((group : ℕ) (none : Vec V) → group < length olds →
     IsGroupFrom list cap width shop (group * 16) (slice_index_or olds group none).items) →

@@ -26,7 +26,8 @@ use Rattle.flow_check.specs.internal.Frames.{first_of, last_of, AreFrames, AreLe
 use Rattle.flow_check.specs.internal.Frames.{frame_at, here, above, with_job}
 use Rattle.flow_check.proofs.DirectionSteps.{children_read, children-jump, children-past, children-take, read-low}
 use Rattle.flow_check.proofs.DirectionSteps.{read-sign, read-children}
-use Rattle.flow_check.proofs.FrameSteps.{around, around-push, around-fault, frames-push, frames-pop, first-push, last-push}
+use Rattle.flow_check.proofs.FrameSteps.{around, around-push, around-fault, frames-push, frames-pop}
+use Rattle.flow_check.proofs.FrameSteps.{first-push, last-push}
 
 -- the marks of a child
 
@@ -63,7 +64,8 @@ left-without shop end first last old new job are others same = record {
         let none : mark new k ≡ 0 = ap (mark new) is.1 ∙ same in
         absurd (omega (arith, none, marked))
     | inr is ↦
-        let old : (k ≤ shop.jobs) × (has (first ++ last) k ≡ false) = are.only k low (sym (others k low is.1) ∙ marked) in (
+        let old : (k ≤ shop.jobs) × (has (first ++ last) k ≡ false) =
+        are.only k low (sym (others k low is.1) ∙ marked) in (
           old.0,
           child-has end first last job k ∙ ap (λ b. has (first ++ last) k || b) is.0
               ∙ or-false (has (first ++ last) k) ∙ old.1,
@@ -239,7 +241,8 @@ module _ (shop : Shop) (number : ℕ) (whole : Reading) (text : List ℕ) (place
           (last_with frame.end last job)
           (left_from shop.jobs (first_with frame.end first job ++ last_with frame.end last job) (child.job + 1))
           (drop (place + 1) text))
-          (read-children shop number (left - 1) (first_with frame.end first job) (last_with frame.end last job) text place
+          (read-children shop number (left - 1) (first_with frame.end first job) (last_with frame.end last job) text
+          place
           child.end opened.2 more is
           ∙ ap (λ j. children_read shop number child.end (left - 1) (first_with frame.end first job)
           (last_with frame.end last job)
@@ -334,8 +337,8 @@ stands-child shop number whole text place frames frame child job stands above in
     omega (arith, length-append frames (put ∷ [])) in
     subst (StandsAt shop number whole text (place + 1) (frames ++ put ∷ []) child (first_of [] (frames ++ put ∷ []))
     (last_of [] (frames ++ put ∷ []))) count
-    (subst (λ l. StandsAt shop number whole text (place + 1) (frames ++ put ∷ []) child (first_of [] (frames ++ put ∷ []))
-    l (left - 1)) (sym (last-push [] frames put))
+    (subst (λ l. StandsAt shop number whole text (place + 1) (frames ++ put ∷ []) child
+    (first_of [] (frames ++ put ∷ [])) l (left - 1)) (sym (last-push [] frames put))
     (subst (λ f. StandsAt shop number whole text (place + 1) (frames ++ put ∷ []) child f
     (last_with frame.end last job) (left - 1)) (sym (first-push [] frames put)) at))
 

@@ -103,7 +103,8 @@ module _ (shop : Shop) (first last : List ℕ) (job : ℕ) (node : Node) (is : I
   back-next machine near low high near-is =
       omega (arith, near-is, back-is shop last job machine range.0 range.1 high, is.backs machine low high)
 
-  pub back-greatest-none : greatest (map (back_child_at shop first last job) (numbers (shop.machines + 1) shop.machines)) ≡ 0
+  pub back-greatest-none :
+      greatest (map (back_child_at shop first last job) (numbers (shop.machines + 1) shop.machines)) ≡ 0
   back-greatest-none = greatest-none (back_child_at shop first last job) shop.machines
 
   pub back-greatest : (machine near jobs far : ℕ) → 1 ≤ machine → machine ≤ shop.machines →

@@ -75,7 +75,8 @@ module _ (w : Width) (cap width : ℕ) (xs ys : List ℕ) (lane one two : ℕ) (
       let rest-is : get_or rest lane 0 ≡ min (get_or ys lane 0) (2 ^ bits w - 1 - get_or xs lane 0) =
       lane-chosen w ys room ys room width y.count long y.count long lane x.within
       ∙ lesser (get_or ys lane 0) (get_or room lane 0)
-      ∙ ap (min (get_or ys lane 0)) (get_or-map (λ a. 2 ^ bits w - 1 - a) xs lane 0 0 (omega (arith, x.count, x.within))) in
+      ∙ ap (min (get_or ys lane 0))
+      (get_or-map (λ a. 2 ^ bits w - 1 - a) xs lane 0 0 (omega (arith, x.count, x.within))) in
       let sum : get_or xs lane 0 + get_or rest lane 0 ≡ capped cap (one + two) =
       omega (arith, rest-is, x.value, y.value, top) in
       let fits : get_or xs lane 0 + get_or rest lane 0 < 2 ^ bits w = omega (arith, sum, top) in
@@ -124,8 +125,8 @@ is-below w cap width xs lane value number few small x =
 -- no bit of the mask is set that no lane has
 pub none-above : (w : Width) (width : ℕ) (xs : List ℕ) (lane number : ℕ) → length xs ≡ width → width ≤ 64 →
     width ≤ lane →
-    ¬ IsBitSet (mask_l (map (top (hbits w)) (zip2 (λ a b. cond (ltb a b) (2 ^ bits w - 1) 0) xs (replicate width number)))
-    % 2 ^ 64) lane
+    ¬ IsBitSet (mask_l (map (top (hbits w)) (zip2 (λ a b. cond (ltb a b) (2 ^ bits w - 1) 0) xs
+    (replicate width number))) % 2 ^ 64) lane
 none-above w width xs lane number count few above set =
     let tests = map (λ a. ltb a number) xs in
     let mask = mask_l tests in

@@ -12,9 +12,10 @@ returns-then-number-le-NARROW-clause-fault c =
 
 pub returns-else-number-le-NARROW-clause-proved : goal.returns-else-number-le-NARROW-clause-proved
 returns-else-number-le-NARROW-clause-proved c =
-    root-proved c.args.instance.now c.args.number c.args.text.now c.walk-else-number-le-NARROW.result c.walk-else-number-le-NARROW.ensures.read
-    c.walk-else-number-le-NARROW.ensures.within
+    root-proved c.args.instance.now c.args.number c.args.text.now c.walk-else-number-le-NARROW.result
+    c.walk-else-number-le-NARROW.ensures.read c.walk-else-number-le-NARROW.ensures.within
 
 pub returns-else-number-le-NARROW-clause-fault : goal.returns-else-number-le-NARROW-clause-fault
 returns-else-number-le-NARROW-clause-fault c =
-    root-fault c.args.instance.now c.args.number c.args.text.now c.walk-else-number-le-NARROW.result c.walk-else-number-le-NARROW.ensures.read
+    root-fault c.args.instance.now c.args.number c.args.text.now c.walk-else-number-le-NARROW.result
+    c.walk-else-number-le-NARROW.ensures.read

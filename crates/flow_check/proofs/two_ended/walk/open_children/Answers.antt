@@ -60,9 +60,11 @@ pub returns : goal.returns
 returns g c shop first last groups is left =
     record {
       all = λ job low high fresh below.
-          let within : (job - 1) / 16 < c.loop-group.group = omega (arith, high, c.loop-group-test.false, groups.count) in
+          let within : (job - 1) / 16 < c.loop-group.group =
+          omega (arith, high, c.loop-group-test.false, groups.count) in
           (c.loop-group.invariant.done shop first last groups is left job low within).all high fresh below;
       only = λ job low inside marked.
-          let within : (job - 1) / 16 < c.loop-group.group = omega (arith, inside, c.loop-group-test.false, groups.count) in
+          let within : (job - 1) / 16 < c.loop-group.group =
+          omega (arith, inside, c.loop-group-test.false, groups.count) in
           (c.loop-group.invariant.done shop first last groups is left job low within).only marked;
     }
