@@ -1,4 +1,4 @@
-use Rattle.std.proofs.Common.{subst, sym}
+use Rattle.std.proofs.Common.{subst}
 use Rattle.flow_core.specs.Shop.{Shop}
 use Rattle.flow_check.specs.Certificate.{AreBounds}
 use Rattle.flow_check.specs.Stated.{GivesAs}
