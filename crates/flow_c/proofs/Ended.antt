@@ -1,5 +1,5 @@
 -- Where memory ran out there is no place.
-use Rattle.std.proofs.Common.{◌≡◌, ℕ, refl, arith}
+use Rattle.std.proofs.Common.{◌≡◌, refl, arith}
 use Rattle.flow_shop.specs.declared.instance.InstanceFault.TheVariants as instance
 use Rattle.flow_shop.specs.declared.sequence.SequenceFault.TheVariants as sequence
 use Rattle.flow_search.specs.declared.verdict.RunFault.TheVariants as run

@@ -1,5 +1,5 @@
 -- What the text of a finding is read as, and what it gives; and what a search for a certificate found.
-use Rattle.std.proofs.Common.{◌≡◌, ◌⊎◌, ◌<◌, ◌≤◌, ◌^◌, refl, inl, inr, ℕ, min, Bool, true, false, List, [], ◌∷◌}
+use Rattle.std.proofs.Common.{◌≡◌, ◌⊎◌, ◌<◌, ◌≤◌, ◌^◌, refl, inl, inr, ℕ, min, Bool, true, List, [], ◌∷◌}
 use Rattle.std.proofs.Common.{◌++◌, map, length, Option, unwrap_or, subst, sym, ap, ◌∙◌}
 use Rattle.std.proofs.Common.{arith, append_assoc}
 use Rattle.std.proofs.Math.Nat.{min-le_right}
