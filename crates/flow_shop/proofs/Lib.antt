@@ -16,7 +16,6 @@ pub mod MirrorLemmas
 pub mod Lists
 pub mod LeastFound
 pub mod NodeJobs
-pub mod NodeLists
 pub mod EndBounds
 pub mod EndSteps
 pub mod DirectionsSound

@@ -45,10 +45,6 @@ ProvesFrom shop number first last text =
 abbrev pub Proves : Shop → ℕ → List ℕ → Type 0
 Proves shop number text = ProvesFrom shop number [] [] text
 
--- a number is above the makespan of some sequence
-abbrev pub IsAbove : Shop → ℕ → Type 0
-IsAbove shop number = (sequence : List ℕ) × IsSequence shop.jobs sequence × (span shop sequence < number)
-
 -- no sequence of a node is below a number that directions prove for it
 abbrev pub DirectionsAreSound : Type 0
 DirectionsAreSound =

@@ -203,7 +203,7 @@ static CHECK: [Word; 6] = [
     Word {
         name: "CERT",
         kind: Kind::Word,
-        help: "The file of the certificate or of the text of bounds",
+        help: "The file of the certificate, two-ended or not, or of the text of bounds",
     },
     Word {
         name: "either",
@@ -319,7 +319,8 @@ fn solve_command<'a>(alloc: Global) -> Result<Command<'a>, AllocError> {
 }
 
 fn check_command<'a>(alloc: Global) -> Result<Command<'a>, AllocError> {
-    let about = "Checks a certificate or a text of bounds, and prints what it proves";
+    let about =
+        "Checks a certificate, two-ended or not, or a text of bounds, and prints what it proves";
     let example = "Example: ./flowshop check examples/three_machines.txt 1 certificate --either";
     command_of(alloc, "check", about, example, &CHECK)
 }
