@@ -1,0 +1,6 @@
+//! The search for directions that prove a lower bound on the makespans of a node's sequences.
+#![tactic(auto)]
+
+mod laws;
+
+pub use laws::{directions_by_children, directions_prove, search_reaches_what_is_below};
