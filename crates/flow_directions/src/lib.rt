@@ -2,5 +2,7 @@
 #![tactic(auto)]
 
 mod laws;
+mod lists;
+mod words;
 
 pub use laws::{directions_by_children, directions_prove, search_reaches_what_is_below};
