@@ -1,8 +1,11 @@
 //! The search for directions that prove a lower bound on the makespans of a node's sequences.
 #![tactic(auto)]
 
+mod branch;
 mod laws;
 mod lists;
+mod open;
+mod pack;
 mod words;
 
 pub use laws::{directions_by_children, directions_prove, search_reaches_what_is_below};

@@ -1,0 +1,44 @@
+-- Packs: jobs side by side, sixteen to a group, with their names.
+use Rattle.std.specs.Prelude.{ℕ, ◌≡◌, ◌*◌, ◌<◌, ◌≤◌, List, ◌++◌, length, take, drop, slice_index, slice_index_or, true, false}
+use Rattle.std.specs.Prelude.{filter, nat_lt}
+use Rattle.std.specs.Global.{Vec}
+use Rattle.flow_shop.specs.Shop.{Shop}
+use Rattle.flow_shop.specs.Sequences.{jobs_left}
+use Rattle.flow_shop.specs.declared.end.End.{End}
+use Rattle.flow_nodes.specs.Nodes.{IsJob, IsNode}
+use Rattle.flow_nodes.specs.Groups.{IsGroup, child_bound}
+use Rattle.flow_directions.specs.internal.Words.{chosen}
+use Rattle.flow_directions.specs.declared.words.Words.{Words}
+use Rattle.flow_directions.specs.declared.pack.Pack.{Pack}
+use Rattle.flow_directions.specs.declared.branch.Branch.{Branch}
+
+-- memory for some groups, whose names are jobs
+pub record HasRoom {V : Type 0} (shop : Shop) (pack : Pack V) : Type 0 where
+  pub few : length pack.groups.items ≤ 50
+  pub names : length pack.names.items ≡ length pack.groups.items * 16
+  pub jobs : (place : ℕ) → place < length pack.names.items → IsJob shop (slice_index pack.names.items place)
+  pub machines : (group : ℕ) (none : Vec V) → group < length pack.groups.items →
+      length (slice_index_or pack.groups.items group none).items ≡ shop.machines
+
+-- groups that have the times of the jobs named
+pub record IsPack {V : Type 0} (list : V → List ℕ) (cap width : ℕ) (shop : Shop) (pack : Pack V) : Type 0 where
+  pub room : HasRoom shop pack
+  pub each : (group : ℕ) (none : Vec V) → group < length pack.groups.items →
+      IsGroup list cap width shop (take 16 (drop (group * 16) pack.names.items))
+      (slice_index_or pack.groups.items group none).items
+
+-- the jobs that a pack has at marked places, in order
+abbrev pub jobs_at : {V : Type 0} → Pack V → Words → List ℕ
+jobs_at pack marks = chosen marks.words pack.names.items
+
+-- what is kept of a node, whose jobs left are those that a pack has at the marked places
+pub record IsBranch {V : Type 0} (list : V → List ℕ) (cap width : ℕ) (shop : Shop) (first last : List ℕ)
+    (pack : Pack V) (branch : Branch) : Type 0 where
+  pub is_node : IsNode shop first last branch.node
+  pub is_pack : IsPack list cap width shop pack
+  pub left : jobs_at pack branch.left ≡ jobs_left shop.jobs (first ++ last)
+
+-- the jobs left whose children at an end are below a number
+abbrev pub jobs_below : Shop → ℕ → End → List ℕ → List ℕ → List ℕ
+jobs_below shop number end first last =
+    filter (λ job. nat_lt (child_bound shop end first last job) number) (jobs_left shop.jobs (first ++ last))
