@@ -1,7 +1,16 @@
 //! What is kept of a node.
 
+ghost use Rattle.std.specs.Prelude.{◌≡◌, ℕ, ◌<◌, false, List, ◌++◌, length, slice_index};
+ghost use Rattle.flow_limits.specs.Limits.{most_jobs};
+ghost use Rattle.flow_shop.specs.Sequences.{has};
+ghost use Rattle.flow_shop.specs.Directions.{first_with, last_with};
+ghost use Rattle.flow_nodes.specs.Nodes.{IsJob, IsNode};
+ghost use Rattle.flow_directions.specs.internal.Words.{mark};
+ghost use Rattle.flow_directions.specs.internal.Packs.{HasLeft};
+
 use crate::words::Words;
 use flow_nodes::Node;
+use flow_shop::{End, Instance};
 
 /// What is kept of a node.
 #[derive(Clone, Copy)]
@@ -10,4 +19,26 @@ pub(crate) struct Branch {
     pub(crate) node: Node,
     /// The jobs left: marks of their places in a pack.
     pub(crate) left: Words,
+}
+
+impl Branch {
+    /// What is kept of the child that puts the job of a marked place at an end.
+    #[inline(always)]
+    pub(crate) fn child(&self, instance: &Instance, end: End, place: usize, job: u16) -> Branch
+        requires place { place < most_jobs }
+        requires job { IsJob instance.now job }
+        requires left { (first : List ℕ) × (last : List ℕ) × IsNode instance.now first last self.now.node
+            × (has (first ++ last) job ≡ false) }
+        ensures node { (first last : List ℕ) → IsNode instance.now first last self.now.node →
+            has (first ++ last) job ≡ false →
+            IsNode instance.now (first_with end first job) (last_with end last job) result.node }
+        ensures left { (first last names : List ℕ) → HasLeft instance.now first last names self.now.left →
+            place < length names → slice_index names place ≡ job → mark self.now.left.words place ≡ 1 →
+            HasLeft instance.now (first_with end first job) (last_with end last job) names result.left }
+    {
+        let mut child = *self;
+        child.node.put(instance, end, job);
+        child.left.clear(place);
+        child
+    }
 }

@@ -6,6 +6,7 @@ mod laws;
 mod lists;
 mod open;
 mod pack;
+mod walk;
 mod words;
 
 pub use laws::{directions_by_children, directions_prove, search_reaches_what_is_below};

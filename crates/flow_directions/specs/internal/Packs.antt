@@ -31,12 +31,16 @@ pub record IsPack {V : Type 0} (list : V → List ℕ) (cap width : ℕ) (shop :
 abbrev pub jobs_at : {V : Type 0} → Pack V → Words → List ℕ
 jobs_at pack marks = chosen marks.words pack.names.items
 
+-- the jobs left at a node are those of some names that are marked
+abbrev pub HasLeft : Shop → List ℕ → List ℕ → List ℕ → Words → Type 0
+HasLeft shop first last names marks = chosen marks.words names ≡ jobs_left shop.jobs (first ++ last)
+
 -- what is kept of a node, whose jobs left are those that a pack has at the marked places
 pub record IsBranch {V : Type 0} (list : V → List ℕ) (cap width : ℕ) (shop : Shop) (first last : List ℕ)
     (pack : Pack V) (branch : Branch) : Type 0 where
   pub is_node : IsNode shop first last branch.node
   pub is_pack : IsPack list cap width shop pack
-  pub left : jobs_at pack branch.left ≡ jobs_left shop.jobs (first ++ last)
+  pub left : HasLeft shop first last pack.names.items branch.left
 
 -- the jobs left whose children at an end are below a number
 abbrev pub jobs_below : Shop → ℕ → End → List ℕ → List ℕ → List ℕ

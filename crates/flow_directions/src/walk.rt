@@ -1,0 +1,123 @@
+//! The walk through the nodes that the search opens.
+
+ghost use Rattle.std.specs.Prelude.{◌≡◌, ℕ, ◌<◌, ◌≤◌, List, ◌++◌, length, min, All, slice_index_or, OnOk};
+ghost use Rattle.flow_shop.specs.Directions.{sign};
+ghost use Rattle.flow_shop.specs.Ends.{end_bound};
+ghost use Rattle.flow_directions.specs.Search.{visits_with};
+ghost use Rattle.flow_directions.specs.internal.Lists.{HasLists};
+ghost use Rattle.flow_directions.specs.internal.Packs.{HasRoom};
+ghost use Rattle.flow_directions.specs.internal.Walk.{Ends, IsAt};
+
+use crate::branch::Branch;
+use crate::lists::Lists;
+use crate::open::open;
+use crate::pack::Pack;
+use crate::words::Words;
+use flow_nodes::Lanes;
+use flow_shop::{End, Instance};
+
+/// What a search is to prove, and with how much.
+#[derive(Clone, Copy)]
+pub(crate) struct Aim {
+    /// The number, or 4,294,967,295 where that is less.
+    pub(crate) limit: u32,
+    /// The most directions.
+    pub(crate) budget: u64,
+}
+
+/// What a search wrote, and where it stands.
+#[derive(Drop)]
+pub(crate) struct Written {
+    /// The directions.
+    pub(crate) directions: Vec<u8>,
+    /// The lists of the node at which it stands.
+    pub(crate) lists: Lists,
+}
+
+/// Why a search stops early.
+#[derive(Clone, Copy)]
+pub(crate) enum Stop {
+    /// It stands at a sequence below the number.
+    Below,
+    /// There are more directions than its budget.
+    Over,
+    /// Memory ran out.
+    Memory,
+}
+
+/// The sign of an end.
+#[inline(always)]
+fn sign_of(end: End) -> u8
+    ensures { result ≡ sign end }
+{
+    match end {
+        End::Front => b'+',
+        End::Back => b'-',
+    }
+}
+
+/// Searches a node that is below the number, at which so many jobs are left, and writes its directions.
+pub(crate) fn search<V: Lanes>(
+    instance: &Instance,
+    aim: Aim,
+    written: &mut Written,
+    packs: &mut [Pack<V>],
+    branch: &Branch,
+    left: u16,
+) -> Result<(), Stop>
+    requires wide { V.WIDTH ≡ 16 }
+    requires limit { aim.limit ≤ V.CAP }
+    requires some { 1 ≤ left }
+    requires packs { All (λ pack. HasRoom instance.now pack) packs.old }
+    requires few { 1 ≤ length packs.old }
+    requires at { (number : ℕ) × (first : List ℕ) × (last : List ℕ) × (aim.limit ≡ min number 4294967295)
+        × (end_bound instance.now first last < number)
+        × IsAt V.list V.CAP V.WIDTH instance.now first last left written.old.lists branch.now packs.old }
+    ensures packs { All (λ pack. HasRoom instance.now pack) packs.new }
+    ensures count { length packs.new ≡ length packs.old }
+    ensures same { (none : Pack V) → slice_index_or packs.new 0 none ≡ slice_index_or packs.old 0 none }
+    ensures within { length written.old.directions.items ≤ aim.budget →
+        length written.new.directions.items ≤ aim.budget }
+    ensures lists { OnOk result ((number : ℕ) (first last : List ℕ) → aim.limit ≡ min number 4294967295 →
+        end_bound instance.now first last < number →
+        IsAt V.list V.CAP V.WIDTH instance.now first last left written.old.lists branch.now packs.old →
+        HasLists instance.now.jobs first last written.new.lists) }
+    ensures ends { (number : ℕ) (first last : List ℕ) → aim.limit ≡ min number 4294967295 →
+        end_bound instance.now first last < number →
+        IsAt V.list V.CAP V.WIDTH instance.now first last left written.old.lists branch.now packs.old →
+        Ends aim.budget (visits_with instance.now number left first last) written.old.directions.items
+        written.new.directions.items written.new.lists.jobs.items result }
+{
+    if written.directions.len() as u64 >= aim.budget {
+        return Err(Stop::Over);
+    }
+    let opened = open(instance, &packs[0], branch, aim.limit);
+    if written.directions.push(sign_of(opened.end)).is_err() {
+        return Err(Stop::Memory);
+    }
+    let mut below = opened.below;
+    'children: while let Some(place) = below.pop(packs[0].groups.len()) {
+        let job = packs[0].names[place];
+        written.lists.put(opened.end, job);
+        if left == 1 {
+            return Err(Stop::Below);
+        }
+        let mut child = branch.child(instance, opened.end, place, job);
+        if packs.len() > 1 && packs[1].names.len() >= left as usize - 1 {
+            let (here, deeper) = packs.split_at_mut(1);
+            deeper[0].fill(instance, &here[0], &child.left);
+            child.left = Words::first(left - 1);
+            match search(instance, aim, written, deeper, &child, left - 1) {
+                Err(stop) => return Err(stop),
+                Ok(()) => {}
+            }
+        } else {
+            match search(instance, aim, written, packs, &child, left - 1) {
+                Err(stop) => return Err(stop),
+                Ok(()) => {}
+            }
+        }
+        written.lists.take(opened.end);
+    }
+    Ok(())
+}
