@@ -1,1 +1,3 @@
 pub mod VisitSteps
+pub mod NodeLists
+pub mod SearchProves
