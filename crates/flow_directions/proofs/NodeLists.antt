@@ -7,8 +7,7 @@ use Rattle.flow_shop.specs.Sequences.{has, jobs_left, AreDistinct, AreJobs, IsSe
 use Rattle.flow_shop.specs.declared.end.End.{End}
 use Rattle.flow_shop.specs.declared.end.End.TheVariants.{Front, Back}
 use Rattle.flow_shop.specs.Directions.{first_with, last_with}
-use Rattle.flow_shop.proofs.JobsLeft.{InRange, kept, kept-more, kept-has, sum_by-ones, or_false}
-use Rattle.flow_shop.proofs.JobsLeft.{each-left}
+use Rattle.flow_shop.proofs.JobsLeft.{InRange, kept, kept-more, kept-has, sum_by-ones, or_false, each-left}
 use Rattle.flow_shop.proofs.EndSteps.{count-child}
 use Rattle.flow_shop.proofs.ReversedSequence.{not_eq-sym}
 

@@ -47,7 +47,7 @@ module _ (shop : Shop) (number : ℕ) where
       (each-child shop.jobs end first last left are some)
       (none-each (child_visits shop number end first last) (jobs_left shop.jobs (first ++ last)) none)
 
-  pub proved : (left : ℕ) (first last : List ℕ) → AreJobs shop.jobs (first ++ last) →
+  proved : (left : ℕ) (first last : List ℕ) → AreJobs shop.jobs (first ++ last) →
       length (jobs_left shop.jobs (first ++ last)) ≡ left → first_below shop number first last ≡ None →
       ProvesWith shop number left first last (directions_of shop number first last)
   proved zero first last are count none = elim (cases_Bool (nat_le number (end_bound shop first last))) [
