@@ -10,6 +10,8 @@ use Rattle.flow_shop.specs.Directions.{sign, first_with, last_with, ProvesFrom}
 use Rattle.flow_shop.specs.declared.end.End.{End}
 use Rattle.flow_shop.specs.declared.end.End.TheVariants.{Front, Back}
 use Rattle.flow_nodes.specs.Groups.{child_bound}
+use Rattle.flow_directions.specs.declared.found.Found.{Found}
+use Rattle.flow_directions.specs.declared.found.Found.TheVariants.{Proved, Below, Over}
 
 -- the bounds of the children of a node that put a job at an end, in increasing order of the job
 abbrev pub child_bounds : Shop → End → List ℕ → List ℕ → List ℕ
@@ -111,3 +113,28 @@ DirectionsByChildren =
     (λ job. directions_of shop number (first_with (end_taken shop number first last) first job)
     (last_with (end_taken shop number first last) last job))
     (jobs_left shop.jobs (first ++ last)))
+
+-- what a search for directions found, of a number and a budget of directions: `Proved`: it reaches no sequence below the
+-- number, and these are the node's directions. `Below`: this is the first sequence below the number, with its makespan.
+-- Both with as many directions as the budget, or fewer. `Over`: there are more, before the first such sequence
+abbrev pub IsFound : Shop → ℕ → ℕ → List ℕ → List ℕ → Found → Type 0
+IsFound shop number budget first last (Proved text) =
+    (first_below shop number first last ≡ None) × (text.items ≡ directions_of shop number first last)
+    × (length text.items ≤ budget)
+IsFound shop number budget first last (Below sequence makespan) =
+    (first_below shop number first last ≡ Some sequence) × (makespan ≡ span shop sequence)
+    × (length (directions_of shop number first last) ≤ budget)
+IsFound shop number budget first last Over = budget < length (directions_of shop number first last)
+
+-- what it shows: the directions prove the number for the node; or a sequence of the node has a makespan below the number
+abbrev pub Shows : Shop → ℕ → List ℕ → List ℕ → Found → Type 0
+Shows shop number first last (Proved text) = ProvesFrom shop number first last text.items
+Shows shop number first last (Below sequence makespan) =
+    IsOfNode shop first last sequence × (span shop sequence ≡ makespan) × (makespan < number)
+Shows shop number first last Over = Unit {0}
+
+-- a sequence that was found, with its makespan
+abbrev pub IsWithMakespan : Shop → List ℕ → Found → Type 0
+IsWithMakespan shop jobs (Proved text) = ⊥
+IsWithMakespan shop jobs (Below sequence makespan) = (sequence ≡ jobs) × (makespan ≡ span shop jobs)
+IsWithMakespan shop jobs Over = ⊥

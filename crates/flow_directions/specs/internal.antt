@@ -2,3 +2,4 @@ pub mod Words
 pub mod Lists
 pub mod Packs
 pub mod Walk
+pub mod Start

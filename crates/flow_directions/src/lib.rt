@@ -2,11 +2,16 @@
 #![tactic(auto)]
 
 mod branch;
+mod directions;
+mod found;
 mod laws;
 mod lists;
 mod open;
 mod pack;
+mod start;
 mod walk;
 mod words;
 
+pub use directions::prove;
+pub use found::{Found, ProveFault};
 pub use laws::{directions_by_children, directions_prove, search_reaches_what_is_below};

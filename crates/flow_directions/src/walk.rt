@@ -1,12 +1,9 @@
 //! The walk through the nodes that the search opens.
 
-ghost use Rattle.std.specs.Prelude.{◌≡◌, ℕ, ◌<◌, ◌≤◌, List, ◌++◌, length, min, All, slice_index_or, OnOk};
+ghost use Rattle.std.specs.Prelude.{◌≡◌, ℕ, ◌≤◌, List, length, min, All};
 ghost use Rattle.flow_shop.specs.Directions.{sign};
-ghost use Rattle.flow_shop.specs.Ends.{end_bound};
-ghost use Rattle.flow_directions.specs.Search.{visits_with};
-ghost use Rattle.flow_directions.specs.internal.Lists.{HasLists};
 ghost use Rattle.flow_directions.specs.internal.Packs.{HasRoom};
-ghost use Rattle.flow_directions.specs.internal.Walk.{Ends, IsAt};
+ghost use Rattle.flow_directions.specs.internal.Walk.{Ends, IsAt, KeepsPacks};
 
 use crate::branch::Branch;
 use crate::lists::Lists;
@@ -19,7 +16,9 @@ use flow_shop::{End, Instance};
 /// What a search is to prove, and with how much.
 #[derive(Clone, Copy)]
 pub(crate) struct Aim {
-    /// The number, or 4,294,967,295 where that is less.
+    /// The number.
+    pub(crate) number: u64,
+    /// The number, or 4,294,967,295 where that is less: no bound is so great.
     pub(crate) limit: u32,
     /// The most directions.
     pub(crate) budget: u64,
@@ -66,28 +65,27 @@ pub(crate) fn search<V: Lanes>(
     left: u16,
 ) -> Result<(), Stop>
     requires wide { V.WIDTH ≡ 16 }
-    requires limit { aim.limit ≤ V.CAP }
+    requires limit { aim.limit ≡ min aim.number 4294967295 }
+    requires cap { aim.limit ≤ V.CAP }
     requires some { 1 ≤ left }
     requires packs { All (λ pack. HasRoom instance.now pack) packs.old }
     requires few { 1 ≤ length packs.old }
-    requires at { (number : ℕ) × (first : List ℕ) × (last : List ℕ) × (aim.limit ≡ min number 4294967295)
-        × (end_bound instance.now first last < number)
-        × IsAt V.list V.CAP V.WIDTH instance.now first last left written.old.lists branch.now packs.old }
-    ensures packs { All (λ pack. HasRoom instance.now pack) packs.new }
-    ensures count { length packs.new ≡ length packs.old }
-    ensures same { (none : Pack V) → slice_index_or packs.new 0 none ≡ slice_index_or packs.old 0 none }
-    ensures within { length written.old.directions.items ≤ aim.budget →
-        length written.new.directions.items ≤ aim.budget }
-    ensures lists { OnOk result ((number : ℕ) (first last : List ℕ) → aim.limit ≡ min number 4294967295 →
-        end_bound instance.now first last < number →
-        IsAt V.list V.CAP V.WIDTH instance.now first last left written.old.lists branch.now packs.old →
-        HasLists instance.now.jobs first last written.new.lists) }
-    ensures ends { (number : ℕ) (first last : List ℕ) → aim.limit ≡ min number 4294967295 →
-        end_bound instance.now first last < number →
-        IsAt V.list V.CAP V.WIDTH instance.now first last left written.old.lists branch.now packs.old →
-        Ends aim.budget (visits_with instance.now number left first last) written.old.directions.items
-        written.new.directions.items written.new.lists.jobs.items result }
+    requires at { (first : List ℕ) × (last : List ℕ)
+        × IsAt V.list V.CAP V.WIDTH instance.now aim.number first last left written.old.lists branch.now packs.old }
+    ensures packs { KeepsPacks instance.now packs.old packs.new }
+    ensures ends { (first last : List ℕ) →
+        IsAt V.list V.CAP V.WIDTH instance.now aim.number first last left written.old.lists branch.now packs.old →
+        Ends instance.now aim.number aim.budget first last written.old.directions.items written.new result }
 {
+    if packs.len() > 1 && packs[1].names.len() >= left as usize {
+        let (here, deeper) = packs.split_at_mut(1);
+        deeper[0].fill(instance, &here[0], &branch.left);
+        let packed = Branch {
+            node: branch.node,
+            left: Words::first(left),
+        };
+        return search(instance, aim, written, deeper, &packed, left);
+    }
     if written.directions.len() as u64 >= aim.budget {
         return Err(Stop::Over);
     }
@@ -102,20 +100,10 @@ pub(crate) fn search<V: Lanes>(
         if left == 1 {
             return Err(Stop::Below);
         }
-        let mut child = branch.child(instance, opened.end, place, job);
-        if packs.len() > 1 && packs[1].names.len() >= left as usize - 1 {
-            let (here, deeper) = packs.split_at_mut(1);
-            deeper[0].fill(instance, &here[0], &child.left);
-            child.left = Words::first(left - 1);
-            match search(instance, aim, written, deeper, &child, left - 1) {
-                Err(stop) => return Err(stop),
-                Ok(()) => {}
-            }
-        } else {
-            match search(instance, aim, written, packs, &child, left - 1) {
-                Err(stop) => return Err(stop),
-                Ok(()) => {}
-            }
+        let child = branch.child(instance, opened.end, place, job);
+        match search(instance, aim, written, packs, &child, left - 1) {
+            Err(stop) => return Err(stop),
+            Ok(()) => {}
         }
         written.lists.take(opened.end);
     }

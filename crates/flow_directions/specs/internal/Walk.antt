@@ -1,26 +1,40 @@
 -- Where a search stands, and how it ends.
-use Rattle.std.specs.Prelude.{ℕ, ◌≡◌, ◌<◌, List, ◌++◌, length, slice_index_or, Option, Some, None, Result, Ok, Err}
+use Rattle.std.specs.Prelude.{ℕ, ◌≡◌, ◌<◌, ◌≤◌, List, ◌++◌, length, slice_index_or, All, Some, None, Result, Ok, Err}
 use Rattle.flow_shop.specs.Shop.{Shop}
 use Rattle.flow_shop.specs.Sequences.{jobs_left}
-use Rattle.flow_directions.specs.Search.{Visit, signs, first_reached}
+use Rattle.flow_shop.specs.Ends.{end_bound}
+use Rattle.flow_directions.specs.Search.{directions_of, first_below}
 use Rattle.flow_directions.specs.internal.Lists.{HasLists}
-use Rattle.flow_directions.specs.internal.Packs.{IsBranch}
+use Rattle.flow_directions.specs.internal.Packs.{HasRoom, IsBranch}
 use Rattle.flow_directions.specs.declared.branch.Branch.{Branch}
 use Rattle.flow_directions.specs.declared.lists.Lists.{Lists}
 use Rattle.flow_directions.specs.declared.pack.Pack.{Pack}
 use Rattle.flow_directions.specs.declared.walk.Stop.{Stop}
 use Rattle.flow_directions.specs.declared.walk.Stop.TheVariants.{Below, Over, Memory}
+use Rattle.flow_directions.specs.declared.walk.Written.{Written}
 
--- a search stands at a node, at which so many jobs are left: the first of its packs has them
-pub record IsAt {V : Type 0} (list : V → List ℕ) (cap width : ℕ) (shop : Shop) (first last : List ℕ) (left : ℕ)
-    (lists : Lists) (branch : Branch) (packs : List (Pack V)) : Type 0 where
+-- a search stands at a node below the number, at which so many jobs are left: the first of its packs has them
+pub record IsAt {V : Type 0} (list : V → List ℕ) (cap width : ℕ) (shop : Shop) (number : ℕ) (first last : List ℕ)
+    (left : ℕ) (lists : Lists) (branch : Branch) (packs : List (Pack V)) : Type 0 where
+  pub below : end_bound shop first last < number
   pub is_branch : (none : Pack V) → IsBranch list cap width shop first last (slice_index_or packs 0 none) branch
   pub has_lists : HasLists shop.jobs first last lists
   pub count : length (jobs_left shop.jobs (first ++ last)) ≡ left
 
--- how a search ends that meets this, of a budget, with what was written before and behind it, and the jobs of its lists
-abbrev pub Ends : ℕ → List Visit → List ℕ → List ℕ → List ℕ → Result Unit Stop → Type 0
-Ends budget visits old new jobs (Ok _) = (first_reached visits ≡ None) × (new ≡ old ++ signs visits)
-Ends budget visits old new jobs (Err Below) = (first_reached visits ≡ Some jobs) × (new ≡ old ++ signs visits)
-Ends budget visits old new jobs (Err Over) = budget < length (old ++ signs visits)
-Ends budget visits old new jobs (Err Memory) = Unit {0}
+-- packs with memory, of which the first stays as it is
+pub record KeepsPacks {V : Type 0} (shop : Shop) (old new : List (Pack V)) : Type 0 where
+  pub rooms : All (λ pack. HasRoom shop pack) new
+  pub count : length new ≡ length old
+  pub same : (none : Pack V) → slice_index_or new 0 none ≡ slice_index_or old 0 none
+
+-- how the search of a node ends, of a budget, with what was written before and behind it
+abbrev pub Ends : Shop → ℕ → ℕ → List ℕ → List ℕ → List ℕ → Written → Result Unit Stop → Type 0
+Ends shop number budget first last old new (Ok _) =
+    (first_below shop number first last ≡ None) × (new.directions.items ≡ old ++ directions_of shop number first last)
+    × (length new.directions.items ≤ budget) × HasLists shop.jobs first last new.lists
+Ends shop number budget first last old new (Err Below) =
+    (first_below shop number first last ≡ Some new.lists.jobs.items)
+    × (length (old ++ directions_of shop number first last) ≤ budget)
+Ends shop number budget first last old new (Err Over) =
+    budget < length (old ++ directions_of shop number first last)
+Ends shop number budget first last old new (Err Memory) = Unit {0}

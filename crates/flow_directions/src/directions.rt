@@ -1,0 +1,143 @@
+//! The search for directions that prove a number for a node.
+
+ghost use Rattle.std.specs.Prelude.{◌≡◌, ◌↔◌, ℕ, ◌≤◌, ◌<◌, min, All, Err, List, ◌++◌, length, slice_index_or, IfOk, IfErr};
+ghost use Rattle.flow_limits.specs.Limits.{most_jobs};
+ghost use Rattle.flow_shop.specs.Sequences.{AreJobs, IsSequence};
+ghost use Rattle.flow_shop.specs.Ends.{end_bound};
+ghost use Rattle.flow_directions.specs.Search.{IsFound, IsWithMakespan, Shows};
+ghost use Rattle.flow_directions.specs.internal.Packs.{HasRoom};
+ghost use Rattle.flow_directions.specs.internal.Start.{IsStart};
+ghost use Rattle.flow_directions.specs.declared.found.ProveFault.TheVariants.{Jobs, Memory};
+
+use crate::branch::Branch;
+use crate::found::{Found, ProveFault};
+use crate::lists::Lists;
+use crate::pack::Pack;
+use crate::start::Start;
+use crate::walk::{Aim, Stop, Written, search};
+use crate::words::{LANES, Words};
+use flow_nodes::Lanes;
+use flow_shop::{Instance, Sequence, makespan};
+use std::alloc::{AllocError, Global};
+use std::simd::prelude::*;
+
+/// No bound of a node is so great.
+const ABOVE_BOUNDS: u64 = 4_294_967_295;
+
+/// The greatest number that lanes of 16 bits have.
+const NARROW: u64 = 65_535;
+
+/// The most packs: the greatest has 50 groups, and each further one at most half as many.
+const MOST_PACKS: usize = 8;
+
+/// Packs for so many jobs, and for half as many, and so on down to sixteen.
+fn packs_for<V: Lanes>(
+    alloc: Global,
+    instance: &Instance,
+    jobs: u16,
+) -> Result<Vec<Pack<V>>, AllocError>
+    requires some { 1 ≤ jobs }
+    requires few { jobs ≤ most_jobs }
+    ensures rooms { IfOk result (λ packs. All (λ pack. HasRoom instance.now pack) packs.items) }
+    ensures some { IfOk result (λ packs. 1 ≤ length packs.items) }
+    ensures fits { IfOk result (λ packs. (none : Pack V) →
+        jobs ≤ length (slice_index_or packs.items 0 none).names.items) }
+{
+    let mut packs = Vec::with_capacity(alloc, MOST_PACKS)?;
+    let mut groups = (jobs as usize + (LANES - 1)) / LANES;
+    packs.push(Pack::new(alloc, instance, groups)?)?;
+    'packs: while groups > 1 {
+        groups /= 2;
+        packs.push(Pack::new(alloc, instance, groups)?)?;
+    }
+    Ok(packs)
+}
+
+/// The sequence that the lists of a node are, where no job is left; with its makespan.
+fn sequence_of(alloc: Global, instance: &Instance, lists: &Lists) -> Result<Found, ProveFault>
+    requires { IsSequence instance.now.jobs lists.now.jobs.items }
+    ensures fault { IfErr result (λ fault. fault ≡ Memory) }
+    ensures found { IfOk result (λ found. IsWithMakespan instance.now lists.now.jobs.items found) }
+{
+    let sequence = Sequence::of_known(alloc, lists.all())?;
+    let makespan = makespan(instance, &sequence);
+    Ok(Found::Below { sequence, makespan })
+}
+
+/// Searches the node of a start that is below the number, at which some job is left.
+fn run<V: Lanes>(
+    alloc: Global,
+    instance: &Instance,
+    start: Start,
+    number: u64,
+    budget: u64,
+) -> Result<Found, ProveFault>
+    requires wide { V.WIDTH ≡ 16 }
+    requires cap { min number 4294967295 ≤ V.CAP }
+    requires some { 1 ≤ start.left }
+    requires at { (first : List ℕ) × (last : List ℕ) × IsStart instance.now first last start
+        × (end_bound instance.now first last < number) }
+    ensures found { (first last : List ℕ) → IsStart instance.now first last start →
+        end_bound instance.now first last < number →
+        IfOk result (λ found. IsFound instance.now number budget first last found) }
+    ensures fault { IfErr result (λ fault. fault ≡ Memory) }
+{
+    let mut packs = packs_for::<V>(alloc, instance, start.left)?;
+    start.pack(instance, &mut packs[0]);
+    let branch = Branch {
+        node: start.node,
+        left: Words::first(start.left),
+    };
+    let aim = Aim {
+        number,
+        limit: number.min(ABOVE_BOUNDS) as u32,
+        budget,
+    };
+    let left = start.left;
+    let mut written = Written {
+        directions: Vec::new(alloc),
+        lists: start.lists,
+    };
+    match search(
+        instance,
+        aim,
+        &mut written,
+        packs.as_mut_slice(),
+        &branch,
+        left,
+    ) {
+        Ok(()) => Ok(Found::Proved(written.directions)),
+        Err(Stop::Below) => sequence_of(alloc, instance, &written.lists),
+        Err(Stop::Over) => Ok(Found::Over),
+        Err(Stop::Memory) => Err(ProveFault::Memory),
+    }
+}
+
+/// Searches the sequences of a node, which begin with the first list and end with the last one, for directions that
+/// prove a number for them, with a budget of directions. Returns them, or the first sequence whose makespan is below
+/// the number; or `Over`. `Jobs` where the lists have a job that is not one of the instance, or one twice.
+pub fn prove(
+    alloc: Global,
+    instance: &Instance,
+    first: &[u16],
+    last: &[u16],
+    number: u64,
+    budget: u64,
+) -> Result<Found, ProveFault>
+    ensures found { IfOk result (λ found. IsFound instance.now number budget first.now last.now found) }
+    ensures shown { IfOk result (λ found. Shows instance.now number first.now last.now found) }
+    ensures refused { (result ≡ Err Jobs) ↔ (AreJobs instance.now.jobs (first.now ++ last.now) → ⊥) }
+{
+    let start = Start::new(alloc, instance, first, last)?;
+    if u64::from(start.node.bound(instance)) >= number {
+        return Ok(Found::Proved(Vec::new(alloc)));
+    }
+    if start.left == 0 {
+        return sequence_of(alloc, instance, &start.lists);
+    }
+    if number <= NARROW {
+        run::<u16x16>(alloc, instance, start, number, budget)
+    } else {
+        run::<u32x16>(alloc, instance, start, number, budget)
+    }
+}

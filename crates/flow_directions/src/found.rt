@@ -1,0 +1,43 @@
+//! What a search for directions finds.
+
+ghost use Rattle.std.specs.Prelude.{◌≡◌};
+ghost use Rattle.flow_directions.specs.declared.found.ProveFault.TheVariants.{Memory};
+
+use flow_shop::Sequence;
+use std::alloc::AllocError;
+use thiserror::Error;
+
+/// What a search for directions found.
+#[derive(Debug, PartialEq, Eq, Drop)]
+pub enum Found {
+    /// Directions that prove the number: no sequence of the node has a makespan below it.
+    Proved(Vec<u8>),
+    /// A sequence of the node whose makespan is below the number.
+    Below {
+        /// The sequence.
+        sequence: Sequence,
+        /// Its makespan.
+        makespan: u64,
+    },
+    /// There are more directions than the budget.
+    Over,
+}
+
+/// Why nothing was searched.
+#[derive(Clone, Copy, Debug, PartialEq, Eq, Error)]
+pub enum ProveFault {
+    /// The two lists are no node: a job is not one of the instance, or stands in them twice.
+    #[error("Jobs")]
+    Jobs,
+    /// Memory ran out.
+    #[error("Memory")]
+    Memory,
+}
+
+impl From<AllocError> for ProveFault {
+    ghost from_gives = { λ _ fault. fault ≡ Memory };
+
+    fn from(_error: AllocError) -> ProveFault {
+        ProveFault::Memory
+    }
+}

@@ -1,0 +1,101 @@
+//! The node at which a search begins.
+
+ghost use Rattle.std.specs.Prelude.{◌≡◌, ◌↔◌, ℕ, ◌≤◌, Err, List, [], ◌++◌, length, take, IfOk, IsTrue};
+ghost use Rattle.flow_limits.specs.Limits.{most_jobs};
+ghost use Rattle.flow_shop.specs.JobSet.{contains};
+ghost use Rattle.flow_shop.specs.Sequences.{has, jobs_left, AreJobs};
+ghost use Rattle.flow_directions.specs.internal.Packs.{HasRoom, IsPack};
+ghost use Rattle.flow_directions.specs.internal.Start.{Holds, IsStart};
+ghost use Rattle.flow_directions.specs.declared.found.ProveFault.TheVariants.{Jobs};
+
+use crate::found::ProveFault;
+use crate::lists::Lists;
+use crate::pack::Pack;
+use flow_nodes::{Lanes, Node};
+use flow_shop::{End, Instance, JobSet};
+use std::alloc::Global;
+
+/// The node at which a search begins.
+#[derive(Drop)]
+pub(crate) struct Start {
+    /// Its front, its back, and the time of the jobs left.
+    pub(crate) node: Node,
+    /// Its lists.
+    pub(crate) lists: Lists,
+    /// The jobs in its lists.
+    pub(crate) taken: JobSet,
+    /// How many jobs are left.
+    pub(crate) left: u16,
+}
+
+/// Adds the jobs of a list to a set. Returns whether they are jobs of the instance, and none was in the set or stands
+/// in the list twice.
+fn insert_all(instance: &Instance, taken: &mut JobSet, jobs: &[u16]) -> bool
+    ensures { (list : List ℕ) → AreJobs instance.now.jobs list → Holds instance.now list taken.old →
+        (IsTrue result ↔ AreJobs instance.now.jobs (list ++ jobs.now))
+        × (IsTrue result → Holds instance.now (list ++ jobs.now) taken.new) }
+{
+    for job in jobs {
+        if *job < 1 || *job > instance.jobs() || taken.contains(*job) {
+            return false;
+        }
+        taken.insert(*job);
+    }
+    true
+}
+
+impl Start {
+    /// The node of two lists; or `Jobs` where the jobs are not those of the instance, or one stands in them twice.
+    pub(crate) fn new(
+        alloc: Global,
+        instance: &Instance,
+        first: &[u16],
+        last: &[u16],
+    ) -> Result<Start, ProveFault>
+        ensures start { IfOk result (λ start. IsStart instance.now first.now last.now start) }
+        ensures refused { (result ≡ Err Jobs) ↔ (AreJobs instance.now.jobs (first.now ++ last.now) → ⊥) }
+    {
+        let mut taken = JobSet::none();
+        if !insert_all(instance, &mut taken, first) || !insert_all(instance, &mut taken, last) {
+            return Err(ProveFault::Jobs);
+        }
+        let mut node = Node::root(instance);
+        let mut lists = Lists::new(alloc, instance.jobs())?;
+        for job in first {
+            node.put(instance, End::Front, *job);
+            lists.put(End::Front, *job);
+        }
+        for job in last.iter().rev() {
+            node.put(instance, End::Back, *job);
+            lists.put(End::Back, *job);
+        }
+        let left = instance.jobs() - (first.len() + last.len()) as u16;
+        Ok(Start {
+            node,
+            lists,
+            taken,
+            left,
+        })
+    }
+
+    /// Has the jobs left in a pack, in order.
+    pub(crate) fn pack<V: Lanes>(&self, instance: &Instance, pack: &mut Pack<V>)
+        requires wide { V.WIDTH ≡ 16 }
+        requires room { HasRoom instance.now pack.old }
+        requires fits { self.now.left ≤ length pack.old.names.items }
+        requires start { (first : List ℕ) × (last : List ℕ) × IsStart instance.now first last self.now }
+        ensures pack { IsPack V.list V.CAP V.WIDTH instance.now pack.new }
+        ensures count { length pack.new.groups.items ≡ length pack.old.groups.items }
+        ensures jobs { (first last : List ℕ) → IsStart instance.now first last self.now →
+            take self.now.left pack.new.names.items ≡ jobs_left instance.now.jobs (first ++ last) }
+    {
+        let mut count = 0;
+        for job in 1..instance.jobs() + 1 {
+            if !self.taken.contains(job) {
+                pack.names[count] = job;
+                count += 1;
+            }
+        }
+        pack.load(instance);
+    }
+}
