@@ -6,3 +6,6 @@ pub mod NodeLists
 pub mod SearchProves
 pub mod SearchReaches
 pub mod SearchByChildren
+pub mod WalkSteps
+pub mod ChildSteps
+pub mod PackedSteps

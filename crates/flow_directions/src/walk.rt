@@ -93,8 +93,9 @@ pub(crate) fn search<V: Lanes>(
     if written.directions.push(sign_of(opened.end)).is_err() {
         return Err(Stop::Memory);
     }
+    let groups = packs[0].groups.len();
     let mut below = opened.below;
-    'children: while let Some(place) = below.pop(packs[0].groups.len()) {
+    'children: while let Some(place) = below.pop(groups) {
         let job = packs[0].names[place];
         written.lists.put(opened.end, job);
         if left == 1 {

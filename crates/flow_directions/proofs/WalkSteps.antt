@@ -1,0 +1,207 @@
+-- What is still to be searched of a node, while its children are.
+use Rattle.std.proofs.Common.{◌≡◌, ℕ, zero, suc, ◌+◌, ◌-◌, ◌<◌, ◌≤◌, Bool, true, false, cond, nat_lt, List, [], ◌∷◌}
+use Rattle.std.proofs.Common.{◌++◌, length, take, drop, filter, Some, None, refl, ap, sym, ◌∙◌, subst, inl, inr, arith}
+use Rattle.std.proofs.Common.{append_assoc, length-append, slice_index_or}
+use Rattle.std.specs.List.{flat_map, AllByRecursion}
+use Rattle.std.proofs.lemmas.Bool.{cases_Bool, ltb-false, ltb-true}
+use Rattle.std.proofs.lemmas.List.{take-append-drop}
+use Rattle.flow_shop.specs.Shop.{Shop}
+use Rattle.flow_shop.specs.Sequences.{has, jobs_left}
+use Rattle.flow_shop.specs.Ends.{end_bound}
+use Rattle.flow_shop.specs.Directions.{sign, first_with, last_with}
+use Rattle.flow_shop.specs.declared.end.End.{End}
+use Rattle.flow_shop.specs.declared.end.End.TheVariants.{Front, Back}
+use Rattle.flow_shop.proofs.JobsLeft.{each-left}
+use Rattle.flow_shop.proofs.EndSteps.{count-child}
+use Rattle.flow_nodes.specs.Nodes.{IsJob, IsNode}
+use Rattle.flow_nodes.specs.Groups.{child_bound}
+use Rattle.flow_directions.specs.Search.{end_taken, Visit, opens, reaches, visits, signs, first_reached}
+use Rattle.flow_directions.specs.Search.{directions_of, first_below}
+use Rattle.flow_directions.specs.internal.Lists.{HasLists}
+use Rattle.flow_directions.specs.internal.Packs.{jobs_below}
+use Rattle.flow_directions.specs.declared.lists.Lists.{Lists}
+use Rattle.flow_directions.proofs.VisitSteps.{child_visits, visits-high, visits-whole, visits-open, none-or-reached}
+use Rattle.flow_directions.proofs.VisitSteps.{signs-append, first_reached-append, signs-append-reached}
+use Rattle.flow_directions.proofs.VisitSteps.{first_reached-append-reached}
+
+-- lists that are empty may be left out
+flat-kept : (f : ℕ → List Visit) (p : ℕ → Bool) (jobs : List ℕ) →
+    AllByRecursion (λ job. p job ≡ false → f job ≡ []) jobs → flat_map f jobs ≡ flat_map f (filter p jobs)
+flat-kept f p [] each = refl
+flat-kept f p (job ∷ jobs) each =
+    let more : flat_map f jobs ≡ flat_map f (filter p jobs) = flat-kept f p jobs each.1 in
+    elim (cases_Bool (p job)) [
+      | inl is ↦ ap (λ xs. f job ++ xs) more
+          ∙ sym (ap (λ b. flat_map f (cond b (job ∷ filter p jobs) (filter p jobs))) is)
+      | inr is ↦ ap (λ xs. xs ++ flat_map f jobs) (each.0 is) ∙ more
+          ∙ sym (ap (λ b. flat_map f (cond b (job ∷ filter p jobs) (filter p jobs))) is)
+    ]
+
+-- a fact of each element that is kept
+each-kept : (P : ℕ → Type 0) (p : ℕ → Bool) (jobs : List ℕ) → AllByRecursion (λ job. p job ≡ true → P job) jobs →
+    AllByRecursion P (filter p jobs)
+each-kept P p [] each = tt
+each-kept P p (job ∷ jobs) each =
+    let more : AllByRecursion P (filter p jobs) = each-kept P p jobs each.1 in
+    elim (cases_Bool (p job)) [
+      | inl is ↦ subst (λ b. AllByRecursion P (cond b (job ∷ filter p jobs) (filter p jobs))) (sym is)
+          (each.0 is, more)
+      | inr is ↦ subst (λ b. AllByRecursion P (cond b (job ∷ filter p jobs) (filter p jobs))) (sym is) more
+    ]
+
+-- a job left whose child at an end is below the number
+pub record IsOpen (shop : Shop) (number : ℕ) (end : End) (first last : List ℕ) (job : ℕ) : Type 0 where
+  pub is_job : IsJob shop job
+  pub left : has (first ++ last) job ≡ false
+  pub below : child_bound shop end first last job < number
+
+-- directions are written for a node, and these jobs are still to be put at its end
+pub record Stands (shop : Shop) (number : ℕ) (end : End) (first last old new : List ℕ) (lists : Lists)
+    (jobs : List ℕ) : Type 0 where
+  pub has_lists : HasLists shop.jobs first last lists
+  pub each : AllByRecursion (IsOpen shop number end first last) jobs
+  pub reached : first_below shop number first last
+      ≡ first_reached (flat_map (child_visits shop number end first last) jobs)
+  pub written : old ++ directions_of shop number first last
+      ≡ new ++ signs (flat_map (child_visits shop number end first last) jobs)
+
+module _ (shop : Shop) (number : ℕ) (first last : List ℕ) where
+  below-kept : (end : End) → flat_map (child_visits shop number end first last) (jobs_left shop.jobs (first ++ last))
+      ≡ flat_map (child_visits shop number end first last) (jobs_below shop number end first last)
+  below-kept end =
+      let p : ℕ → Bool = λ job. nat_lt (child_bound shop end first last job) number in
+      flat-kept (child_visits shop number end first last) p (jobs_left shop.jobs (first ++ last))
+      (each-left (λ job. p job ≡ false → child_visits shop number end first last job ≡ []) (first ++ last) 1
+      (shop.jobs + 1 - 1) (λ job from to fresh above.
+      visits-high shop number (first_with end first job) (last_with end last job)
+      (ltb-false (child_bound shop end first last job) number above)))
+
+  below-each : (end : End) → AllByRecursion (IsOpen shop number end first last) (jobs_below shop number end first last)
+  below-each end =
+      let p : ℕ → Bool = λ job. nat_lt (child_bound shop end first last job) number in
+      each-kept (IsOpen shop number end first last) p (jobs_left shop.jobs (first ++ last))
+      (each-left (λ job. p job ≡ true → IsOpen shop number end first last job) (first ++ last) 1
+      (shop.jobs + 1 - 1) (λ job from to fresh under. record {
+        is_job = (from, omega (arith, to));
+        left = fresh;
+        below = ltb-true (child_bound shop end first last job) number under;
+      }))
+
+  -- at first
+  pub stands-first : (end : End) (old new : List ℕ) (lists : Lists) (jobs : List ℕ) →
+      0 < length (jobs_left shop.jobs (first ++ last)) → end_bound shop first last < number →
+      end ≡ end_taken shop number first last → new ≡ old ++ sign end ∷ [] →
+      HasLists shop.jobs first last lists → jobs ≡ jobs_below shop number end first last →
+      Stands shop number end first last old new lists jobs
+  stands-first end old new lists jobs some low is written has_lists are =
+      let all : List Visit = flat_map (child_visits shop number end first last) (jobs_left shop.jobs (first ++ last)) in
+      let kept : List Visit = flat_map (child_visits shop number end first last) jobs in
+      let same : all ≡ kept =
+      below-kept end ∙ ap (flat_map (child_visits shop number end first last)) (sym are) in
+      let opened : visits shop number first last ≡ opens end ∷ all =
+      visits-open shop number first last some low
+      ∙ ap (λ e. opens e ∷ flat_map (child_visits shop number e first last) (jobs_left shop.jobs (first ++ last)))
+      (sym is) in
+      record {
+        has_lists = has_lists;
+        each = subst (AllByRecursion (IsOpen shop number end first last)) (sym are) (below-each end);
+        reached = ap first_reached opened ∙ ap first_reached same;
+        written = ap (λ v. old ++ signs v) opened ∙ ap (λ v. old ++ sign end ∷ signs v) same
+            ∙ sym (append_assoc old (sign end ∷ []) (signs kept))
+            ∙ ap (λ xs. xs ++ signs kept) (sym written);
+      }
+
+  module _ (end : End) (old new : List ℕ) (lists : Lists) (job : ℕ) (jobs : List ℕ)
+      (stands : Stands shop number end first last old new lists (job ∷ jobs)) where
+    abbrev pub first2 : List ℕ
+    first2 = first_with end first job
+
+    abbrev pub last2 : List ℕ
+    last2 = last_with end last job
+
+    abbrev pub rest : List Visit
+    rest = flat_map (child_visits shop number end first last) jobs
+
+    -- once the child is searched, which reaches no sequence
+    pub stands-next : (new2 : List ℕ) (lists2 : Lists) → first_below shop number first2 last2 ≡ None →
+        new2 ≡ new ++ directions_of shop number first2 last2 → HasLists shop.jobs first last lists2 →
+        Stands shop number end first last old new2 lists2 jobs
+    stands-next new2 lists2 none written has_lists = record {
+      has_lists = has_lists;
+      each = stands.each.1;
+      reached = stands.reached ∙ first_reached-append (visits shop number first2 last2) rest none;
+      written = stands.written
+          ∙ ap (λ xs. new ++ xs) (signs-append (visits shop number first2 last2) rest none)
+          ∙ sym (append_assoc new (directions_of shop number first2 last2) (signs rest))
+          ∙ ap (λ xs. xs ++ signs rest) (sym written);
+    }
+
+    -- where the child reaches one, the node does
+    pub stands-reached : (found : List ℕ) → first_below shop number first2 last2 ≡ Some found →
+        first_below shop number first last ≡ Some found
+    stands-reached found is =
+        stands.reached ∙ first_reached-append-reached (visits shop number first2 last2) rest found is
+
+    pub stands-written : (found : List ℕ) → first_below shop number first2 last2 ≡ Some found →
+        old ++ directions_of shop number first last ≡ new ++ directions_of shop number first2 last2
+    stands-written found is =
+        stands.written ∙ ap (λ xs. new ++ xs) (signs-append-reached (visits shop number first2 last2) rest found is)
+
+    -- the directions of the node are no fewer
+    pub stands-longer : length (new ++ directions_of shop number first2 last2)
+        ≤ length (old ++ directions_of shop number first last)
+    stands-longer = elim (none-or-reached (first_below shop number first2 last2)) [
+      | inl none ↦
+          let e = ap length (stands.written
+          ∙ ap (λ xs. new ++ xs) (signs-append (visits shop number first2 last2) rest none)
+          ∙ sym (append_assoc new (directions_of shop number first2 last2) (signs rest))) in
+          omega (arith, e, length-append (new ++ directions_of shop number first2 last2) (signs rest))
+      | inr found ↦
+          let e = ap length (stands-written found.0 found.1) in
+          omega (arith, e)
+    ]
+
+  -- at the end
+  pub stands-done : (end : End) (old new : List ℕ) (lists : Lists) (jobs : List ℕ) →
+      Stands shop number end first last old new lists jobs → jobs ≡ [] →
+      (first_below shop number first last ≡ None) × (new ≡ old ++ directions_of shop number first last)
+  stands-done end old new lists jobs stands none =
+      let kept : flat_map (child_visits shop number end first last) jobs ≡ [] =
+      ap (flat_map (child_visits shop number end first last)) none in (
+        stands.reached ∙ ap first_reached kept,
+        sym (stands.written ∙ ap (λ v. new ++ signs v) kept ∙ append-none new),
+      )
+    where
+      append-none : (xs : List ℕ) → xs ++ [] ≡ xs
+      append-none [] = refl
+      append-none (x ∷ xs) = ap (λ ys. x ∷ ys) (append-none xs)
+
+-- the lists of a node, where no job is left
+pub whole-lists : (jobs : ℕ) (first last : List ℕ) (lists : Lists) → HasLists jobs first last lists →
+    length first + length last ≡ jobs → lists.jobs.items ≡ first ++ last
+whole-lists jobs first last lists are whole =
+    let e : length first ≡ jobs - length last = omega (arith, whole) in
+    sym (take-append-drop (length first) lists.jobs.items)
+    ∙ ap (λ xs. xs ++ drop (length first) lists.jobs.items) are.begins
+    ∙ ap (λ n. first ++ drop n lists.jobs.items) e
+    ∙ ap (λ xs. first ++ xs) are.ends
+
+-- how many jobs the lists of a child have
+pub lists-count : (end : End) (first last : List ℕ) (job : ℕ) →
+    length (first_with end first job) + length (last_with end last job) ≡ suc (length first + length last)
+lists-count Front first last job = omega (arith, length-append first (job ∷ []))
+lists-count Back first last job = omega arith
+
+-- a node that is opened has a direction more
+pub opens-longer : (shop : Shop) (number : ℕ) (first last : List ℕ) (left : ℕ) (old : List ℕ) →
+    end_bound shop first last < number → length (jobs_left shop.jobs (first ++ last)) ≡ left → 1 ≤ left →
+    length old < length (old ++ directions_of shop number first last)
+opens-longer shop number first last left old low count some =
+    let e = ap (λ v. length (signs v)) (visits-open shop number first last (omega (arith, count, some)) low) in
+    omega (arith, e, length-append old (directions_of shop number first last))
+
+-- the first of some elements does not depend on what stands for none
+pub head-same : {X : Type 0} (xs : List X) (one other : X) → 1 ≤ length xs →
+    slice_index_or xs 0 one ≡ slice_index_or xs 0 other
+head-same [] one other some = absurd (omega arith)
+head-same (x ∷ xs) one other some = refl
