@@ -9,3 +9,4 @@ pub mod SearchByChildren
 pub mod WalkSteps
 pub mod ChildSteps
 pub mod PackedSteps
+pub mod LeftSteps

@@ -265,7 +265,7 @@ search-requires-in-Some g t c κs within =
     c.index-job.result.now inside stands popped job c.put.new.self c.child-child.result c.children.packs c.requires.few c.children.invariant.packs
     (c.put.ensures c.args.instance.now.jobs c.requires.at.0 c.requires.at.1 stands.has_lists)
     (c.child-child.ensures.node c.requires.at.0 c.requires.at.1 (at.is_branch pack).is_node open_job.left)
-    (λ names left within named. c.child-child.ensures.left c.requires.at.0 c.requires.at.1 names left within named
+    (λ names left within named. c.child-child.ensures.left c.requires.at.0 c.requires.at.1 names left open_job.left within named
     (c.children.invariant.marked c.in-Some.place c.in-Some.ensures.marked)) in
     (
       omega (arith, c.decreases, c.if-left-eq1.false, c.requires.some, c.children.invariant.packs.count),
@@ -307,7 +307,7 @@ returns-in-Err-clause-ends g t c first last at =
     c.index-job.result.now inside stands popped job c.put.new.self c.child-child.result c.children.packs c.requires.few c.children.invariant.packs
     (c.put.ensures c.args.instance.now.jobs first last stands.has_lists)
     (c.child-child.ensures.node first last (at.is_branch pack).is_node open_job.left)
-    (λ names left within named. c.child-child.ensures.left first last names left within named
+    (λ names left within named. c.child-child.ensures.left first last names left open_job.left within named
     (c.children.invariant.marked c.in-Some.place c.in-Some.ensures.marked)) in
     ends-stops g.V.Lanes.list g.V.Lanes.CAP g.V.Lanes.WIDTH c.args.instance.now c.args.aim.number
     c.args.left c.args.packs.now c.args.branch.now c.args.written.now.lists first last at
@@ -345,7 +345,7 @@ take-requires g t c =
     c.index-job.result.now inside stands popped job c.put.new.self c.child-child.result c.children.packs c.requires.few c.children.invariant.packs
     (c.put.ensures c.args.instance.now.jobs c.requires.at.0 c.requires.at.1 stands.has_lists)
     (c.child-child.ensures.node c.requires.at.0 c.requires.at.1 (at.is_branch pack).is_node open_job.left)
-    (λ names left within named. c.child-child.ensures.left c.requires.at.0 c.requires.at.1 names left within named
+    (λ names left within named. c.child-child.ensures.left c.requires.at.0 c.requires.at.1 names left open_job.left within named
     (c.children.invariant.marked c.in-Some.place c.in-Some.ensures.marked)) in
     (
       c.args.instance.now.jobs,
@@ -396,7 +396,7 @@ children-preserved g t c = record {
       c.index-job.result.now inside stands popped job c.put.new.self c.child-child.result c.children.packs c.requires.few c.children.invariant.packs
       (c.put.ensures c.args.instance.now.jobs c.requires.at.0 c.requires.at.1 stands.has_lists)
       (c.child-child.ensures.node c.requires.at.0 c.requires.at.1 (at.is_branch pack).is_node open_job.left)
-      (λ names left within named. c.child-child.ensures.left c.requires.at.0 c.requires.at.1 names left within named
+      (λ names left within named. c.child-child.ensures.left c.requires.at.0 c.requires.at.1 names left open_job.left within named
       (c.children.invariant.marked c.in-Some.place c.in-Some.ensures.marked)) in
       (c.in-Ok.ensures.ends first2 last2 child).2;
   marked = λ place marked. c.children.invariant.marked place (c.pop.ensures.fewer place marked);
@@ -427,7 +427,7 @@ children-preserved g t c = record {
       c.index-job.result.now inside stands popped job c.put.new.self c.child-child.result c.children.packs c.requires.few c.children.invariant.packs
       (c.put.ensures c.args.instance.now.jobs first last stands.has_lists)
       (c.child-child.ensures.node first last (at.is_branch pack).is_node open_job.left)
-      (λ names left within named. c.child-child.ensures.left first last names left within named
+      (λ names left within named. c.child-child.ensures.left first last names left open_job.left within named
       (c.children.invariant.marked c.in-Some.place c.in-Some.ensures.marked)) in
       let ends = c.in-Ok.ensures.ends first2 last2 child in
       subst (λ p. Stands c.args.instance.now c.args.aim.number c.open-opened.result.end first last
