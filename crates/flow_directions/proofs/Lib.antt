@@ -1,0 +1,3 @@
+pub mod MarkedNames
+pub mod ChosenNames
+pub mod MarkSteps
