@@ -15,3 +15,5 @@ pub mod JobsMarked
 pub mod BoundSums
 pub mod PackSteps
 pub mod EndTaken
+pub mod StartLists
+pub mod FoundSteps

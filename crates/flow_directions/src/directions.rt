@@ -11,7 +11,6 @@ ghost use Rattle.flow_directions.specs.declared.found.ProveFault.TheVariants.{Jo
 
 use crate::branch::Branch;
 use crate::found::{Found, ProveFault};
-use crate::lists::Lists;
 use crate::pack::Pack;
 use crate::start::Start;
 use crate::walk::{Aim, Stop, Written, search};
@@ -53,13 +52,13 @@ fn packs_for<V: Lanes>(
     Ok(packs)
 }
 
-/// The sequence that the lists of a node are, where no job is left; with its makespan.
-fn sequence_of(alloc: Global, instance: &Instance, lists: &Lists) -> Result<Found, ProveFault>
-    requires { IsSequence instance.now.jobs lists.now.jobs.items }
+/// The sequence of jobs that are known to be one; with its makespan.
+fn sequence_of(alloc: Global, instance: &Instance, jobs: &[u16]) -> Result<Found, ProveFault>
+    requires { IsSequence instance.now.jobs jobs.now }
     ensures fault { IfErr result (λ fault. fault ≡ Memory) }
-    ensures found { IfOk result (λ found. IsWithMakespan instance.now lists.now.jobs.items found) }
+    ensures found { IfOk result (λ found. IsWithMakespan instance.now jobs.now found) }
 {
-    let sequence = Sequence::of_known(alloc, lists.all())?;
+    let sequence = Sequence::of_known(alloc, jobs)?;
     let makespan = makespan(instance, &sequence);
     Ok(Found::Below { sequence, makespan })
 }
@@ -107,7 +106,7 @@ fn run<V: Lanes>(
         left,
     ) {
         Ok(()) => Ok(Found::Proved(written.directions)),
-        Err(Stop::Below) => sequence_of(alloc, instance, &written.lists),
+        Err(Stop::Below) => sequence_of(alloc, instance, written.lists.all()),
         Err(Stop::Over) => Ok(Found::Over),
         Err(Stop::Memory) => Err(ProveFault::Memory),
     }
@@ -133,7 +132,7 @@ pub fn prove(
         return Ok(Found::Proved(Vec::new(alloc)));
     }
     if start.left == 0 {
-        return sequence_of(alloc, instance, &start.lists);
+        return sequence_of(alloc, instance, start.lists.all());
     }
     if number <= NARROW {
         run::<u16x16>(alloc, instance, start, number, budget)

@@ -67,7 +67,8 @@ impl Lists {
 
     /// The jobs, where the lists have all of them.
     pub(crate) fn all(&self) -> &[u16]
-        ensures { (jobs : ℕ) (first last : List ℕ) → HasLists jobs first last self.now →
+        ensures value { result.now ≡ self.now.jobs.items }
+        ensures lists { (jobs : ℕ) (first last : List ℕ) → HasLists jobs first last self.now →
             length (first ++ last) ≡ jobs → result.now ≡ first ++ last }
     {
         self.jobs.as_slice()

@@ -65,9 +65,9 @@ impl Start {
             node.put(instance, End::Front, *job);
             lists.put(End::Front, *job);
         }
-        for job in last.iter().rev() {
-            node.put(instance, End::Back, *job);
-            lists.put(End::Back, *job);
+        for place in (0..last.len()).rev() {
+            node.put(instance, End::Back, last[place]);
+            lists.put(End::Back, last[place]);
         }
         let left = instance.jobs() - (first.len() + last.len()) as u16;
         Ok(Start {
