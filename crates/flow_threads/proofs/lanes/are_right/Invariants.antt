@@ -1,5 +1,5 @@
 use Rattle.std.proofs.Common.{◌≡◌}
-use Rattle.flow_threads.proofs.lanes.lane_gives_what_is_known.Given as goal
+use Rattle.flow_threads.proofs.lanes.are_right.Given as goal
 
 abbrev pub invariant-steps : goal.invariant-steps
-invariant-steps g l = l.sender.lane ≡ l.receiver.lane
+invariant-steps l = l.sender.lane ≡ l.receiver.lane
