@@ -14,4 +14,6 @@ mod long_trees;
 #[cfg(test)]
 mod many_prefixes;
 #[cfg(test)]
+mod texts;
+#[cfg(test)]
 mod written;
