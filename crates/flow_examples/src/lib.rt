@@ -17,12 +17,16 @@ mod changed_text;
 mod changes;
 #[cfg(test)]
 mod checker;
+#[cfg(test)]
+mod drawn_searches;
 mod instances;
 mod outcomes;
 #[cfg(test)]
 mod plain;
 #[cfg(test)]
 mod search;
+#[cfg(test)]
+mod searches;
 #[cfg(test)]
 mod shops;
 #[cfg(test)]
