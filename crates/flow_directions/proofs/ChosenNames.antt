@@ -1,5 +1,5 @@
 -- What the names at marked places are once marks are taken away, and word by word.
-use Rattle.std.proofs.Common.{ℕ, zero, suc, ◌≡◌, ◌≢◌, ◌+◌, ◌-◌, ◌*◌, ◌/◌, ◌%◌, ◌^◌, ◌<◌, ◌≤◌, ◌↔◌, Bool, true, min}
+use Rattle.std.proofs.Common.{ℕ, suc, ◌≡◌, ◌+◌, ◌-◌, ◌*◌, ◌/◌, ◌%◌, ◌^◌, ◌<◌, ◌≤◌, ◌↔◌, Bool, true}
 use Rattle.std.proofs.Common.{cond, nat_eq, filter, bit_and}
 use Rattle.std.proofs.Common.{List, [], ◌∷◌, ◌++◌, length, slice_index, take, drop, refl, sym, ap, ◌∙◌, arith}
 use Rattle.std.specs.Int.{bit_at, w16}
@@ -55,7 +55,7 @@ chosen-kept (word ∷ words) names =
     ∙ kept-same (bit_at word) (mark (word ∷ words)) (take 16 names)
     (λ i low. sym (mark-low word words i (omega (arith, size, low)))) in
     let rest : chosen words (drop 16 names)
-        ≡ kept (λ i. mark (word ∷ words) (length (take 16 names) + i)) (drop 16 names) =
+    ≡ kept (λ i. mark (word ∷ words) (length (take 16 names) + i)) (drop 16 names) =
     chosen-kept words (drop 16 names)
     ∙ kept-same (mark words) (λ i. mark (word ∷ words) (length (take 16 names) + i)) (drop 16 names)
     (λ i low. sym (mark-high word words i (length (take 16 names)) (omega (arith, size, low, length-drop 16 names)))) in

@@ -204,10 +204,24 @@ count-word word (name ∷ names) few =
     let step = ones_step word in
     let lowest = bit_at_lowest word in
     elim (cases_eq (bit_at word 0) 1) [
-      | inl marked ↦ omega (arith, step, lowest, marked, half, ap length rest,
-          ap length (kept-yes (bit_at word) name names marked))
-      | inr unmarked ↦ omega (arith, step, lowest, unmarked, half, ap length rest,
-          ap length (kept-no (bit_at word) name names unmarked))
+      | inl marked ↦ omega (
+        arith,
+        step,
+        lowest,
+        marked,
+        half,
+        ap length rest,
+        ap length (kept-yes (bit_at word) name names marked),
+      )
+      | inr unmarked ↦ omega (
+        arith,
+        step,
+        lowest,
+        unmarked,
+        half,
+        ap length rest,
+        ap length (kept-no (bit_at word) name names unmarked),
+      )
     ]
 
 -- the names chosen from a word on are as many as the ones of the word and the names chosen from the next word on

@@ -1,5 +1,5 @@
 -- The names at the places that are marked, for marks that are given by a function of the place.
-use Rattle.std.proofs.Common.{ℕ, zero, suc, ◌≡◌, ◌≢◌, ◌+◌, ◌<◌, ◌≤◌, ◌↔◌, Bool, true, false, cond, nat_eq, filter}
+use Rattle.std.proofs.Common.{ℕ, zero, suc, ◌≡◌, ◌≢◌, ◌+◌, ◌<◌, ◌≤◌, ◌↔◌, Bool, true, cond, nat_eq, filter}
 use Rattle.std.proofs.Common.{List, [], ◌∷◌, ◌++◌, length, slice_index, take, refl, sym, ap, ◌∙◌, inl, inr, arith}
 use Rattle.std.proofs.lemmas.Bool.{cases_eq, cases_Bool, eq-eqb, ne_eqb, cond-true, cond-false, true≢false}
 
@@ -59,16 +59,16 @@ pub kept-parted : (old new : ℕ → ℕ) (names : List ℕ) (place : ℕ) → p
     × (kept old names ≡ before ++ slice_index names place ∷ behind) × (kept new names ≡ before ++ behind)
 kept-parted old new [] place within was is_not others = absurd (omega arith)
 kept-parted old new (name ∷ names) zero within was is_not others = (
-      [],
-      kept (λ i. old (suc i)) names,
-      kept-yes old name names was,
-      kept-no new name names is_not
-          ∙ kept-same (λ i. new (suc i)) (λ i. old (suc i)) names
-          (λ i low. others (suc i) (omega arith) (λ e. omega arith)),
-    )
+  [],
+  kept (λ i. old (suc i)) names,
+  kept-yes old name names was,
+  kept-no new name names is_not
+      ∙ kept-same (λ i. new (suc i)) (λ i. old (suc i)) names
+      (λ i low. others (suc i) (omega arith) (λ e. omega arith)),
+)
 kept-parted old new (name ∷ names) (suc place) within was is_not others =
     let rest = kept-parted (λ i. old (suc i)) (λ i. new (suc i)) names place (omega arith) was is_not
-        (λ i low apart. others (suc i) (omega arith) (λ e. apart (omega (arith, e)))) in
+    (λ i low apart. others (suc i) (omega arith) (λ e. apart (omega (arith, e)))) in
     let head : new 0 ≡ old 0 = others 0 (omega arith) (λ e. omega arith) in
     elim (cases_eq (old 0) 1) [
       | inl marked ↦ (
@@ -94,14 +94,14 @@ kept-first old new [] place within was none is_not others = absurd (omega arith)
 kept-first old new (name ∷ names) zero within was none is_not others =
     kept-yes old name names was
     ∙ ap (λ l. name ∷ l) (
-      kept-same (λ i. old (suc i)) (λ i. new (suc i)) names
-          (λ i low. sym (others (suc i) (omega arith) (λ e. omega arith)))
-          ∙ sym (kept-no new name names is_not)
+    kept-same (λ i. old (suc i)) (λ i. new (suc i)) names
+    (λ i low. sym (others (suc i) (omega arith) (λ e. omega arith)))
+    ∙ sym (kept-no new name names is_not)
     )
 kept-first old new (name ∷ names) (suc place) within was none is_not others =
     let rest = kept-first (λ i. old (suc i)) (λ i. new (suc i)) names place (omega arith) was
-        (λ i low. none (suc i) (omega arith)) is_not
-        (λ i low apart. others (suc i) (omega arith) (λ e. apart (omega (arith, e)))) in
+    (λ i low. none (suc i) (omega arith)) is_not
+    (λ i low apart. others (suc i) (omega arith) (λ e. apart (omega (arith, e)))) in
     let head : new 0 ≡ old 0 = others 0 (omega arith) (λ e. omega arith) in
     let unmarked : old 0 ≢ 1 = none 0 (omega arith) in
     kept-no old name names unmarked ∙ rest
@@ -119,8 +119,8 @@ kept-take marks (name ∷ names) zero marked unmarked =
 kept-take marks (name ∷ names) (suc count) marked unmarked =
     kept-yes marks name names (marked 0 (omega arith))
     ∙ ap (λ l. name ∷ l) (
-      kept-take (λ i. marks (suc i)) names count (λ i low. marked (suc i) (omega arith))
-          (λ i high. unmarked (suc i) (omega arith))
+    kept-take (λ i. marks (suc i)) names count (λ i low. marked (suc i) (omega arith))
+    (λ i high. unmarked (suc i) (omega arith))
     )
 
 -- where no place of a name is marked, there are none
@@ -138,8 +138,8 @@ kept-append marks [] second =
 kept-append marks (name ∷ first) second =
     let rest = kept-append (λ i. marks (suc i)) first second
     ∙ ap (λ l. kept (λ i. marks (suc i)) first ++ l) (
-      kept-same (λ i. marks (suc (length first + i))) (λ i. marks (length (name ∷ first) + i)) second
-          (λ i low. let e : suc (length first + i) ≡ length (name ∷ first) + i = omega arith in ap marks e)
+    kept-same (λ i. marks (suc (length first + i))) (λ i. marks (length (name ∷ first) + i)) second
+    (λ i low. let e : suc (length first + i) ≡ length (name ∷ first) + i = omega arith in ap marks e)
     ) in
     let behind : List ℕ = kept (λ i. marks (length (name ∷ first) + i)) second in
     elim (cases_eq (marks 0) 1) [
