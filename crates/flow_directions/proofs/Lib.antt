@@ -10,3 +10,8 @@ pub mod WalkSteps
 pub mod ChildSteps
 pub mod PackedSteps
 pub mod LeftSteps
+pub mod ChildBounds
+pub mod JobsMarked
+pub mod BoundSums
+pub mod PackSteps
+pub mod EndTaken

@@ -1,0 +1,125 @@
+-- The end at which a node is opened, by counts and sums of the bounds of its children.
+use Rattle.std.proofs.Common.{◌≡◌, ℕ, suc, ◌<◌, ◌≤◌, Bool, true, false, cond, ◌&&◌, ◌||◌, nat_eq, nat_lt, nat_le}
+use Rattle.std.proofs.Common.{List, ◌++◌, length, sum_by, ap, sym, ◌∙◌, inl, inr, arith}
+use Rattle.std.specs.List.{filter}
+use Rattle.std.proofs.lemmas.Bool.{eq-eqb}
+use Rattle.std.proofs.lemmas.Bool.Decides.{leb_tells, eqb_tells}
+use Rattle.std.proofs.lemmas.List.{length-map}
+use Rattle.flow_shop.specs.Shop.{Shop}
+use Rattle.flow_shop.specs.Sequences.{jobs_left}
+use Rattle.flow_shop.specs.declared.end.End.{End}
+use Rattle.flow_shop.specs.declared.end.End.TheVariants.{Front, Back}
+use Rattle.flow_nodes.specs.Groups.{child_bound}
+use Rattle.flow_directions.specs.Search.{child_bounds, count_below, end_taken}
+use Rattle.flow_directions.specs.internal.Packs.{jobs_below}
+use Rattle.flow_directions.proofs.BoundSums.{filter-map}
+
+-- as many bounds are below a number as there are jobs left whose children are
+count-below : (shop : Shop) (number : ℕ) (end : End) (first last : List ℕ) →
+    length (jobs_below shop number end first last) ≡ count_below number (child_bounds shop end first last)
+count-below shop number end first last =
+    sym (ap length (filter-map (λ bound. nat_lt bound number) (child_bound shop end first last)
+    (jobs_left shop.jobs (first ++ last)))
+    ∙ length-map (jobs_below shop number end first last) (child_bound shop end first last))
+
+lt-true : (a b : ℕ) → a < b → nat_lt a b ≡ true
+lt-true a b h = elim (leb_tells (suc a) b) [
+  | inl yes ↦ yes.0
+  | inr no ↦ absurd (omega (arith, no.1, h))
+]
+
+lt-false : (a b : ℕ) → b ≤ a → nat_lt a b ≡ false
+lt-false a b h = elim (leb_tells (suc a) b) [
+  | inl yes ↦ absurd (omega (arith, yes.1, h))
+  | inr no ↦ no.0
+]
+
+le-true : (a b : ℕ) → a ≤ b → nat_le a b ≡ true
+le-true a b h = elim (leb_tells a b) [
+  | inl yes ↦ yes.0
+  | inr no ↦ absurd (omega (arith, no.1, h))
+]
+
+le-false : (a b : ℕ) → b < a → nat_le a b ≡ false
+le-false a b h = elim (leb_tells a b) [
+  | inl yes ↦ absurd (omega (arith, yes.1, h))
+  | inr no ↦ no.0
+]
+
+eq-false : (a b : ℕ) → b < a → nat_eq a b ≡ false
+eq-false a b h = elim (eqb_tells a b) [
+  | inl yes ↦ absurd (omega (arith, yes.1, h))
+  | inr no ↦ no.0
+]
+
+-- the end by two counts and two sums
+abbrev by_counts : ℕ → ℕ → ℕ → ℕ → End
+by_counts front back front_sum back_sum =
+    cond (nat_lt front back || (nat_eq front back && nat_le back_sum front_sum)) Front Back
+
+module _ (front back front_sum back_sum : ℕ) where
+  by-fewer : front < back → by_counts front back front_sum back_sum ≡ Front
+  by-fewer less = ap (λ b. cond (b || (nat_eq front back && nat_le back_sum front_sum)) Front Back) (lt-true front back less)
+
+  by-sum : front ≡ back → back_sum ≤ front_sum → by_counts front back front_sum back_sum ≡ Front
+  by-sum same least =
+      ap (λ b. cond (b || (nat_eq front back && nat_le back_sum front_sum)) Front Back)
+      (lt-false front back (omega (arith, same)))
+      ∙ ap (λ b. cond (false || (b && nat_le back_sum front_sum)) Front Back) (eq-eqb front back same)
+      ∙ ap (λ b. cond (false || (true && b)) Front Back) (le-true back_sum front_sum least)
+
+  by-more : back < front → by_counts front back front_sum back_sum ≡ Back
+  by-more more =
+      ap (λ b. cond (b || (nat_eq front back && nat_le back_sum front_sum)) Front Back)
+      (lt-false front back (omega (arith, more)))
+      ∙ ap (λ b. cond (false || (b && nat_le back_sum front_sum)) Front Back) (eq-false front back more)
+
+  by-less-sum : front ≡ back → front_sum < back_sum → by_counts front back front_sum back_sum ≡ Back
+  by-less-sum same less =
+      ap (λ b. cond (b || (nat_eq front back && nat_le back_sum front_sum)) Front Back)
+      (lt-false front back (omega (arith, same)))
+      ∙ ap (λ b. cond (false || (b && nat_le back_sum front_sum)) Front Back) (eq-eqb front back same)
+      ∙ ap (λ b. cond (false || (true && b)) Front Back) (le-false back_sum front_sum less)
+
+module _ (shop : Shop) (number : ℕ) (first last : List ℕ) (fronts backs : List ℕ)
+    (fronts_are : fronts ≡ jobs_below shop number Front first last)
+    (backs_are : backs ≡ jobs_below shop number Back first last) where
+  abbrev front_sum : ℕ
+  front_sum = sum_by (λ bound. bound) (child_bounds shop Front first last)
+
+  abbrev back_sum : ℕ
+  back_sum = sum_by (λ bound. bound) (child_bounds shop Back first last)
+
+  front-count : length fronts ≡ count_below number (child_bounds shop Front first last)
+  front-count = ap length fronts_are ∙ count-below shop number Front first last
+
+  back-count : length backs ≡ count_below number (child_bounds shop Back first last)
+  back-count = ap length backs_are ∙ count-below shop number Back first last
+
+  -- the front has fewer children below the number
+  pub front-fewer : length fronts < length backs → end_taken shop number first last ≡ Front
+  front-fewer less =
+      by-fewer (count_below number (child_bounds shop Front first last))
+      (count_below number (child_bounds shop Back first last)) front_sum back_sum
+      (omega (arith, less, front-count, back-count))
+
+  -- or as many, and its bounds sum to no less
+  pub front-greater : length fronts ≡ length backs → back_sum ≤ front_sum → end_taken shop number first last ≡ Front
+  front-greater same least =
+      by-sum (count_below number (child_bounds shop Front first last))
+      (count_below number (child_bounds shop Back first last)) front_sum back_sum
+      (omega (arith, same, front-count, back-count)) least
+
+  -- the back has fewer
+  pub back-fewer : length backs < length fronts → end_taken shop number first last ≡ Back
+  back-fewer more =
+      by-more (count_below number (child_bounds shop Front first last))
+      (count_below number (child_bounds shop Back first last)) front_sum back_sum
+      (omega (arith, more, front-count, back-count))
+
+  -- or as many, and its bounds sum to more
+  pub back-greater : length fronts ≡ length backs → front_sum < back_sum → end_taken shop number first last ≡ Back
+  back-greater same less =
+      by-less-sum (count_below number (child_bounds shop Front first last))
+      (count_below number (child_bounds shop Back first last)) front_sum back_sum
+      (omega (arith, same, front-count, back-count)) less
