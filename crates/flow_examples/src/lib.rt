@@ -20,7 +20,11 @@ mod checker;
 mod instances;
 mod outcomes;
 #[cfg(test)]
+mod parts;
+#[cfg(test)]
 mod plain;
+#[cfg(test)]
+mod plans;
 #[cfg(test)]
 mod search;
 #[cfg(test)]
