@@ -22,7 +22,11 @@ mod drawn_searches;
 mod instances;
 mod outcomes;
 #[cfg(test)]
+mod parts;
+#[cfg(test)]
 mod plain;
+#[cfg(test)]
+mod plans;
 #[cfg(test)]
 mod search;
 #[cfg(test)]
