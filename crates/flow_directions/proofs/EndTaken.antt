@@ -1,7 +1,6 @@
 -- The end at which a node is opened, by counts and sums of the bounds of its children.
-use Rattle.std.proofs.Common.{◌≡◌, ℕ, suc, ◌<◌, ◌≤◌, Bool, true, false, cond, ◌&&◌, ◌||◌, nat_eq, nat_lt, nat_le}
+use Rattle.std.proofs.Common.{◌≡◌, ℕ, suc, ◌<◌, ◌≤◌, true, false, cond, ◌&&◌, ◌||◌, nat_eq, nat_lt, nat_le}
 use Rattle.std.proofs.Common.{List, ◌++◌, length, sum_by, ap, sym, ◌∙◌, inl, inr, arith}
-use Rattle.std.specs.List.{filter}
 use Rattle.std.proofs.lemmas.Bool.{eq-eqb}
 use Rattle.std.proofs.lemmas.Bool.Decides.{leb_tells, eqb_tells}
 use Rattle.std.proofs.lemmas.List.{length-map}
@@ -91,7 +90,8 @@ module _ (shop : Shop) (number : ℕ) (first last fronts backs : List ℕ)
       (sum_by (λ bound. bound) (child_bounds shop Front first last))
       (sum_by (λ bound. bound) (child_bounds shop Back first last))
       (omega (arith, same, front-count, back-count))
-      ∙ ap (λ s. cond (nat_le s (sum_by (λ bound. bound) (child_bounds shop Front first last))) Front Back) (sym back_is)
+      ∙ ap (λ s. cond (nat_le s (sum_by (λ bound. bound) (child_bounds shop Front first last))) Front Back)
+      (sym back_is)
       ∙ ap (λ s. cond (nat_le back_sum s) Front Back) (sym front_is)
 
   -- the back has fewer
