@@ -1,12 +1,12 @@
 -- The jobs at the marked places of a pack: those left, and those whose children are below a number.
-use Rattle.std.proofs.Common.{◌≡◌, ◌≢◌, ◌↔◌, ℕ, zero, suc, ◌+◌, ◌*◌, ◌/◌, ◌%◌, ◌<◌, ◌≤◌, min, Bool, true, false, not}
-use Rattle.std.proofs.Common.{nat_lt, List, [], ◌∷◌, ◌++◌, length, slice_index, take, drop, set, map, refl, ap, sym, ◌∙◌, subst}
-use Rattle.std.proofs.Common.{inl, inr, arith, slice_index_or}
+use Rattle.std.proofs.Common.{◌≡◌, ◌≢◌, ◌↔◌, ℕ, zero, suc, ◌+◌, ◌*◌, ◌/◌, ◌%◌, ◌<◌, min, Bool, true, false, not, nat_lt}
+use Rattle.std.proofs.Common.{List, [], ◌∷◌, ◌++◌, length, slice_index, slice_index_or, take, drop, set, refl, ap, sym}
+use Rattle.std.proofs.Common.{◌∙◌, subst, inl, inr, arith}
 use Rattle.std.specs.Prelude.{IsBitSet, bit_and}
 use Rattle.std.specs.Int.{bit_at}
 use Rattle.std.specs.Global.{Vec}
-use Rattle.std.specs.List.{filter, All, AllByRecursion}
-use Rattle.std.proofs.lemmas.Bool.{cases_lt, cases_eq}
+use Rattle.std.specs.List.{AllByRecursion}
+use Rattle.std.proofs.lemmas.Bool.{cases_eq}
 use Rattle.std.proofs.lemmas.Bool.Decides.{Decides-ltb}
 use Rattle.std.proofs.lemmas.List.{get_or-take, get_or-drop}
 use Rattle.std.proofs.lemmas.List.Elements.{filter_passes, recursion_from_All}
@@ -85,7 +85,8 @@ pub group-of : {V : Type 0} (list : V → List ℕ) (cap width : ℕ) (shop : Sh
     IsGroup list cap width shop names vectors
     × ((lane : ℕ) → lane < 16 → bit_at (slice_index branch.left.words group) lane ≡ 1 →
     has (first ++ last) (slice_index names lane) ≡ false)
-group-of list cap width shop first last pack branch group names vector vectors is within names_are vector_is vectors_are = (
+group-of list cap width shop first last pack branch group names vector vectors is within names_are vector_is
+    vectors_are = (
       subst (λ l. IsGroup list cap width shop l vectors) (sym names_are)
           (subst (IsGroup list cap width shop (take 16 (drop (group * 16) pack.names.items)))
           (sym (vectors_are ∙ ap (λ v. v.items) vector_is)) (is.is_pack.each group vector within)),
@@ -178,8 +179,8 @@ pub group-tells : {V : Type 0} (list : V → List ℕ) (cap width : ℕ) (wide :
     IsBitSet bits lane ↔ (child_bound shop end first last (slice_index jobs lane) < limit)) →
     place / 16 ≡ group → has (first ++ last) (slice_index names place) ≡ false →
     bit_at bits (place % 16) ≡ 1 ↔ (child_bound shop end first last (slice_index names place) < number)
-group-tells list cap width wide shop number limit end first last node names group vectors bits place is is_group limit_is
-    tells there fresh =
+group-tells list cap width wide shop number limit end first last node names group vectors bits place is is_group
+    limit_is tells there fresh =
     let lane : ℕ = place % 16 in
     let low : lane < 16 = omega arith in
     let at : group * 16 + lane ≡ place = omega (arith, there) in

@@ -1,7 +1,6 @@
 //! Packs: the times of jobs side by side, sixteen to a group, and the names of the jobs.
 
 ghost use Rattle.std.specs.Prelude.{◌≡◌, ◌≤◌, ◌*◌, length, take, IfOk};
-ghost use Rattle.flow_shop.specs.Shop.{numbers};
 ghost use Rattle.flow_directions.specs.internal.Packs.{HasRoom, IsPack, jobs_at};
 
 use crate::words::{LANES, Words};
@@ -68,21 +67,6 @@ impl<V: Lanes> Pack<V> {
         'places: while let Some(place) = rest.pop(from.groups.len()) {
             self.names[count] = from.names[place];
             count += 1;
-        }
-        self.load(instance);
-    }
-
-    /// Has all jobs, in order.
-    pub(crate) fn fill_with_all(&mut self, instance: &Instance)
-        requires wide { V.WIDTH ≡ 16 }
-        requires room { HasRoom instance.now self.old }
-        requires fits { instance.now.jobs ≤ length self.old.names.items }
-        ensures pack { IsPack V.list V.CAP V.WIDTH instance.now self.new }
-        ensures count { length self.new.groups.items ≡ length self.old.groups.items }
-        ensures jobs { take instance.now.jobs self.new.names.items ≡ numbers 1 instance.now.jobs }
-    {
-        for place in 0..instance.jobs() {
-            self.names[place as usize] = place + 1;
         }
         self.load(instance);
     }

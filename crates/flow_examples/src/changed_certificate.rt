@@ -1,6 +1,7 @@
 //! Certificates that differ in a byte or two from one at depth 2, beside a plain reading of each.
 
 use crate::changes::{Change, close_texts};
+use crate::parts::{number_of, parts};
 use crate::plain::{bound, completion, has};
 use flow_check::{CheckFault, check};
 use flow_core::Instance;
@@ -28,15 +29,11 @@ struct Heading {
 /// The numbers of a line, in decimal and with one space between them; this fault where it is not of that form.
 fn numbers_of(alloc: Global, line: &[u8], fault: CheckFault) -> Result<Vec<u64>, CheckFault> {
     let mut numbers = Vec::new(alloc);
-    for word in line.split(|byte| *byte == b' ') {
-        let text = str::from_utf8(word).unwrap_or("");
-        let Ok(number) = text.parse::<u64>() else {
-            return Err(fault);
-        };
-        if format!(in alloc; "{number}")?.as_str() != text {
-            return Err(fault);
+    for word in &parts(alloc, line, b" ")? {
+        match number_of(word) {
+            Some(number) if word.len() == 1 || !word.starts_with(b"0") => numbers.push(number)?,
+            _ => return Err(fault),
         }
-        numbers.push(number)?;
     }
     Ok(numbers)
 }
@@ -215,7 +212,7 @@ fn read_trees(
 
 /// Reads a certificate line by line.
 fn plain_reading(alloc: Global, instance: &Instance, text: &[u8]) -> Result<u64, CheckFault> {
-    let lines: Vec<&[u8]> = text.split(|byte| *byte == b'\n').collect(alloc)?;
+    let lines = parts(alloc, text, b"\n")?;
     // What stands behind the last LF is no line.
     let Some((_rest, whole)) = lines.as_slice().split_last() else {
         return Err(CheckFault::Header);

@@ -1,6 +1,7 @@
 //! Texts that differ in a byte or two from one with two blocks, beside a plain reading of each.
 
 use crate::changes::{Change, close_texts};
+use crate::parts::{are_digits, number_of, parts};
 use flow_core::{Block, TextFault, read_blocks};
 use std::alloc::{AllocError, Global};
 
@@ -14,6 +15,16 @@ enum Wanted {
     Head,
     TimesLabel,
     Times,
+}
+
+/// Whether these are times of jobs: each is within the limit.
+fn are_times(numbers: &[u32]) -> bool {
+    for number in numbers {
+        if *number > 999_999 {
+            return false;
+        }
+    }
+    true
 }
 
 /// A reading of the first lines of a text.
@@ -55,12 +66,12 @@ impl Reading {
         if numbers.len() > self.missing {
             return Err(self.fault(line));
         }
-        if self.wanted == Wanted::Times && numbers.iter().any(|time| *time > 999_999) {
+        if self.wanted == Wanted::Times && !are_times(numbers) {
             return Err(TextFault::Limits(line));
         }
-        self.numbers
-            .extend_from_slice(numbers)
-            .map_err(|_| TextFault::Memory)?;
+        if self.numbers.extend_from_slice(numbers).is_err() {
+            return Err(TextFault::Memory);
+        }
         self.missing -= numbers.len();
         if self.missing > 0 {
             return Ok(());
@@ -90,27 +101,38 @@ impl Reading {
 /// What stands between the blanks of a line.
 fn words_of(alloc: Global, line: &[u8]) -> Result<Vec<&[u8]>, AllocError> {
     let mut words = Vec::new(alloc);
-    for word in line.split(|byte| *byte == b' ' || *byte == b'\t' || *byte == b'\r') {
+    for word in &parts(alloc, line, b" \t\r")? {
         if !word.is_empty() {
-            words.push(word)?;
+            words.push(*word)?;
         }
     }
     Ok(words)
 }
 
+/// Puts the number that a word of digits is behind others.
+fn put_number(numbers: &mut Vec<u32>, word: &[u8], line: usize) -> Result<(), TextFault> {
+    let Some(number) = number_of(word) else {
+        return Err(TextFault::Number(line));
+    };
+    let Ok(number) = u32::try_from(number) else {
+        return Err(TextFault::Number(line));
+    };
+    match numbers.push(number) {
+        Ok(()) => Ok(()),
+        Err(_) => Err(TextFault::Memory),
+    }
+}
+
 /// The numbers that these words are.
 fn numbers_of(alloc: Global, words: &[&[u8]], line: usize) -> Result<Vec<u32>, TextFault> {
     for word in words {
-        if !word.iter().all(|byte| byte.is_ascii_digit()) {
+        if !are_digits(word) {
             return Err(TextFault::Byte(line));
         }
     }
     let mut numbers = Vec::new(alloc);
     for word in words {
-        match str::from_utf8(word).unwrap_or("").parse::<u32>() {
-            Ok(number) => numbers.push(number).map_err(|_| TextFault::Memory)?,
-            Err(_) => return Err(TextFault::Number(line)),
-        }
+        put_number(&mut numbers, word, line)?;
     }
     Ok(numbers)
 }
@@ -122,7 +144,9 @@ fn read_line(
     bytes: &[u8],
     line: usize,
 ) -> Result<(), TextFault> {
-    let words = words_of(alloc, bytes).map_err(|_| TextFault::Memory)?;
+    let Ok(words) = words_of(alloc, bytes) else {
+        return Err(TextFault::Memory);
+    };
     match words.first() {
         None => Ok(()),
         Some([b'0'..=b'9', ..]) => {
@@ -136,18 +160,28 @@ fn read_line(
     }
 }
 
+/// Reads lines.
+fn read_lines(alloc: Global, reading: &mut Reading, lines: &[&[u8]]) -> Result<(), TextFault> {
+    let mut line: usize = 0;
+    for bytes in lines {
+        line = line.saturating_add(1);
+        read_line(alloc, reading, bytes, line)?;
+    }
+    Ok(())
+}
+
 /// Reads a text line by line.
 fn plain_reading(alloc: Global, text: &[u8]) -> Result<Vec<u32>, TextFault> {
+    let Ok(lines) = parts(alloc, text, b"\n") else {
+        return Err(TextFault::Memory);
+    };
     let mut reading = Reading {
         wanted: Wanted::HeadLabel,
         missing: 0,
         numbers: Vec::new(alloc),
     };
-    let mut line: usize = 0;
-    for bytes in text.split(|byte| *byte == b'\n') {
-        line = line.saturating_add(1);
-        read_line(alloc, &mut reading, bytes, line)?;
-    }
+    read_lines(alloc, &mut reading, lines.as_slice())?;
+    let mut line = lines.len();
     // What stands behind the last LF is a line only where it has bytes.
     if !text.ends_with(b"\n") && !text.is_empty() {
         line = line.saturating_add(1);

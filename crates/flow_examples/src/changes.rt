@@ -43,24 +43,47 @@ fn put(
     Ok(())
 }
 
+/// Puts the texts with another byte in a place behind others.
+fn put_others(
+    close: &mut Vec<Vec<u8>>,
+    alloc: Global,
+    text: &[u8],
+    place: usize,
+    byte: u8,
+) -> Result<(), AllocError> {
+    for other in 0..=255u8 {
+        if other != byte {
+            put(close, alloc, text, place, 1, &[other])?;
+        }
+    }
+    Ok(())
+}
+
+/// Puts the texts that are changed so in a place, where this byte is, behind others.
+fn put_changed(
+    close: &mut Vec<Vec<u8>>,
+    alloc: Global,
+    change: Change,
+    text: &[u8],
+    place: usize,
+    byte: u8,
+) -> Result<(), AllocError> {
+    match change {
+        Change::Other => put_others(close, alloc, text, place, byte),
+        Change::Lost => put(close, alloc, text, place, 1, b""),
+        Change::Doubled => put(close, alloc, text, place, 0, &[byte]),
+        Change::Swapped => match text.get(place.saturating_add(1)) {
+            Some(next) => put(close, alloc, text, place, 2, &[*next, byte]),
+            None => Ok(()),
+        },
+    }
+}
+
 /// The texts that are changed so in one place.
 pub fn close_texts(alloc: Global, change: Change, text: &[u8]) -> Result<Vec<Vec<u8>>, AllocError> {
     let mut close = Vec::new(alloc);
-    for (place, &byte) in text.iter().enumerate() {
-        let next = text.get(place.saturating_add(1)).copied();
-        match (change, next) {
-            (Change::Other, _) => {
-                for other in (0..=255u8).filter(|other| *other != byte) {
-                    put(&mut close, alloc, text, place, 1, &[other])?;
-                }
-            }
-            (Change::Lost, _) => put(&mut close, alloc, text, place, 1, b"")?,
-            (Change::Doubled, _) => put(&mut close, alloc, text, place, 0, &[byte])?,
-            (Change::Swapped, Some(next)) => {
-                put(&mut close, alloc, text, place, 2, &[next, byte])?;
-            }
-            (Change::Swapped, None) => {}
-        }
+    for (place, byte) in text.iter().enumerate() {
+        put_changed(&mut close, alloc, change, text, place, *byte)?;
     }
     Ok(close)
 }

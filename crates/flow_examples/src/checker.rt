@@ -5,7 +5,6 @@ use crate::shops::{Shop, made};
 use flow_check::{CheckFault, check};
 use flow_core::Instance;
 use std::alloc::{AllocError, Global};
-use std::test::Fail;
 
 /// The first line of version 1.
 const TITLE: &[u8] = b"flowshop certificate 1\n";
@@ -245,7 +244,10 @@ fn answer_of(letter: u8, strong: &[u8], line: usize) -> Result<u64, CheckFault> 
 }
 
 /// Whether the checker answers so where each of the letters is the tree of an index, and no other has changed.
-fn tests_letters(alloc: Global, instance: &Instance, index: usize, strong: &[u8]) -> bool {
+fn tests_letters(alloc: Global, index: usize, strong: &[u8]) -> bool {
+    let Ok(instance) = three_machines(alloc) else {
+        return false;
+    };
     for letter in b'A'..=b'D' {
         let mut text = LETTERS;
         let place = index.saturating_mul(2).saturating_add(38);
@@ -253,7 +255,7 @@ fn tests_letters(alloc: Global, instance: &Instance, index: usize, strong: &[u8]
             *byte = letter;
         }
         let answer = answer_of(letter, strong, index.saturating_add(5));
-        if check(alloc, instance, &text) != answer {
+        if check(alloc, &instance, &text) != answer {
             return false;
         }
     }
@@ -261,15 +263,10 @@ fn tests_letters(alloc: Global, instance: &Instance, index: usize, strong: &[u8]
 }
 
 #[test]
-fn checker_tests_each_single_letter(rt: HostRuntime) -> Result<(), Fail> {
-    let instance = three_machines(rt.alloc())?;
+fn checker_tests_each_single_letter(rt: HostRuntime) {
     for (index, strong) in STRONG.iter().enumerate() {
-        assert!(rt;
-            tests_letters(rt.alloc(), &instance, index, strong),
-            "at {index}"
-        );
+        assert!(rt; tests_letters(rt.alloc(), index, strong), "at {index}");
     }
-    Ok(())
 }
 
 /// An instance on one machine, the depth, a tree, how many lines have this tree, and the answer.
@@ -510,10 +507,13 @@ static BEGINNINGS: [(usize, usize, CheckFault); 6] = [
 ];
 
 /// Whether each of these beginnings has its fault.
-fn are_faulty(alloc: Global, instance: &Instance, row: &(usize, usize, CheckFault)) -> bool {
+fn are_faulty(alloc: Global, row: &(usize, usize, CheckFault)) -> bool {
+    let Ok(instance) = three_machines(alloc) else {
+        return false;
+    };
     for length in row.0..row.1 {
         let text = CERTIFICATE_AT_DEPTH_0.get(..length).unwrap_or(b"");
-        if text.len() != length || check(alloc, instance, text) != Err(row.2) {
+        if text.len() != length || check(alloc, &instance, text) != Err(row.2) {
             return false;
         }
     }
@@ -521,12 +521,10 @@ fn are_faulty(alloc: Global, instance: &Instance, row: &(usize, usize, CheckFaul
 }
 
 #[test]
-fn checker_names_first_fault_of_each_prefix(rt: HostRuntime) -> Result<(), Fail> {
-    let instance = three_machines(rt.alloc())?;
+fn checker_names_first_fault_of_each_prefix(rt: HostRuntime) {
     for (number, row) in BEGINNINGS.iter().enumerate() {
-        assert!(rt; are_faulty(rt.alloc(), &instance, row), "row {number}");
+        assert!(rt; are_faulty(rt.alloc(), row), "row {number}");
     }
-    Ok(())
 }
 
 /// The certificates that differ from the one at depth 0 in one byte. Machine 3 has the bound 14 at the list 3 2, and
@@ -555,15 +553,20 @@ fn accepted_at(alloc: Global, instance: &Instance, place: usize) -> Option<usize
     Some(count)
 }
 
-#[test]
-fn checker_accepts_two_of_all_changed_bytes(rt: HostRuntime) -> Result<(), Fail> {
-    let instance = three_machines(rt.alloc())?;
-    let mut accepted: usize = 0;
+/// How many of the certificates with another byte are accepted; none where one is that is not close, or with another
+/// makespan.
+fn accepted(alloc: Global) -> Option<usize> {
+    let Ok(instance) = three_machines(alloc) else {
+        return None;
+    };
+    let mut count: usize = 0;
     for place in 0..CERTIFICATE_AT_DEPTH_0.len() {
-        let count = accepted_at(rt.alloc(), &instance, place);
-        assert!(rt; count.is_some(), "at {place}");
-        accepted = accepted.saturating_add(count.unwrap_or(0));
+        count = count.saturating_add(accepted_at(alloc, &instance, place)?);
     }
-    assert!(rt; accepted == 2);
-    Ok(())
+    Some(count)
+}
+
+#[test]
+fn checker_accepts_two_of_all_changed_bytes(rt: HostRuntime) {
+    assert!(rt; accepted(rt.alloc()) == Some(2));
 }

@@ -17,12 +17,20 @@ mod changed_text;
 mod changes;
 #[cfg(test)]
 mod checker;
+#[cfg(test)]
+mod drawn_searches;
 mod instances;
 mod outcomes;
 #[cfg(test)]
+mod parts;
+#[cfg(test)]
 mod plain;
 #[cfg(test)]
+mod plans;
+#[cfg(test)]
 mod search;
+#[cfg(test)]
+mod searches;
 #[cfg(test)]
 mod shops;
 #[cfg(test)]

@@ -30,7 +30,7 @@ pub fn completion(instance: &Instance, jobs: &[u16], machine: u16) -> u64 {
 
 /// Whether a job stands in a list.
 pub fn has(jobs: &[u16], job: u16) -> bool {
-    jobs.iter().any(|other| *other == job)
+    jobs.contains(&job)
 }
 
 /// The least time that a job left needs on the machines from first to last.

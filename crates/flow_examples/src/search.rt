@@ -2,6 +2,7 @@
 
 use crate::instances::{TREES_AT_DEPTH_1, three_machines};
 use crate::outcomes::{AMPLE, TIGHT, all_outcomes, is_verdict};
+use crate::plans::planned;
 use crate::shops::{Shop, made};
 use flow_search::{
     OptionFault, Options, Outcome, Plan, PlanFault, RunFault, Verdict, answer, conclude, prepare,
@@ -127,15 +128,12 @@ fn has_prefixes(plan: &Plan, count: u32, prefixes: Prefixes) -> bool {
 /// Whether the plan of an instance at a depth has so many prefixes, and these.
 fn is_cut(alloc: Global, row: &(Shop, u32, u32, Prefixes)) -> bool {
     let (shop, depth, count, prefixes) = *row;
-    let Ok(options) = Options::new(1, depth, AMPLE) else {
-        return false;
-    };
     let Ok(instance) = made(alloc, shop) else {
         return false;
     };
-    match prepare(alloc, &instance, options) {
-        Ok(plan) => has_prefixes(&plan, count, prefixes),
-        Err(_) => false,
+    match planned(alloc, &instance, (depth, 1, AMPLE)) {
+        Some(plan) => has_prefixes(&plan, count, prefixes),
+        None => false,
     }
 }
 
@@ -209,15 +207,12 @@ fn answers(alloc: Global, plan: &Plan, row: &Answered) -> bool {
 
 /// Whether a prefix of the instance with three machines is answered so at depth 1.
 fn is_answered(alloc: Global, row: &Answered) -> bool {
-    let Ok(options) = Options::new(1, 1, AMPLE) else {
-        return false;
-    };
     let Ok(instance) = three_machines(alloc) else {
         return false;
     };
-    match prepare(alloc, &instance, options) {
-        Ok(plan) => answers(alloc, &plan, row),
-        Err(_) => false,
+    match planned(alloc, &instance, (1, 1, AMPLE)) {
+        Some(plan) => answers(alloc, &plan, row),
+        None => false,
     }
 }
 
@@ -258,15 +253,12 @@ fn concludes(alloc: Global, plan: &Plan, listed: Listed) -> bool {
 
 /// Whether the outcomes of the instance with three machines come to this verdict at depth 1.
 fn is_concluded(alloc: Global, row: &(u32, Listed)) -> bool {
-    let Ok(options) = Options::new(1, 1, row.0) else {
-        return false;
-    };
     let Ok(instance) = three_machines(alloc) else {
         return false;
     };
-    match prepare(alloc, &instance, options) {
-        Ok(plan) => concludes(alloc, &plan, row.1),
-        Err(_) => false,
+    match planned(alloc, &instance, (1, 1, row.0)) {
+        Some(plan) => concludes(alloc, &plan, row.1),
+        None => false,
     }
 }
 
@@ -329,22 +321,14 @@ static SOLVED: [Solved; 12] = [
     (Shop::Two, (0, 2, 1), Ok((9, &[2, 3, 1], &[b"B"]))),
 ];
 
-/// The options of one worker with this depth, version and budget.
-fn options_of((depth, version, budget): (u32, u32, u32)) -> Result<Options, OptionFault> {
-    Options::new(1, depth, budget)?.with_version(version)
-}
-
 /// Whether the plan of an instance has the verdict of a table.
 fn is_solved(alloc: Global, row: &Solved) -> bool {
-    let Ok(options) = options_of(row.1) else {
-        return false;
-    };
     let Ok(instance) = made(alloc, row.0) else {
         return false;
     };
-    match prepare(alloc, &instance, options) {
-        Ok(plan) => is_listed(solve_plain(alloc, &plan), row.2),
-        Err(_) => false,
+    match planned(alloc, &instance, row.1) {
+        Some(plan) => is_listed(solve_plain(alloc, &plan), row.2),
+        None => false,
     }
 }
 

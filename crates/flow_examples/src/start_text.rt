@@ -2,6 +2,7 @@
 //! reading.
 
 use crate::changes::replaced;
+use crate::parts::{number_of, parts};
 use flow_core::{Claim, Start, StartFault, read_start};
 use std::alloc::{AllocError, Global};
 
@@ -87,52 +88,65 @@ fn the_first_fault_of_a_start_is_named(rt: HostRuntime) {
     }
 }
 
-/// Whether a byte is a blank within a line.
-fn is_blank(byte: u8) -> bool {
-    byte == b' ' || byte == b'\t' || byte == b'\r'
+/// The blanks within a line.
+const BLANKS: &[u8] = b" \t\r";
+
+/// Whether a line has blanks alone.
+fn is_blank(line: &[u8]) -> bool {
+    for byte in line {
+        if !BLANKS.contains(byte) {
+            return false;
+        }
+    }
+    true
+}
+
+/// Puts the number that a word is behind others. Whether it is one, up to the greatest.
+fn put_number(word: &[u8], most: u64, numbers: &mut Vec<u64>) -> bool {
+    match number_of(word) {
+        Some(number) => number <= most && numbers.push(number).is_ok(),
+        None => false,
+    }
 }
 
 /// Puts the numbers behind a word on a line into a list. Whether there is nothing else on the line.
 fn read_line(
+    alloc: Global,
     word: &[u8],
     line: &[u8],
     most: u64,
     numbers: &mut Vec<u64>,
 ) -> Result<bool, AllocError> {
     let mut is_first = true;
-    for part in line.split(|byte| is_blank(*byte)) {
+    for part in &parts(alloc, line, BLANKS)? {
         if part.is_empty() {
             continue;
         }
-        if is_first {
-            is_first = false;
-            if part != word {
-                return Ok(false);
-            }
-            continue;
-        }
-        if !part.iter().all(|byte| byte.is_ascii_digit()) {
+        let is_right = if is_first {
+            *part == word
+        } else {
+            put_number(part, most, numbers)
+        };
+        if !is_right {
             return Ok(false);
         }
-        match str::from_utf8(part).unwrap_or("").parse::<u64>() {
-            Ok(number) if number <= most => numbers.push(number)?,
-            _ => return Ok(false),
-        }
+        is_first = false;
     }
     Ok(true)
 }
 
 /// Reads a line that is not blank, the first of them or one behind it. Whether it brings what is wanted.
 fn read_next(
+    alloc: Global,
     line: &[u8],
     number: u64,
     jobs: &mut Vec<u64>,
     claim: &mut Vec<u64>,
 ) -> Result<bool, AllocError> {
     if jobs.is_empty() {
-        return Ok(read_line(b"sequence", line, 65_535, jobs)? && !jobs.is_empty());
+        return Ok(read_line(alloc, b"sequence", line, 65_535, jobs)? && !jobs.is_empty());
     }
-    if !claim.is_empty() || !read_line(b"makespan", line, 4_294_967_295, claim)? {
+    if !claim.is_empty() || !read_line(alloc, b"makespan", line, 4_294_967_295, claim)? {
         return Ok(false);
     }
     claim.push(number)?;
@@ -142,15 +156,15 @@ fn read_next(
 /// Reads a start line by line: the jobs, and the makespan with its line if there is one. The answer is the line at
 /// fault, or 0.
 fn plain_reading(
+    alloc: Global,
     text: &[u8],
     jobs: &mut Vec<u64>,
     claim: &mut Vec<u64>,
 ) -> Result<usize, AllocError> {
     let mut count = 0usize;
-    for line in text.split(|byte| *byte == b'\n') {
+    for line in &parts(alloc, text, b"\n")? {
         count = count.saturating_add(1);
-        let is_empty = line.iter().all(|byte| is_blank(*byte));
-        if !is_empty && !read_next(line, count as u64, jobs, claim)? {
+        if !is_blank(line) && !read_next(alloc, line, count as u64, jobs, claim)? {
             return Ok(count);
         }
     }
@@ -164,25 +178,30 @@ fn plain_reading(
     Ok(count.saturating_add(1))
 }
 
+/// Whether these are the same jobs.
+fn are_jobs(found: &[u16], jobs: &[u64]) -> bool {
+    for (job, other) in found.iter().zip(jobs) {
+        if u64::from(*job) != *other {
+            return false;
+        }
+    }
+    found.len() == jobs.len()
+}
+
 /// Whether a start has these jobs, and this makespan with its line or none.
 fn is_start(start: &Start, jobs: &[u64], claim: &[u64]) -> bool {
     let is_claim = match start.claim {
         Some(found) => claim == [u64::from(found.makespan), found.line as u64].as_slice(),
         None => claim.is_empty(),
     };
-    is_claim
-        && start
-            .jobs
-            .iter()
-            .map(|job| u64::from(*job))
-            .eq(jobs.iter().copied())
+    is_claim && are_jobs(start.jobs.as_slice(), jobs)
 }
 
 /// Whether a text is read as a plain reading reads it.
 fn is_read_alike(alloc: Global, text: &[u8]) -> bool {
     let mut jobs = Vec::new(alloc);
     let mut claim = Vec::new(alloc);
-    let Ok(line) = plain_reading(text, &mut jobs, &mut claim) else {
+    let Ok(line) = plain_reading(alloc, text, &mut jobs, &mut claim) else {
         return false;
     };
     match read_start(alloc, text) {

@@ -1,10 +1,10 @@
 //! Benchmark text: what is read, the first fault, and what is written.
 
+use crate::changes::replaced;
 use crate::instances::{GENERATED_TEXT, TWO_MACHINES_TEXT};
 use crate::shops::{Shop, made};
 use flow_core::{Block, TextFault, block_text, read_blocks};
 use std::alloc::Global;
-use std::test::Fail;
 
 /// A block of a table: its seed, upper bound and lower bound, and its instance.
 type Listed = ((u32, u32, u32), Shop);
@@ -135,12 +135,20 @@ fn first_fault_of_a_text_is_named(rt: HostRuntime) {
     }
 }
 
+/// Whether a number of 1,001 digits is named.
+fn is_long_number_named(alloc: Global) -> bool {
+    let Ok(zeros) = b"0".repeat(alloc, 1_000) else {
+        return false;
+    };
+    match replaced(alloc, b"a\n1", 3, 0, zeros.as_slice()) {
+        Ok(text) => has_fault(alloc, text.as_slice(), TextFault::Number(2)),
+        Err(_) => false,
+    }
+}
+
 #[test]
-fn number_of_a_thousand_digits_is_named(rt: HostRuntime) -> Result<(), Fail> {
-    let mut text = Vec::from_slice(rt.alloc(), b"a\n1")?;
-    text.append(&mut b"0".repeat(rt.alloc(), 1_000)?)?;
-    assert!(rt; has_fault(rt.alloc(), text.as_slice(), TextFault::Number(2)));
-    Ok(())
+fn number_of_a_thousand_digits_is_named(rt: HostRuntime) {
+    assert!(rt; is_long_number_named(rt.alloc()));
 }
 
 /// The block of `GENERATED_TEXT`.
@@ -191,12 +199,26 @@ static NINE_AND_ONE: [Listed; 10] = [
     ((7, 6, 5), Shop::Times(1, 1, &[4])),
 ];
 
+/// Whether nine times the text with two machines, and another behind it, are read as these blocks.
+fn is_repeated_text_read(alloc: Global) -> bool {
+    let Ok(nine) = TWO_MACHINES_TEXT.repeat(alloc, 9) else {
+        return false;
+    };
+    match replaced(
+        alloc,
+        nine.as_slice(),
+        nine.len(),
+        0,
+        b"a\n1 1 7 6 5\nb\n4\n",
+    ) {
+        Ok(text) => is_read_as(alloc, text.as_slice(), &NINE_AND_ONE),
+        Err(_) => false,
+    }
+}
+
 #[test]
-fn repeated_text_is_read_as_so_many_blocks(rt: HostRuntime) -> Result<(), Fail> {
-    let mut text = TWO_MACHINES_TEXT.repeat(rt.alloc(), 9)?;
-    text.extend_from_slice(b"a\n1 1 7 6 5\nb\n4\n")?;
-    assert!(rt; is_read_as(rt.alloc(), text.as_slice(), &NINE_AND_ONE));
-    Ok(())
+fn repeated_text_is_read_as_so_many_blocks(rt: HostRuntime) {
+    assert!(rt; is_repeated_text_read(rt.alloc()));
 }
 
 /// How many bytes of the text with two machines there are, from a first number up to another one, and their fault. Its

@@ -1,8 +1,9 @@
 //! Trees of generated instances, as a plain recursion over the words of the definitions finds them.
 
 use crate::plain::{bound, completion, has};
+use crate::plans::planned;
 use flow_core::{Instance, generate};
-use flow_search::{Options, Outcome, answer, prepare};
+use flow_search::{Outcome, answer};
 use std::alloc::{AllocError, Global};
 
 /// Writes the tree of a list that leaves so many jobs. The value is the makespan in force.
@@ -64,19 +65,11 @@ fn has_tree(outcome: &Outcome, tree: &[u8]) -> bool {
 
 /// How long the tree of an instance is in a version; none where a plain recursion finds another tree.
 fn length_of(alloc: Global, instance: &Instance, version: u32) -> Option<usize> {
-    let Ok(usual) = Options::new(1, 0, 100_000_000) else {
-        return None;
-    };
-    let Ok(options) = usual.with_version(version) else {
-        return None;
-    };
-    let Ok(plan) = prepare(alloc, instance, options) else {
-        return None;
-    };
+    let plan = planned(alloc, instance, (0, version, 100_000_000))?;
     let Ok(tree) = plain_tree(alloc, instance, version, plan.start_value()) else {
         return None;
     };
-    if has_tree(&answer(alloc, &plan, 0), tree.as_slice()) {
+    if plan.prefixes() == 1 && has_tree(&answer(alloc, &plan, 0), tree.as_slice()) {
         Some(tree.len())
     } else {
         None

@@ -1,12 +1,11 @@
 //! The checker of two-ended certificates.
 
-use crate::changes::{Change, close_texts};
+use crate::changes::{Change, close_texts, replaced};
 use crate::instances::three_machines;
 use crate::shops::{Shop, made};
 use flow_check::{CheckFault, check, check_bounds, check_two_ended};
 use flow_core::Instance;
-use std::alloc::Global;
-use std::test::Fail;
+use std::alloc::{AllocError, Global};
 
 /// The bounds of a lawful text, or the first fault.
 type Answer = Result<(u64, u64), CheckFault>;
@@ -26,12 +25,15 @@ fn answer_of(alloc: Global, instance: &Instance, text: &[u8]) -> Answer {
 type Row = (Shop, &'static [u8], Answer);
 
 /// Whether the checker answers so.
-fn is_answered(alloc: Global, row: &Row) -> Result<bool, Fail> {
+fn is_answered(alloc: Global, row: &Row) -> bool {
     let (shop, rest, answer) = *row;
-    let instance = made(alloc, shop)?;
-    let mut text = Vec::from_slice(alloc, TITLE)?;
-    text.extend_from_slice(rest)?;
-    Ok(answer_of(alloc, &instance, text.as_slice()) == answer)
+    let Ok(text) = replaced(alloc, TITLE, TITLE.len(), 0, rest) else {
+        return false;
+    };
+    match made(alloc, shop) {
+        Ok(instance) => answer_of(alloc, &instance, text.as_slice()) == answer,
+        Err(_) => false,
+    }
 }
 
 /// One job on one machine, with time 0.
@@ -159,11 +161,10 @@ static ANSWERS: [Row; 34] = [
 ];
 
 #[test]
-fn check_two_ended_answers_texts(rt: HostRuntime) -> Result<(), Fail> {
+fn check_two_ended_answers_texts(rt: HostRuntime) {
     for row in &ANSWERS {
-        assert!(rt; is_answered(rt.alloc(), row)?, "for {:?}", row.1);
+        assert!(rt; is_answered(rt.alloc(), row), "for {:?}", row.1);
     }
-    Ok(())
 }
 
 /// A two-ended certificate of the instance with three machines.
@@ -180,7 +181,7 @@ static LINES: [&[u8]; 6] = [
 ];
 
 /// The certificate with other bytes as one of its lines, counted from 1.
-fn with_line(alloc: Global, changed: usize, bytes: &[u8]) -> Result<Vec<u8>, Fail> {
+fn with_line(alloc: Global, changed: usize, bytes: &[u8]) -> Result<Vec<u8>, AllocError> {
     let mut text = Vec::new(alloc);
     for (index, line) in LINES.iter().enumerate() {
         let kept = if index + 1 == changed { bytes } else { line };
@@ -193,16 +194,26 @@ fn with_line(alloc: Global, changed: usize, bytes: &[u8]) -> Result<Vec<u8>, Fai
 /// The number of a line, its fault, and bytes that have this fault as that line of the certificate.
 type Changed = (usize, CheckFault, &'static [&'static [u8]]);
 
-/// Whether the certificate has this fault with each of these bytes as this line.
-fn has_fault(alloc: Global, instance: &Instance, row: &Changed) -> Result<bool, Fail> {
+/// Whether the certificate has this fault with these bytes as this line.
+fn is_faulty(alloc: Global, number: usize, bytes: &[u8], fault: CheckFault) -> bool {
+    let Ok(text) = with_line(alloc, number, bytes) else {
+        return false;
+    };
+    match three_machines(alloc) {
+        Ok(instance) => answer_of(alloc, &instance, text.as_slice()) == Err(fault),
+        Err(_) => false,
+    }
+}
+
+/// The first of the changed lines of a row that has another fault.
+fn first_other(alloc: Global, row: &Changed) -> Option<&'static [u8]> {
     let (number, fault, lines) = *row;
     for line in lines {
-        let text = with_line(alloc, number, line)?;
-        if answer_of(alloc, instance, text.as_slice()) != Err(fault) {
-            return Ok(false);
+        if !is_faulty(alloc, number, line, fault) {
+            return Some(*line);
         }
     }
-    Ok(true)
+    None
 }
 
 /// Changed lines. What stands on the later ones does not matter.
@@ -290,17 +301,11 @@ static CHANGED_LINES: [Changed; 8] = [
 ];
 
 #[test]
-fn check_two_ended_names_the_first_fault(rt: HostRuntime) -> Result<(), Fail> {
-    let instance = three_machines(rt.alloc())?;
+fn check_two_ended_names_the_first_fault(rt: HostRuntime) {
     for row in &CHANGED_LINES {
-        assert!(rt;
-            has_fault(rt.alloc(), &instance, row)?,
-            "on line {}: {:?}",
-            row.0,
-            row.1
-        );
+        let other = first_other(rt.alloc(), row);
+        assert!(rt; other.is_none(), "{other:?} in line {}", row.0);
     }
-    Ok(())
 }
 
 /// How many bytes of the certificate there are, from a first number up to another one, and their first fault.
@@ -316,10 +321,13 @@ static BEGINNINGS: [Beginnings; 6] = [
 ];
 
 /// Whether each of these beginnings has its fault.
-fn are_faulty(alloc: Global, instance: &Instance, row: &Beginnings) -> bool {
+fn are_faulty(alloc: Global, row: &Beginnings) -> bool {
+    let Ok(instance) = three_machines(alloc) else {
+        return false;
+    };
     for length in row.0..row.1 {
         let text = CERTIFICATE.get(..length).unwrap_or(b"");
-        if text.len() != length || answer_of(alloc, instance, text) != Err(row.2) {
+        if text.len() != length || answer_of(alloc, &instance, text) != Err(row.2) {
             return false;
         }
     }
@@ -327,13 +335,11 @@ fn are_faulty(alloc: Global, instance: &Instance, row: &Beginnings) -> bool {
 }
 
 #[test]
-fn check_two_ended_names_the_first_fault_of_each_beginning(rt: HostRuntime) -> Result<(), Fail> {
-    let instance = three_machines(rt.alloc())?;
+fn check_two_ended_names_the_first_fault_of_each_beginning(rt: HostRuntime) {
     for (number, row) in BEGINNINGS.iter().enumerate() {
-        assert!(rt; are_faulty(rt.alloc(), &instance, row), "row {number}");
+        assert!(rt; are_faulty(rt.alloc(), row), "row {number}");
     }
     assert!(rt; CERTIFICATE.len() == 44);
-    Ok(())
 }
 
 /// Texts of the instance with three machines, and the texts with one other byte that are lawful too: `-`, `++` and `+-`
@@ -371,42 +377,59 @@ static CLOSE: [(&[u8], &[&[u8]]); 5] = [
     (b"flowshop two-ended 1\n3 3\n11 13\n2 1 3\n-\nend\n", &[]),
 ];
 
-/// Whether of the texts with one other byte these are lawful, in this order. Not where memory ran out.
-fn lawful_are(alloc: Global, instance: &Instance, text: &[u8], lawful: &[&[u8]]) -> bool {
-    let Ok(texts) = close_texts(alloc, Change::Other, text) else {
-        return false;
-    };
-    let mut left = lawful.iter();
-    for close in &texts {
-        if answer_of(alloc, instance, close.as_slice()).is_ok()
-            && left.next().copied() != Some(close.as_slice())
-        {
-            return false;
+/// Whether of these texts these are lawful, in this order.
+fn lawful_are(alloc: Global, instance: &Instance, texts: &[Vec<u8>], lawful: &[&[u8]]) -> bool {
+    let mut count: usize = 0;
+    for text in texts {
+        if answer_of(alloc, instance, text.as_slice()).is_ok() {
+            if lawful.get(count).copied() != Some(text.as_slice()) {
+                return false;
+            }
+            count = count.saturating_add(1);
         }
     }
-    left.next().is_none()
+    count == lawful.len()
 }
 
-#[test]
-fn check_two_ended_accepts_these_of_all_changed_bytes(rt: HostRuntime) -> Result<(), Fail> {
-    let instance = three_machines(rt.alloc())?;
-    for (number, (text, lawful)) in CLOSE.iter().enumerate() {
-        assert!(rt;
-            lawful_are(rt.alloc(), &instance, text, lawful),
-            "row {number}"
-        );
+/// Whether of the texts with one other byte these are lawful, in this order. Not where memory ran out.
+fn close_are(alloc: Global, text: &[u8], lawful: &[&[u8]]) -> bool {
+    let Ok(instance) = three_machines(alloc) else {
+        return false;
+    };
+    match close_texts(alloc, Change::Other, text) {
+        Ok(texts) => lawful_are(alloc, &instance, texts.as_slice(), lawful),
+        Err(_) => false,
     }
-    Ok(())
 }
 
 #[test]
-fn each_checker_reads_its_kind_of_text(rt: HostRuntime) -> Result<(), Fail> {
-    let instance = three_machines(rt.alloc())?;
-    let shown = check_two_ended(rt.alloc(), &instance, CERTIFICATE)?;
-    assert_eq!(rt; shown.sequence.jobs(), [3, 1, 2].as_slice());
-    let found = check(rt.alloc(), &instance, CERTIFICATE);
-    assert_eq!(rt; found, Err(CheckFault::Header));
-    let found = check_bounds(rt.alloc(), &instance, CERTIFICATE);
-    assert_eq!(rt; found, Err(CheckFault::Header));
-    Ok(())
+fn check_two_ended_accepts_these_of_all_changed_bytes(rt: HostRuntime) {
+    for (number, (text, lawful)) in CLOSE.iter().enumerate() {
+        assert!(rt; close_are(rt.alloc(), text, lawful), "row {number}");
+    }
+}
+
+/// Whether the checker of two-ended certificates shows the sequence of the certificate.
+fn is_shown(alloc: Global, instance: &Instance) -> bool {
+    match check_two_ended(alloc, instance, CERTIFICATE) {
+        Ok(shown) => shown.sequence.jobs() == [3, 1, 2].as_slice(),
+        Err(_) => false,
+    }
+}
+
+/// Whether each checker reads its own kind of text, and refuses the first line of another.
+fn is_read_by_its_checker(alloc: Global) -> bool {
+    match three_machines(alloc) {
+        Ok(instance) => {
+            is_shown(alloc, &instance)
+                && check(alloc, &instance, CERTIFICATE) == Err(CheckFault::Header)
+                && check_bounds(alloc, &instance, CERTIFICATE) == Err(CheckFault::Header)
+        }
+        Err(_) => false,
+    }
+}
+
+#[test]
+fn each_checker_reads_its_kind_of_text(rt: HostRuntime) {
+    assert!(rt; is_read_by_its_checker(rt.alloc()));
 }

@@ -3,11 +3,11 @@
 
 ghost use Rattle.std.specs.Prelude.{◌<◌, ◌≤◌};
 
+use crate::changes::replaced;
 use flow_cert::write_two_ended;
 use flow_check::{Bounds, CheckFault, check_two_ended};
 use flow_core::{End, Instance, MemorySink, Sequence};
 use std::alloc::{AllocError, Global};
-use std::test::Fail;
 
 /// The most jobs of a drawn instance.
 const JOBS: usize = 7;
@@ -127,17 +127,21 @@ impl Drawn {
         }
     }
 
-    /// The instance.
-    fn instance(&self, alloc: Global) -> Result<Instance, Fail> {
-        let mut times = Vec::new(alloc);
+    /// The instance; none where it is refused, as it is with a time of more than 32 bits.
+    fn instance(&self, alloc: Global) -> Option<Instance> {
+        let mut times = [0; JOBS * MACHINES];
+        let mut count: usize = 0;
         for machine in 0..self.machines.min(MACHINES) {
             for job in 0..self.jobs.min(JOBS) {
-                times.push(u32::try_from(self.times[job][machine])?)?;
+                if let Some(time) = times.get_mut(count) {
+                    *time = u32::try_from(self.times[job][machine]).unwrap_or(u32::MAX);
+                }
+                count = count.saturating_add(1);
             }
         }
-        let jobs = u32::try_from(self.jobs)?;
-        let machines = u32::try_from(self.machines)?;
-        Ok(Instance::new(alloc, jobs, machines, times.as_slice())?)
+        let jobs = u32::try_from(self.jobs).unwrap_or(0);
+        let machines = u32::try_from(self.machines).unwrap_or(0);
+        Instance::new(alloc, jobs, machines, times.get(..count).unwrap_or(&[])).ok()
     }
 
     /// The least times that one of the jobs needs on the machines before each, or on those after each.
@@ -251,47 +255,109 @@ struct Case {
     sequence: Sequence,
 }
 
-/// A case with a drawn sequence.
-fn case_of(alloc: Global, draw: &mut Draw, drawn: Drawn) -> Result<Case, Fail> {
-    let instance = drawn.instance(alloc)?;
+/// The jobs of an instance in a drawn order.
+fn drawn_jobs(alloc: Global, draw: &mut Draw, instance: &Instance) -> Result<Vec<u16>, AllocError> {
     let mut jobs = Vec::new(alloc);
     for job in 1..instance.jobs() + 1 {
         let place = draw.upto(u64::from(job) - 1) as usize;
         jobs.insert(place.min(jobs.len()), job)?;
     }
-    let upper = drawn.makespan(jobs.as_slice());
-    let sequence = Sequence::new(alloc, &instance, jobs.as_slice())?;
-    Ok(Case {
-        drawn,
-        instance,
-        upper,
-        sequence,
-    })
+    Ok(jobs)
 }
 
-/// Whether the checker answers so for the text of a case with a lower bound and signs. Of a lawful text it has to give
-/// both bounds and the sequence.
-fn answers(
-    alloc: Global,
-    case: &Case,
-    lower: u64,
-    signs: &[u8],
-    wanted: Result<(), CheckFault>,
-) -> Result<bool, Fail> {
+/// A case with a drawn sequence; none where memory ran out.
+fn case_of(alloc: Global, draw: &mut Draw, drawn: Drawn) -> Option<Case> {
+    let instance = drawn.instance(alloc)?;
+    let Ok(jobs) = drawn_jobs(alloc, draw, &instance) else {
+        return None;
+    };
+    let upper = drawn.makespan(jobs.as_slice());
+    match Sequence::new(alloc, &instance, jobs.as_slice()) {
+        Ok(sequence) => Some(Case {
+            drawn,
+            instance,
+            upper,
+            sequence,
+        }),
+        Err(_) => None,
+    }
+}
+
+/// What a text shows, or its first fault.
+type Answer = Result<(), CheckFault>;
+
+/// Whether the checker answers so for a text of a case. Of a lawful text it has to give both bounds and the sequence.
+fn is_answered(alloc: Global, case: &Case, bounds: Bounds, text: &[u8], wanted: Answer) -> bool {
+    match check_two_ended(alloc, &case.instance, text) {
+        Ok(shown) => wanted == Ok(()) && shown.bounds == bounds && shown.sequence == case.sequence,
+        Err(fault) => wanted == Err(fault),
+    }
+}
+
+/// Whether the checker answers so for the text of a case with a lower bound and signs.
+fn answers(alloc: Global, case: &Case, lower: u64, signs: &[u8], wanted: Answer) -> bool {
     let bounds = Bounds {
         lower,
         upper: case.upper,
     };
     let mut sink = MemorySink::new(alloc, 10_000);
-    write_two_ended(&case.instance, bounds, &case.sequence, signs, &mut sink)?;
-    Ok(match check_two_ended(alloc, &case.instance, sink.bytes()) {
-        Ok(shown) => wanted == Ok(()) && shown.bounds == bounds && shown.sequence == case.sequence,
-        Err(fault) => wanted == Err(fault),
-    })
+    write_two_ended(&case.instance, bounds, &case.sequence, signs, &mut sink) == Ok(())
+        && is_answered(alloc, case, bounds, sink.bytes(), wanted)
+}
+
+/// Whether the checker answers so where a sign more follows.
+fn answers_longer(alloc: Global, case: &Case, lower: u64, signs: &[u8], wanted: Answer) -> bool {
+    match replaced(alloc, signs, signs.len(), 0, b"+") {
+        Ok(text) => answers(alloc, case, lower, text.as_slice(), wanted),
+        Err(_) => false,
+    }
+}
+
+/// Whether the checker answers as a plain reading does where the sign at a place is turned, if there is one.
+fn answers_turned(alloc: Global, case: &Case, lower: u64, signs: &[u8], place: usize) -> bool {
+    let other: &[u8] = match signs.get(place) {
+        Some(b'+') => b"-",
+        Some(_) => b"+",
+        None => return true,
+    };
+    match replaced(alloc, signs, place, 1, other) {
+        Ok(text) => {
+            let wanted = case.drawn.answer(lower, text.as_slice());
+            answers(alloc, case, lower, text.as_slice(), wanted)
+        }
+        Err(_) => false,
+    }
+}
+
+/// Whether the checker answers so for signs, where a plain reading takes all of them; and as it should with a sign
+/// less, a sign more, and the sign at a place turned.
+fn are_checked(
+    alloc: Global,
+    case: &Case,
+    lower: u64,
+    signs: &[u8],
+    turned: usize,
+    wanted: Answer,
+) -> bool {
+    let tree = Err(CheckFault::Tree(5));
+    let is_needed = match signs.split_last() {
+        Some((_, shorter)) => answers(alloc, case, lower, shorter, tree),
+        None => true,
+    };
+    is_needed
+        && answers(alloc, case, lower, signs, wanted)
+        && answers_longer(alloc, case, lower, signs, wanted.and(tree))
+        && answers_turned(
+            alloc,
+            case,
+            lower,
+            signs,
+            turned.checked_rem(signs.len()).unwrap_or(0),
+        )
 }
 
 /// Whether the checker answers as it should for a lower bound, with as many of the drawn signs as a plain reading
-/// takes; with a sign less, a sign more, and a sign turned. The least makespan says which numbers are proved.
+/// takes. The least makespan says which numbers are proved.
 fn is_checked(
     alloc: Global,
     case: &Case,
@@ -299,7 +365,7 @@ fn is_checked(
     lower: u64,
     signs: &[u8],
     turned: usize,
-) -> Result<bool, Fail> {
+) -> bool {
     let wanted = if lower <= least {
         Ok(())
     } else {
@@ -307,71 +373,61 @@ fn is_checked(
     };
     let mut count = 0;
     let drawn = &case.drawn;
-    if drawn.read(&drawn.root(), drawn.jobs, lower, signs, &mut count) != wanted {
-        return Ok(false);
+    let found = drawn.read(&drawn.root(), drawn.jobs, lower, signs, &mut count);
+    let taken = signs.get(..count).unwrap_or(b"");
+    found == wanted && are_checked(alloc, case, lower, taken, turned, wanted)
+}
+
+/// Drawn signs, as many as a certificate may need.
+fn drawn_signs(alloc: Global, draw: &mut Draw) -> Result<Vec<u8>, AllocError> {
+    let mut signs = Vec::new(alloc);
+    for _ in 0..SIGNS {
+        signs.push(if draw.upto(1) == 0 { b'+' } else { b'-' })?;
     }
-    let mut text = Vec::from_slice(alloc, signs.get(..count).unwrap_or(b""))?;
-    let mut is_right = answers(alloc, case, lower, text.as_slice(), wanted)?;
-    if let Some(sign) = text.pop() {
-        is_right &= answers(
-            alloc,
-            case,
-            lower,
-            text.as_slice(),
-            Err(CheckFault::Tree(5)),
-        )?;
-        text.push(sign)?;
-    }
-    text.push(b'+')?;
-    let longer = wanted.and(Err(CheckFault::Tree(5)));
-    is_right &= answers(alloc, case, lower, text.as_slice(), longer)?;
-    let _ = text.pop();
-    if let Some(sign) = text.get_mut(turned.checked_rem(count).unwrap_or(0)) {
-        *sign = if *sign == b'+' { b'-' } else { b'+' };
-        is_right &= answers(
-            alloc,
-            case,
-            lower,
-            text.as_slice(),
-            drawn.answer(lower, text.as_slice()),
-        )?;
-    }
-    Ok(is_right)
+    Ok(signs)
 }
 
 /// Whether the checker answers as it should for each number from the root's bound less 1 to the least makespan and 2.
-fn is_checked_at_each_number(alloc: Global, draw: &mut Draw, drawn: Drawn) -> Result<bool, Fail> {
-    let case = case_of(alloc, draw, drawn)?;
+fn is_checked_at_each_number(alloc: Global, draw: &mut Draw, case: &Case, signs: &[u8]) -> bool {
     let root = case.drawn.root();
     let least = case
         .drawn
         .least(&[0; MACHINES], &root.is_left, case.drawn.jobs);
-    let mut signs = Vec::with_capacity(alloc, SIGNS)?;
-    for _ in 0..SIGNS {
-        signs.push(if draw.upto(1) == 0 { b'+' } else { b'-' })?;
-    }
-    let mut is_right = true;
     for lower in root.bound().saturating_sub(1)..least.saturating_add(3) {
         let turned = draw.upto(999) as usize;
-        is_right &= is_checked(alloc, &case, least, lower, signs.as_slice(), turned)?;
+        if !is_checked(alloc, case, least, lower, signs, turned) {
+            return false;
+        }
     }
-    Ok(is_right)
+    true
+}
+
+/// Whether the checker answers as it should for a drawn instance, with a drawn sequence and drawn signs.
+fn is_right(alloc: Global, draw: &mut Draw, drawn: Drawn) -> bool {
+    let Some(case) = case_of(alloc, draw, drawn) else {
+        return false;
+    };
+    match drawn_signs(alloc, draw) {
+        Ok(signs) => is_checked_at_each_number(alloc, draw, &case, signs.as_slice()),
+        Err(_) => false,
+    }
 }
 
 /// The least times, and how much more the greatest are.
 static TIMES: [(u64, u64); 6] = [(0, 0), (5, 0), (0, 1), (0, 2), (1, 8), (0, 99)];
 
 #[test]
-fn directions_of_drawn_instances_are_read_as_plainly(rt: HostRuntime) -> Result<(), Fail> {
+fn directions_of_drawn_instances_are_read_as_plainly(rt: HostRuntime) {
     let mut draw = Draw(1);
     for jobs in 1..8usize {
         for machines in 1..6usize {
-            for &(least, more) in TIMES.iter() {
-                let drawn = Drawn::new(&mut draw, jobs, machines, least, more);
-                let holds = is_checked_at_each_number(rt.alloc(), &mut draw, drawn)?;
-                assert!(rt; holds, "{jobs} jobs on {machines} machines, from {least}");
+            for (least, more) in &TIMES {
+                let drawn = Drawn::new(&mut draw, jobs, machines, *least, *more);
+                assert!(rt;
+                    is_right(rt.alloc(), &mut draw, drawn),
+                    "{jobs} jobs on {machines} machines, from {least}"
+                );
             }
         }
     }
-    Ok(())
 }

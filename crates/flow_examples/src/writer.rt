@@ -3,27 +3,31 @@
 ghost use Rattle.std.specs.Prelude.{◌≡◌, false};
 
 use crate::instances::CERTIFICATE_AT_DEPTH_0;
+use crate::plans::planned;
 use crate::shops::{Shop, made};
 use flow_cert::{write_certificate, write_two_ended};
 use flow_check::Bounds;
 use flow_core::{Instance, MemorySink, Sequence, WriteFault};
-use flow_search::{Options, prepare, solve_plain};
+use flow_search::solve_plain;
 use std::alloc::Global;
-use std::test::Fail;
 
-/// Writes the certificate of an instance at a depth.
-fn write(
+/// Whether a sink gives this answer for the certificate of an instance at a depth.
+fn is_put(
     alloc: Global,
     instance: &Instance,
     depth: u32,
+    answer: Result<(), WriteFault>,
     sink: &mut MemorySink,
-) -> Result<Result<(), WriteFault>, Fail>
+) -> bool
     requires { sink.old.failed ≡ false }
 {
-    let options = Options::new(1, depth, 1_000)?;
-    let plan = prepare(alloc, instance, options)?;
-    let verdict = solve_plain(alloc, &plan)?;
-    Ok(write_certificate(&plan, &verdict, sink))
+    let Some(plan) = planned(alloc, instance, (depth, 1, 1_000)) else {
+        return false;
+    };
+    match solve_plain(alloc, &plan) {
+        Ok(verdict) => write_certificate(&plan, &verdict, sink) == answer,
+        Err(_) => false,
+    }
 }
 
 /// Nine jobs on four machines.
@@ -134,20 +138,20 @@ static CERTIFICATES: [Row; 11] = [
 ];
 
 /// Whether a sink of so many bytes gives the answer of a row, and has its bytes then.
-fn is_written(alloc: Global, row: &Row) -> Result<bool, Fail> {
+fn is_written(alloc: Global, row: &Row) -> bool {
     let (shop, depth, room, answer, text) = *row;
-    let instance = made(alloc, shop)?;
+    let Ok(instance) = made(alloc, shop) else {
+        return false;
+    };
     let mut sink = MemorySink::new(alloc, room);
-    let found = write(alloc, &instance, depth, &mut sink)?;
-    Ok(found == answer && sink.bytes() == text)
+    is_put(alloc, &instance, depth, answer, &mut sink) && sink.bytes() == text
 }
 
 #[test]
-fn write_certificate_writes_what_the_sink_takes(rt: HostRuntime) -> Result<(), Fail> {
+fn write_certificate_writes_what_the_sink_takes(rt: HostRuntime) {
     for (number, row) in CERTIFICATES.iter().enumerate() {
-        assert!(rt; is_written(rt.alloc(), row)?, "row {number}");
+        assert!(rt; is_written(rt.alloc(), row), "row {number}");
     }
-    Ok(())
 }
 
 /// An instance, two bounds, a sequence and the signs of directions, how many bytes the sink takes, the answer, and what
@@ -163,14 +167,20 @@ type TwoEnded = (
 );
 
 /// Whether a sink gives this answer for a two-ended certificate, and has these bytes then.
-fn writes_two_ended(alloc: Global, row: &TwoEnded) -> Result<bool, Fail> {
+fn writes_two_ended(alloc: Global, row: &TwoEnded) -> bool {
     let (shop, (lower, upper), jobs, directions, room, answer, text) = *row;
-    let instance = made(alloc, shop)?;
-    let sequence = Sequence::new(alloc, &instance, jobs)?;
     let bounds = Bounds { lower, upper };
     let mut sink = MemorySink::new(alloc, room);
-    let found = write_two_ended(&instance, bounds, &sequence, directions, &mut sink);
-    Ok(found == answer && sink.bytes() == text)
+    let Ok(instance) = made(alloc, shop) else {
+        return false;
+    };
+    match Sequence::new(alloc, &instance, jobs) {
+        Ok(sequence) => {
+            let found = write_two_ended(&instance, bounds, &sequence, directions, &mut sink);
+            found == answer && sink.bytes() == text
+        }
+        Err(_) => false,
+    }
 }
 
 /// Two-ended certificates; the last text is none, and is written as it is given.
@@ -253,9 +263,8 @@ static TWO_ENDED: [TwoEnded; 8] = [
 ];
 
 #[test]
-fn write_two_ended_writes_what_the_sink_takes(rt: HostRuntime) -> Result<(), Fail> {
+fn write_two_ended_writes_what_the_sink_takes(rt: HostRuntime) {
     for row in &TWO_ENDED {
-        assert!(rt; writes_two_ended(rt.alloc(), row)?, "{:?}", row.6);
+        assert!(rt; writes_two_ended(rt.alloc(), row), "{:?}", row.6);
     }
-    Ok(())
 }

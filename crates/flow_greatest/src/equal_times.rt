@@ -3,19 +3,25 @@
 
 ghost use Rattle.std.specs.Prelude.{◌≡◌, IfOk};
 
-use crate::written::is_written;
+use crate::texts::joined;
+use crate::written::{is_written, planned};
 use flow_bound::{insertion_spans, neh};
 use flow_check::{CheckFault, check};
 use flow_core::{Instance, InstanceFault, Row, Sequence, makespan, rows};
 use flow_search::{Options, Outcome, PlanFault, answer, prepare};
 use std::alloc::{AllocError, Global};
 
+/// A time, so often.
+fn repeated(alloc: Global, time: u32, count: usize) -> Result<Vec<u32>, AllocError> {
+    Ok(vec![in alloc; time; count]?)
+}
+
 /// The instance.
 fn equal_times(alloc: Global) -> Result<Instance, InstanceFault>
     ensures { IfOk result (λ instance. (instance.jobs ≡ 800) × (instance.machines ≡ 26)) }
 {
-    let times = vec![in alloc; 999_999; 20_800]?;
-    Ok(Instance::new(alloc, 800, 26, times.as_slice())?)
+    let times = repeated(alloc, 999_999, 20_800)?;
+    Instance::new(alloc, 800, 26, times.as_slice())
 }
 
 /// The jobs 1 to 800.
@@ -61,7 +67,7 @@ fn has_rows(alloc: Global) -> bool {
 
 /// Whether the instance has its times.
 fn has_times(alloc: Global) -> bool {
-    let Ok(wanted) = vec![in alloc; 999_999u32; 20_800] else {
+    let Ok(wanted) = repeated(alloc, 999_999, 20_800) else {
         return false;
     };
     let Ok(instance) = equal_times(alloc) else {
@@ -122,6 +128,14 @@ fn sequences_have_the_makespan(rt: HostRuntime) {
     assert!(rt; has_makespan(rt.alloc()) && starts_backwards(rt.alloc()));
 }
 
+/// Whether these makespans were found.
+fn are_spans(found: Result<Vec<u64>, AllocError>, spans: &[u64]) -> bool {
+    match found {
+        Ok(found) => found.as_slice() == spans,
+        Err(_) => false,
+    }
+}
+
 /// Whether these are the makespans of the first jobs of a sequence with the next job put in at each place.
 fn has_spans(
     alloc: Global,
@@ -134,10 +148,8 @@ fn has_spans(
     if jobs.len() != instance.jobs() as usize || count >= jobs.len() {
         return false;
     }
-    match insertion_spans(alloc, instance, &jobs[..count], jobs[count]) {
-        Ok(found) => found.as_slice() == spans,
-        Err(_) => false,
-    }
+    let found: Result<_, _> = insertion_spans(alloc, instance, &jobs[..count], jobs[count]);
+    are_spans(found, spans)
 }
 
 /// One job more than 3 or 799 ends after 3 + 26 or 799 + 26 times, in each of so many places.
@@ -178,18 +190,12 @@ fn is_letter_a(outcome: &Outcome) -> bool {
 
 /// Whether the plan at depth 0 is answered so in a version.
 fn is_answered(alloc: Global, version: u32) -> bool {
-    let Ok(usual) = Options::new(1, 0, 1) else {
-        return false;
-    };
-    let Ok(options) = usual.with_version(version) else {
-        return false;
-    };
     let Ok(instance) = equal_times(alloc) else {
         return false;
     };
-    match prepare(alloc, &instance, options) {
-        Ok(plan) => is_letter_a(&answer(alloc, &plan, 0)),
-        Err(_) => false,
+    match planned(alloc, &instance, 1, (0, version, 1)) {
+        Some(plan) => plan.prefixes() == 1 && is_letter_a(&answer(alloc, &plan, 0)),
+        None => false,
     }
 }
 
@@ -210,6 +216,17 @@ fn plans_are_answered(rt: HostRuntime) {
     assert!(rt; has_too_many_prefixes(rt.alloc()));
 }
 
+/// Puts the line with these jobs behind a text, and the end of the line before it.
+fn put_jobs(alloc: Global, text: &mut Vec<u8>, jobs: &[u16]) -> Result<(), AllocError> {
+    let mut mark = '\n';
+    for job in jobs {
+        text.extend_from_slice(format!(in alloc; "{mark}{job}")?.as_bytes())?;
+        mark = ' ';
+    }
+    text.push(b'\n')?;
+    Ok(())
+}
+
 /// A certificate with this version and these sizes, a sequence of these jobs, and these trees.
 fn text_of(
     alloc: Global,
@@ -217,19 +234,9 @@ fn text_of(
     jobs: &[u16],
     trees: &[u8],
 ) -> Result<Vec<u8>, AllocError> {
-    let mut text = Vec::from_slice(alloc, b"flowshop certificate ")?;
-    text.extend_from_slice(heading)?;
-    text.extend_from_slice(b"\n824999175")?;
-    let mut mark = b'\n';
-    for job in jobs {
-        text.push(mark)?;
-        text.extend_from_slice(format!(in alloc; "{}", job)?.as_bytes())?;
-        mark = b' ';
-    }
-    text.push(b'\n')?;
-    text.extend_from_slice(trees)?;
-    text.extend_from_slice(b"end\n")?;
-    Ok(text)
+    let mut text = joined(alloc, &[b"flowshop certificate ", heading, b"\n824999175"])?;
+    put_jobs(alloc, &mut text, jobs)?;
+    joined(alloc, &[text.as_slice(), trees, b"end\n"])
 }
 
 /// The certificate at depth 1.

@@ -2,11 +2,12 @@
 
 ghost use Rattle.std.specs.Prelude.{◌≡◌, IfOk};
 
-use crate::written::is_written;
+use crate::texts::joined;
+use crate::written::{is_written, planned};
 use flow_check::{CheckFault, check};
 use flow_core::{Instance, InstanceFault};
 use flow_pool::{Open, solve};
-use flow_search::{Options, Verdict, prepare};
+use flow_search::Verdict;
 use std::alloc::{AllocError, Global};
 use std::sync::Wait;
 use std::thread::Threads;
@@ -49,16 +50,10 @@ fn is_letter_z(verdict: &Verdict) -> bool {
 
 /// Whether two workers come to the verdict of the two jobs in a version.
 fn find_letter_z<R: Threads + Wait + Sync>(rt: &R, alloc: Global, version: u32) -> bool {
-    let Ok(usual) = Options::new(2, 0, 1) else {
-        return false;
-    };
-    let Ok(options) = usual.with_version(version) else {
-        return false;
-    };
     let Ok(instance) = last_of_26_machines(alloc) else {
         return false;
     };
-    let Ok(plan) = prepare(alloc, &instance, options) else {
+    let Some(plan) = planned(alloc, &instance, 2, (0, version, 1)) else {
         return false;
     };
     match solve(rt, alloc, &plan, &Open) {
@@ -101,14 +96,16 @@ static THREE_JOBS: [u32; 78] = [
 
 /// A certificate of the three jobs with this version and this depth, and these trees.
 fn text_of(alloc: Global, version: u8, depth: u8, trees: &[u8]) -> Result<Vec<u8>, AllocError> {
-    let mut text = Vec::from_slice(alloc, b"flowshop certificate ")?;
-    text.push(version)?;
-    text.extend_from_slice(b"\n3 26 ")?;
-    text.push(depth)?;
-    text.extend_from_slice(b"\n125\n2 3 1\n")?;
-    text.extend_from_slice(trees)?;
-    text.extend_from_slice(b"end\n")?;
-    Ok(text)
+    let parts: [&[u8]; 7] = [
+        b"flowshop certificate ",
+        &[version],
+        b"\n3 26 ",
+        &[depth],
+        b"\n125\n2 3 1\n",
+        trees,
+        b"end\n",
+    ];
+    joined(alloc, &parts)
 }
 
 /// Whether the checker answers so for the three jobs.

@@ -14,4 +14,8 @@ mod long_trees;
 #[cfg(test)]
 mod many_prefixes;
 #[cfg(test)]
+mod searches;
+#[cfg(test)]
+mod texts;
+#[cfg(test)]
 mod written;

@@ -1,5 +1,6 @@
 //! 316 jobs on one machine, which all take 0. At depth 2 they have 316 * 315 = 99,540 prefixes.
 
+use crate::texts::joined;
 use crate::written::is_written;
 use flow_core::{Instance, InstanceFault};
 use std::alloc::{AllocError, Global};
@@ -16,10 +17,8 @@ fn expected(alloc: Global) -> Result<Vec<u8>, AllocError> {
     for below in 1..316u16 {
         text.extend_from_slice(format!(in alloc; " {}", 316 - below)?.as_bytes())?;
     }
-    text.push(b'\n')?;
-    text.append(&mut b"A\n".repeat(alloc, 99_540)?)?;
-    text.extend_from_slice(b"end\n")?;
-    Ok(text)
+    let trees = b"A\n".repeat(alloc, 99_540)?;
+    joined(alloc, &[text.as_slice(), b"\n", trees.as_slice(), b"end\n"])
 }
 
 /// Whether the certificate, of 200,273 bytes, is written and accepted.

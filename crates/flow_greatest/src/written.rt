@@ -3,11 +3,43 @@
 use flow_cert::write_certificate;
 use flow_check::check;
 use flow_core::{Instance, MemorySink};
-use flow_search::{Options, prepare, solve_plain};
+use flow_search::{OptionFault, Options, Plan, prepare, solve_plain};
 use std::alloc::Global;
 
+/// The options of so many workers with this depth, version and budget.
+fn options_of(
+    workers: u32,
+    (depth, version, budget): (u32, u32, u32),
+) -> Result<Options, OptionFault> {
+    Options::new(workers, depth, budget)?.with_version(version)
+}
+
+/// The plan of an instance for so many workers with this depth, version and budget; none where it is refused.
+pub(crate) fn planned<'a>(
+    alloc: Global,
+    instance: &'a Instance,
+    workers: u32,
+    numbers: (u32, u32, u32),
+) -> Option<Plan<'a>> {
+    match options_of(workers, numbers) {
+        Ok(options) => prepare(alloc, instance, options).ok(),
+        Err(_) => None,
+    }
+}
+
+/// Whether the certificate that a plan comes to is this text. The sink takes no more bytes.
+fn writes(alloc: Global, plan: &Plan, text: &[u8]) -> bool {
+    let mut sink = MemorySink::new(alloc, text.len());
+    match solve_plain(alloc, plan) {
+        Ok(verdict) => {
+            write_certificate(plan, &verdict, &mut sink) == Ok(()) && sink.bytes() == text
+        }
+        Err(_) => false,
+    }
+}
+
 /// Whether an instance has so many prefixes at a depth, its certificate there, within a budget of one byte for a tree,
-/// is this text, and the checker accepts it for this makespan. The sink takes no more bytes.
+/// is this text, and the checker accepts it for this makespan.
 pub(crate) fn is_written(
     alloc: Global,
     instance: &Instance,
@@ -16,17 +48,12 @@ pub(crate) fn is_written(
     text: &[u8],
     value: u64,
 ) -> bool {
-    let Ok(options) = Options::new(1, depth, 1) else {
-        return false;
-    };
-    let Ok(plan) = prepare(alloc, instance, options) else {
-        return false;
-    };
-    let Ok(verdict) = solve_plain(alloc, &plan) else {
-        return false;
-    };
-    let mut sink = MemorySink::new(alloc, text.len());
-    let written = write_certificate(&plan, &verdict, &mut sink);
-    let is_whole = written == Ok(()) && sink.bytes() == text && plan.prefixes() == prefixes;
-    is_whole && check(alloc, instance, text) == Ok(value)
+    match planned(alloc, instance, 1, (depth, 1, 1)) {
+        Some(plan) => {
+            plan.prefixes() == prefixes
+                && writes(alloc, &plan, text)
+                && check(alloc, instance, text) == Ok(value)
+        }
+        None => false,
+    }
 }

@@ -14,8 +14,8 @@ use crate::instances::{
 use crate::lanes::lane_is_used;
 use crate::schedules::{picture_is_made, table_is_made};
 use crate::search::{
-    bound_is_raised, certificate_is_found, outcomes_are_concluded, plan_is_solved,
-    plan_starts_as_given, prefixes_are_answered,
+    bound_is_raised, certificate_is_found, directions_are_found, outcomes_are_concluded,
+    plan_is_solved, plan_starts_as_given, prefixes_are_answered,
 };
 use crate::texts::{sink_takes_all, source_is_read, start_is_read, text_is_read};
 use flow_bound::neh;
@@ -92,6 +92,7 @@ pub(crate) enum Three {
     Checked,
     CheckedSequence,
     CheckedTwoEnded,
+    Directions,
 }
 
 /// Calls on an instance that is generated, and on its starting sequence.
@@ -103,7 +104,7 @@ pub(crate) enum Start {
 }
 
 /// All groups of library calls, but for those of workers, each with its name.
-pub(crate) static GROUPS: [(&str, Group); 27] = [
+pub(crate) static GROUPS: [(&str, Group); 28] = [
     (
         "Instance::new, Sequence::new",
         Group::Alone(Alone::Instances),
@@ -136,6 +137,7 @@ pub(crate) static GROUPS: [(&str, Group); 27] = [
         Group::Three(Three::CheckedSequence),
     ),
     ("check_two_ended", Group::Three(Three::CheckedTwoEnded)),
+    ("prove", Group::Three(Three::Directions)),
     ("lane", Group::Alone(Alone::Lane)),
 ];
 
@@ -197,6 +199,7 @@ impl Three {
             Three::Checked => certificates_are_checked(alloc, &three),
             Three::CheckedSequence => certified_sequence_is_given(alloc, &three),
             Three::CheckedTwoEnded => two_ended_text_is_checked(alloc, &three),
+            Three::Directions => directions_are_found(alloc, &three),
         }
     }
 }

@@ -3,6 +3,7 @@
 use flow_certify::{Searched, find_certificate, raise_bound};
 use flow_commands::CommandFault;
 use flow_core::{Instance, Sequence};
+use flow_directions::{Found, ProveFault, prove};
 use flow_examples::{AMPLE, TIGHT, TREES_AT_DEPTH_1, all_outcomes, is_verdict};
 use flow_improve::Effort;
 use flow_pool::SolveFault;
@@ -125,4 +126,24 @@ pub(crate) fn bound_is_raised(alloc: Global, three: &Instance) -> Result<bool, C
         Finding::Least(verdict) => Ok(verdict.value == 12),
         Finding::Bound { .. } => Ok(false),
     }
+}
+
+/// What `prove` finds for a number, of the instance with three machines.
+fn found_for(alloc: Global, three: &Instance, number: u64) -> Result<Found, CommandFault> {
+    match prove(alloc, three, &[], &[], number, 9) {
+        Ok(found) => Ok(found),
+        Err(ProveFault::Memory) => Err(CommandFault::Memory),
+        Err(ProveFault::Jobs) => Ok(Found::Over),
+    }
+}
+
+/// `prove` of directions, and of a sequence below the number.
+pub(crate) fn directions_are_found(alloc: Global, three: &Instance) -> Result<bool, CommandFault> {
+    let proved = found_for(alloc, three, 12)?;
+    let below = found_for(alloc, three, 13)?;
+    let is_proved = match &proved {
+        Found::Proved(text) => text.as_slice() == b"++".as_slice(),
+        _ => false,
+    };
+    Ok(is_proved && matches!(below, Found::Below { makespan: 12, .. }))
 }

@@ -5,7 +5,6 @@ use crate::searches::{ANY, DOWN, comes_to, start_of};
 use flow_core::{Instance, generate};
 use flow_improve::{Reached, beam};
 use std::alloc::Global;
-use std::test::Fail;
 
 /// More steps than the passes of these tests take.
 const WORK: u64 = 6_000_000_000;
@@ -105,78 +104,116 @@ const WHOLE: &[u16] = &[
 /// The starting sequence of fifteen jobs on eight machines.
 const NEH: &[u16] = &[4, 3, 7, 5, 15, 8, 10, 11, 6, 9, 2, 1, 12, 14, 13];
 
-/// What the search comes to from a start of an instance.
+/// What the search comes to from a start of an instance; none where it is refused.
 fn reached(
     alloc: Global,
     instance: &Instance,
     start: &[u16],
     width: u32,
     work: u64,
-) -> Result<Reached, Fail> {
-    let start = start_of(alloc, instance, start)?;
-    Ok(beam(alloc, instance, &start, width, work)?)
+) -> Option<Reached> {
+    match start_of(alloc, instance, start) {
+        Some(start) => beam(alloc, instance, &start, width, work).ok(),
+        None => None,
+    }
 }
 
 /// Whether the search comes to what a row says.
-fn holds(alloc: Global, row: &Row) -> Result<bool, Fail> {
+fn holds(alloc: Global, row: &Row) -> bool {
     let ([jobs, machines, seed], start, width, work, value, list, whole) = *row;
-    let instance = generate(alloc, jobs, machines, seed)?;
-    let best = reached(alloc, &instance, start, width, work)?;
-    Ok(comes_to(&best, value, list, whole))
+    let Ok(instance) = generate(alloc, jobs, machines, seed) else {
+        return false;
+    };
+    match reached(alloc, &instance, start, width, work) {
+        Some(best) => comes_to(&best, value, list, whole),
+        None => false,
+    }
 }
 
 #[test]
-fn beam_ends_at_its_widths_and_steps(rt: HostRuntime) -> Result<(), Fail> {
+fn beam_ends_at_its_widths_and_steps(rt: HostRuntime) {
     for (number, row) in ROWS.iter().enumerate() {
-        assert!(rt; holds(rt.alloc(), row)?, "row {number}");
+        assert!(rt; holds(rt.alloc(), row), "row {number}");
     }
-    Ok(())
 }
 
-/// Whether the search ends at this bound where each of 800 jobs has this time on each of 26 machines.
-fn ends_even(alloc: Global, time: u32, value: u64) -> Result<bool, Fail> {
-    let times = vec![in alloc; time; 20_800]?;
-    let instance = Instance::new(alloc, 800, 26, times.as_slice())?;
-    let best = reached(alloc, &instance, ANY, 2, WORK)?;
-    Ok(comes_to(&best, value, ANY, true))
+/// Times, and the bound where each of 800 jobs has this time on each of 26 machines.
+static EVEN: [(u32, u64); 2] = [(0, 0), (999_999, 824_999_175)];
+
+/// The instance of 800 jobs with this time on each of 26 machines; none where memory ran out.
+fn even(alloc: Global, time: u32) -> Option<Instance> {
+    match vec![in alloc; time; 20_800] {
+        Ok(times) => Instance::new(alloc, 800, 26, times.as_slice()).ok(),
+        Err(_) => None,
+    }
+}
+
+/// Whether the search ends at the bound of a row.
+fn ends_even(alloc: Global, row: &(u32, u64)) -> bool {
+    let Some(instance) = even(alloc, row.0) else {
+        return false;
+    };
+    match reached(alloc, &instance, ANY, 2, WORK) {
+        Some(best) => comes_to(&best, row.1, ANY, true),
+        None => false,
+    }
 }
 
 // All sequences have one makespan, which is the bound.
 #[test]
-fn even_times_have_the_bound(rt: HostRuntime) -> Result<(), Fail> {
-    for (time, value) in [(0, 0), (999_999, 824_999_175)] {
-        assert!(rt; ends_even(rt.alloc(), time, value)?, "at {time}");
+fn even_times_have_the_bound(rt: HostRuntime) {
+    for row in &EVEN {
+        assert!(rt; ends_even(rt.alloc(), row), "at {}", row.0);
     }
-    Ok(())
 }
 
-/// The instance with each time multiplied.
-fn scaled(alloc: Global, instance: &Instance, factor: u32) -> Result<Instance, Fail> {
-    let mut times = instance.times(alloc)?;
+/// The instance with each time multiplied; none where it is refused.
+fn scaled(alloc: Global, instance: &Instance, factor: u32) -> Option<Instance> {
+    let Ok(mut times) = instance.times(alloc) else {
+        return None;
+    };
     for time in times.as_mut_slice() {
         *time = time.saturating_mul(factor);
     }
     let jobs = u32::from(instance.jobs());
     let machines = u32::from(instance.machines());
-    Ok(Instance::new(alloc, jobs, machines, times.as_slice())?)
+    Instance::new(alloc, jobs, machines, times.as_slice()).ok()
 }
 
+/// Whether the search comes to the same sequence in both instances, and in the second to 10,101 times the makespan.
+fn are_alike(alloc: Global, instance: &Instance, greater: &Instance, width: u32) -> bool {
+    let Some(best) = reached(alloc, instance, ANY, width, WORK) else {
+        return false;
+    };
+    match reached(alloc, greater, ANY, width, WORK) {
+        Some(same) => {
+            same.value == best.value.saturating_mul(10_101)
+                && same.sequence.jobs() == best.sequence.jobs()
+        }
+        None => false,
+    }
+}
+
+/// Jobs, machines and the width.
+static SCALED: [(u32, u32, u32); 3] = [(20, 10, 8), (60, 26, 4), (800, 26, 1)];
+
 /// Whether the search comes to the same sequence where each time is multiplied by 10,101, and the makespan is, too.
-fn stays(alloc: Global, jobs: u32, machines: u32, width: u32) -> Result<bool, Fail> {
-    let instance = generate(alloc, jobs, machines, 11)?;
-    let greater = scaled(alloc, &instance, 10_101)?;
-    let best = reached(alloc, &instance, ANY, width, WORK)?;
-    let same = reached(alloc, &greater, ANY, width, WORK)?;
-    let value = best.value.saturating_mul(10_101);
-    Ok(same.value == value && same.sequence.jobs() == best.sequence.jobs())
+fn stays(alloc: Global, row: &(u32, u32, u32)) -> bool {
+    let (jobs, machines, width) = *row;
+    let Ok(instance) = generate(alloc, jobs, machines, 11) else {
+        return false;
+    };
+    match scaled(alloc, &instance, 10_101) {
+        Some(greater) => are_alike(alloc, &instance, &greater, width),
+        None => false,
+    }
 }
 
 // Bounds grow with the times, and deficits and their sums with bounds by the square, so the order of children stays,
 // and the search comes to the same sequence. The greatest time of these instances is 99, and 999,999 then.
 #[test]
-fn greater_times_have_the_same_sequence(rt: HostRuntime) -> Result<(), Fail> {
-    for (jobs, machines, width) in [(20, 10, 8), (60, 26, 4), (800, 26, 1)] {
-        assert!(rt; stays(rt.alloc(), jobs, machines, width)?, "at {jobs}");
+fn greater_times_have_the_same_sequence(rt: HostRuntime) {
+    for row in &SCALED {
+        assert!(rt; stays(rt.alloc(), row), "at {}", row.0);
     }
-    Ok(())
 }

@@ -6,6 +6,7 @@ ghost use Rattle.std.specs.Option.{ForSome};
 use flow_commands::{CommandFault, ImproveRequest, run_gen, run_neh};
 use flow_core::{MemorySink, MemorySource, ReadFault, WriteFault};
 use std::alloc::Global;
+use texts::{START, THREE_MACHINES};
 
 mod certify;
 mod check;
@@ -29,51 +30,109 @@ const ROOM: usize = 100_000;
 /// What a run comes to: all that it writes, or its fault.
 type Wanted = Result<&'static [u8], CommandFault>;
 
-/// Whether a run came to this. One that was refused has written nothing.
+/// What a run comes to, and all that it has written then.
+type End<'a> = (Result<(), CommandFault>, &'a [u8]);
+
+/// The end of a run that comes to this. One that is refused writes nothing.
+fn end_of(wanted: Result<&[u8], CommandFault>) -> End {
+    match wanted {
+        Ok(bytes) => (Ok(()), bytes),
+        Err(fault) => (Err(fault), b""),
+    }
+}
+
+/// The end of a run that writes a text into a sink of so many bytes: all of it, or, where it has more, so many of its
+/// bytes.
+fn filled(room: usize, text: &[u8]) -> End {
+    match text.get(..room) {
+        Some(bytes) if room < text.len() => (Err(CommandFault::Write(WriteFault::Device)), bytes),
+        _ => (Ok(()), text),
+    }
+}
+
+/// The end of a run that reads a text which refuses.
+const UNREAD: End<'static> = (Err(CommandFault::Read(ReadFault::Device)), b"");
+
+/// The end of a run that reads a text which refuses after so many bytes, and writes these bytes if it is read whole.
+fn read_up_to<'a>(text: &[u8], most: usize, bytes: &'a [u8]) -> End<'a> {
+    if most > text.len() {
+        (Ok(()), bytes)
+    } else {
+        UNREAD
+    }
+}
+
+/// Whether a run ended so.
+fn ends(ran: Result<(), CommandFault>, out: &MemorySink, end: End) -> bool {
+    ran == end.0 && out.bytes() == end.1
+}
+
+/// Whether a run came to this.
 fn comes_to(
     ran: Result<(), CommandFault>,
     out: &MemorySink,
     wanted: Result<&[u8], CommandFault>,
 ) -> bool {
-    match wanted {
-        Ok(bytes) => ran == Ok(()) && out.bytes() == bytes,
-        Err(fault) => ran == Err(fault) && out.bytes().is_empty(),
+    ends(ran, out, end_of(wanted))
+}
+
+/// What a command reads: a text and an index, and another text if there is one; and how many bytes each gives before it
+/// refuses, if it does.
+#[derive(Clone, Copy)]
+struct Given<'a> {
+    text: &'a [u8],
+    text_most: Option<usize>,
+    index: u32,
+    beside: Option<&'a [u8]>,
+    beside_most: Option<usize>,
+}
+
+impl<'a> Given<'a> {
+    /// The source of the text.
+    fn source(&self) -> MemorySource<'a>
+        ensures { result.failed ≡ false }
+    {
+        MemorySource::new(self.text, 7, self.text_most)
+    }
+
+    /// The source of the other text, if there is one.
+    fn source_beside(&self) -> Option<MemorySource<'a>>
+        ensures { ForSome result (λ source. source.failed ≡ false) }
+    {
+        match self.beside {
+            Some(bytes) => Some(MemorySource::new(bytes, 5, self.beside_most)),
+            None => None,
+        }
+    }
+
+    /// The source of the other text, which is empty where there is none.
+    fn source_of_beside(&self) -> MemorySource<'a>
+        ensures { result.failed ≡ false }
+    {
+        MemorySource::new(self.beside.unwrap_or(b""), 5, self.beside_most)
     }
 }
 
-/// Whether a run wrote a text into a sink of so many bytes: all of it, or, where it has more, so many of its bytes.
-fn fills(ran: Result<(), CommandFault>, out: &MemorySink, room: usize, text: &[u8]) -> bool {
-    if room < text.len() {
-        let full = Err(CommandFault::Write(WriteFault::Device));
-        return ran == full && text.get(..room) == Some(out.bytes());
-    }
-    ran == Ok(()) && out.bytes() == text
-}
+/// The text with three machines.
+const OF_THREE: Given<'static> = Given {
+    text: THREE_MACHINES,
+    text_most: None,
+    index: 1,
+    beside: None,
+    beside_most: None,
+};
 
-/// What a run comes to that reads a text which refuses after so many bytes, and writes these bytes if it is read whole.
-fn is_read(text: &[u8], most: usize, bytes: &'static [u8]) -> Wanted {
-    if most > text.len() {
-        Ok(bytes)
-    } else {
-        Err(CommandFault::Read(ReadFault::Device))
-    }
-}
+/// The same with a start.
+const STARTED: Given<'static> = Given {
+    beside: Some(START),
+    ..OF_THREE
+};
 
 /// A source of all these bytes.
 fn all_of(bytes: &[u8]) -> MemorySource
     ensures { result.failed ≡ false }
 {
     MemorySource::new(bytes, 7, None)
-}
-
-/// A source of a start text, where there is one.
-fn start_of(start: Option<&[u8]>) -> Option<MemorySource>
-    ensures { ForSome result (λ source. source.failed ≡ false) }
-{
-    match start {
-        Some(bytes) => Some(MemorySource::new(bytes, 5, None)),
-        None => None,
-    }
 }
 
 /// The text of a generated instance; none where it was refused.

@@ -6,7 +6,6 @@ use flow_bound::{neh, taillard_bound};
 use flow_core::{Instance, generate};
 use flow_improve::{Effort, Reached, beam, improve, rounds_of_both};
 use std::alloc::Global;
-use std::test::Fail;
 
 /// What rounds and a beam of width 32 come to together, of fifteen jobs on eight machines; and what that beam does.
 const OF_BOTH: &[u16] = &[1, 3, 4, 11, 6, 8, 7, 5, 9, 12, 15, 2, 10, 14, 13];
@@ -238,16 +237,16 @@ static ROWS: [Row; 24] = [
     ([6, 1, 8], DOWN, [0, 9, 3, 8_500], 180, DOWN, true),
 ];
 
-/// What is reached from a start of an instance.
+/// What is reached from a start of an instance; none where its numbers have no seed, or it is refused.
 fn reached(
     alloc: Global,
     instance: &Instance,
     start: &[u16],
     numbers: [u32; 4],
-) -> Result<Reached, Fail> {
+) -> Option<Reached> {
     let [width, rounds, seed, work] = numbers;
     if seed < 1 || seed >= 2_147_483_647 {
-        return Err(Fail::from("no seed"));
+        return None;
     }
     let effort = Effort {
         width,
@@ -255,24 +254,29 @@ fn reached(
         seed,
         work,
     };
-    let start = start_of(alloc, instance, start)?;
-    Ok(improve(alloc, instance, &start, &effort)?)
+    match start_of(alloc, instance, start) {
+        Some(start) => improve(alloc, instance, &start, &effort).ok(),
+        None => None,
+    }
 }
 
 /// Whether beam and rounds come to what a row says.
-fn holds(alloc: Global, row: &Row) -> Result<bool, Fail> {
+fn holds(alloc: Global, row: &Row) -> bool {
     let ([jobs, machines, of_instance], start, numbers, value, list, whole) = *row;
-    let instance = generate(alloc, jobs, machines, of_instance)?;
-    let best = reached(alloc, &instance, start, numbers)?;
-    Ok(comes_to(&best, value, list, whole))
+    let Ok(instance) = generate(alloc, jobs, machines, of_instance) else {
+        return false;
+    };
+    match reached(alloc, &instance, start, numbers) {
+        Some(best) => comes_to(&best, value, list, whole),
+        None => false,
+    }
 }
 
 #[test]
-fn beam_and_rounds_improve_the_start(rt: HostRuntime) -> Result<(), Fail> {
+fn beam_and_rounds_improve_the_start(rt: HostRuntime) {
     for (number, row) in ROWS.iter().enumerate() {
-        assert!(rt; holds(rt.alloc(), row)?, "row {number}");
+        assert!(rt; holds(rt.alloc(), row), "row {number}");
     }
-    Ok(())
 }
 
 /// Jobs, machines and seed of an instance; the makespan of its starting sequence, and its bound.
@@ -285,64 +289,88 @@ static STARTS: [([u32; 3], u64, u64); 5] = [
 ];
 
 /// Whether the starting sequence and the bound of an instance are those of a row.
-fn begins(alloc: Global, row: &([u32; 3], u64, u64)) -> Result<bool, Fail> {
+fn begins(alloc: Global, row: &([u32; 3], u64, u64)) -> bool {
     let ([jobs, machines, seed], value, bound) = *row;
-    let instance = generate(alloc, jobs, machines, seed)?;
-    let (_, makespan) = neh(alloc, &instance)?;
-    Ok(makespan == value && taillard_bound(&instance) == bound)
+    let Ok(instance) = generate(alloc, jobs, machines, seed) else {
+        return false;
+    };
+    match neh(alloc, &instance) {
+        Ok((_, makespan)) => makespan == value && taillard_bound(&instance) == bound,
+        Err(_) => false,
+    }
 }
 
 #[test]
-fn starts_and_bounds_are_those_of_the_tables(rt: HostRuntime) -> Result<(), Fail> {
+fn starts_and_bounds_are_those_of_the_tables(rt: HostRuntime) {
     for (number, row) in STARTS.iter().enumerate() {
-        assert!(rt; begins(rt.alloc(), row)?, "row {number}");
+        assert!(rt; begins(rt.alloc(), row), "row {number}");
     }
-    Ok(())
 }
 
-// The steps of the beam are 12 of 17 parts, rounded down.
+/// Work, and the steps of its beam: 12 of 17 parts, rounded down.
+static STEPS: [(u32, u64); 7] = [
+    (0, 0),
+    (1, 705_882),
+    (2, 1_411_764),
+    (17, 12_000_000),
+    (8_500, 6_000_000_000),
+    (1_000_000, 705_882_352_941),
+    (u32::MAX, 3_031_741_620_000_000),
+];
+
+/// Whether the beam has the steps of a row.
+fn are_dealt(row: &(u32, u64)) -> bool {
+    let effort = Effort {
+        width: 1,
+        rounds: 1,
+        seed: 1,
+        work: row.0,
+    };
+    effort.beam_work() == row.1
+}
+
 #[test]
 fn steps_are_dealt(rt: HostRuntime) {
-    for (work, steps) in [
-        (0, 0),
-        (1, 705_882),
-        (2, 1_411_764),
-        (17, 12_000_000),
-        (8_500, 6_000_000_000),
-        (1_000_000, 705_882_352_941),
-        (u32::MAX, 3_031_741_620_000_000),
-    ] {
-        let effort = Effort {
-            width: 1,
-            rounds: 1,
-            seed: 1,
-            work,
-        };
-        assert_eq!(rt; effort.beam_work(), steps);
+    for row in &STEPS {
+        assert!(rt; are_dealt(row), "of {}", row.0);
     }
 }
 
-/// What four rounds from both come to after a beam of width 32, which may be taken for whole.
-fn rounds_after(alloc: Global, whole: bool) -> Result<Reached, Fail> {
-    let instance = generate(alloc, 15, 8, 7)?;
-    let (start, _) = neh(alloc, &instance)?;
+/// What four rounds from both come to after a beam of width 32, which may be taken for whole; none where memory ran
+/// out.
+fn rounds_after(alloc: Global, instance: &Instance, whole: bool) -> Option<Reached> {
     let effort = Effort {
         width: 32,
         rounds: 4,
         seed: 1,
         work: 8_500,
     };
-    let mut beamed = beam(alloc, &instance, &start, 32, effort.beam_work())?;
-    beamed.whole = whole;
-    Ok(rounds_of_both(alloc, &instance, &start, &beamed, &effort)?)
+    let Some(start) = start_of(alloc, instance, ANY) else {
+        return None;
+    };
+    match beam(alloc, instance, &start, 32, effort.beam_work()) {
+        Ok(mut beamed) => {
+            beamed.whole = whole;
+            rounds_of_both(alloc, instance, &start, &beamed, &effort).ok()
+        }
+        Err(_) => None,
+    }
+}
+
+/// Whether these rounds come to this.
+fn come_to(alloc: Global, whole: bool, value: u64, jobs: &[u16]) -> bool {
+    let Ok(instance) = generate(alloc, 15, 8, 7) else {
+        return false;
+    };
+    match rounds_after(alloc, &instance, whole) {
+        Some(best) => comes_to(&best, value, jobs, whole),
+        None => false,
+    }
 }
 
 // The four rounds from both come to 1206, and a beam of 1208 that is whole needs none.
 #[test]
-fn a_beam_that_is_whole_stays(rt: HostRuntime) -> Result<(), Fail> {
-    let best = rounds_after(rt.alloc(), false)?;
-    assert!(rt; comes_to(&best, 1206, OF_BOTH, false));
-    let best = rounds_after(rt.alloc(), true)?;
-    assert!(rt; comes_to(&best, 1208, OF_BEAM, true));
-    Ok(())
+fn a_beam_that_is_whole_stays(rt: HostRuntime) {
+    assert!(rt; come_to(rt.alloc(), false, 1206, OF_BOTH));
+    assert!(rt; come_to(rt.alloc(), true, 1208, OF_BEAM));
 }

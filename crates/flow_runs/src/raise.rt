@@ -3,13 +3,11 @@
 ghost use Rattle.flow_certify.specs.Tries.{AreInRange};
 
 use crate::searches::{ANY, start_of};
-use flow_bound::neh;
 use flow_certify::{Proved, Searched, find_certificate, raise_bound};
 use flow_core::{Instance, makespan};
 use flow_improve::Effort;
 use flow_search::Finding;
 use std::alloc::Global;
-use std::test::Fail;
 
 /// The times of three jobs on three machines, machine by machine. The least makespan is 12.
 const THREE_MACHINES: [u32; 9] = [4, 0, 0, 0, 8, 2, 4, 0, 1];
@@ -49,47 +47,10 @@ fn ends_at(proved: &Proved, end: End) -> bool {
     }
 }
 
-/// Whether `raise_bound` ends so from a start of this makespan.
-fn raises(
-    alloc: Global,
-    instance: &Instance,
-    jobs: &[u16],
-    value: u64,
-    version: u32,
-    end: End,
-) -> Result<bool, Fail> {
-    if version != 1 && version != 2 {
-        return Err(Fail::from("no version"));
-    }
-    let start = start_of(alloc, instance, jobs)?;
-    let mirror = instance.mirrored(alloc)?;
-    let proved = raise_bound(alloc, instance, &mirror, &start, version)?;
-    Ok(makespan(instance, &start) == value && ends_at(&proved, end))
-}
-
-/// Whether `find_certificate` gives this verdict of a plan of a starting sequence of makespan 13.
-fn finds_from_13(
-    alloc: Global,
-    instance: &Instance,
-    version: Option<u32>,
-    value: u64,
-    jobs: &[u16],
-) -> Result<bool, Fail>
-    requires { AreInRange version }
-{
-    let (start, _) = neh(alloc, instance)?;
-    let mirror = instance.mirrored(alloc)?;
-    match find_certificate(alloc, instance, &mirror, &start, &NO_EFFORT, version)? {
-        Searched::Found(plan, verdict) => {
-            let same = verdict.value == value && verdict.sequence.jobs() == jobs;
-            Ok(same && plan.start_value() == 13)
-        }
-        Searched::Over(_) => Ok(false),
-    }
-}
-
 /// Jobs, machines and times; a start, its makespan and a version; and what `raise_bound` ends at.
-static ROWS: [(u32, u32, &[u32], &[u16], u64, u32, End); 7] = [
+type Row = (u32, u32, &'static [u32], &'static [u16], u64, u32, End);
+
+static ROWS: [Row; 7] = [
     // Below 10 and 11 there is no sequence; below 13 there is the one of 12.
     (3, 3, &THREE_MACHINES, &[2, 1, 3], 13, 1, (12, None)),
     (3, 3, &THREE_MACHINES, &[2, 1, 3], 13, 2, (12, None)),
@@ -102,25 +63,80 @@ static ROWS: [(u32, u32, &[u32], &[u16], u64, u32, End); 7] = [
     (800, 26, &[0; 20_800], ANY, 0, 1, (0, None)),
 ];
 
-#[test]
-fn raise_bound_ends_at_the_least_makespan_or_a_bound(rt: HostRuntime) -> Result<(), Fail> {
-    for (jobs, machines, times, start, value, version, end) in ROWS {
-        let instance = Instance::new(rt.alloc(), jobs, machines, times)?;
-        assert!(rt;
-            raises(rt.alloc(), &instance, start, value, version, end)?,
-            "at {jobs} {machines}"
-        );
+/// Whether `raise_bound` ends so from the start of a row.
+fn raises(alloc: Global, instance: &Instance, row: &Row) -> bool {
+    let (_, _, _, jobs, value, version, end) = *row;
+    if version != 1 && version != 2 {
+        return false;
     }
-    Ok(())
+    let Some(start) = start_of(alloc, instance, jobs) else {
+        return false;
+    };
+    let Ok(mirror) = instance.mirrored(alloc) else {
+        return false;
+    };
+    match raise_bound(alloc, instance, &mirror, &start, version) {
+        Ok(proved) => makespan(instance, &start) == value && ends_at(&proved, end),
+        Err(_) => false,
+    }
+}
+
+/// Whether `raise_bound` comes to what a row says.
+fn holds(alloc: Global, row: &Row) -> bool {
+    match Instance::new(alloc, row.0, row.1, row.2) {
+        Ok(instance) => raises(alloc, &instance, row),
+        Err(_) => false,
+    }
 }
 
 #[test]
-fn find_certificate_gives_the_first_verdict(rt: HostRuntime) -> Result<(), Fail> {
-    let alloc = rt.alloc();
-    let instance = Instance::new(alloc, 3, 3, &THREE_MACHINES)?;
-    let jobs = [3, 1, 2];
-    assert!(rt; finds_from_13(alloc, &instance, None, 12, &jobs)?);
-    assert!(rt; finds_from_13(alloc, &instance, Some(1), 12, &jobs)?);
-    assert!(rt; finds_from_13(alloc, &instance, Some(2), 12, &jobs)?);
-    Ok(())
+fn raise_bound_ends_at_the_least_makespan_or_a_bound(rt: HostRuntime) {
+    for (number, row) in ROWS.iter().enumerate() {
+        assert!(rt; holds(rt.alloc(), row), "row {number}");
+    }
+}
+
+/// Whether a search ended at the makespan 12 of 3 1 2, by a plan of a starting sequence of makespan 13.
+fn is_first_verdict(searched: &Searched) -> bool {
+    match searched {
+        Searched::Found(plan, verdict) => {
+            verdict.value == 12
+                && verdict.sequence.jobs() == [3, 1, 2].as_slice()
+                && plan.start_value() == 13
+        }
+        Searched::Over(_) => false,
+    }
+}
+
+/// Whether `find_certificate` gives the first verdict of an instance.
+fn finds(alloc: Global, instance: &Instance, version: Option<u32>) -> bool
+    requires { AreInRange version }
+{
+    let Some(start) = start_of(alloc, instance, ANY) else {
+        return false;
+    };
+    let Ok(mirror) = instance.mirrored(alloc) else {
+        return false;
+    };
+    match find_certificate(alloc, instance, &mirror, &start, &NO_EFFORT, version) {
+        Ok(searched) => is_first_verdict(&searched),
+        Err(_) => false,
+    }
+}
+
+/// Whether `find_certificate` gives the first verdict of the three jobs in all versions.
+fn finds_in_all_versions(alloc: Global) -> bool {
+    match Instance::new(alloc, 3, 3, &THREE_MACHINES) {
+        Ok(instance) => {
+            finds(alloc, &instance, None)
+                && finds(alloc, &instance, Some(1))
+                && finds(alloc, &instance, Some(2))
+        }
+        Err(_) => false,
+    }
+}
+
+#[test]
+fn find_certificate_gives_the_first_verdict(rt: HostRuntime) {
+    assert!(rt; finds_in_all_versions(rt.alloc()));
 }

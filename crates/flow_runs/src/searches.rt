@@ -1,13 +1,12 @@
 //! Instances, starts and what a search of better sequences comes to.
 
-ghost use Rattle.std.specs.Prelude.{IfOk};
+ghost use Rattle.std.specs.Prelude.{IfSome};
 ghost use Rattle.flow_core.specs.Sequences.{IsSequence};
 
 use flow_bound::neh;
 use flow_core::{Instance, Sequence};
 use flow_improve::Reached;
 use std::alloc::Global;
-use std::test::Fail;
 
 /// No jobs: the starting sequence where a start is asked for, and any sequence where one is compared.
 pub(crate) const ANY: &[u16] = &[];
@@ -15,15 +14,17 @@ pub(crate) const ANY: &[u16] = &[];
 /// Six jobs from the last to the first.
 pub(crate) const DOWN: &[u16] = &[6, 5, 4, 3, 2, 1];
 
-/// The sequence of these jobs, or, where there are none, the starting sequence.
-pub(crate) fn start_of(alloc: Global, instance: &Instance, jobs: &[u16]) -> Result<Sequence, Fail>
-    ensures { IfOk result (IsSequence instance.now.jobs) }
+/// The sequence of these jobs, or, where there are none, the starting sequence. It is none where it is refused.
+pub(crate) fn start_of(alloc: Global, instance: &Instance, jobs: &[u16]) -> Option<Sequence>
+    ensures { IfSome result (IsSequence instance.now.jobs) }
 {
-    if jobs.is_empty() {
-        let (start, _) = neh(alloc, instance)?;
-        return Ok(start);
+    if !jobs.is_empty() {
+        return Sequence::new(alloc, instance, jobs).ok();
     }
-    Ok(Sequence::new(alloc, instance, jobs)?)
+    match neh(alloc, instance) {
+        Ok((start, _)) => Some(start),
+        Err(_) => None,
+    }
 }
 
 /// Whether a search came to this makespan, these jobs, and this answer whether it was whole. Where no jobs are given,

@@ -2,9 +2,9 @@
 ghost use Rattle.std.specs.Prelude.{◌≡◌};
 
 use flow_lanes::{Receiver, Sender, lane, settle};
+use std::alloc::Global;
 use std::sync::Wait;
-use std::test::Fail;
-use std::thread;
+use std::thread::{self, Threads};
 
 /// A step at a lane of numbers, with what it gives.
 enum Step {
@@ -50,14 +50,21 @@ static STEPS: [Step; 10] = [
     Step::Room(2),
 ];
 
-#[test]
-fn lane_gives_what_is_known(rt: HostRuntime) -> Result<(), Fail> {
-    let (mut sender, mut receiver) = lane(rt.alloc(), 2)?;
+/// Whether all steps give what they should, and the lane is settled then.
+fn are_right(alloc: Global) -> bool {
+    let Ok((mut sender, mut receiver)) = lane(alloc, 2) else {
+        return false;
+    };
+    let mut right = true;
     'steps: for step in &STEPS {
-        assert!(rt; step.is_right(&mut sender, &mut receiver));
+        right = step.is_right(&mut sender, &mut receiver) && right;
     }
-    assert!(rt; settle(sender, receiver).is_ok());
-    Ok(())
+    settle(sender, receiver).is_ok() && right
+}
+
+#[test]
+fn lane_gives_what_is_known(rt: HostRuntime) {
+    assert!(rt; are_right(rt.alloc()));
 }
 
 /// Whether a lane is handed back, since this item alone stands in it; and settled once it was received.
@@ -74,12 +81,18 @@ pub(crate) fn holds_only<T: PartialEq + Drop>(
     receiver.try_recv() == Some(item) && settle(sender, receiver).is_ok()
 }
 
+/// Whether a lane with an item is handed back.
+fn is_handed_back(alloc: Global) -> bool {
+    let Ok((mut sender, receiver)) = lane(alloc, 2) else {
+        return false;
+    };
+    let sent = sender.try_send(7) == Ok(());
+    holds_only(sender, receiver, 7u32) && sent
+}
+
 #[test]
-fn settle_hands_back_a_lane_with_an_item(rt: HostRuntime) -> Result<(), Fail> {
-    let (mut sender, receiver) = lane(rt.alloc(), 2)?;
-    assert_eq!(rt; sender.try_send(7), Ok(()));
-    assert!(rt; holds_only(sender, receiver, 7u32));
-    Ok(())
+fn settle_hands_back_a_lane_with_an_item(rt: HostRuntime) {
+    assert!(rt; is_handed_back(rt.alloc()));
 }
 
 // Sends the numbers from 1 to 1,000. Tries each again until the lane takes it.
@@ -120,16 +133,20 @@ fn receive_thousand<R: Wait>(rt: &R, mut receiver: Receiver<u32>) -> (Receiver<u
     (receiver, in_order)
 }
 
-#[test]
-fn thousand_items_cross_between_threads(rt: HostRuntime) -> Result<(), Fail> {
-    let (sender, receiver) = lane(rt.alloc(), 4)?;
-    let runtime = &rt;
+/// Whether a thousand items cross between threads in order, and the lane is settled then.
+fn cross<R: Threads + Wait + Sync>(rt: &R, alloc: Global) -> bool {
+    let Ok((sender, receiver)) = lane(alloc, 4) else {
+        return false;
+    };
     let (sender, (receiver, in_order)) = thread::join(
-        runtime,
-        move || send_thousand(runtime, sender),
-        move || receive_thousand(runtime, receiver),
+        rt,
+        move || send_thousand(rt, sender),
+        move || receive_thousand(rt, receiver),
     );
-    assert!(rt; in_order);
-    assert!(rt; settle(sender, receiver).is_ok());
-    Ok(())
+    settle(sender, receiver).is_ok() && in_order
+}
+
+#[test]
+fn thousand_items_cross_between_threads(rt: HostRuntime) {
+    assert!(rt; cross(&rt, rt.alloc()));
 }

@@ -6,12 +6,15 @@ use super::texts::{
     LONG_TREES_START, OF_FOUR_MACHINES, OF_ONE_LONG_JOB, OF_ONE_LONGER_JOB, ONE_LONG_JOB,
     ONE_LONGER_JOB, START, THREE_MACHINES, VERSION_2,
 };
-use super::{ROOM, Wanted, all_of, comes_to, fills, generated, improvement, start_of};
+use super::{
+    End, Given, OF_THREE, ROOM, STARTED, UNREAD, Wanted, all_of, comes_to, end_of, ends, filled,
+    generated, improvement,
+};
 use flow_commands::{
     CertifyRequest, CommandFault, ImproveFault, ImproveRequest, SolveRequest, run_certify,
     run_check, run_solve_as,
 };
-use flow_core::{MemorySink, MemorySource, ReadFault, SequenceFault, TextFault};
+use flow_core::{MemorySink, ReadFault, SequenceFault, TextFault};
 use flow_pool::{Open, SolveFault};
 use flow_search::OptionFault;
 use std::alloc::Global;
@@ -218,37 +221,30 @@ static ROWS: [Row; 23] = [
     ),
 ];
 
-/// Whether `certify` comes to this.
-fn certifies(
-    alloc: Global,
-    text: &[u8],
-    index: u32,
-    start: Option<&[u8]>,
-    request: CertifyRequest,
-    wanted: Result<&[u8], CommandFault>,
-) -> bool {
-    let mut out = MemorySink::new(alloc, ROOM);
-    let mut start = start_of(start);
-    let ran = run_certify(
-        alloc,
-        &mut all_of(text),
-        index,
-        &mut start,
-        request,
-        &mut out,
-    );
-    comes_to(ran, &out, wanted)
+/// Whether `certify` of texts ends so with a sink of so many bytes.
+fn certifies(alloc: Global, texts: &Given, request: CertifyRequest, room: usize, end: End) -> bool {
+    let mut out = MemorySink::new(alloc, room);
+    let mut file = texts.source();
+    let mut start = texts.source_beside();
+    let ran = run_certify(alloc, &mut file, texts.index, &mut start, request, &mut out);
+    ends(ran, &out, end)
 }
 
 /// Whether `certify` comes to what a row says.
 fn holds(alloc: Global, row: &Row) -> bool {
-    let (text, index, start, numbers, version, bounds, wanted) = *row;
+    let (text, index, beside, numbers, version, bounds, wanted) = *row;
     let request = CertifyRequest {
         improve: improvement(numbers),
         version: Some(version),
         bounds,
     };
-    certifies(alloc, text, index, start, request, wanted)
+    let texts = Given {
+        text,
+        index,
+        beside,
+        ..OF_THREE
+    };
+    certifies(alloc, &texts, request, ROOM, end_of(wanted))
 }
 
 #[test]
@@ -302,7 +298,11 @@ fn is_found(alloc: Global, row: &([u32; 6], &[u8])) -> bool {
         version: None,
         bounds: false,
     };
-    certifies(alloc, text.bytes(), 1, None, request, Ok(certificate))
+    let texts = Given {
+        text: text.bytes(),
+        ..OF_THREE
+    };
+    certifies(alloc, &texts, request, ROOM, (Ok(()), certificate))
 }
 
 #[test]
@@ -334,20 +334,21 @@ const UP_TO_100_000: SolveRequest = SolveRequest {
     target: None,
 };
 
+/// The text with long trees, and its start.
+const OF_LONG_TREES: Given<'static> = Given {
+    text: LONG_TREES,
+    beside: Some(LONG_TREES_START),
+    ..OF_THREE
+};
+
 /// The certificate that `solve` writes; nothing where it is refused.
 fn solved<R: Threads + Wait + Sync>(rt: &R, alloc: Global) -> MemorySink {
     let mut out = MemorySink::new(alloc, ROOM);
-    let mut start = start_of(Some(LONG_TREES_START));
-    let mut file = all_of(LONG_TREES);
+    let mut file = OF_LONG_TREES.source();
+    let mut start = OF_LONG_TREES.source_beside();
+    let request = UP_TO_100_000;
     let _ = run_solve_as(
-        rt,
-        alloc,
-        &mut file,
-        1,
-        &mut start,
-        UP_TO_100_000,
-        &Open,
-        &mut out,
+        rt, alloc, &mut file, 1, &mut start, request, &Open, &mut out,
     );
     out
 }
@@ -360,26 +361,34 @@ fn is_accepted(alloc: Global, certificate: &[u8]) -> bool {
     comes_to(ran, &out, Ok(b"optimal 616\n"))
 }
 
+/// Whether a certificate is accepted, and `certify` writes it without a start and with the one of `solve`.
+fn are_alike(alloc: Global, certificate: &[u8]) -> bool {
+    let alone = Given {
+        beside: None,
+        ..OF_LONG_TREES
+    };
+    let end = (Ok(()), certificate);
+    is_accepted(alloc, certificate)
+        && certifies(alloc, &alone, PLAIN, ROOM, end)
+        && certifies(alloc, &OF_LONG_TREES, PLAIN, ROOM, end)
+}
+
 // Both trees have more than 10,000 bytes, and that of the instance has fewer than 100,000: 16,331 bytes, and 20,437 of
 // the mirrored one, as was worked out apart from the program. The certificate is that of `solve`.
 #[test]
 fn certify_tries_the_next_budget(rt: HostRuntime) {
-    let own = solved(&rt, rt.alloc());
-    assert!(rt; is_accepted(rt.alloc(), own.bytes()));
-    for start in [None, Some(LONG_TREES_START)] {
-        assert!(rt; certifies(rt.alloc(), LONG_TREES, 1, start, PLAIN, Ok(own.bytes())));
-    }
+    assert!(rt; are_alike(rt.alloc(), solved(&rt, rt.alloc()).bytes()));
 }
 
 #[test]
 fn certify_writes_nothing_after_a_failed_read(rt: HostRuntime) {
     for most in 0..28usize {
-        let mut out = MemorySink::new(rt.alloc(), ROOM);
-        let mut start = Some(MemorySource::new(START, 5, Some(most)));
-        let mut file = all_of(THREE_MACHINES);
-        let ran = run_certify(rt.alloc(), &mut file, 1, &mut start, PLAIN, &mut out);
+        let texts = Given {
+            beside_most: Some(most),
+            ..STARTED
+        };
         assert!(rt;
-            comes_to(ran, &out, Err(CommandFault::Read(ReadFault::Device))),
+            certifies(rt.alloc(), &texts, PLAIN, ROOM, UNREAD),
             "at {most}"
         );
     }
@@ -388,17 +397,11 @@ fn certify_writes_nothing_after_a_failed_read(rt: HostRuntime) {
 #[test]
 fn certify_fills_a_sink_up_to_its_limit(rt: HostRuntime) {
     for room in 0..51usize {
-        let mut out = MemorySink::new(rt.alloc(), room);
-        let mut file = all_of(THREE_MACHINES);
-        let ran = run_certify(
-            rt.alloc(),
-            &mut file,
-            1,
-            &mut start_of(None),
-            PLAIN,
-            &mut out,
+        let end = filled(room, DEPTH_0);
+        assert!(rt;
+            certifies(rt.alloc(), &OF_THREE, PLAIN, room, end),
+            "at {room}"
         );
-        assert!(rt; fills(ran, &out, room, DEPTH_0), "at {room}");
     }
 }
 
@@ -414,7 +417,7 @@ fn certify_stops_an_endless_start(rt: HostRuntime) {
 #[test]
 fn certify_stops_an_endless_text(rt: HostRuntime) {
     let mut out = MemorySink::new(rt.alloc(), ROOM);
-    let mut none = start_of(None);
+    let mut none = OF_THREE.source_beside();
     let request = CertifyRequest {
         improve: improvement([0, 1, 0, 8_500]),
         version: Some(1),

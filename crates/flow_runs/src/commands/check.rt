@@ -6,7 +6,7 @@ use super::texts::{
     OF_ONE_LONGER_JOB, ONE_JOB, ONE_LONG_JOB, ONE_LONGER_JOB, THREE_MACHINES, TWO_ENDED_10,
     TWO_ENDED_11, TWO_ENDED_12, TWO_MACHINES, VERSION_2,
 };
-use super::{AMPLE, ROOM, Wanted, all_of, comes_to, fills, is_read, start_of};
+use super::{AMPLE, End, Given, OF_THREE, ROOM, Wanted, all_of, end_of, ends, filled, read_up_to};
 use flow_check::CheckFault;
 use flow_commands::{
     CheckRequest, CommandFault, SolveRequest, run_check, run_check_as, run_solve_as,
@@ -64,33 +64,43 @@ static ALONE: [(&[u8], &[u8], Wanted); 16] = [
     (b"", DEPTH_0, Err(CommandFault::Text(TextFault::NoBlock))),
 ];
 
-/// Whether `check` of certificates of the text alone comes to what a row says.
-fn proves(alloc: Global, row: &(&[u8], &[u8], Wanted)) -> bool {
-    let (text, certificate, wanted) = *row;
+/// Whether `check` of certificates of the text alone ends so.
+fn proves(alloc: Global, texts: &Given, end: End) -> bool {
     let mut out = MemorySink::new(alloc, ROOM);
-    let mut cert = MemorySource::new(certificate, 9, None);
-    let ran = run_check(alloc, &mut all_of(text), 1, &mut cert, &mut out);
-    comes_to(ran, &out, wanted)
+    let mut file = texts.source();
+    let mut cert = texts.source_of_beside();
+    let ran = run_check(alloc, &mut file, texts.index, &mut cert, &mut out);
+    ends(ran, &out, end)
+}
+
+/// Whether `check` of certificates of the text alone comes to what a row says.
+fn holds(alloc: Global, row: &(&[u8], &[u8], Wanted)) -> bool {
+    let (text, certificate, wanted) = *row;
+    let texts = Given {
+        text,
+        beside: Some(certificate),
+        ..OF_THREE
+    };
+    proves(alloc, &texts, end_of(wanted))
 }
 
 #[test]
 fn check_prints_the_least_makespan(rt: HostRuntime) {
     for (number, row) in ALONE.iter().enumerate() {
-        assert!(rt; proves(rt.alloc(), row), "row {number}");
+        assert!(rt; holds(rt.alloc(), row), "row {number}");
     }
 }
 
 #[test]
 fn check_prints_nothing_after_a_failed_read(rt: HostRuntime) {
     for most in 0..DEPTH_0.len() + 2 {
-        let mut out = MemorySink::new(rt.alloc(), ROOM);
-        let mut cert = MemorySource::new(DEPTH_0, 7, Some(most));
-        let mut file = all_of(THREE_MACHINES);
-        let ran = run_check(rt.alloc(), &mut file, 1, &mut cert, &mut out);
-        assert!(rt;
-            comes_to(ran, &out, is_read(DEPTH_0, most, b"optimal 12\n")),
-            "at {most}"
-        );
+        let texts = Given {
+            beside: Some(DEPTH_0),
+            beside_most: Some(most),
+            ..OF_THREE
+        };
+        let end = read_up_to(DEPTH_0, most, b"optimal 12\n");
+        assert!(rt; proves(rt.alloc(), &texts, end), "at {most}");
     }
 }
 
@@ -344,35 +354,39 @@ static ASKED: [Row; 45] = [
     ),
 ];
 
-/// Whether `check` of a text, and of a certificate of either form or a text of bounds, comes to this.
+/// Whether `check` of a text, and of a certificate of either form or a text of bounds, ends so with a sink of so many
+/// bytes.
 fn answers(
     alloc: Global,
-    text: &[u8],
-    certificate: &[u8],
+    (text, certificate): (&[u8], &[u8]),
     request: CheckRequest,
-    wanted: Wanted,
+    room: usize,
+    end: End,
 ) -> bool {
-    let mut out = MemorySink::new(alloc, ROOM);
+    let mut out = MemorySink::new(alloc, room);
     let mut cert = MemorySource::new(certificate, 9, None);
-    let ran = run_check_as(alloc, &mut all_of(text), 1, &mut cert, request, &mut out);
-    comes_to(ran, &out, wanted)
+    let mut file = MemorySource::new(text, 7, None);
+    let ran = run_check_as(alloc, &mut file, 1, &mut cert, request, &mut out);
+    ends(ran, &out, end)
+}
+
+/// Whether `check` comes to what a row says, where the mirrored instance is accepted too or not.
+fn prints(alloc: Global, row: &Row, either: bool) -> bool {
+    let (text, certificate, _, sequence, wanted) = *row;
+    let request = CheckRequest {
+        either,
+        bounds: true,
+        sequence,
+        optimal: false,
+    };
+    answers(alloc, (text, certificate), request, ROOM, end_of(wanted))
 }
 
 #[test]
 fn check_prints_what_is_asked_for(rt: HostRuntime) {
     for (number, row) in ASKED.iter().enumerate() {
-        let (text, certificate, eithers, sequence, wanted) = *row;
-        for either in eithers {
-            let request = CheckRequest {
-                either: *either,
-                bounds: true,
-                sequence,
-                optimal: false,
-            };
-            assert!(rt;
-                answers(rt.alloc(), text, certificate, request, wanted),
-                "row {number}"
-            );
+        for either in row.2 {
+            assert!(rt; prints(rt.alloc(), row, *either), "row {number}");
         }
     }
 }
@@ -383,9 +397,11 @@ const DIFFER: Wanted = Err(CommandFault::Bounds {
     upper: 13,
 });
 
-/// Texts of three machines, or of the mirrored instance; and what is printed, without the sequence and with it, where a
-/// least makespan has to be proved.
-static PROVED: [(&[u8], Wanted, Wanted); 10] = [
+/// A text of three machines, or of the mirrored instance; and what is printed, without the sequence and with it, where
+/// a least makespan has to be proved.
+type Proved = (&'static [u8], Wanted, Wanted);
+
+static PROVED: [Proved; 10] = [
     (DEPTH_0, OPTIMAL, BEST_LINES),
     (OF_MIRROR, OPTIMAL, BEST_LINES),
     (TWO_ENDED_12, OPTIMAL, BEST_LINES),
@@ -430,59 +446,72 @@ static PROVED: [(&[u8], Wanted, Wanted); 10] = [
     ),
 ];
 
+/// Whether `check` comes to what a row says, without the sequence and with it.
+fn is_proved(alloc: Global, row: &Proved) -> bool {
+    let (certificate, line, lines) = *row;
+    let request = CheckRequest {
+        either: true,
+        bounds: true,
+        sequence: false,
+        optimal: true,
+    };
+    let with_sequence = CheckRequest {
+        sequence: true,
+        ..request
+    };
+    let texts = (THREE_MACHINES, certificate);
+    answers(alloc, texts, request, ROOM, end_of(line))
+        && answers(alloc, texts, with_sequence, ROOM, end_of(lines))
+}
+
 #[test]
 fn check_refuses_bounds_where_a_least_makespan_has_to_be_proved(rt: HostRuntime) {
     for (number, row) in PROVED.iter().enumerate() {
-        let (certificate, line, lines) = *row;
-        for (sequence, wanted) in [(false, line), (true, lines)] {
-            let request = CheckRequest {
-                either: true,
-                bounds: true,
-                sequence,
-                optimal: true,
-            };
-            assert!(rt;
-                answers(rt.alloc(), THREE_MACHINES, certificate, request, wanted),
-                "row {number}"
-            );
-        }
+        assert!(rt; is_proved(rt.alloc(), row), "row {number}");
     }
 }
 
 /// A text of the instance or of the mirrored one, whether the sequence is asked for, and what is printed.
-static PRINTED: [(&[u8], bool, &[u8]); 2] = [
+type Printed = (&'static [u8], bool, &'static [u8]);
+
+static PRINTED: [Printed; 2] = [
     (OF_MIRROR, true, b"sequence 3 1 2\nmakespan 12\n"),
     (BOUNDS_OF_11, false, b"bounds 11 13\n"),
 ];
 
+/// Whether `check` fills a sink of so many bytes with what a row says.
+fn is_filled(alloc: Global, row: &Printed, room: usize) -> bool {
+    let (certificate, sequence, text) = *row;
+    let request = CheckRequest {
+        either: true,
+        bounds: true,
+        sequence,
+        optimal: false,
+    };
+    answers(
+        alloc,
+        (THREE_MACHINES, certificate),
+        request,
+        room,
+        filled(room, text),
+    )
+}
+
 #[test]
 fn check_fills_a_sink_up_to_its_limit(rt: HostRuntime) {
-    for (certificate, sequence, text) in PRINTED {
-        let request = CheckRequest {
-            either: true,
-            bounds: true,
-            sequence,
-            optimal: false,
-        };
+    for row in &PRINTED {
         for room in 0..30usize {
-            let mut out = MemorySink::new(rt.alloc(), room);
-            let mut file = all_of(THREE_MACHINES);
-            let ran = run_check_as(
-                rt.alloc(),
-                &mut file,
-                1,
-                &mut all_of(certificate),
-                request,
-                &mut out,
-            );
-            assert!(rt; fills(ran, &out, room, text), "at {room}");
+            assert!(rt; is_filled(rt.alloc(), row, room), "at {room}");
         }
     }
 }
 
-/// Texts, and for each the greatest depth and what `check` prints for its certificates. All 720 sequences of the last
-/// were tried apart from the program: the least makespan is 44, and that of the starting sequence is 46.
-static SOLVED: [(&[u8], u32, Wanted); 5] = [
+/// A text, the greatest depth, and what `check` prints for its certificates.
+type Solved = (&'static [u8], u32, Wanted);
+
+/// All 720 sequences of the last were tried apart from the program: the least makespan is 44, and that of the starting
+/// sequence is 46.
+static SOLVED: [Solved; 5] = [
     (THREE_MACHINES, 3, Ok(b"optimal 12\n")),
     (TWO_MACHINES, 3, Ok(b"optimal 9\n")),
     (ONE_JOB, 1, Ok(b"optimal 0\n")),
@@ -494,55 +523,49 @@ static SOLVED: [(&[u8], u32, Wanted); 5] = [
     ),
 ];
 
-/// Whether `check` of what `solve` writes as a request says comes to this.
+/// Versions, and whether the certificate is one of the mirrored instance.
+static KINDS: [(u32, bool); 4] = [(1, false), (1, true), (2, false), (2, true)];
+
+/// Whether `check` of what `solve` writes at a depth comes to what a row says.
 fn is_accepted<R: Threads + Wait + Sync>(
     rt: &R,
     alloc: Global,
-    text: &[u8],
-    request: SolveRequest,
-    wanted: Wanted,
+    row: &Solved,
+    depth: u32,
+    kind: &(u32, bool),
 ) -> bool {
-    let mut cert = MemorySink::new(alloc, ROOM);
-    let mut none = start_of(None);
-    let mut file = all_of(text);
-    let ran = run_solve_as(
-        rt, alloc, &mut file, 1, &mut none, request, &Open, &mut cert,
-    );
-    let mut out = MemorySink::new(alloc, ROOM);
+    let (version, mirrored) = *kind;
+    let request = SolveRequest {
+        workers: 2,
+        depth,
+        budget: AMPLE,
+        version,
+        mirrored,
+        target: None,
+    };
     let asked = CheckRequest {
-        either: request.mirrored,
+        either: mirrored,
         bounds: true,
         sequence: false,
         optimal: true,
     };
-    let mut file = all_of(text);
-    let checked = run_check_as(
-        alloc,
-        &mut file,
-        1,
-        &mut all_of(cert.bytes()),
-        asked,
-        &mut out,
+    let mut cert = MemorySink::new(alloc, ROOM);
+    let mut none = OF_THREE.source_beside();
+    let mut file = all_of(row.0);
+    let ran = run_solve_as(
+        rt, alloc, &mut file, 1, &mut none, request, &Open, &mut cert,
     );
-    ran == Ok(()) && comes_to(checked, &out, wanted)
+    ran == Ok(()) && answers(alloc, (row.0, cert.bytes()), asked, ROOM, end_of(row.2))
 }
 
 #[test]
 fn check_accepts_what_solve_wrote(rt: HostRuntime) {
-    for (text, deepest, wanted) in SOLVED {
-        for depth in 0..deepest + 1 {
-            for (version, mirrored) in [(1, false), (1, true), (2, false), (2, true)] {
-                let request = SolveRequest {
-                    workers: 2,
-                    depth,
-                    budget: AMPLE,
-                    version,
-                    mirrored,
-                    target: None,
-                };
+    for row in &SOLVED {
+        for depth in 0..row.1.saturating_add(1) {
+            for kind in &KINDS {
                 assert!(rt;
-                    is_accepted(&rt, rt.alloc(), text, request, wanted),
-                    "at {request:?}"
+                    is_accepted(&rt, rt.alloc(), row, depth, kind),
+                    "at depth {depth}: {kind:?}"
                 );
             }
         }

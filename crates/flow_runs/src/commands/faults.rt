@@ -5,8 +5,7 @@ use flow_commands::{CommandFault, ImproveFault};
 use flow_core::{InstanceFault, ReadFault, SequenceFault, StartFault, TextFault, WriteFault};
 use flow_pool::SolveFault;
 use flow_search::{OptionFault, PlanFault};
-use std::alloc::{AllocError, Global};
-use std::test::Fail;
+use std::alloc::Global;
 
 /// The line on standard error for each fault.
 static FAULT_LINES: [(CommandFault, &str); 39] = [
@@ -154,15 +153,16 @@ static FAULT_LINES: [(CommandFault, &str); 39] = [
 ];
 
 /// Whether a fault is printed as its line.
-fn is_printed(alloc: Global, row: &(CommandFault, &str)) -> Result<bool, AllocError> {
-    let text = format!(in alloc; "{}", row.0)?;
-    Ok(text.as_str() == row.1)
+fn is_printed(alloc: Global, row: &(CommandFault, &str)) -> bool {
+    match format!(in alloc; "{}", row.0) {
+        Ok(text) => text.as_str() == row.1,
+        Err(_) => false,
+    }
 }
 
 #[test]
-fn faults_are_printed_as_their_lines(rt: HostRuntime) -> Result<(), Fail> {
+fn faults_are_printed_as_their_lines(rt: HostRuntime) {
     for (number, row) in FAULT_LINES.iter().enumerate() {
-        assert!(rt; is_printed(rt.alloc(), row)?, "row {number}");
+        assert!(rt; is_printed(rt.alloc(), row), "row {number}");
     }
-    Ok(())
 }

@@ -2,9 +2,12 @@
 
 use super::endless::Endless;
 use super::texts::{NEH, ONE_JOB, START, THREE_MACHINES};
-use super::{ROOM, Wanted, all_of, comes_to, fills, generated, improvement, start_of, started};
+use super::{
+    End, Given, OF_THREE, ROOM, STARTED, UNREAD, Wanted, all_of, comes_to, end_of, ends, filled,
+    generated, improvement, started,
+};
 use flow_commands::{CommandFault, ImproveFault, ImproveRequest, run_improve};
-use flow_core::{MemorySink, MemorySource, ReadFault, SequenceFault, StartFault, TextFault};
+use flow_core::{MemorySink, ReadFault, SequenceFault, StartFault, TextFault};
 use std::alloc::Global;
 
 const ROUNDS: Wanted = Err(CommandFault::Improve(ImproveFault::Rounds));
@@ -90,27 +93,31 @@ static ROWS: [Row<'static>; 15] = [
     ),
 ];
 
+/// Whether `improve` of texts ends so with a sink of so many bytes.
+fn improves(alloc: Global, texts: &Given, request: ImproveRequest, room: usize, end: End) -> bool {
+    let mut out = MemorySink::new(alloc, room);
+    let mut file = texts.source();
+    let mut start = texts.source_beside();
+    let ran = run_improve(alloc, &mut file, texts.index, &mut start, request, &mut out);
+    ends(ran, &out, end)
+}
+
 /// Whether `improve` comes to what a row says.
-fn improves(alloc: Global, row: &Row) -> bool {
-    let (text, index, start, numbers, wanted) = *row;
-    let mut out = MemorySink::new(alloc, ROOM);
-    let mut start = start_of(start);
-    let request = improvement(numbers);
-    let ran = run_improve(
-        alloc,
-        &mut all_of(text),
+fn comes_true(alloc: Global, row: &Row) -> bool {
+    let (text, index, beside, numbers, wanted) = *row;
+    let texts = Given {
+        text,
         index,
-        &mut start,
-        request,
-        &mut out,
-    );
-    comes_to(ran, &out, wanted)
+        beside,
+        ..OF_THREE
+    };
+    improves(alloc, &texts, improvement(numbers), ROOM, end_of(wanted))
 }
 
 #[test]
 fn improve_writes_a_sequence_or_refuses(rt: HostRuntime) {
     for (number, row) in ROWS.iter().enumerate() {
-        assert!(rt; improves(rt.alloc(), row), "row {number}");
+        assert!(rt; comes_true(rt.alloc(), row), "row {number}");
     }
 }
 
@@ -189,8 +196,8 @@ fn holds(alloc: Global, row: &([u32; 3], [u32; 3], &'static [u8])) -> bool {
     let text = generated(alloc, jobs, machines, of_instance);
     let start = started(alloc, text.bytes());
     let numbers = [width, rounds, seed, 8_500];
-    let own = improves(alloc, &(text.bytes(), 1, None, numbers, Ok(lines)));
-    own && improves(
+    let own = comes_true(alloc, &(text.bytes(), 1, None, numbers, Ok(lines)));
+    own && comes_true(
         alloc,
         &(text.bytes(), 1, Some(start.bytes()), numbers, Ok(lines)),
     )
@@ -206,12 +213,12 @@ fn improve_makes_its_beam_and_its_rounds(rt: HostRuntime) {
 #[test]
 fn improve_stops_at_a_start_that_fails(rt: HostRuntime) {
     for most in 0..28usize {
-        let mut out = MemorySink::new(rt.alloc(), ROOM);
-        let mut start = Some(MemorySource::new(START, 5, Some(most)));
-        let mut file = all_of(THREE_MACHINES);
-        let ran = run_improve(rt.alloc(), &mut file, 1, &mut start, NO_ROUND, &mut out);
+        let texts = Given {
+            beside_most: Some(most),
+            ..STARTED
+        };
         assert!(rt;
-            comes_to(ran, &out, Err(CommandFault::Read(ReadFault::Device))),
+            improves(rt.alloc(), &texts, NO_ROUND, ROOM, UNREAD),
             "at {most}"
         );
     }
@@ -219,17 +226,12 @@ fn improve_stops_at_a_start_that_fails(rt: HostRuntime) {
 
 #[test]
 fn improve_stops_at_a_text_that_fails(rt: HostRuntime) {
-    let mut out = MemorySink::new(rt.alloc(), ROOM);
-    let mut file = MemorySource::new(THREE_MACHINES, 7, Some(9));
-    let ran = run_improve(
-        rt.alloc(),
-        &mut file,
-        1,
-        &mut start_of(None),
-        improvement([0, 1, 0, 8_500]),
-        &mut out,
-    );
-    assert!(rt; comes_to(ran, &out, Err(CommandFault::Read(ReadFault::Device))));
+    let texts = Given {
+        text_most: Some(9),
+        ..OF_THREE
+    };
+    let request = improvement([0, 1, 0, 8_500]);
+    assert!(rt; improves(rt.alloc(), &texts, request, ROOM, UNREAD));
 }
 
 #[test]
@@ -244,10 +246,10 @@ fn improve_stops_an_endless_start(rt: HostRuntime) {
 #[test]
 fn improve_fills_a_sink_up_to_its_limit(rt: HostRuntime) {
     for room in 0..START.len() + 1 {
-        let mut out = MemorySink::new(rt.alloc(), room);
-        let mut start = start_of(Some(START));
-        let mut file = all_of(THREE_MACHINES);
-        let ran = run_improve(rt.alloc(), &mut file, 1, &mut start, NO_ROUND, &mut out);
-        assert!(rt; fills(ran, &out, room, START), "at {room}");
+        let end = filled(room, START);
+        assert!(rt;
+            improves(rt.alloc(), &STARTED, NO_ROUND, room, end),
+            "at {room}"
+        );
     }
 }

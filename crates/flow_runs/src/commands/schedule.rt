@@ -2,11 +2,10 @@
 
 use super::endless::Endless;
 use super::texts::{ONE_JOB, OTHER_STARTS, THREE_MACHINES};
-use super::{ROOM, Wanted, all_of, comes_to, fills};
+use super::{End, Given, OF_THREE, ROOM, UNREAD, Wanted, all_of, comes_to, end_of, ends, filled};
 use flow_commands::{CommandFault, ScheduleForm, run_schedule};
 use flow_core::{MemorySink, MemorySource, ReadFault, StartFault, TextFault};
 use std::alloc::{AllocError, Global};
-use std::test::Fail;
 
 /// One form, and both.
 const CSV: &[ScheduleForm] = &[ScheduleForm::Csv];
@@ -18,6 +17,12 @@ const TWO_BLOCKS: &[u8] = b"a\n3 3 0 0 0\nb\n4 0 0\n0 8 2\n4 0 1\na\n3 2 0 0 0\n
 
 /// A start of the text with three machines.
 const START: &[u8] = b"sequence 3 1 2\nmakespan 12\n";
+
+/// The text with three machines, and this start.
+const WORKED: Given<'static> = Given {
+    beside: Some(START),
+    ..OF_THREE
+};
 
 /// Its table, worked out by hand.
 const TABLE: &[u8] =
@@ -88,13 +93,25 @@ static ROWS: [Row; 8] = [
     ),
 ];
 
+/// Whether `schedule` of texts in a form ends so with a sink of so many bytes.
+fn schedules(alloc: Global, texts: &Given, form: ScheduleForm, room: usize, end: End) -> bool {
+    let mut out = MemorySink::new(alloc, room);
+    let mut file = texts.source();
+    let mut start = texts.source_of_beside();
+    let ran = run_schedule(alloc, &mut file, texts.index, &mut start, form, &mut out);
+    ends(ran, &out, end)
+}
+
 /// Whether `schedule` in a form comes to what a row says.
 fn holds(alloc: Global, row: &Row, form: ScheduleForm) -> bool {
     let (text, index, start, _, wanted) = *row;
-    let mut out = MemorySink::new(alloc, ROOM);
-    let mut start = all_of(start);
-    let ran = run_schedule(alloc, &mut all_of(text), index, &mut start, form, &mut out);
-    comes_to(ran, &out, wanted)
+    let texts = Given {
+        text,
+        index,
+        beside: Some(start),
+        ..OF_THREE
+    };
+    schedules(alloc, &texts, form, ROOM, end_of(wanted))
 }
 
 #[test]
@@ -134,13 +151,16 @@ fn schedule_draws_the_bars(rt: HostRuntime) {
     }
 }
 
+/// Whether `schedule` names the fault of a start in both forms.
+fn names(alloc: Global, row: &(&'static [u8], CommandFault)) -> bool {
+    let row = (THREE_MACHINES, 1, row.0, FORMS, Err(row.1));
+    holds(alloc, &row, ScheduleForm::Csv) && holds(alloc, &row, ScheduleForm::Svg)
+}
+
 #[test]
 fn schedule_names_the_fault_of_a_start(rt: HostRuntime) {
-    for (start, fault) in OTHER_STARTS.iter() {
-        for form in FORMS {
-            let row: Row = (THREE_MACHINES, 1, *start, FORMS, Err(*fault));
-            assert!(rt; holds(rt.alloc(), &row, *form));
-        }
+    for (number, row) in OTHER_STARTS.iter().enumerate() {
+        assert!(rt; names(rt.alloc(), row), "row {number}");
     }
 }
 
@@ -158,19 +178,12 @@ fn schedule_stops_an_endless_start(rt: HostRuntime) {
 #[test]
 fn schedule_writes_nothing_after_a_failed_read(rt: HostRuntime) {
     for most in 0..START.len() + 1 {
-        let mut out = MemorySink::new(rt.alloc(), ROOM);
-        let mut start = MemorySource::new(START, 5, Some(most));
-        let mut file = all_of(THREE_MACHINES);
-        let ran = run_schedule(
-            rt.alloc(),
-            &mut file,
-            1,
-            &mut start,
-            ScheduleForm::Svg,
-            &mut out,
-        );
+        let texts = Given {
+            beside_most: Some(most),
+            ..WORKED
+        };
         assert!(rt;
-            comes_to(ran, &out, Err(CommandFault::Read(ReadFault::Device))),
+            schedules(rt.alloc(), &texts, ScheduleForm::Svg, ROOM, UNREAD),
             "at {most}"
         );
     }
@@ -179,28 +192,25 @@ fn schedule_writes_nothing_after_a_failed_read(rt: HostRuntime) {
 #[test]
 fn schedule_fills_a_sink_up_to_its_limit(rt: HostRuntime) {
     for room in 0..TABLE.len() + 1 {
-        let mut out = MemorySink::new(rt.alloc(), room);
-        let mut file = all_of(THREE_MACHINES);
-        let mut start = all_of(START);
-        let ran = run_schedule(
-            rt.alloc(),
-            &mut file,
-            1,
-            &mut start,
-            ScheduleForm::Csv,
-            &mut out,
+        let end = filled(room, TABLE);
+        assert!(rt;
+            schedules(rt.alloc(), &WORKED, ScheduleForm::Csv, room, end),
+            "at {room}"
         );
-        assert!(rt; fills(ran, &out, room, TABLE), "at {room}");
     }
+}
+
+/// The greatest times of 800 jobs on a machine.
+fn greatest_row(alloc: Global) -> Result<Vec<u8>, AllocError> {
+    let mut row = b"999999 ".repeat(alloc, 800)?;
+    let _ = row.pop();
+    row.push(b'\n')?;
+    Ok(row)
 }
 
 /// The text of an instance with the most jobs and machines and all times the greatest.
 fn greatest_text(alloc: Global) -> Result<Vec<u8>, AllocError> {
-    let mut row = Vec::from_slice(alloc, b"999999")?;
-    for _ in 1..800u32 {
-        row.extend_from_slice(b" 999999")?;
-    }
-    row.push(b'\n')?;
+    let row = greatest_row(alloc)?;
     let mut text = Vec::from_slice(alloc, b"a\n800 26 0 0 0\nb\n")?;
     for _ in 0..26u32 {
         text.extend_from_slice(row.as_slice())?;
@@ -238,25 +248,45 @@ const LAST_BAR: &[u8] =
 stroke=\"#000000\" stroke-width=\"160\"><title>job 800, machine 26, start 823999176, end 824999175</title></rect>\n\
 </g></svg>\n";
 
-#[test]
-fn schedule_of_the_greatest_size(rt: HostRuntime) -> Result<(), Fail> {
-    let alloc = rt.alloc();
-    let text = greatest_text(alloc)?;
-    let start = greatest_start(alloc)?;
-    let rows: [(ScheduleForm, &str, u64, &[u8]); 2] = [
-        (ScheduleForm::Csv, "", 20_801, LAST_ROW),
-        (ScheduleForm::Svg, "<rect ", 20_800, LAST_BAR),
-    ];
-    for (form, begin, count, end) in rows {
-        let mut out = MemorySink::new(alloc, 16_000_000);
-        let mut file = MemorySource::new(text.as_slice(), 65_536, None);
-        let mut source = MemorySource::new(start.as_slice(), 65_536, None);
-        run_schedule(alloc, &mut file, 1, &mut source, form, &mut out)?;
-        let Ok(written) = str::from_utf8(out.bytes()) else {
-            return Err(Fail::from("no text"));
-        };
-        assert_eq!(rt; count_lines(written, begin), count);
-        assert!(rt; out.bytes().ends_with(end));
+/// A form, how its lines for operations begin, how many they are, and its end.
+type Greatest = (ScheduleForm, &'static str, u64, &'static [u8]);
+
+static GREATEST: [Greatest; 2] = [
+    (ScheduleForm::Csv, "", 20_801, LAST_ROW),
+    (ScheduleForm::Svg, "<rect ", 20_800, LAST_BAR),
+];
+
+/// Whether what is written has the lines and the end of a row.
+fn has_lines(written: &[u8], row: &Greatest) -> bool {
+    match str::from_utf8(written) {
+        Ok(text) => count_lines(text, row.1) == row.2 && written.ends_with(row.3),
+        Err(_) => false,
     }
-    Ok(())
+}
+
+/// Whether `schedule` of a text and a start writes the lines and the end of a row.
+fn writes_lines(alloc: Global, text: &[u8], start: &[u8], row: &Greatest) -> bool {
+    let mut out = MemorySink::new(alloc, 16_000_000);
+    let mut file = MemorySource::new(text, 65_536, None);
+    let mut source = MemorySource::new(start, 65_536, None);
+    let ran = run_schedule(alloc, &mut file, 1, &mut source, row.0, &mut out);
+    ran == Ok(()) && has_lines(out.bytes(), row)
+}
+
+/// Whether `schedule` of the greatest size writes the lines and the end of a row.
+fn is_whole(alloc: Global, row: &Greatest) -> bool {
+    let Ok(text) = greatest_text(alloc) else {
+        return false;
+    };
+    match greatest_start(alloc) {
+        Ok(start) => writes_lines(alloc, text.as_slice(), start.as_slice(), row),
+        Err(_) => false,
+    }
+}
+
+#[test]
+fn schedule_of_the_greatest_size(rt: HostRuntime) {
+    for row in &GREATEST {
+        assert!(rt; is_whole(rt.alloc(), row), "at the end {:?}", row.3);
+    }
 }

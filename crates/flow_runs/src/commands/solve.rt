@@ -1,9 +1,11 @@
 //! What `solve` by its numbers writes and refuses.
 
 use super::texts::{DEPTH_0, DEPTH_1, DEPTH_2, DEPTH_3, ONE_JOB, THREE_MACHINES, TWO_MACHINES};
-use super::{AMPLE, ROOM, Wanted, all_of, comes_to, fills, is_read};
+use super::{
+    AMPLE, End, Given, OF_THREE, ROOM, Wanted, all_of, comes_to, end_of, ends, filled, read_up_to,
+};
 use flow_commands::{CommandFault, run_solve};
-use flow_core::{MemorySink, MemorySource};
+use flow_core::MemorySink;
 use flow_pool::{Gate, Open, SolveFault};
 use flow_search::{OptionFault, PlanFault};
 use std::alloc::Global;
@@ -77,16 +79,39 @@ static ROWS: [Row; 12] = [
     ),
 ];
 
-/// Whether `solve` with so many workers comes to what a row says.
-fn holds<R: Threads + Wait + Sync>(rt: &R, alloc: Global, row: &Row, workers: u32) -> bool {
-    let (text, _, depth, budget, wanted) = *row;
-    let mut out = MemorySink::new(alloc, ROOM);
-    let mut file = all_of(text);
+/// Whether `solve` of a text with these workers, depth and budget ends so with a sink of so many bytes.
+fn solves<R: Threads + Wait + Sync>(
+    rt: &R,
+    alloc: Global,
+    texts: &Given,
+    (workers, depth, budget): (u32, u32, u32),
+    room: usize,
+    end: End,
+) -> bool {
+    let mut out = MemorySink::new(alloc, room);
+    let mut file = texts.source();
     let ran = run_solve(
         rt, alloc, &mut file, 1, workers, depth, budget, 1, &Open, &mut out,
     );
-    comes_to(ran, &out, wanted)
+    ends(ran, &out, end)
 }
+
+/// Whether `solve` with so many workers comes to what a row says.
+fn holds<R: Threads + Wait + Sync>(rt: &R, alloc: Global, row: &Row, workers: u32) -> bool {
+    let (text, _, depth, budget, wanted) = *row;
+    let texts = Given { text, ..OF_THREE };
+    solves(
+        rt,
+        alloc,
+        &texts,
+        (workers, depth, budget),
+        ROOM,
+        end_of(wanted),
+    )
+}
+
+/// One worker, depth 0 and an ample budget.
+const ALONE: (u32, u32, u32) = (1, 0, AMPLE);
 
 #[test]
 fn solve_writes_same_bytes_with_any_workers(rt: HostRuntime) {
@@ -99,44 +124,25 @@ fn solve_writes_same_bytes_with_any_workers(rt: HostRuntime) {
 
 #[test]
 fn solve_fills_a_sink_up_to_its_limit(rt: HostRuntime) {
-    for limit in 0..51usize {
-        let mut out = MemorySink::new(rt.alloc(), limit);
-        let mut file = all_of(THREE_MACHINES);
-        let ran = run_solve(
-            &rt,
-            rt.alloc(),
-            &mut file,
-            1,
-            1,
-            0,
-            AMPLE,
-            1,
-            &Open,
-            &mut out,
+    for room in 0..51usize {
+        let end = filled(room, DEPTH_0);
+        assert!(rt;
+            solves(&rt, rt.alloc(), &OF_THREE, ALONE, room, end),
+            "at {room}"
         );
-        assert!(rt; fills(ran, &out, limit, DEPTH_0), "at {limit}");
     }
 }
 
 #[test]
 fn solve_writes_nothing_after_a_failed_read(rt: HostRuntime) {
     for most in 0..34usize {
-        let mut out = MemorySink::new(rt.alloc(), ROOM);
-        let mut file = MemorySource::new(THREE_MACHINES, 7, Some(most));
-        let ran = run_solve(
-            &rt,
-            rt.alloc(),
-            &mut file,
-            1,
-            1,
-            0,
-            AMPLE,
-            1,
-            &Open,
-            &mut out,
-        );
+        let texts = Given {
+            text_most: Some(most),
+            ..OF_THREE
+        };
+        let end = read_up_to(THREE_MACHINES, most, DEPTH_0);
         assert!(rt;
-            comes_to(ran, &out, is_read(THREE_MACHINES, most, DEPTH_0)),
+            solves(&rt, rt.alloc(), &texts, ALONE, ROOM, end),
             "at {most}"
         );
     }
@@ -175,30 +181,24 @@ impl Gate for Meeting {
     }
 }
 
+/// Whether so many workers meet at their prefixes, none of them late, and come to the certificate.
+fn meet<R: Threads + Wait + Sync>(rt: &R, alloc: Global, workers: u32) -> bool {
+    let gate = Meeting {
+        count: workers,
+        came: AtomicU32::new(0),
+        late: AtomicBool::new(false),
+    };
+    let mut out = MemorySink::new(alloc, ROOM);
+    let mut file = all_of(THREE_MACHINES);
+    let ran = run_solve(
+        rt, alloc, &mut file, 1, workers, 1, AMPLE, 1, &gate, &mut out,
+    );
+    comes_to(ran, &out, Ok(DEPTH_1)) && gate.is_complete() && !gate.late.load(Ordering::SeqCst)
+}
+
 #[test]
 fn run_solve_starts_workers(rt: HostRuntime) {
     for workers in 2..4u32 {
-        let gate = Meeting {
-            count: workers,
-            came: AtomicU32::new(0),
-            late: AtomicBool::new(false),
-        };
-        let mut out = MemorySink::new(rt.alloc(), ROOM);
-        let mut file = all_of(THREE_MACHINES);
-        let ran = run_solve(
-            &rt,
-            rt.alloc(),
-            &mut file,
-            1,
-            workers,
-            1,
-            AMPLE,
-            1,
-            &gate,
-            &mut out,
-        );
-        assert!(rt; comes_to(ran, &out, Ok(DEPTH_1)));
-        assert!(rt; gate.is_complete());
-        assert!(rt; !gate.late.load(Ordering::SeqCst));
+        assert!(rt; meet(&rt, rt.alloc(), workers), "{workers} workers");
     }
 }

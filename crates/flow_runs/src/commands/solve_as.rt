@@ -5,9 +5,9 @@ use super::texts::{
     BEST, BOUNDS_OF_10, BOUNDS_OF_11, BOUNDS_OF_12, DEPTH_0, FROM_BEST, FROM_LAST, FROM_START,
     LAST, LONG_TREES, LONG_TREES_START, NEH, ONE_JOB, OTHER_STARTS, START, THREE_MACHINES,
 };
-use super::{AMPLE, ROOM, Wanted, all_of, comes_to, start_of};
+use super::{AMPLE, Given, OF_THREE, ROOM, Wanted, all_of, comes_to};
 use flow_commands::{CommandFault, SolveRequest, run_solve_as};
-use flow_core::{MemorySink, MemorySource, ReadFault, StartFault, TextFault};
+use flow_core::{MemorySink, ReadFault, StartFault, TextFault};
 use flow_pool::{Open, SolveFault};
 use flow_search::OptionFault;
 use std::alloc::Global;
@@ -255,32 +255,66 @@ static ROWS: [Row; 29] = [
     ),
 ];
 
-/// Whether `solve` comes to this.
-fn solves<R: Threads + Wait + Sync>(rt: &R, alloc: Global, row: &Row) -> bool {
-    let (text, start, request, wanted) = *row;
+/// Whether `solve` of texts comes to this.
+fn solves<R: Threads + Wait + Sync>(
+    rt: &R,
+    alloc: Global,
+    texts: &Given,
+    request: SolveRequest,
+    wanted: Wanted,
+) -> bool {
     let mut out = MemorySink::new(alloc, ROOM);
-    let mut start = start_of(start);
-    let mut file = all_of(text);
+    let mut file = texts.source();
+    let mut start = texts.source_beside();
     let ran = run_solve_as(
-        rt, alloc, &mut file, 1, &mut start, request, &Open, &mut out,
+        rt,
+        alloc,
+        &mut file,
+        texts.index,
+        &mut start,
+        request,
+        &Open,
+        &mut out,
     );
     comes_to(ran, &out, wanted)
+}
+
+/// Whether `solve` comes to what a row says.
+fn holds<R: Threads + Wait + Sync>(rt: &R, alloc: Global, row: &Row) -> bool {
+    let (text, beside, request, wanted) = *row;
+    let texts = Given {
+        text,
+        beside,
+        ..OF_THREE
+    };
+    solves(rt, alloc, &texts, request, wanted)
 }
 
 #[test]
 fn solve_searches_as_a_request_says(rt: HostRuntime) {
     for (number, row) in ROWS.iter().enumerate() {
-        assert!(rt; solves(&rt, rt.alloc(), row), "row {number}");
+        assert!(rt; holds(&rt, rt.alloc(), row), "row {number}");
     }
+}
+
+/// Whether `solve` names the fault of a start, also of the mirrored instance.
+fn names<R: Threads + Wait + Sync>(
+    rt: &R,
+    alloc: Global,
+    row: &(&'static [u8], CommandFault),
+) -> bool {
+    let texts = Given {
+        beside: Some(row.0),
+        ..OF_THREE
+    };
+    let wanted = Err(row.1);
+    solves(rt, alloc, &texts, PLAIN, wanted) && solves(rt, alloc, &texts, MIRRORED, wanted)
 }
 
 #[test]
 fn solve_names_the_fault_of_a_start(rt: HostRuntime) {
-    for (start, fault) in OTHER_STARTS.iter() {
-        for request in [PLAIN, MIRRORED] {
-            let row: Row = (THREE_MACHINES, Some(*start), request, Err(*fault));
-            assert!(rt; solves(&rt, rt.alloc(), &row));
-        }
+    for (number, row) in OTHER_STARTS.iter().enumerate() {
+        assert!(rt; names(&rt, rt.alloc(), row), "row {number}");
     }
 }
 
@@ -290,23 +324,26 @@ static FAILED: [(u32, usize, CommandFault); 2] = [
     (1, 20, CommandFault::Read(ReadFault::Device)),
 ];
 
+/// Whether `solve` stops at a start that fails, with the fault of a row.
+fn stops<R: Threads + Wait + Sync>(
+    rt: &R,
+    alloc: Global,
+    row: &(u32, usize, CommandFault),
+) -> bool {
+    let (index, most, fault) = *row;
+    let texts = Given {
+        index,
+        beside: Some(NEH),
+        beside_most: Some(most),
+        ..OF_THREE
+    };
+    solves(rt, alloc, &texts, CROWDED, Err(fault))
+}
+
 #[test]
 fn solve_stops_at_a_start_that_fails(rt: HostRuntime) {
-    for (index, most, fault) in FAILED {
-        let mut out = MemorySink::new(rt.alloc(), ROOM);
-        let mut file = all_of(THREE_MACHINES);
-        let mut start = Some(MemorySource::new(NEH, 5, Some(most)));
-        let ran = run_solve_as(
-            &rt,
-            rt.alloc(),
-            &mut file,
-            index,
-            &mut start,
-            CROWDED,
-            &Open,
-            &mut out,
-        );
-        assert!(rt; comes_to(ran, &out, Err(fault)), "at {fault}");
+    for row in &FAILED {
+        assert!(rt; stops(&rt, rt.alloc(), row), "at {}", row.2);
     }
 }
 

@@ -1,7 +1,7 @@
 //! What `span` writes and refuses.
 
 use super::endless::Endless;
-use super::texts::{THREE_MACHINES, TWO_MACHINES};
+use super::texts::TWO_MACHINES;
 use super::{ROOM, Wanted, all_of, comes_to};
 use flow_commands::{CommandFault, run_span};
 use flow_core::{MemorySink, ReadFault, SequenceFault, TextFault};

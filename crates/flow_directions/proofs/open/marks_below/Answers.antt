@@ -1,14 +1,14 @@
-use Rattle.std.proofs.Common.{◌≡◌, ◌≢◌, ℕ, ◌+◌, ◌*◌, ◌/◌, ◌<◌, nat_lt, ◌++◌, length, take, drop, slice_index, refl, ap, sym}
-use Rattle.std.proofs.Common.{◌∙◌, subst, arith, inl, inr, false}
+use Rattle.std.proofs.Common.{◌≡◌, ◌≢◌, ◌*◌, ◌/◌, ◌<◌, nat_lt, ◌++◌, length, take, drop, refl, ap, sym}
+use Rattle.std.proofs.Common.{◌∙◌, subst, arith, inl, inr}
 use Rattle.std.specs.List.{filter}
 use Rattle.std.proofs.lemmas.Bool.{cases_lt}
 use Rattle.std.proofs.lemmas.List.{length-set}
-use Rattle.flow_shop.specs.Sequences.{has}
 use Rattle.flow_nodes.specs.Groups.{IsGroup, child_bound}
 use Rattle.flow_directions.specs.internal.Words.{mark}
 use Rattle.flow_directions.proofs.ChosenNames.{chosen-filter}
 use Rattle.flow_directions.proofs.MarkSteps.{mark-elsewhere}
-use Rattle.flow_directions.proofs.JobsMarked.{IsBelow, within-set, below-set, below-none, below-kept, marked-left, group-tells}
+use Rattle.flow_directions.proofs.JobsMarked.{IsBelow, within-set, below-set, below-none, below-kept}
+use Rattle.flow_directions.proofs.JobsMarked.{marked-left, group-tells}
 use Rattle.flow_directions.proofs.open.marks_below.Goals as goal
 use Rattle.flow_directions.proofs.open.marks_below.Goals.{then-left-ne0, else-left-ne0}
 
@@ -53,7 +53,7 @@ loop-group-preserved g c =
                   let there : place / 16 ≡ group = omega (arith, above, under) in
                   let inside : place < length names = omega (arith, there, long, is.is_pack.room.names) in
                   let named : IsGroup g.V.Lanes.list g.V.Lanes.CAP g.V.Lanes.WIDTH shop
-                      (take 16 (drop (group * 16) names)) w.as_slice.result.now =
+                  (take 16 (drop (group * 16) names)) w.as_slice.result.now =
                   subst (IsGroup g.V.Lanes.list g.V.Lanes.CAP g.V.Lanes.WIDTH shop (take 16 (drop (group * 16) names)))
                   (sym (w.as_slice.ensures.value ∙ ap (λ v. v.items) w.index.ensures))
                   (is.is_pack.each group _ long) in
@@ -62,8 +62,8 @@ loop-group-preserved g c =
                   (λ marked. group-tells g.V.Lanes.list g.V.Lanes.CAP g.V.Lanes.WIDTH c.requires.wide shop number
                   c.args.limit c.args.end first last c.args.branch.now.node names group w.as_slice.result.now
                   w.children_below-bits.result place is.is_node named limit
-                  (λ jobs lane are low fresh. w.children_below-bits.ensures.each shop first last jobs lane is.is_node are
-                  low fresh) there
+                  (λ jobs lane are low fresh. w.children_below-bits.ensures.each shop first last jobs lane is.is_node
+                  are low fresh) there
                   (marked-left shop.jobs (first ++ last) left names is.left place inside marked))
             ])
         | else-left-ne0 w ↦

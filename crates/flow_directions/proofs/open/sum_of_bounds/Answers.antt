@@ -1,5 +1,5 @@
-use Rattle.std.proofs.Common.{◌≡◌, ℕ, ◌+◌, ◌-◌, ◌*◌, ◌<◌, ◌≤◌, List, [], ◌++◌, sum_by, length, take, drop, slice_index}
-use Rattle.std.proofs.Common.{ap, sym, ◌∙◌, arith}
+use Rattle.std.proofs.Common.{◌≡◌, ℕ, ◌+◌, ◌-◌, ◌*◌, ◌<◌, List, [], ◌++◌, sum_by, length, take, drop, slice_index}
+use Rattle.std.proofs.Common.{ap, sym, ◌∙◌, arith, rules}
 use Rattle.std.proofs.lemmas.List.{drop_all}
 use Rattle.std.proofs.lemmas.List.Sums.{sum-map}
 use Rattle.flow_shop.specs.Sequences.{jobs_left}
@@ -11,7 +11,8 @@ use Rattle.flow_directions.proofs.open.sum_of_bounds.Goals as goal
 use Rattle.flow_directions.proofs.open.sum_of_bounds.Goals.{then-left-ne0, else-left-ne0}
 
 -- sixteen names from a place on
-sixteen : (names all : List ℕ) (from : ℕ) → names ≡ all → take (from + 16 - from) (drop from names) ≡ take 16 (drop from all)
+sixteen : (names all : List ℕ) (from : ℕ) → names ≡ all →
+    take (from + 16 - from) (drop from names) ≡ take 16 (drop from all)
 sixteen names all from are =
     let size : from + 16 - from ≡ 16 = omega arith in
     ap (λ n. take n (drop from names)) size ∙ ap (λ l. take 16 (drop from l)) are
@@ -22,12 +23,12 @@ sum_of_group-sum-requires-clause-at g c =
     let at = c.requires.at in
     let long : group < length c.args.pack.now.groups.items =
     omega (arith, c.loop-group-test.true, c.len-group-end.ensures, c.args.pack.now.groups.ok.0) in
-    let of = group-of g.V.Lanes.list g.V.Lanes.CAP g.V.Lanes.WIDTH c.args.instance.now at.0 at.1 c.args.pack.now
-        c.args.branch.now group (take (group * 16 + 16 - group * 16) (drop (group * 16) c.deref.result.now))
-        c.index.result.now c.as_slice.result.now at.2 long
-        (sixteen c.deref.result.now c.args.pack.now.names.items (group * 16) c.deref.ensures.value) c.index.ensures
-        c.as_slice.ensures.value in
-    (at.0, at.1, at.2.is_node, of.0, of.1)
+    let facts = group-of g.V.Lanes.list g.V.Lanes.CAP g.V.Lanes.WIDTH c.args.instance.now at.0 at.1 c.args.pack.now
+    c.args.branch.now group (take (group * 16 + 16 - group * 16) (drop (group * 16) c.deref.result.now))
+    c.index.result.now c.as_slice.result.now at.2 long
+    (sixteen c.deref.result.now c.args.pack.now.names.items (group * 16) c.deref.ensures.value) c.index.ensures
+    c.as_slice.ensures.value in
+    (at.0, at.1, at.2.is_node, facts.0, facts.1)
 
 pub loop-group-preserved : goal.loop-group-preserved
 loop-group-preserved g c =
@@ -36,17 +37,18 @@ loop-group-preserved g c =
     let names = c.args.pack.now.names.items in
     let long : group < length c.args.pack.now.groups.items =
     omega (arith, c.loop-group-test.true, c.len-group-end.ensures, c.args.pack.now.groups.ok.0) in
-    let few : group < length words = omega (arith, long, c.requires.at.2.is_pack.room.few) in
+    let size : length words ≡ 50 = search rules in
+    let few : group < length words = omega (arith, long, size, c.requires.at.2.is_pack.room.few) in
     elim c.if-left-ne0.branch [
       | then-left-ne0 w ↦ record {
         small = omega (arith, w.sum-is, w.sum_of_group-sum.ensures.small, c.loop-group.invariant.small);
         rest = λ first last is.
             let part = sixteen w.deref.result.now names (group * 16) w.deref.ensures.value in
-            let of = group-of g.V.Lanes.list g.V.Lanes.CAP g.V.Lanes.WIDTH c.args.instance.now first last
-                c.args.pack.now c.args.branch.now group
-                (take (group * 16 + 16 - group * 16) (drop (group * 16) w.deref.result.now)) w.index.result.now
-                w.as_slice.result.now is long part w.index.ensures w.as_slice.ensures.value in
-            let sum = w.sum_of_group-sum.ensures.sum first last is.is_node of.0 of.1
+            let facts = group-of g.V.Lanes.list g.V.Lanes.CAP g.V.Lanes.WIDTH c.args.instance.now first last
+            c.args.pack.now c.args.branch.now group
+            (take (group * 16 + 16 - group * 16) (drop (group * 16) w.deref.result.now)) w.index.result.now
+            w.as_slice.result.now is long part w.index.ensures w.as_slice.ensures.value in
+            let sum = w.sum_of_group-sum.ensures.sum first last is.is_node facts.0 facts.1
             ∙ ap (λ l. sum_by (child_bound c.args.instance.now c.args.end first last)
             (picked (slice_index words group) 0 l)) part in
             omega (
@@ -62,7 +64,8 @@ loop-group-preserved g c =
         rest = λ first last is.
             let none = ap (λ word. sum_by (child_bound c.args.instance.now c.args.end first last)
             (picked word 0 (take 16 (drop (group * 16) names)))) w.if-left-ne0.false
-            ∙ zero-picked (child_bound c.args.instance.now c.args.end first last) 0 (take 16 (drop (group * 16) names)) in
+            ∙ zero-picked (child_bound c.args.instance.now c.args.end first last) 0
+            (take 16 (drop (group * 16) names)) in
             omega (
               arith,
               c.loop-group.invariant.rest first last is,

@@ -1,9 +1,8 @@
-use Rattle.std.proofs.Common.{◌≡◌, ◌≢◌, ℕ, ◌+◌, ◌*◌, ◌<◌, ◌≤◌, List, [], ◌++◌, sum_by, length, drop, slice_index, ap, sym}
-use Rattle.std.proofs.Common.{◌∙◌, arith, false}
+use Rattle.std.proofs.Common.{◌≡◌, ◌≢◌, ◌<◌, [], sum_by, length, drop, slice_index, ap, sym}
+use Rattle.std.proofs.Common.{◌∙◌, arith}
 use Rattle.std.specs.Int.{bit_at}
 use Rattle.std.proofs.lemmas.List.{drop_all}
 use Rattle.std.proofs.lemmas.Nat.Bits.{shr_and_one}
-use Rattle.flow_shop.specs.Sequences.{has}
 use Rattle.flow_nodes.specs.Groups.{child_bound}
 use Rattle.flow_directions.specs.internal.Words.{picked}
 use Rattle.flow_directions.proofs.BoundSums.{lane-picked, lane-passed, none-picked}
@@ -25,15 +24,15 @@ loop-lane-preserved g c =
           let bit : bit_at c.args.left lane ≡ 1 = sym (shr_and_one c.args.left lane) ∙ w.if-left-lane-eq1.true in
           let at = c.requires.at in
           let few : child_bound shop c.args.end at.0 at.1 (slice_index names lane) < 4294967295 =
-          child-bound-small shop c.args.end at.0 at.1 (slice_index names lane) c.args.node.now at.2 (at.3.each lane wide)
-          (at.4 lane low bit) in
+          child-bound-small shop c.args.end at.0 at.1 (slice_index names lane) c.args.node.now at.2
+          (at.3.each lane wide) (at.4 lane low bit) in
           let least = w.at-bound.ensures (child_bound shop c.args.end at.0 at.1 (slice_index names lane))
-              (c.child_bounds-bounds.ensures shop at.0 at.1 names lane at.2 at.3 wide (at.4 lane low bit)) in
+          (c.child_bounds-bounds.ensures shop at.0 at.1 names lane at.2 at.3 wide (at.4 lane low bit)) in
           record {
             small = omega (arith, w.sum-is, w.from-sum.ensures, c.loop-lane.invariant.small, few, least);
             rest = λ first last is group fresh.
                 let bound = w.at-bound.ensures (child_bound shop c.args.end first last (slice_index names lane))
-                    (c.child_bounds-bounds.ensures shop first last names lane is group wide (fresh lane low bit)) in
+                (c.child_bounds-bounds.ensures shop first last names lane is group wide (fresh lane low bit)) in
                 omega (
                   arith,
                   c.loop-lane.invariant.rest first last is group fresh,
@@ -49,8 +48,8 @@ loop-lane-preserved g c =
           let bit : bit_at c.args.left lane ≡ 1 = sym (shr_and_one c.args.left lane) ∙ w.if-left-lane-eq1.true in
           let at = c.requires.at in
           let few : child_bound shop c.args.end at.0 at.1 (slice_index names lane) < 4294967295 =
-          child-bound-small shop c.args.end at.0 at.1 (slice_index names lane) c.args.node.now at.2 (at.3.each lane wide)
-          (at.4 lane low bit) in
+          child-bound-small shop c.args.end at.0 at.1 (slice_index names lane) c.args.node.now at.2
+          (at.3.each lane wide) (at.4 lane low bit) in
           record {
             small = omega (
               arith,

@@ -51,9 +51,25 @@ search-requires g t c κs within =
     c.first.result some c.fill.ensures.pack (c.first.ensures.begin new.names.items fits)
     (ap (λ jobs. take (length jobs) new.names.items) (sym from) ∙ c.fill.ensures.jobs ∙ from) in (
       omega (arith, c.decreases, c.split_at_mut-here.ensures.back_len, length-set deeper 0 new),
-      (within, (c.requires.wide, (c.requires.limit, (c.requires.cap, (c.requires.some,
-      (rooms-set c.args.instance.now deeper new c.fill.ensures.pack.room rooms,
-      (omega (arith, some, length-set deeper 0 new), (c.requires.at.0, c.requires.at.1, packed)))))))),
+      (
+        within,
+        (
+          c.requires.wide,
+          (
+            c.requires.limit,
+            (
+              c.requires.cap,
+              (
+                c.requires.some,
+                (
+                  rooms-set c.args.instance.now deeper new c.fill.ensures.pack.room rooms,
+                  (omega (arith, some, length-set deeper 0 new), (c.requires.at.0, c.requires.at.1, packed)),
+                ),
+              ),
+            ),
+          ),
+        ),
+      ),
     )
 
 pub returns-then-len-aim-clause-ends : goal.returns-then-len-aim-clause-ends
@@ -163,18 +179,18 @@ returns-then-left-eq1-clause-ends g t c first last at =
     (last_with c.open-opened.result.end last c.index-job.result.now) c.put.new.self =
     c.put.ensures c.args.instance.now.jobs first last stands.has_lists in (
       last-reached g.V.Lanes.list g.V.Lanes.CAP g.V.Lanes.WIDTH c.args.instance.now c.args.aim.number
-    c.args.left c.args.packs.now c.args.branch.now c.args.written.now.lists first last at
+          c.args.left c.args.packs.now c.args.branch.now c.args.written.now.lists first last at
           pack c.open-opened.result.end c.args.written.now.directions.items
-    c.children.written.directions.items c.children.written.lists c.children.below c.pop.new.self c.in-Some.place
-    c.index-job.result.now inside stands popped job c.if-left-eq1.true c.put.new.self lists,
+          c.children.written.directions.items c.children.written.lists c.children.below c.pop.new.self c.in-Some.place
+          c.index-job.result.now inside stands popped job c.if-left-eq1.true c.put.new.self lists,
       omega (
         arith,
         c.children.invariant.within,
         ap length (last-written g.V.Lanes.list g.V.Lanes.CAP g.V.Lanes.WIDTH c.args.instance.now c.args.aim.number
-    c.args.left c.args.packs.now c.args.branch.now c.args.written.now.lists first last at
+            c.args.left c.args.packs.now c.args.branch.now c.args.written.now.lists first last at
             pack c.open-opened.result.end c.args.written.now.directions.items
-    c.children.written.directions.items c.children.written.lists c.children.below c.pop.new.self c.in-Some.place
-    c.index-job.result.now inside stands popped job c.if-left-eq1.true),
+            c.children.written.directions.items c.children.written.lists c.children.below c.pop.new.self c.in-Some.place
+            c.index-job.result.now inside stands popped job c.if-left-eq1.true),
       ),
     )
 
@@ -224,16 +240,15 @@ child-child-requires-clause-left g t c =
     ∙ index-same here.names.items c.in-Some.place c.index-job.result.now 0 inside in
     let popped : jobs_at here c.children.below ≡ slice_index here.names.items c.in-Some.place
     ∷ jobs_at here c.pop.new.self = c.in-Some.ensures.first here.names.items size in
-    let stands = c.children.invariant.stands pack c.requires.at.0 c.requires.at.1 at in
-    (
+    let stands = c.children.invariant.stands pack c.requires.at.0 c.requires.at.1 at in (
       c.requires.at.0,
       c.requires.at.1,
       (at.is_branch pack).is_node,
       (job-open g.V.Lanes.list g.V.Lanes.CAP g.V.Lanes.WIDTH c.args.instance.now c.args.aim.number
-    c.args.left c.args.packs.now c.args.branch.now c.args.written.now.lists c.requires.at.0
+          c.args.left c.args.packs.now c.args.branch.now c.args.written.now.lists c.requires.at.0
           c.requires.at.1 at pack c.open-opened.result.end c.args.written.now.directions.items
-    c.children.written.directions.items c.children.written.lists c.children.below c.pop.new.self c.in-Some.place
-    c.index-job.result.now inside stands popped job).left,
+          c.children.written.directions.items c.children.written.lists c.children.below c.pop.new.self c.in-Some.place
+          c.index-job.result.now inside stands popped job).left,
     )
 
 pub search-requires-in-Some : goal.search-requires-in-Some
@@ -266,12 +281,30 @@ search-requires-in-Some g t c κs within =
     (c.put.ensures c.args.instance.now.jobs c.requires.at.0 c.requires.at.1 stands.has_lists)
     (c.child-child.ensures.node c.requires.at.0 c.requires.at.1 (at.is_branch pack).is_node open_job.left)
     (λ names left within named. c.child-child.ensures.left c.requires.at.0 c.requires.at.1 names left open_job.left within named
-    (c.children.invariant.marked c.in-Some.place c.in-Some.ensures.marked)) in
-    (
+    (c.children.invariant.marked c.in-Some.place c.in-Some.ensures.marked)) in (
       omega (arith, c.decreases, c.if-left-eq1.false, c.requires.some, c.children.invariant.packs.count),
-      (within, (c.requires.wide, (c.requires.limit, (c.requires.cap, (omega (arith, c.if-left-eq1.false, c.requires.some),
-      (c.children.invariant.packs.rooms, (omega (arith, c.children.invariant.packs.count, c.requires.few),
-      (first2, last2, child)))))))),
+      (
+        within,
+        (
+          c.requires.wide,
+          (
+            c.requires.limit,
+            (
+              c.requires.cap,
+              (
+                omega (arith, c.if-left-eq1.false, c.requires.some),
+                (
+                  c.children.invariant.packs.rooms,
+                  (
+                    omega (arith, c.children.invariant.packs.count, c.requires.few),
+                    (first2, last2, child),
+                  ),
+                ),
+              ),
+            ),
+          ),
+        ),
+      ),
     )
 
 pub returns-in-Err-clause-packs : goal.returns-in-Err-clause-packs
@@ -346,8 +379,7 @@ take-requires g t c =
     (c.put.ensures c.args.instance.now.jobs c.requires.at.0 c.requires.at.1 stands.has_lists)
     (c.child-child.ensures.node c.requires.at.0 c.requires.at.1 (at.is_branch pack).is_node open_job.left)
     (λ names left within named. c.child-child.ensures.left c.requires.at.0 c.requires.at.1 names left open_job.left within named
-    (c.children.invariant.marked c.in-Some.place c.in-Some.ensures.marked)) in
-    (
+    (c.children.invariant.marked c.in-Some.place c.in-Some.ensures.marked)) in (
       c.args.instance.now.jobs,
       c.requires.at.0,
       c.requires.at.1,

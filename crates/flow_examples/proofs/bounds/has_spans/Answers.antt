@@ -35,14 +35,14 @@ sequence-is : (n : ℕ) (jobs others : List ℕ) → jobs ≡ others → IsSeque
 sequence-is n jobs others same is long =
     subst (λ m. IsSequence m jobs) long (subst (λ js. IsSequence (length js) js) (sym same) is)
 
-pub insertion_spans-requires-clause-jobs : goal.insertion_spans-requires-clause-jobs
-insertion_spans-requires-clause-jobs c =
+pub insertion_spans-found-requires-clause-jobs : goal.insertion_spans-found-requires-clause-jobs
+insertion_spans-found-requires-clause-jobs c =
     jobs-take c.args.instance.now.jobs c.args.count c.jobs-jobs.result.now
     (sequence-is c.args.instance.now.jobs c.jobs-jobs.result.now c.args.sequence.now c.jobs-jobs.ensures.value
     c.jobs-jobs.ensures.each (c.if-jobs.false ∙ c.jobs.ensures.value))
 
-pub insertion_spans-requires-clause-other : goal.insertion_spans-requires-clause-other
-insertion_spans-requires-clause-other c =
+pub insertion_spans-found-requires-clause-other : goal.insertion_spans-found-requires-clause-other
+insertion_spans-found-requires-clause-other c =
     let whole = sequence-is c.args.instance.now.jobs c.jobs-jobs.result.now c.args.sequence.now
     c.jobs-jobs.ensures.value
     c.jobs-jobs.ensures.each (c.if-jobs.false ∙ c.jobs.ensures.value) in

@@ -16,7 +16,8 @@ end-taken jobs count size job last room ends =
 pub returns-in-Back : goal.returns-in-Back
 returns-in-Back c jobs first last job lists =
     let taken : HasLists jobs first (job ∷ last) c.args.self.now =
-    subst (λ end. HasLists jobs (first_with end first job) (last_with end last job) c.args.self.now) c.in-Back.is lists in
+    subst (λ end. HasLists jobs (first_with end first job) (last_with end last job) c.args.self.now) c.in-Back.is
+    lists in
     record {
       size = taken.size;
       first_count = taken.first_count;

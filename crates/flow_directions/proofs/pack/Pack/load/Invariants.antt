@@ -1,4 +1,4 @@
-use Rattle.std.proofs.Common.{◌≡◌, ℕ, ◌*◌, ◌<◌, ◌≤◌, length, slice_index_or, take, drop}
+use Rattle.std.proofs.Common.{◌≡◌, ℕ, ◌*◌, ◌<◌, length, slice_index_or, take, drop}
 use Rattle.std.specs.Global.{Vec}
 use Rattle.flow_nodes.specs.Groups.{IsGroup}
 use Rattle.flow_directions.specs.internal.Packs.{HasRoom}

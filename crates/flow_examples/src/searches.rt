@@ -1,0 +1,262 @@
+//! The search for directions, on published and on drawn instances, and from nodes inside a tree.
+
+use crate::drawn_searches::SEARCHES;
+use flow_core::{Instance, generate};
+use flow_directions::{Found, ProveFault, prove};
+use sha2::{Digest, Sha256};
+use std::alloc::Global;
+
+/// Jobs, machines and seed of a published instance, its least makespan, how many directions prove it, and how the
+/// SHA-256 of the directions begins. Programs in Python, C and plain Rust, written apart, found the same.
+type Published = (u32, u32, u32, u64, u64, [u8; 8]);
+
+static PUBLISHED: [Published; 12] = [
+    (
+        20,
+        5,
+        873_654_221,
+        1_278,
+        7,
+        [0x02, 0xa9, 0x5d, 0xc3, 0x66, 0x0c, 0xb8, 0x3b],
+    ),
+    (
+        20,
+        5,
+        495_070_989,
+        1_235,
+        11_836,
+        [0x52, 0xcc, 0xf2, 0xd2, 0x40, 0xf6, 0xf4, 0x80],
+    ),
+    (
+        20,
+        5,
+        1_369_363_414,
+        1_234,
+        2,
+        [0x65, 0x92, 0x72, 0x62, 0x71, 0xb3, 0xe6, 0xbc],
+    ),
+    (
+        20,
+        10,
+        587_595_453,
+        1_582,
+        150_732,
+        [0x85, 0xd9, 0xf3, 0x70, 0x3e, 0x98, 0xc6, 0x7c],
+    ),
+    (
+        20,
+        10,
+        268_827_376,
+        1_377,
+        19_301,
+        [0x06, 0x11, 0xf2, 0x7f, 0x67, 0x07, 0x5e, 0x11],
+    ),
+    (
+        20,
+        10,
+        2_065_119_309,
+        1_593,
+        87,
+        [0xde, 0xd6, 0x1b, 0xda, 0x3d, 0x1a, 0x99, 0xe9],
+    ),
+    (
+        20,
+        10,
+        1_672_900_551,
+        1_591,
+        268_815,
+        [0xc3, 0xfa, 0x75, 0x6b, 0x5f, 0x63, 0x72, 0xa4],
+    ),
+    (
+        20,
+        20,
+        1_829_909_967,
+        2_178,
+        2_415_779,
+        [0x33, 0xd6, 0x4a, 0x0b, 0xcb, 0x89, 0xce, 0xb3],
+    ),
+    (
+        50,
+        5,
+        1_328_042_058,
+        2_724,
+        1,
+        [0x39, 0x73, 0xe0, 0x22, 0xe9, 0x32, 0x20, 0xf9],
+    ),
+    (
+        50,
+        10,
+        1_958_948_863,
+        2_991,
+        16_419,
+        [0x1a, 0x69, 0x13, 0x7a, 0xd8, 0xa2, 0x66, 0x13],
+    ),
+    (
+        50,
+        10,
+        655_816_003,
+        2_839,
+        868_734,
+        [0xcb, 0xfe, 0x19, 0x7d, 0x50, 0xd1, 0x7b, 0x1a],
+    ),
+    (
+        50,
+        10,
+        1_803_345_551,
+        3_006,
+        51,
+        [0x32, 0x0d, 0x2f, 0x83, 0x08, 0xca, 0xa1, 0xb1],
+    ),
+];
+
+/// Whether the search finds these directions with a budget of as many, and none with one less.
+fn is_published(alloc: Global, row: &Published) -> bool {
+    let (jobs, machines, seed, number, length, digest) = *row;
+    let Ok(instance) = generate(alloc, jobs, machines, seed) else {
+        return false;
+    };
+    let Ok(Found::Proved(text)) = prove(alloc, &instance, &[], &[], number, length) else {
+        return false;
+    };
+    let begins = Sha256::digest(text.as_slice()).starts_with(&digest);
+    let over = prove(alloc, &instance, &[], &[], number, length - 1);
+    begins && text.len() as u64 == length && over == Ok(Found::Over)
+}
+
+#[test]
+fn published_instances_have_their_directions(rt: HostRuntime) {
+    for row in &PUBLISHED {
+        assert!(rt; is_published(rt.alloc(), row), "seed {}", row.2);
+    }
+}
+
+/// The jobs of a sequence, with a space between two.
+fn spaced(alloc: Global, jobs: &[u16]) -> Option<String> {
+    let mut text = String::new(alloc);
+    for (place, job) in jobs.iter().enumerate() {
+        let space = if place == 0 { "" } else { " " };
+        text.push_str(format!(in alloc; "{space}{job}").ok()?.as_str())
+            .ok()?;
+    }
+    Some(text)
+}
+
+/// Whether what was found is written so.
+fn is_written(alloc: Global, found: &Found, text: &str) -> bool {
+    match found {
+        Found::Proved(directions) => directions.as_slice() == text.as_bytes(),
+        Found::Below { sequence, .. } => match spaced(alloc, sequence.jobs()) {
+            Some(jobs) => jobs.as_str() == text,
+            None => false,
+        },
+        Found::Over => false,
+    }
+}
+
+/// The number that a word is.
+fn number(word: Option<&str>) -> Option<u64> {
+    word?.parse::<u64>().ok()
+}
+
+/// Whether the search finds what a line says.
+fn is_drawn(alloc: Global, line: &str) -> Option<bool> {
+    let mut words = line.splitn(5, ' ');
+    let jobs = number(words.next())? as u32;
+    let machines = number(words.next())? as u32;
+    let seed = number(words.next())? as u32;
+    let least = number(words.next())?;
+    let instance = generate(alloc, jobs, machines, seed).ok()?;
+    let found = prove(alloc, &instance, &[], &[], least, 1_000).ok()?;
+    Some(is_written(alloc, &found, words.next().unwrap_or("")))
+}
+
+#[test]
+fn drawn_instances_have_their_directions(rt: HostRuntime) {
+    let mut count = 0u32;
+    for line in SEARCHES.lines() {
+        assert!(rt; is_drawn(rt.alloc(), line) == Some(true), "{line}");
+        count = count.saturating_add(1);
+    }
+    assert!(rt; count == 501);
+}
+
+/// Jobs and machines of an instance, its times, machine by machine, the lists of a node, the number, and what is found.
+type Node = (
+    u32,
+    u32,
+    &'static [u32],
+    &'static [u16],
+    &'static [u16],
+    u64,
+    &'static str,
+);
+
+/// Three jobs on three machines, with the least makespan 12 by the sequence 3 1 2, and heads of 0, 0, 2 and tails of 3,
+/// 0, 0.
+const THREE: [u32; 9] = [4, 0, 0, 0, 8, 2, 4, 0, 1];
+
+/// Four jobs on three machines. A node has a bound above 65,535, and as many children below the number at each end.
+const FOUR: [u32; 12] = [
+    10_000, 20_000, 2_000, 10_000, 2_000, 20_000, 10_000, 0, 5_000, 2_000, 2_000, 20_000,
+];
+
+/// What is found of the first was worked out by hand, and of the second by a program in Python.
+static NODES: [Node; 12] = [
+    (3, 3, &THREE, &[], &[], 10, ""),
+    (3, 3, &THREE, &[], &[], 11, "-"),
+    (3, 3, &THREE, &[], &[], 12, "++"),
+    (3, 3, &THREE, &[], &[], 13, "3 1 2"),
+    (3, 3, &THREE, &[3], &[], 12, "+"),
+    (3, 3, &THREE, &[3], &[2], 12, ""),
+    (3, 3, &THREE, &[3], &[2], 13, "3 1 2"),
+    (3, 3, &THREE, &[3, 1], &[2], 13, "3 1 2"),
+    (3, 3, &THREE, &[], &[3, 1, 2], 13, "3 1 2"),
+    (3, 3, &THREE, &[3, 1], &[2], 12, ""),
+    (3, 3, &THREE, &[1], &[], 13, ""),
+    (4, 3, &FOUR, &[], &[], 59_000, "-+++++-++"),
+];
+
+/// Whether that is found.
+fn is_found(alloc: Global, row: &Node) -> bool {
+    let (jobs, machines, times, first, last, least, text) = *row;
+    let Ok(instance) = Instance::new(alloc, jobs, machines, times) else {
+        return false;
+    };
+    match prove(alloc, &instance, first, last, least, 9) {
+        Ok(found) => is_written(alloc, &found, text),
+        Err(_) => false,
+    }
+}
+
+#[test]
+fn nodes_have_their_directions(rt: HostRuntime) {
+    for row in &NODES {
+        assert!(rt; is_found(rt.alloc(), row), "{} for {}", row.6, row.5);
+    }
+}
+
+/// Lists that are no node of three jobs.
+static LISTS: [(&[u16], &[u16]); 7] = [
+    (&[0], &[]),
+    (&[], &[0]),
+    (&[4], &[]),
+    (&[1, 4], &[]),
+    (&[1, 1], &[]),
+    (&[], &[2, 2]),
+    (&[3], &[1, 3]),
+];
+
+/// Whether lists of three jobs are refused.
+fn is_refused(alloc: Global, first: &[u16], last: &[u16]) -> bool {
+    match Instance::new(alloc, 3, 3, &THREE) {
+        Ok(instance) => prove(alloc, &instance, first, last, 12, 9) == Err(ProveFault::Jobs),
+        Err(_) => false,
+    }
+}
+
+#[test]
+fn lists_that_are_no_node_are_refused(rt: HostRuntime) {
+    for (first, last) in &LISTS {
+        assert!(rt; is_refused(rt.alloc(), first, last));
+    }
+}
