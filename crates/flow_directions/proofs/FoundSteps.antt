@@ -1,5 +1,5 @@
 -- What a search found: at a node where nothing is opened, and what it shows.
-use Rattle.std.proofs.Common.{◌≡◌, ℕ, ◌<◌, ◌≤◌, Bool, List, [], ◌++◌, length, Some, None, refl, ap, sym, ◌∙◌, subst, arith}
+use Rattle.std.proofs.Common.{◌≡◌, ℕ, ◌<◌, ◌≤◌, List, [], ◌++◌, length, Some, ap, sym, ◌∙◌, subst, arith}
 use Rattle.std.specs.Prelude.{Result, Ok, Err, IfOk, IfErr, All, set, slice_index_or, take}
 use Rattle.std.specs.Global.{Vec}
 use Rattle.std.proofs.lemmas.List.{get_or-set_same}
@@ -18,7 +18,6 @@ use Rattle.flow_directions.specs.internal.Words.{chosen}
 use Rattle.flow_directions.specs.internal.Packs.{HasRoom, IsPack, IsBranch}
 use Rattle.flow_directions.specs.internal.Start.{IsStart}
 use Rattle.flow_directions.specs.internal.Walk.{Ends, IsAt}
-use Rattle.flow_directions.specs.declared.branch.Branch.{Branch}
 use Rattle.flow_directions.specs.declared.pack.Pack.{Pack}
 use Rattle.flow_directions.specs.declared.start.Start.{Start}
 use Rattle.flow_directions.specs.declared.walk.Stop.{Stop}

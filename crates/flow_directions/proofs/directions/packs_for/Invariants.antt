@@ -1,4 +1,4 @@
-use Rattle.std.proofs.Common.{◌≡◌, ℕ, ◌-◌, ◌*◌, ◌≤◌, length, slice_index_or}
+use Rattle.std.proofs.Common.{◌≤◌, length, slice_index_or}
 use Rattle.std.specs.Prelude.{All}
 use Rattle.flow_directions.specs.declared.pack.Pack.{Pack}
 use Rattle.flow_directions.specs.internal.Packs.{HasRoom}

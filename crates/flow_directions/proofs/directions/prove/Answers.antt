@@ -11,8 +11,13 @@ pub returns-then-from-number-clause-found : goal.returns-then-from-number-clause
 returns-then-from-number-clause-found c =
     found-high c.args.instance.now c.args.number c.args.budget c.args.first.now c.args.last.now
     c.new-then-from-number.result c.new-then-from-number.ensures.items
-    (omega (arith, c.if-from-number.true, c.from.ensures, c.bound.ensures c.args.first.now c.args.last.now
-    c.in_ok-start.ensures.start.is_node))
+    (omega (
+      arith,
+      c.if-from-number.true,
+      c.from.ensures,
+      c.bound.ensures c.args.first.now c.args.last.now
+          c.in_ok-start.ensures.start.is_node,
+    ))
 
 pub returns-then-from-number-clause-shown : goal.returns-then-from-number-clause-shown
 returns-then-from-number-clause-shown c =
@@ -20,8 +25,13 @@ returns-then-from-number-clause-shown c =
     (Proved c.new-then-from-number.result) c.in_ok-start.ensures.start.are_jobs
     (found-high c.args.instance.now c.args.number c.args.budget c.args.first.now c.args.last.now
     c.new-then-from-number.result c.new-then-from-number.ensures.items
-    (omega (arith, c.if-from-number.true, c.from.ensures, c.bound.ensures c.args.first.now c.args.last.now
-    c.in_ok-start.ensures.start.is_node)))
+    (omega (
+      arith,
+      c.if-from-number.true,
+      c.from.ensures,
+      c.bound.ensures c.args.first.now c.args.last.now
+          c.in_ok-start.ensures.start.is_node,
+    )))
 
 pub sequence_of-requires : goal.sequence_of-requires
 sequence_of-requires c =

@@ -1,4 +1,4 @@
-use Rattle.std.proofs.Common.{◌≡◌, ◌++◌, Some, ap, sym, ◌∙◌, subst}
+use Rattle.std.proofs.Common.{◌++◌, Some, ap, sym, ◌∙◌, subst}
 use Rattle.flow_shop.specs.Sequences.{IsSequence}
 use Rattle.flow_directions.specs.Search.{directions_of, IsFound, IsWithMakespan}
 use Rattle.flow_directions.proofs.FoundSteps.{found-below, each-ok, start-at, ends-below, ends-over}

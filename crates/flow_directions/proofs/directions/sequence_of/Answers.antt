@@ -1,4 +1,4 @@
-use Rattle.std.proofs.Common.{◌≡◌, ap, sym, ◌∙◌, subst, arith}
+use Rattle.std.proofs.Common.{sym, subst}
 use Rattle.flow_shop.specs.Sequences.{IsSequence}
 use Rattle.flow_directions.proofs.directions.sequence_of.Goals as goal
 

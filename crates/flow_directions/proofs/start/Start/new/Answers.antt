@@ -1,4 +1,4 @@
-use Rattle.std.proofs.Common.{◌≡◌, ℕ, ◌+◌, ◌-◌, ◌<◌, ◌≤◌, true, false, List, [], ◌∷◌, ◌++◌, length, take, drop, slice_index}
+use Rattle.std.proofs.Common.{◌≡◌, ◌+◌, ◌-◌, ◌<◌, ◌≤◌, [], ◌∷◌, ◌++◌, length, take, drop, slice_index}
 use Rattle.std.proofs.Common.{refl, ap, sym, ◌∙◌, subst, arith, append-nil, length-take, length-drop, rules}
 use Rattle.std.proofs.lemmas.List.{take_more, take_all, drop_all}
 use Rattle.flow_shop.specs.Sequences.{has}
@@ -62,8 +62,7 @@ put-requires-clause-left c =
     let first = c.args.first.now in
     let index = c.loop-job.job-index in
     let next = next-at n [] first index (omega arith)
-    (jobs-first n first c.args.last.now c.loop-job.invariant.are_jobs) in
-    (
+    (jobs-first n first c.args.last.now c.loop-job.invariant.are_jobs) in (
       take index first,
       [],
       c.loop-job.invariant.is_node,

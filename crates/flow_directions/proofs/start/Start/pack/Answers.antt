@@ -60,7 +60,7 @@ loop-job-preserved g c =
       | then-not-contains w ↦
           let fresh : (first last : List ℕ) → IsStart shop first last c.args.self.now → has (first ++ last) job ≡ false =
           λ first last is.
-              sym (is.holds.each job low high) ∙ sym c.contains.ensures.value ∙ w.if-not-contains.true in
+          sym (is.holds.each job low high) ∙ sym c.contains.ensures.value ∙ w.if-not-contains.true in
           let is = c.requires.start.2 in
           let within : count < length names = omega (
             arith,
@@ -88,7 +88,7 @@ loop-job-preserved g c =
       | else-not-contains w ↦
           let had : (first last : List ℕ) → IsStart shop first last c.args.self.now → has (first ++ last) job ≡ true =
           λ first last is.
-              sym (is.holds.each job low high) ∙ sym c.contains.ensures.value ∙ w.if-not-contains.false in
+          sym (is.holds.each job low high) ∙ sym c.contains.ensures.value ∙ w.if-not-contains.false in
           record {
             room = subst (λ p. HasRoom shop p) (sym w.pack-is) here.room;
             groups = ap (λ p. length p.groups.items) w.pack-is ∙ here.groups;

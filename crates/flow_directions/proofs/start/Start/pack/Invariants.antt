@@ -1,4 +1,4 @@
-use Rattle.std.proofs.Common.{◌≡◌, ℕ, ◌-◌, ◌++◌, List, length, take}
+use Rattle.std.proofs.Common.{◌≡◌, ℕ, ◌++◌, List, length, take}
 use Rattle.flow_shop.proofs.Taken.{left_under}
 use Rattle.flow_directions.specs.internal.Packs.{HasRoom}
 use Rattle.flow_directions.specs.internal.Start.{IsStart}
