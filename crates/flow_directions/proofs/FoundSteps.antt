@@ -21,7 +21,8 @@ use Rattle.flow_directions.specs.internal.Walk.{Ends, IsAt}
 use Rattle.flow_directions.specs.declared.pack.Pack.{Pack}
 use Rattle.flow_directions.specs.declared.start.Start.{Start}
 use Rattle.flow_directions.specs.declared.walk.Stop.{Stop}
-use Rattle.flow_directions.specs.declared.walk.Stop.TheVariants.{Below as StopBelow, Over as StopOver, Memory as StopMemory}
+use Rattle.flow_directions.specs.declared.walk.Stop.TheVariants.{Below as StopBelow, Over as StopOver}
+use Rattle.flow_directions.specs.declared.walk.Stop.TheVariants.{Memory as StopMemory}
 use Rattle.flow_directions.specs.declared.walk.Written.{Written}
 use Rattle.flow_directions.specs.declared.words.Words.{Words}
 use Rattle.flow_directions.proofs.VisitSteps.{visits-high, visits-whole}
@@ -71,7 +72,8 @@ each-ok P Q (Ok found) follows is = follows found is
 each-ok P Q (Err fault) follows is = tt
 
 -- where memory runs out at most, the lists are no fault
-pub no-jobs-fault : {T : Type 0} (result : Result T ProveFault) → IfErr result (λ fault. fault ≡ Memory) → result ≡ Err Jobs → ⊥
+pub no-jobs-fault : {T : Type 0} (result : Result T ProveFault) → IfErr result (λ fault. fault ≡ Memory) →
+    result ≡ Err Jobs → ⊥
 no-jobs-fault (Ok found) is e = absurd (cc)
 no-jobs-fault (Err fault) is e =
     let same : fault ≡ Jobs = cc in

@@ -1,6 +1,7 @@
 //! The search for directions that prove a number for a node.
 
-ghost use Rattle.std.specs.Prelude.{◌≡◌, ◌↔◌, ℕ, ◌≤◌, ◌<◌, min, All, Err, List, ◌++◌, length, slice_index_or, IfOk, IfErr};
+ghost use Rattle.std.specs.Prelude.{◌≡◌, ◌↔◌, ℕ, ◌≤◌, ◌<◌, min, All, Err, List, ◌++◌, length, slice_index_or};
+ghost use Rattle.std.specs.Prelude.{IfOk, IfErr};
 ghost use Rattle.flow_limits.specs.Limits.{most_jobs};
 ghost use Rattle.flow_shop.specs.Sequences.{AreJobs, IsSequence};
 ghost use Rattle.flow_shop.specs.Ends.{end_bound};

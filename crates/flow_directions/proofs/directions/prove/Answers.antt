@@ -23,15 +23,7 @@ pub returns-then-from-number-clause-shown : goal.returns-then-from-number-clause
 returns-then-from-number-clause-shown c =
     found-shows c.args.instance.now c.args.number c.args.budget c.args.first.now c.args.last.now
     (Proved c.new-then-from-number.result) c.in_ok-start.ensures.start.are_jobs
-    (found-high c.args.instance.now c.args.number c.args.budget c.args.first.now c.args.last.now
-    c.new-then-from-number.result c.new-then-from-number.ensures.items
-    (omega (
-      arith,
-      c.if-from-number.true,
-      c.from.ensures,
-      c.bound.ensures c.args.first.now c.args.last.now
-          c.in_ok-start.ensures.start.is_node,
-    )))
+    (returns-then-from-number-clause-found c)
 
 pub sequence_of-requires : goal.sequence_of-requires
 sequence_of-requires c =
@@ -48,8 +40,12 @@ pub returns-then-start-eq0-clause-found : goal.returns-then-start-eq0-clause-fou
 returns-then-start-eq0-clause-found c =
     let shop = c.args.instance.now in
     let is = c.in_ok-start.ensures.start in
-    let low : end_bound shop c.args.first.now c.args.last.now < c.args.number =
-    omega (arith, c.if-from-number.false, c.from.ensures, c.bound.ensures c.args.first.now c.args.last.now is.is_node) in
+    let low : end_bound shop c.args.first.now c.args.last.now < c.args.number = omega (
+      arith,
+      c.if-from-number.false,
+      c.from.ensures,
+      c.bound.ensures c.args.first.now c.args.last.now is.is_node,
+    ) in
     let none : length (jobs_left shop.jobs (c.args.first.now ++ c.args.last.now)) ≡ 0 =
     omega (arith, is.left, c.if-start-eq0.true) in
     let sequence = whole-node shop.jobs (c.args.first.now ++ c.args.last.now) is.are_jobs none in
@@ -57,49 +53,47 @@ returns-then-start-eq0-clause-found c =
     c.all.ensures.lists shop.jobs c.args.first.now c.args.last.now is.has_lists sequence.whole in
     each-ok (IsWithMakespan shop c.all.result.now)
     (IsFound c.args.instance.now c.args.number c.args.budget c.args.first.now c.args.last.now)
-    c.sequence_of.result (λ found makespan. found-whole c.args.instance.now c.args.number c.args.budget c.args.first.now c.args.last.now
-    found none low
-    (subst (λ jobs. IsWithMakespan shop jobs found) all makespan))
+    c.sequence_of.result
+    (λ found makespan.
+    found-whole c.args.instance.now c.args.number c.args.budget c.args.first.now c.args.last.now
+    found none low (subst (λ jobs. IsWithMakespan shop jobs found) all makespan))
     c.sequence_of.ensures.found
 
 pub returns-then-start-eq0-clause-shown : goal.returns-then-start-eq0-clause-shown
 returns-then-start-eq0-clause-shown c =
-    let shop = c.args.instance.now in
-    let is = c.in_ok-start.ensures.start in
-    let low : end_bound shop c.args.first.now c.args.last.now < c.args.number =
-    omega (arith, c.if-from-number.false, c.from.ensures, c.bound.ensures c.args.first.now c.args.last.now is.is_node) in
-    let none : length (jobs_left shop.jobs (c.args.first.now ++ c.args.last.now)) ≡ 0 =
-    omega (arith, is.left, c.if-start-eq0.true) in
-    let sequence = whole-node shop.jobs (c.args.first.now ++ c.args.last.now) is.are_jobs none in
-    let all : c.all.result.now ≡ c.args.first.now ++ c.args.last.now =
-    c.all.ensures.lists shop.jobs c.args.first.now c.args.last.now is.has_lists sequence.whole in
-    each-ok (IsWithMakespan shop c.all.result.now)
-    (Shows shop c.args.number c.args.first.now c.args.last.now)
-    c.sequence_of.result
-    (λ found makespan. found-shows c.args.instance.now c.args.number c.args.budget c.args.first.now c.args.last.now found is.are_jobs
-    (found-whole c.args.instance.now c.args.number c.args.budget c.args.first.now c.args.last.now
-    found none low
-    (subst (λ jobs. IsWithMakespan shop jobs found) all makespan)))
-    c.sequence_of.ensures.found
+    each-ok (IsFound c.args.instance.now c.args.number c.args.budget c.args.first.now c.args.last.now)
+    (Shows c.args.instance.now c.args.number c.args.first.now c.args.last.now) c.sequence_of.result
+    (λ found. found-shows c.args.instance.now c.args.number c.args.budget c.args.first.now c.args.last.now
+    found c.in_ok-start.ensures.start.are_jobs) (returns-then-start-eq0-clause-found c)
 
 pub returns-then-number-le-NARROW-clause-shown : goal.returns-then-number-le-NARROW-clause-shown
 returns-then-number-le-NARROW-clause-shown c =
     let shop = c.args.instance.now in
     let is = c.in_ok-start.ensures.start in
-    let low : end_bound shop c.args.first.now c.args.last.now < c.args.number =
-    omega (arith, c.if-from-number.false, c.from.ensures, c.bound.ensures c.args.first.now c.args.last.now is.is_node) in
+    let low : end_bound shop c.args.first.now c.args.last.now < c.args.number = omega (
+      arith,
+      c.if-from-number.false,
+      c.from.ensures,
+      c.bound.ensures c.args.first.now c.args.last.now is.is_node,
+    ) in
     each-ok (IsFound c.args.instance.now c.args.number c.args.budget c.args.first.now c.args.last.now)
     (Shows shop c.args.number c.args.first.now c.args.last.now) c.run.result
-    (λ found. found-shows c.args.instance.now c.args.number c.args.budget c.args.first.now c.args.last.now found is.are_jobs)
+    (λ found. found-shows c.args.instance.now c.args.number c.args.budget c.args.first.now c.args.last.now
+    found is.are_jobs)
     (c.run.ensures.found c.args.first.now c.args.last.now is low)
 
 pub returns-else-number-le-NARROW-clause-shown : goal.returns-else-number-le-NARROW-clause-shown
 returns-else-number-le-NARROW-clause-shown c =
     let shop = c.args.instance.now in
     let is = c.in_ok-start.ensures.start in
-    let low : end_bound shop c.args.first.now c.args.last.now < c.args.number =
-    omega (arith, c.if-from-number.false, c.from.ensures, c.bound.ensures c.args.first.now c.args.last.now is.is_node) in
+    let low : end_bound shop c.args.first.now c.args.last.now < c.args.number = omega (
+      arith,
+      c.if-from-number.false,
+      c.from.ensures,
+      c.bound.ensures c.args.first.now c.args.last.now is.is_node,
+    ) in
     each-ok (IsFound c.args.instance.now c.args.number c.args.budget c.args.first.now c.args.last.now)
     (Shows shop c.args.number c.args.first.now c.args.last.now) c.run-else-number-le-NARROW.result
-    (λ found. found-shows c.args.instance.now c.args.number c.args.budget c.args.first.now c.args.last.now found is.are_jobs)
+    (λ found. found-shows c.args.instance.now c.args.number c.args.budget c.args.first.now c.args.last.now
+    found is.are_jobs)
     (c.run-else-number-le-NARROW.ensures.found c.args.first.now c.args.last.now is low)

@@ -9,7 +9,9 @@ use Rattle.flow_directions.proofs.StartLists.{jobs-first, next-at, next-back, dr
 use Rattle.flow_directions.proofs.StartLists.{first-not-put, last-not-put}
 use Rattle.flow_directions.proofs.start.Start.new.Goals as goal
 use Rattle.flow_directions.proofs.start.Start.new.Goals.{then-not-insert_all-via-then-not-insert_all}
-use Rattle.flow_directions.proofs.start.Start.new.Goals.{then-not-insert_all-via-else-not-insert_all+then-not-insert_all-2}
+use Rattle.flow_directions.proofs.start.Start.new.Goals.{
+  then-not-insert_all-via-else-not-insert_all+then-not-insert_all-2,
+}
 
 pub returns-then-not-insert_all-clause-refused : goal.returns-then-not-insert_all-clause-refused
 returns-then-not-insert_all-clause-refused c = (

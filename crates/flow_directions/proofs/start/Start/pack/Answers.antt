@@ -1,4 +1,5 @@
-use Rattle.std.proofs.Common.{◌≡◌, ℕ, ◌+◌, ◌<◌, ◌≤◌, true, false, List, ◌++◌, length, take, set, ap, sym, ◌∙◌, subst, arith}
+use Rattle.std.proofs.Common.{◌≡◌, ℕ, ◌+◌, ◌<◌, ◌≤◌, true, false, List, ◌++◌, length, take, set, ap, sym, ◌∙◌}
+use Rattle.std.proofs.Common.{subst, arith}
 use Rattle.std.proofs.lemmas.List.{length-set}
 use Rattle.flow_shop.specs.Sequences.{has}
 use Rattle.flow_directions.specs.internal.Packs.{HasRoom}
@@ -58,7 +59,8 @@ loop-job-preserved g c =
     let high : job ≤ shop.jobs = omega (arith, c.loop-job-test.true, c.jobs-job-end.ensures.value) in
     elim c.if-not-contains.branch [
       | then-not-contains w ↦
-          let fresh : (first last : List ℕ) → IsStart shop first last c.args.self.now → has (first ++ last) job ≡ false =
+          let fresh : (first last : List ℕ) → IsStart shop first last c.args.self.now →
+          has (first ++ last) job ≡ false =
           λ first last is.
           sym (is.holds.each job low high) ∙ sym c.contains.ensures.value ∙ w.if-not-contains.true in
           let is = c.requires.start.2 in
