@@ -1,15 +1,17 @@
 //! What the words of command lines come to, over files and a sink in memory.
 
+ghost use Rattle.std.specs.Prelude.{◌≡◌, false};
+
 use crate::dispatch::run_words;
 use crate::tests::files::{DEPTH_1, Named, START};
 use crate::tests::lines::{
     ANSWERS, CERTIFY, CHECK, IMPROVE, OPTIONS, Row, SCHEDULE, STARTS, VERSIONS,
 };
+use crate::tests::stop::is_line;
 use flow_core::MemorySink;
 use std::alloc::{AllocError, Global};
 use std::process::Abort;
 use std::sync::Wait;
-use std::test::Fail;
 use std::thread::Threads;
 
 /// How many bytes the output takes.
@@ -27,22 +29,44 @@ pub(crate) fn words_of<'a>(alloc: Global, line: &'a str) -> Result<Vec<&'a str>,
     Ok(words)
 }
 
-/// Runs a command line beside a file of the name `stdin` that holds these bytes, with so much room for the output: what
-/// it wrote, and its line on standard error.
-fn run_line<R: Threads + Wait + Sync>(
+/// Whether a command line, beside a file of the name `stdin` that holds these bytes, has this line on standard error:
+/// none where it was obeyed.
+fn says<R: Threads + Wait + Sync>(
     rt: &R,
     alloc: Global,
     of_stdin: &'static [u8],
-    room: usize,
     line: &str,
-) -> Result<(MemorySink, String), AllocError> {
-    let words = words_of(alloc, line)?;
-    let mut out = MemorySink::new(alloc, room);
-    let said = match run_words(rt, alloc, &Named::new(of_stdin), words.as_slice(), &mut out) {
-        Ok(()) => String::new(alloc),
-        Err(stop) => format!(in alloc; "{}", stop)?,
+    refusal: &str,
+    out: &mut MemorySink,
+) -> bool
+    requires { out.old.failed ≡ false }
+{
+    let Ok(words) = words_of(alloc, line) else {
+        return false;
     };
-    Ok((out, said))
+    match run_words(rt, alloc, &Named::new(of_stdin), words.as_slice(), out) {
+        Ok(()) => refusal.is_empty(),
+        Err(stop) => is_line(alloc, stop, refusal),
+    }
+}
+
+/// Whether a command line that begins with these words writes and says what its row tells, beside a file of the name
+/// `stdin` that holds these bytes.
+fn is_right<R: Threads + Wait + Sync>(
+    rt: &R,
+    alloc: Global,
+    begin: &str,
+    of_stdin: &'static [u8],
+    row: &Row,
+) -> bool {
+    let (rest, bytes, refusal) = *row;
+    let mut out = MemorySink::new(alloc, ROOM);
+    match format!(in alloc; "{begin} {rest}") {
+        Ok(line) => {
+            says(rt, alloc, of_stdin, line.as_str(), refusal, &mut out) && out.bytes() == bytes
+        }
+        Err(_) => false,
+    }
 }
 
 /// Runs command lines that begin with the same words, beside a file of the name `stdin` that holds these bytes. Each
@@ -53,54 +77,54 @@ fn run_rows<R: Threads + Wait + Sync + Abort>(
     begin: &str,
     of_stdin: &'static [u8],
     rows: &[Row],
-) -> Result<(), AllocError> {
-    for (rest, bytes, refusal) in rows {
-        let line = format!(in alloc; "{begin} {rest}")?;
-        let (out, said) = run_line(rt, alloc, of_stdin, ROOM, line.as_str())?;
-        assert_eq!(rt; said.as_str(), *refusal, "after {line}");
-        assert!(rt; out.bytes() == *bytes, "after {line}");
+) {
+    for row in rows {
+        assert!(rt;
+            is_right(rt, alloc, begin, of_stdin, row),
+            "after {begin} {}",
+            row.0
+        );
     }
-    Ok(())
 }
 
 #[test]
-fn each_command_writes_its_answer(rt: HostRuntime) -> Result<(), AllocError> {
-    run_rows(&rt, rt.alloc(), "", DEPTH_1, &ANSWERS)
+fn each_command_writes_its_answer(rt: HostRuntime) {
+    run_rows(&rt, rt.alloc(), "", DEPTH_1, &ANSWERS);
 }
 
 #[test]
-fn each_option_of_solve_has_its_effect(rt: HostRuntime) -> Result<(), AllocError> {
-    run_rows(&rt, rt.alloc(), "solve text_three 1", DEPTH_1, &OPTIONS)
+fn each_option_of_solve_has_its_effect(rt: HostRuntime) {
+    run_rows(&rt, rt.alloc(), "solve text_three 1", DEPTH_1, &OPTIONS);
 }
 
 #[test]
-fn each_version_has_its_certificate(rt: HostRuntime) -> Result<(), AllocError> {
-    run_rows(&rt, rt.alloc(), "solve stdin", DEPTH_1, &VERSIONS)
+fn each_version_has_its_certificate(rt: HostRuntime) {
+    run_rows(&rt, rt.alloc(), "solve stdin", DEPTH_1, &VERSIONS);
 }
 
 #[test]
-fn solve_takes_a_start_by_its_name(rt: HostRuntime) -> Result<(), AllocError> {
-    run_rows(&rt, rt.alloc(), "solve", START, &STARTS)
+fn solve_takes_a_start_by_its_name(rt: HostRuntime) {
+    run_rows(&rt, rt.alloc(), "solve", START, &STARTS);
 }
 
 #[test]
-fn improve_takes_its_numbers_and_its_start(rt: HostRuntime) -> Result<(), AllocError> {
-    run_rows(&rt, rt.alloc(), "improve", DEPTH_1, &IMPROVE)
+fn improve_takes_its_numbers_and_its_start(rt: HostRuntime) {
+    run_rows(&rt, rt.alloc(), "improve", DEPTH_1, &IMPROVE);
 }
 
 #[test]
-fn certify_takes_its_numbers_and_its_start(rt: HostRuntime) -> Result<(), AllocError> {
-    run_rows(&rt, rt.alloc(), "certify", DEPTH_1, &CERTIFY)
+fn certify_takes_its_numbers_and_its_start(rt: HostRuntime) {
+    run_rows(&rt, rt.alloc(), "certify", DEPTH_1, &CERTIFY);
 }
 
 #[test]
-fn schedule_takes_its_files_and_its_form(rt: HostRuntime) -> Result<(), AllocError> {
-    run_rows(&rt, rt.alloc(), "schedule", START, &SCHEDULE)
+fn schedule_takes_its_files_and_its_form(rt: HostRuntime) {
+    run_rows(&rt, rt.alloc(), "schedule", START, &SCHEDULE);
 }
 
 #[test]
-fn check_takes_each_file_by_its_name(rt: HostRuntime) -> Result<(), AllocError> {
-    run_rows(&rt, rt.alloc(), "check", DEPTH_1, &CHECK)
+fn check_takes_each_file_by_its_name(rt: HostRuntime) {
+    run_rows(&rt, rt.alloc(), "check", DEPTH_1, &CHECK);
 }
 
 /// Lines whose output is long: how many bytes of it there is room for, how it begins, and the line on standard error.
@@ -115,12 +139,20 @@ static LONG: [(&str, usize, &[u8], &str); 3] = [
     ("--help", 10, b"Least make", "failed write Device"),
 ];
 
+/// Whether the output of a line begins as it should.
+fn begins<R: Threads + Wait + Sync>(
+    rt: &R,
+    alloc: Global,
+    row: &(&str, usize, &[u8], &str),
+) -> bool {
+    let (line, room, begin, refusal) = *row;
+    let mut out = MemorySink::new(alloc, room);
+    says(rt, alloc, DEPTH_1, line, refusal, &mut out) && out.bytes().starts_with(begin)
+}
+
 #[test]
-fn long_output_begins_as_it_should(rt: HostRuntime) -> Result<(), Fail> {
-    for (line, room, begin, refusal) in &LONG {
-        let (out, said) = run_line(&rt, rt.alloc(), DEPTH_1, *room, line)?;
-        assert_eq!(rt; said.as_str(), *refusal, "after {line}");
-        assert!(rt; out.bytes().starts_with(begin), "after {line}");
+fn long_output_begins_as_it_should(rt: HostRuntime) {
+    for row in &LONG {
+        assert!(rt; begins(&rt, rt.alloc(), row), "after {}", row.0);
     }
-    Ok(())
 }

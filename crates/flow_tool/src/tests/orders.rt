@@ -4,17 +4,21 @@ use crate::tests::dispatch::words_of;
 use clap::error::ErrorKind;
 use flow_requests::{CertifyRequest, CheckRequest, ImproveRequest, SolveRequest};
 use flow_words::{Order, make_command, order_of};
-use std::alloc::{AllocError, Global};
+use std::alloc::Global;
 use std::process::Abort;
-use std::test::Fail;
 
 /// The order of words, or what kind of fault they have.
 fn ordered<'a>(alloc: Global, words: &'a [&'a str]) -> Result<Option<Order<'a>>, ErrorKind> {
-    let command = make_command(alloc).map_err(|_| ErrorKind::OutOfMemory)?;
-    let matches = command
-        .try_get_matches_from(words)
-        .map_err(|error| error.kind())?;
-    order_of(alloc, &matches).map_err(|_| ErrorKind::OutOfMemory)
+    let Ok(command) = make_command(alloc) else {
+        return Err(ErrorKind::OutOfMemory);
+    };
+    match command.try_get_matches_from(words) {
+        Ok(matches) => match order_of(alloc, &matches) {
+            Ok(order) => Ok(order),
+            Err(_) => Err(ErrorKind::OutOfMemory),
+        },
+        Err(error) => Err(error.kind()),
+    }
 }
 
 /// The request of `solve` where no option is given.
@@ -144,32 +148,40 @@ const ORDERS: [(&str, Order); 8] = [
 ];
 
 /// Whether a command line is read as this order.
-fn is_read_as(alloc: Global, line: &str, wanted: &Order) -> Result<bool, AllocError> {
-    let words = words_of(alloc, line)?;
+fn is_read_as(alloc: Global, line: &str, wanted: &Order) -> bool {
+    let Ok(words) = words_of(alloc, line) else {
+        return false;
+    };
     match ordered(alloc, words.as_slice()) {
-        Ok(Some(order)) => Ok(order == *wanted),
-        _ => Ok(false),
+        Ok(Some(order)) => order == *wanted,
+        _ => false,
     }
 }
 
 /// Command lines are read as the orders beside them.
-fn are_read_as<R: Abort>(rt: &R, alloc: Global, rows: &[(&str, Order)]) -> Result<(), AllocError> {
+fn are_read_as<R: Abort>(rt: &R, alloc: Global, rows: &[(&str, Order)]) {
     for (line, wanted) in rows {
-        assert!(rt; is_read_as(alloc, *line, wanted)?, "after {line}");
+        assert!(rt; is_read_as(alloc, *line, wanted), "after {line}");
     }
-    Ok(())
 }
 
-#[test]
-fn words_are_read_as_orders(rt: HostRuntime) -> Result<(), Fail> {
-    let alloc = rt.alloc();
+/// Whether the jobs of a sequence are read.
+fn are_jobs_read(alloc: Global) -> bool {
+    let Ok(jobs) = vec![in alloc; 3, 1, 65_535] else {
+        return false;
+    };
     let span = Order::Span {
         file: "FILE",
         index: u32::MAX,
-        jobs: vec![in alloc; 3, 1, 65_535]?,
+        jobs,
     };
-    assert!(rt; is_read_as(alloc, "span FILE 4294967295 3 1 65535", &span)?);
-    Ok(are_read_as(&rt, alloc, &ORDERS)?)
+    is_read_as(alloc, "span FILE 4294967295 3 1 65535", &span)
+}
+
+#[test]
+fn words_are_read_as_orders(rt: HostRuntime) {
+    assert!(rt; are_jobs_read(rt.alloc()));
+    are_read_as(&rt, rt.alloc(), &ORDERS);
 }
 
 /// Command lines that are refused.
@@ -194,18 +206,19 @@ static REFUSED: [&str; 17] = [
 ];
 
 /// Whether a command line is refused, and neither for help nor for memory.
-fn is_refused(alloc: Global, line: &str) -> Result<bool, AllocError> {
-    let words = words_of(alloc, line)?;
+fn is_refused(alloc: Global, line: &str) -> bool {
+    let Ok(words) = words_of(alloc, line) else {
+        return false;
+    };
     match ordered(alloc, words.as_slice()) {
-        Err(kind) => Ok(kind != ErrorKind::DisplayHelp && kind != ErrorKind::OutOfMemory),
-        Ok(_) => Ok(false),
+        Err(kind) => kind != ErrorKind::DisplayHelp && kind != ErrorKind::OutOfMemory,
+        Ok(_) => false,
     }
 }
 
 #[test]
-fn other_words_are_refused(rt: HostRuntime) -> Result<(), Fail> {
+fn other_words_are_refused(rt: HostRuntime) {
     for line in &REFUSED {
-        assert!(rt; is_refused(rt.alloc(), line)?, "after {line}");
+        assert!(rt; is_refused(rt.alloc(), line), "after {line}");
     }
-    Ok(())
 }
