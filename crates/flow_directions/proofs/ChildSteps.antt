@@ -1,18 +1,16 @@
 -- The child that is searched next.
-use Rattle.std.proofs.Common.{◌≡◌, ℕ, zero, suc, ◌+◌, ◌-◌, ◌*◌, ◌<◌, ◌≤◌, Bool, false, true, not, ◌||◌, nat_eq, List}
-use Rattle.std.proofs.Common.{[], ◌∷◌, ◌++◌, length, take, filter, slice_index, slice_index_or, Some, None, Err, refl, ap, sym}
-use Rattle.std.proofs.Common.{◌∙◌, subst, inl, inr, arith}
+use Rattle.std.proofs.Common.{◌≡◌, ℕ, zero, suc, ◌+◌, ◌-◌, ◌*◌, ◌<◌, ◌≤◌, List}
+use Rattle.std.proofs.Common.{[], ◌∷◌, ◌++◌, length, slice_index, slice_index_or, Some, Err, refl, ap, sym}
+use Rattle.std.proofs.Common.{◌∙◌, subst, arith}
 use Rattle.flow_shop.specs.Shop.{Shop}
-use Rattle.flow_shop.specs.Sequences.{has, jobs_left}
-use Rattle.flow_shop.specs.Ends.{end_bound}
+use Rattle.flow_shop.specs.Sequences.{jobs_left}
 use Rattle.flow_shop.specs.Directions.{first_with, last_with}
 use Rattle.flow_shop.specs.declared.end.End.{End}
 use Rattle.flow_shop.proofs.EndSteps.{count-child}
-use Rattle.flow_nodes.specs.Nodes.{IsJob, IsNode}
+use Rattle.flow_nodes.specs.Nodes.{IsNode}
 use Rattle.flow_directions.specs.Search.{directions_of, first_below}
-use Rattle.flow_directions.specs.internal.Words.{chosen, mark}
 use Rattle.flow_directions.specs.internal.Lists.{HasLists}
-use Rattle.flow_directions.specs.internal.Packs.{HasLeft, HasRoom, IsBranch, IsPack, jobs_at}
+use Rattle.flow_directions.specs.internal.Packs.{HasLeft, IsBranch, jobs_at}
 use Rattle.flow_directions.specs.internal.Walk.{Ends, IsAt, KeepsPacks}
 use Rattle.flow_directions.specs.declared.branch.Branch.{Branch}
 use Rattle.flow_directions.specs.declared.lists.Lists.{Lists}

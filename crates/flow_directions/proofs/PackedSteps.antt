@@ -1,9 +1,8 @@
 -- How a node goes on in a smaller pack.
-use Rattle.std.proofs.Common.{◌≡◌, ℕ, zero, suc, ◌+◌, ◌*◌, ◌<◌, ◌≤◌, List, [], ◌∷◌, ◌++◌, length, take, drop, set}
+use Rattle.std.proofs.Common.{◌≡◌, ℕ, zero, suc, ◌<◌, ◌≤◌, List, [], ◌∷◌, ◌++◌, length, take, set}
 use Rattle.std.proofs.Common.{slice_index_or, refl, ap, sym, ◌∙◌, subst, arith, length-append}
 use Rattle.std.proofs.lemmas.List.{get_or-set_same}
 use Rattle.flow_shop.specs.Shop.{Shop}
-use Rattle.flow_shop.specs.Sequences.{jobs_left}
 use Rattle.flow_directions.specs.internal.Words.{chosen}
 use Rattle.flow_directions.specs.internal.Packs.{HasRoom, IsBranch, IsPack, jobs_at}
 use Rattle.flow_directions.specs.internal.Walk.{IsAt}

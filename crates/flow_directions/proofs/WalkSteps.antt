@@ -1,6 +1,6 @@
 -- What is still to be searched of a node, while its children are.
-use Rattle.std.proofs.Common.{◌≡◌, ℕ, zero, suc, ◌+◌, ◌-◌, ◌<◌, ◌≤◌, Bool, true, false, cond, nat_lt, List, [], ◌∷◌}
-use Rattle.std.proofs.Common.{◌++◌, length, take, drop, filter, Some, None, refl, ap, sym, ◌∙◌, subst, inl, inr, arith}
+use Rattle.std.proofs.Common.{◌≡◌, ℕ, suc, ◌+◌, ◌-◌, ◌<◌, ◌≤◌, Bool, true, false, cond, nat_lt, List, [], ◌∷◌}
+use Rattle.std.proofs.Common.{◌++◌, length, drop, filter, Some, None, refl, ap, sym, ◌∙◌, subst, inl, inr, arith}
 use Rattle.std.proofs.Common.{append_assoc, length-append, slice_index_or}
 use Rattle.std.specs.List.{flat_map, AllByRecursion}
 use Rattle.std.proofs.lemmas.Bool.{cases_Bool, ltb-false, ltb-true}
@@ -12,15 +12,14 @@ use Rattle.flow_shop.specs.Directions.{sign, first_with, last_with}
 use Rattle.flow_shop.specs.declared.end.End.{End}
 use Rattle.flow_shop.specs.declared.end.End.TheVariants.{Front, Back}
 use Rattle.flow_shop.proofs.JobsLeft.{each-left}
-use Rattle.flow_shop.proofs.EndSteps.{count-child}
-use Rattle.flow_nodes.specs.Nodes.{IsJob, IsNode}
+use Rattle.flow_nodes.specs.Nodes.{IsJob}
 use Rattle.flow_nodes.specs.Groups.{child_bound}
-use Rattle.flow_directions.specs.Search.{end_taken, Visit, opens, reaches, visits, signs, first_reached}
+use Rattle.flow_directions.specs.Search.{end_taken, Visit, opens, visits, signs, first_reached}
 use Rattle.flow_directions.specs.Search.{directions_of, first_below}
 use Rattle.flow_directions.specs.internal.Lists.{HasLists}
 use Rattle.flow_directions.specs.internal.Packs.{jobs_below}
 use Rattle.flow_directions.specs.declared.lists.Lists.{Lists}
-use Rattle.flow_directions.proofs.VisitSteps.{child_visits, visits-high, visits-whole, visits-open, none-or-reached}
+use Rattle.flow_directions.proofs.VisitSteps.{child_visits, visits-high, visits-open, none-or-reached}
 use Rattle.flow_directions.proofs.VisitSteps.{signs-append, first_reached-append, signs-append-reached}
 use Rattle.flow_directions.proofs.VisitSteps.{first_reached-append-reached}
 

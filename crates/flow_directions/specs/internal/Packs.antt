@@ -1,5 +1,5 @@
 -- Packs: jobs side by side, sixteen to a group, with their names.
-use Rattle.std.specs.Prelude.{ℕ, ◌≡◌, ◌*◌, ◌<◌, ◌≤◌, List, ◌++◌, length, take, drop, slice_index, slice_index_or, true, false}
+use Rattle.std.specs.Prelude.{ℕ, ◌≡◌, ◌*◌, ◌<◌, ◌≤◌, List, ◌++◌, length, take, drop, slice_index, slice_index_or}
 use Rattle.std.specs.Prelude.{filter, nat_lt}
 use Rattle.std.specs.Global.{Vec}
 use Rattle.flow_shop.specs.Shop.{Shop}

@@ -1,17 +1,13 @@
-use Rattle.std.proofs.Common.{rules, ◌≡◌, ℕ, suc, ◌+◌, ◌-◌, ◌*◌, ◌<◌, ◌≤◌, List, [], ◌∷◌, ◌++◌, length, drop, take}
-use Rattle.std.proofs.Common.{slice_index, slice_index_or, slice_set, replicate, false, refl, ap, sym, ◌∙◌, subst, arith}
+use Rattle.std.proofs.Common.{rules, ◌≡◌, ◌*◌, ◌<◌, ◌≤◌, [], ◌∷◌, ◌++◌, length, take}
+use Rattle.std.proofs.Common.{slice_index, slice_index_or, replicate, refl, ap, sym, ◌∙◌, subst, arith}
 use Rattle.std.proofs.Common.{length-append}
 use Rattle.std.proofs.lemmas.List.{length-replicate, length-set}
-use Rattle.flow_shop.specs.Directions.{sign, first_with, last_with}
-use Rattle.flow_nodes.specs.Nodes.{IsNode}
-use Rattle.flow_directions.specs.Search.{directions_of}
+use Rattle.flow_shop.specs.Directions.{first_with, last_with}
 use Rattle.flow_directions.specs.internal.Lists.{HasLists}
-use Rattle.flow_directions.specs.internal.Packs.{HasRoom, jobs_at}
-use Rattle.flow_directions.specs.internal.Walk.{Ends, IsAt, KeepsPacks}
+use Rattle.flow_directions.specs.internal.Packs.{jobs_at}
 use Rattle.flow_directions.specs.declared.pack.Pack.{Pack}
-use Rattle.flow_directions.specs.declared.walk.Stop.TheVariants.{Below, Over, Memory}
-use Rattle.flow_directions.proofs.WalkSteps.{IsOpen, Stands, stands-first, stands-next, stands-reached, stands-written}
-use Rattle.flow_directions.proofs.WalkSteps.{stands-longer, stands-done, lists-count, opens-longer, head-same}
+use Rattle.flow_directions.proofs.WalkSteps.{Stands, stands-first, stands-next}
+use Rattle.flow_directions.proofs.WalkSteps.{stands-done, opens-longer, head-same}
 use Rattle.flow_directions.proofs.ChildSteps.{index-same, packs-keep, pack-few, at-count, stands-job, job-open}
 use Rattle.flow_directions.proofs.ChildSteps.{child-at, ends-stops, last-reached, last-written}
 use Rattle.flow_directions.proofs.PackedSteps.{rooms-set, split-first, split-behind, split-rooms, packed-at}

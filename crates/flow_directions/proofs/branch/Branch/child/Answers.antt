@@ -1,5 +1,4 @@
-use Rattle.std.proofs.Common.{◌≡◌, ◌∷◌, ◌++◌, ap, sym, ◌∙◌}
-use Rattle.flow_shop.specs.Sequences.{jobs_left}
+use Rattle.std.proofs.Common.{◌∷◌, ◌++◌, ap, sym, ◌∙◌}
 use Rattle.flow_directions.proofs.LeftSteps.{left-parted}
 use Rattle.flow_directions.proofs.branch.Branch.child.Goals as goal
 

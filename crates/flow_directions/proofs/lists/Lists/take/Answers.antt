@@ -1,8 +1,6 @@
 use Rattle.std.proofs.Common.{◌≡◌, ℕ, suc, ◌+◌, ◌-◌, ◌≤◌, List, ◌∷◌, length, drop, sym, ap, subst, ◌∙◌, arith}
 use Rattle.std.proofs.lemmas.List.{drop-drop}
 use Rattle.flow_shop.specs.Directions.{first_with, last_with}
-use Rattle.flow_shop.specs.declared.end.End.TheVariants.{Back}
-use Rattle.flow_directions.specs.declared.lists.Lists.{Lists}
 use Rattle.flow_directions.specs.internal.Lists.{HasLists}
 use Rattle.flow_directions.proofs.lists.Lists.take.Goals as goal
 

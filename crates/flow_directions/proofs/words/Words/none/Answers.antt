@@ -1,6 +1,3 @@
-use Rattle.std.proofs.Common.{◌≡◌, ℕ, zero, suc, replicate, slice_index, refl, ap, ◌%◌, ◌/◌, ◌∙◌, arith}
-use Rattle.std.specs.Int.{bit_at}
-use Rattle.flow_directions.specs.internal.Words.{mark}
 use Rattle.flow_directions.proofs.MarkSteps.{mark-none, chosen-none}
 use Rattle.flow_directions.proofs.words.Words.none.Goals as goal
 
