@@ -23,7 +23,7 @@ pub(crate) struct Branch {
 
 impl Branch {
     /// What is kept of the child that puts the job of a marked place at an end.
-    #[inline(always)]
+    #[inline(never)]
     pub(crate) fn child(&self, instance: &Instance, end: End, place: usize, job: u16) -> Branch
         requires place { place < most_jobs }
         requires job { IsJob instance.now job }

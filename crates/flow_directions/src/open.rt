@@ -125,7 +125,7 @@ fn sum_of_bounds<V: Lanes>(instance: &Instance, pack: &Pack<V>, branch: &Branch,
 }
 
 /// Opens a node: finds the end at which it is opened, and its children below the number there.
-#[inline(always)]
+#[inline(never)]
 pub(crate) fn open<V: Lanes>(
     instance: &Instance,
     pack: &Pack<V>,
