@@ -108,15 +108,33 @@ const CHECK_OPTIMAL: CheckRequest = CheckRequest {
 /// A command, with what it is given beside its texts.
 #[derive(Drop)]
 enum Command {
+    OfText(OfText),
+    OfStart(OfStart),
+    OfTexts(OfTexts),
+}
+
+/// A command that reads an instance, or nothing.
+#[derive(Drop)]
+enum OfText {
     Gen,
     Span,
     Neh,
     Mirror,
-    Improve,
-    Certify,
     /// By `run_solve`, at a depth, within a budget.
     Solve(u32, u32),
+}
+
+/// A command that reads an instance, and a start if there is one.
+#[derive(Drop)]
+enum OfStart {
+    Improve,
+    Certify,
     SolveAs(SolveRequest),
+}
+
+/// A command that reads an instance and another text.
+#[derive(Drop)]
+enum OfTexts {
     Check,
     CheckAs(CheckRequest),
     Schedule(ScheduleForm),
@@ -148,154 +166,154 @@ pub(crate) static RUNS: [Run; 24] = [
         name: "run_span",
         text: TWO_MACHINES_TEXT,
         beside: None,
-        command: Command::Span,
+        command: Command::OfText(OfText::Span),
         wanted: Wanted::Text(b"makespan 9\n"),
     },
     Run {
         name: "run_gen",
         text: b"",
         beside: None,
-        command: Command::Gen,
+        command: Command::OfText(OfText::Gen),
         wanted: Wanted::Text(GENERATED_TEXT),
     },
     Run {
         name: "run_neh",
         text: TWO_MACHINES_TEXT,
         beside: None,
-        command: Command::Neh,
+        command: Command::OfText(OfText::Neh),
         wanted: Wanted::Text(b"sequence 2 3 1\nmakespan 9\n"),
     },
     Run {
         name: "run_improve",
         text: THREE_MACHINES_TEXT,
         beside: None,
-        command: Command::Improve,
+        command: Command::OfStart(OfStart::Improve),
         wanted: Wanted::Text(b"sequence 2 1 3\nmakespan 13\n"),
     },
     Run {
         name: "run_improve from a start",
         text: THREE_MACHINES_TEXT,
         beside: Some(START),
-        command: Command::Improve,
+        command: Command::OfStart(OfStart::Improve),
         wanted: Wanted::Text(START),
     },
     Run {
         name: "run_certify",
         text: THREE_MACHINES_TEXT,
         beside: None,
-        command: Command::Certify,
+        command: Command::OfStart(OfStart::Certify),
         wanted: Wanted::Text(&CERTIFICATE_AT_DEPTH_0),
     },
     Run {
         name: "run_certify from a start",
         text: FOUR_MACHINES_TEXT,
         beside: Some(FOUR_MACHINES_START),
-        command: Command::Certify,
+        command: Command::OfStart(OfStart::Certify),
         wanted: Wanted::Text(FOUR_MACHINES_CERTIFICATE),
     },
     Run {
         name: "run_mirror",
         text: TWO_MACHINES_TEXT,
         beside: None,
-        command: Command::Mirror,
+        command: Command::OfText(OfText::Mirror),
         wanted: Wanted::Text(MIRRORED_TEXT),
     },
     Run {
         name: "run_solve",
         text: THREE_MACHINES_TEXT,
         beside: None,
-        command: Command::Solve(0, AMPLE),
+        command: Command::OfText(OfText::Solve(0, AMPLE)),
         wanted: Wanted::Text(&CERTIFICATE_AT_DEPTH_0),
     },
     Run {
         name: "run_solve beyond the budget",
         text: THREE_MACHINES_TEXT,
         beside: None,
-        command: Command::Solve(1, TIGHT),
+        command: Command::OfText(OfText::Solve(1, TIGHT)),
         wanted: Wanted::Fault(CommandFault::Run(SolveFault::OverBudget(2))),
     },
     Run {
         name: "run_solve_as of the mirrored instance",
         text: THREE_MACHINES_TEXT,
         beside: None,
-        command: Command::SolveAs(SolveRequest {
+        command: Command::OfStart(OfStart::SolveAs(SolveRequest {
             version: 2,
             ..MIRRORED
-        }),
+        })),
         wanted: Wanted::Text(MIRRORED_CERTIFICATE),
     },
     Run {
         name: "run_solve_as below a target",
         text: THREE_MACHINES_TEXT,
         beside: None,
-        command: Command::SolveAs(SolveRequest {
+        command: Command::OfStart(OfStart::SolveAs(SolveRequest {
             mirrored: false,
             target: Some(11),
             ..MIRRORED
-        }),
+        })),
         wanted: Wanted::Text(BOUNDS_OF_11),
     },
     Run {
         name: "run_solve_as from a start",
         text: THREE_MACHINES_TEXT,
         beside: Some(START),
-        command: Command::SolveAs(MIRRORED),
+        command: Command::OfStart(OfStart::SolveAs(MIRRORED)),
         wanted: Wanted::Text(STARTED_CERTIFICATE),
     },
     Run {
         name: "run_solve_as from a start with another makespan",
         text: THREE_MACHINES_TEXT,
         beside: Some(b"sequence 1 2 3\nmakespan 14\n"),
-        command: Command::SolveAs(MIRRORED),
+        command: Command::OfStart(OfStart::SolveAs(MIRRORED)),
         wanted: Wanted::Fault(CommandFault::Start(StartFault::Line(2))),
     },
     Run {
         name: "run_check",
         text: THREE_MACHINES_TEXT,
         beside: Some(&CERTIFICATE_AT_DEPTH_0),
-        command: Command::Check,
+        command: Command::OfTexts(OfTexts::Check),
         wanted: Wanted::Text(b"optimal 12\n"),
     },
     Run {
         name: "run_check of a text with a weak letter",
         text: THREE_MACHINES_TEXT,
         beside: Some(WEAK_CERTIFICATE),
-        command: Command::Check,
+        command: Command::OfTexts(OfTexts::Check),
         wanted: Wanted::Fault(CommandFault::Certificate(CheckFault::Weak(7))),
     },
     Run {
         name: "run_check_as of either",
         text: THREE_MACHINES_TEXT,
         beside: Some(MIRRORED_CERTIFICATE),
-        command: Command::CheckAs(CHECK),
+        command: Command::OfTexts(OfTexts::CheckAs(CHECK)),
         wanted: Wanted::Text(b"optimal 12\n"),
     },
     Run {
         name: "run_check_as of a sequence",
         text: THREE_MACHINES_TEXT,
         beside: Some(&CERTIFICATE_AT_DEPTH_0),
-        command: Command::CheckAs(CHECK_SEQUENCE),
+        command: Command::OfTexts(OfTexts::CheckAs(CHECK_SEQUENCE)),
         wanted: Wanted::Text(CHECKED_LINES),
     },
     Run {
         name: "run_check_as of a mirrored sequence",
         text: THREE_MACHINES_TEXT,
         beside: Some(MIRRORED_CERTIFICATE),
-        command: Command::CheckAs(CHECK_SEQUENCE),
+        command: Command::OfTexts(OfTexts::CheckAs(CHECK_SEQUENCE)),
         wanted: Wanted::Text(CHECKED_LINES),
     },
     Run {
         name: "run_check_as of bounds",
         text: THREE_MACHINES_TEXT,
         beside: Some(BOUNDS_OF_11),
-        command: Command::CheckAs(CHECK),
+        command: Command::OfTexts(OfTexts::CheckAs(CHECK)),
         wanted: Wanted::Text(b"bounds 11 13\n"),
     },
     Run {
         name: "run_check_as of bounds for an optimum",
         text: THREE_MACHINES_TEXT,
         beside: Some(BOUNDS_OF_11),
-        command: Command::CheckAs(CHECK_OPTIMAL),
+        command: Command::OfTexts(OfTexts::CheckAs(CHECK_OPTIMAL)),
         wanted: Wanted::Fault(CommandFault::Bounds {
             lower: 11,
             upper: 13,
@@ -305,21 +323,21 @@ pub(crate) static RUNS: [Run; 24] = [
         name: "run_check_as of a two-ended certificate",
         text: THREE_MACHINES_TEXT,
         beside: Some(TWO_ENDED),
-        command: Command::CheckAs(CHECK_OPTIMAL),
+        command: Command::OfTexts(OfTexts::CheckAs(CHECK_OPTIMAL)),
         wanted: Wanted::Text(b"optimal 12\n"),
     },
     Run {
         name: "run_schedule of a table",
         text: TWO_MACHINES_TEXT,
         beside: Some(b"sequence 2 3 1\n"),
-        command: Command::Schedule(ScheduleForm::Csv),
+        command: Command::OfTexts(OfTexts::Schedule(ScheduleForm::Csv)),
         wanted: Wanted::Text(TABLE),
     },
     Run {
         name: "run_schedule of a picture",
         text: THREE_MACHINES_TEXT,
         beside: Some(b"sequence 3 1 2\n"),
-        command: Command::Schedule(ScheduleForm::Svg),
+        command: Command::OfTexts(OfTexts::Schedule(ScheduleForm::Svg)),
         wanted: Wanted::Picture,
     },
 ];
@@ -341,6 +359,67 @@ fn all_of_any(bytes: Option<&'static [u8]>) -> Option<MemorySource<'static>>
     }
 }
 
+/// Runs a command that reads an instance, or nothing.
+fn ran_of_text<T: Threads + Wait + Sync>(
+    threads: &T,
+    alloc: Global,
+    text: &'static [u8],
+    command: &OfText,
+    out: &mut MemorySink,
+) -> Result<(), CommandFault>
+    requires { out.old.failed ≡ false }
+{
+    let mut file = all_of(text);
+    match command {
+        OfText::Gen => run_gen(alloc, 2, 2, 1, out),
+        OfText::Span => run_span(alloc, &mut file, 1, &[2, 3, 1], out),
+        OfText::Neh => run_neh(alloc, &mut file, 1, out),
+        OfText::Mirror => run_mirror(alloc, &mut file, 1, out),
+        OfText::Solve(depth, budget) => run_solve(
+            threads, alloc, &mut file, 1, 2, *depth, *budget, 1, &Open, out,
+        ),
+    }
+}
+
+/// Runs a command that reads an instance, and a start if there is one.
+fn ran_of_start<T: Threads + Wait + Sync>(
+    threads: &T,
+    alloc: Global,
+    run: &Run,
+    command: &OfStart,
+    out: &mut MemorySink,
+) -> Result<(), CommandFault>
+    requires { out.old.failed ≡ false }
+{
+    let mut file = all_of(run.text);
+    let mut start = all_of_any(run.beside);
+    match command {
+        OfStart::Improve => run_improve(alloc, &mut file, 1, &mut start, NO_ROUND, out),
+        OfStart::Certify => run_certify(alloc, &mut file, 1, &mut start, CERTIFY, out),
+        OfStart::SolveAs(request) => run_solve_as(
+            threads, alloc, &mut file, 1, &mut start, *request, &Open, out,
+        ),
+    }
+}
+
+/// Runs a command that reads an instance and another text.
+fn ran_of_texts(
+    alloc: Global,
+    run: &Run,
+    command: &OfTexts,
+    out: &mut MemorySink,
+) -> Result<(), CommandFault>
+    requires { out.old.failed ≡ false }
+{
+    let mut file = all_of(run.text);
+    let mut other = all_of(run.beside.unwrap_or(b""));
+    match command {
+        OfTexts::Check => run_check(alloc, &mut file, 1, &mut other, out),
+        OfTexts::CheckAs(request) => run_check_as(alloc, &mut file, 1, &mut other, *request, out),
+        OfTexts::Schedule(form) => run_schedule(alloc, &mut file, 1, &mut other, *form, out),
+    }
+}
+
 /// Runs a command.
 fn ran<T: Threads + Wait + Sync>(
     threads: &T,
@@ -350,25 +429,10 @@ fn ran<T: Threads + Wait + Sync>(
 ) -> Result<(), CommandFault>
     requires { out.old.failed ≡ false }
 {
-    let mut file = all_of(run.text);
-    let mut start = all_of_any(run.beside);
-    let mut other = all_of(run.beside.unwrap_or(b""));
     match &run.command {
-        Command::Gen => run_gen(alloc, 2, 2, 1, out),
-        Command::Span => run_span(alloc, &mut file, 1, &[2, 3, 1], out),
-        Command::Neh => run_neh(alloc, &mut file, 1, out),
-        Command::Mirror => run_mirror(alloc, &mut file, 1, out),
-        Command::Improve => run_improve(alloc, &mut file, 1, &mut start, NO_ROUND, out),
-        Command::Certify => run_certify(alloc, &mut file, 1, &mut start, CERTIFY, out),
-        Command::Solve(depth, budget) => run_solve(
-            threads, alloc, &mut file, 1, 2, *depth, *budget, 1, &Open, out,
-        ),
-        Command::SolveAs(request) => run_solve_as(
-            threads, alloc, &mut file, 1, &mut start, *request, &Open, out,
-        ),
-        Command::Check => run_check(alloc, &mut file, 1, &mut other, out),
-        Command::CheckAs(request) => run_check_as(alloc, &mut file, 1, &mut other, *request, out),
-        Command::Schedule(form) => run_schedule(alloc, &mut file, 1, &mut other, *form, out),
+        Command::OfText(command) => ran_of_text(threads, alloc, run.text, command, out),
+        Command::OfStart(command) => ran_of_start(threads, alloc, run, command, out),
+        Command::OfTexts(command) => ran_of_texts(alloc, run, command, out),
     }
 }
 

@@ -2,7 +2,7 @@
 
 use flow_commands::CommandFault;
 use flow_core::{Instance, Sequence};
-use flow_schedule::{timetable, timetable_csv, timetable_picture};
+use flow_schedule::{Operation, timetable, timetable_csv, timetable_picture};
 use std::alloc::Global;
 
 /// The table of the instance with two machines in the order 2 3 1.
@@ -13,11 +13,20 @@ pub(crate) const TABLE: &[u8] =
 const LAST_BAR: &[u8] =
     b"<title>job 2, machine 2, start 4, end 12</title></rect>\n<text x=\"73000\" y=\"8950\">2</text>\n</g></svg>\n";
 
+/// When the last of these operations ends.
+fn last_end(operations: &[Operation]) -> u64 {
+    let mut last = 0;
+    for operation in operations {
+        last = last.max(operation.end);
+    }
+    last
+}
+
 /// `timetable` and `timetable_csv` of the instance with two machines.
 pub(crate) fn table_is_made(alloc: Global, two: &Instance) -> Result<bool, CommandFault> {
     let sequence = Sequence::new(alloc, two, &[2, 3, 1])?;
     let ends = timetable(alloc, two, &sequence)?;
-    let right = ends.iter().map(|one| one.end).max() == Some(9);
+    let right = last_end(ends.as_slice()) == 9;
     let table = timetable_csv(alloc, two, &sequence)?;
     Ok(right && table.as_slice() == TABLE)
 }

@@ -33,11 +33,9 @@ pub(crate) fn is_worked(verdict: &Verdict) -> bool {
 /// Whether an outcome is that of the prefix of this number. One that has no memory is a refusal.
 fn is_outcome(outcome: &Outcome, number: usize) -> Result<bool, CommandFault> {
     match outcome {
-        Outcome::Done { best: _, tree } => Ok(
-            TREES_AT_DEPTH_1
-                .get(number)
-                .is_some_and(|expected| tree.as_slice() == *expected),
-        ),
+        Outcome::Done { best: _, tree } => {
+            Ok(TREES_AT_DEPTH_1.get(number).copied() == Some(tree.as_slice()))
+        }
         Outcome::NoMemory => Err(CommandFault::Memory),
         _ => Ok(false),
     }

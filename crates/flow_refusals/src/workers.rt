@@ -34,9 +34,12 @@ impl Counts {
 
     /// Whether it was told so often of each prefix.
     fn are(&self, count: u32) -> bool {
-        self.told
-            .iter()
-            .all(|told| told.load(Ordering::SeqCst) == count)
+        for told in &self.told {
+            if told.load(Ordering::SeqCst) != count {
+                return false;
+            }
+        }
+        true
     }
 }
 
@@ -94,7 +97,7 @@ fn worker_serves<T: Wait>(
 type Limited = (u32, u32, Option<u32>, Option<SolveFault>);
 
 /// `solve` by three workers; by two workers beyond the budget; and `solve_limited` where the third may not start.
-const SOLVES: [Limited; 3] = [
+static SOLVES: [Limited; 3] = [
     (3, AMPLE, None, None),
     (2, TIGHT, None, Some(SolveFault::OverBudget(2))),
     (3, AMPLE, Some(2), Some(SolveFault::Threads)),
@@ -124,8 +127,9 @@ fn plan_is_solved<T: Threads + Wait + Sync>(
     rt: &T,
     alloc: Global,
     instance: &Instance,
-    (workers, budget, starts, wanted): Limited,
+    limited: &Limited,
 ) -> Result<bool, CommandFault> {
+    let (workers, budget, starts, wanted) = *limited;
     let plan = planned(alloc, instance, workers, 1, budget)?;
     let counts = Counts::new();
     let solved = match starts {
@@ -153,7 +157,7 @@ pub(crate) fn workers_solve<T: Threads + Wait + Sync>(
 ) -> Result<bool, CommandFault> {
     let instance = three_machines(alloc)?;
     let mut right = worker_serves(threads, alloc, &instance)?;
-    for limited in SOLVES {
+    for limited in &SOLVES {
         right = plan_is_solved(threads, alloc, &instance, limited)? && right;
     }
     Ok(target_is_solved(threads, alloc, &instance)? && right)
