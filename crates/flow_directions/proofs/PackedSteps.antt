@@ -37,7 +37,8 @@ module _ {V : Type 0} (packs here deeper : List (Pack V)) (value : packs ≡ her
       behind (x ∷ []) e = refl
       behind (x ∷ y ∷ xs) e = absurd (omega (arith, e))
 
-  pub split-rooms : (shop : Shop) → ((k : ℕ) (d : Pack V) → k < length packs → HasRoom shop (slice_index_or packs k d)) →
+  pub split-rooms : (shop : Shop) →
+      ((k : ℕ) (d : Pack V) → k < length packs → HasRoom shop (slice_index_or packs k d)) →
       (k : ℕ) (d : Pack V) → k < length deeper → HasRoom shop (slice_index_or deeper k d)
   split-rooms shop each k d within =
       subst (HasRoom shop) (split-behind k d)

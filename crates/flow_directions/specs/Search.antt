@@ -43,7 +43,8 @@ pub data Visit : Type 0 where
 -- its sequence where no job is left; or else the node, and what it meets at the children at the end that is taken, in
 -- increasing order of the job put there
 unfoldable pub visits_with : Shop → ℕ → ℕ → List ℕ → List ℕ → List Visit
-visits_with shop number zero first last = cond (nat_le number (end_bound shop first last)) [] (reaches (first ++ last) ∷ [])
+visits_with shop number zero first last =
+    cond (nat_le number (end_bound shop first last)) [] (reaches (first ++ last) ∷ [])
 visits_with shop number (suc left) first last =
     cond (nat_le number (end_bound shop first last)) []
     (opens (end_taken shop number first last) ∷ flat_map
@@ -114,9 +115,9 @@ DirectionsByChildren =
     (last_with (end_taken shop number first last) last job))
     (jobs_left shop.jobs (first ++ last)))
 
--- what a search for directions found, of a number and a budget of directions: `Proved`: it reaches no sequence below the
--- number, and these are the node's directions. `Below`: this is the first sequence below the number, with its makespan.
--- Both with as many directions as the budget, or fewer. `Over`: there are more, before the first such sequence
+-- What a search for a number found, with a budget of directions. `Proved`: it reaches no sequence below the number, and
+-- these are the node's directions. `Below`: this is the first sequence that it reaches, with its makespan. In both cases
+-- there are as many directions as the budget or fewer. `Over`: there are more.
 abbrev pub IsFound : Shop → ℕ → ℕ → List ℕ → List ℕ → Found → Type 0
 IsFound shop number budget first last (Proved text) =
     (first_below shop number first last ≡ None) × (text.items ≡ directions_of shop number first last)
@@ -126,14 +127,14 @@ IsFound shop number budget first last (Below sequence makespan) =
     × (length (directions_of shop number first last) ≤ budget)
 IsFound shop number budget first last Over = budget < length (directions_of shop number first last)
 
--- what it shows: the directions prove the number for the node; or a sequence of the node has a makespan below the number
+-- what this shows: the directions prove the number for the node; or a sequence of the node is below the number
 abbrev pub Shows : Shop → ℕ → List ℕ → List ℕ → Found → Type 0
 Shows shop number first last (Proved text) = ProvesFrom shop number first last text.items
 Shows shop number first last (Below sequence makespan) =
     IsOfNode shop first last sequence × (span shop sequence ≡ makespan) × (makespan < number)
 Shows shop number first last Over = Unit {0}
 
--- a sequence that was found, with its makespan
+-- what was found is this sequence, with its makespan
 abbrev pub IsWithMakespan : Shop → List ℕ → Found → Type 0
 IsWithMakespan shop jobs (Proved text) = ⊥
 IsWithMakespan shop jobs (Below sequence makespan) = (sequence ≡ jobs) × (makespan ≡ span shop jobs)

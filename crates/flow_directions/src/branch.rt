@@ -33,7 +33,8 @@ impl Branch {
             has (first ++ last) job ≡ false →
             IsNode instance.now (first_with end first job) (last_with end last job) result.node }
         ensures left { (first last names : List ℕ) → HasLeft instance.now first last names self.now.left →
-            has (first ++ last) job ≡ false → place < length names → slice_index names place ≡ job → mark self.now.left.words place ≡ 1 →
+            has (first ++ last) job ≡ false → place < length names → slice_index names place ≡ job →
+            mark self.now.left.words place ≡ 1 →
             HasLeft instance.now (first_with end first job) (last_with end last job) names result.left }
     {
         let mut child = *self;

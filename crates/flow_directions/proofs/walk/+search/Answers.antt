@@ -273,10 +273,12 @@ search-requires-in-Some g t c κs within =
     c.args.left c.args.packs.now c.args.branch.now c.args.written.now.lists c.requires.at.0 c.requires.at.1 at
     pack c.open-opened.result.end c.args.written.now.directions.items
     c.children.written.directions.items c.children.written.lists c.children.below c.pop.new.self c.in-Some.place
-    c.index-job.result.now inside stands popped job c.put.new.self c.child-child.result c.children.packs c.requires.few c.children.invariant.packs
+    c.index-job.result.now inside stands popped job c.put.new.self c.child-child.result c.children.packs c.requires.few
+    c.children.invariant.packs
     (c.put.ensures c.args.instance.now.jobs c.requires.at.0 c.requires.at.1 stands.has_lists)
     (c.child-child.ensures.node c.requires.at.0 c.requires.at.1 (at.is_branch pack).is_node open_job.left)
-    (λ names left within named. c.child-child.ensures.left c.requires.at.0 c.requires.at.1 names left open_job.left within named
+    (λ names left within named. c.child-child.ensures.left c.requires.at.0 c.requires.at.1 names left open_job.left
+    within named
     (c.children.invariant.marked c.in-Some.place c.in-Some.ensures.marked)) in (
       omega (arith, c.decreases, c.if-left-eq1.false, c.requires.some, c.children.invariant.packs.count),
       (
@@ -333,7 +335,8 @@ returns-in-Err-clause-ends g t c first last at =
     c.args.left c.args.packs.now c.args.branch.now c.args.written.now.lists first last at
     pack c.open-opened.result.end c.args.written.now.directions.items
     c.children.written.directions.items c.children.written.lists c.children.below c.pop.new.self c.in-Some.place
-    c.index-job.result.now inside stands popped job c.put.new.self c.child-child.result c.children.packs c.requires.few c.children.invariant.packs
+    c.index-job.result.now inside stands popped job c.put.new.self c.child-child.result c.children.packs c.requires.few
+    c.children.invariant.packs
     (c.put.ensures c.args.instance.now.jobs first last stands.has_lists)
     (c.child-child.ensures.node first last (at.is_branch pack).is_node open_job.left)
     (λ names left within named. c.child-child.ensures.left first last names left open_job.left within named
@@ -371,10 +374,12 @@ take-requires g t c =
     c.args.left c.args.packs.now c.args.branch.now c.args.written.now.lists c.requires.at.0 c.requires.at.1 at
     pack c.open-opened.result.end c.args.written.now.directions.items
     c.children.written.directions.items c.children.written.lists c.children.below c.pop.new.self c.in-Some.place
-    c.index-job.result.now inside stands popped job c.put.new.self c.child-child.result c.children.packs c.requires.few c.children.invariant.packs
+    c.index-job.result.now inside stands popped job c.put.new.self c.child-child.result c.children.packs c.requires.few
+    c.children.invariant.packs
     (c.put.ensures c.args.instance.now.jobs c.requires.at.0 c.requires.at.1 stands.has_lists)
     (c.child-child.ensures.node c.requires.at.0 c.requires.at.1 (at.is_branch pack).is_node open_job.left)
-    (λ names left within named. c.child-child.ensures.left c.requires.at.0 c.requires.at.1 names left open_job.left within named
+    (λ names left within named. c.child-child.ensures.left c.requires.at.0 c.requires.at.1 names left open_job.left
+    within named
     (c.children.invariant.marked c.in-Some.place c.in-Some.ensures.marked)) in (
       c.args.instance.now.jobs,
       c.requires.at.0,
@@ -421,10 +426,12 @@ children-preserved g t c = record {
       c.args.left c.args.packs.now c.args.branch.now c.args.written.now.lists c.requires.at.0 c.requires.at.1 at
       pack c.open-opened.result.end c.args.written.now.directions.items
       c.children.written.directions.items c.children.written.lists c.children.below c.pop.new.self c.in-Some.place
-      c.index-job.result.now inside stands popped job c.put.new.self c.child-child.result c.children.packs c.requires.few c.children.invariant.packs
+      c.index-job.result.now inside stands popped job c.put.new.self c.child-child.result c.children.packs
+      c.requires.few c.children.invariant.packs
       (c.put.ensures c.args.instance.now.jobs c.requires.at.0 c.requires.at.1 stands.has_lists)
       (c.child-child.ensures.node c.requires.at.0 c.requires.at.1 (at.is_branch pack).is_node open_job.left)
-      (λ names left within named. c.child-child.ensures.left c.requires.at.0 c.requires.at.1 names left open_job.left within named
+      (λ names left within named. c.child-child.ensures.left c.requires.at.0 c.requires.at.1 names left open_job.left
+      within named
       (c.children.invariant.marked c.in-Some.place c.in-Some.ensures.marked)) in
       (c.in-Ok.ensures.ends first2 last2 child).2;
   marked = λ place marked. c.children.invariant.marked place (c.pop.ensures.fewer place marked);
@@ -452,7 +459,8 @@ children-preserved g t c = record {
       c.args.left c.args.packs.now c.args.branch.now c.args.written.now.lists first last at
       pack c.open-opened.result.end c.args.written.now.directions.items
       c.children.written.directions.items c.children.written.lists c.children.below c.pop.new.self c.in-Some.place
-      c.index-job.result.now inside stands popped job c.put.new.self c.child-child.result c.children.packs c.requires.few c.children.invariant.packs
+      c.index-job.result.now inside stands popped job c.put.new.self c.child-child.result c.children.packs
+      c.requires.few c.children.invariant.packs
       (c.put.ensures c.args.instance.now.jobs first last stands.has_lists)
       (c.child-child.ensures.node first last (at.is_branch pack).is_node open_job.left)
       (λ names left within named. c.child-child.ensures.left first last names left open_job.left within named
@@ -468,7 +476,8 @@ children-preserved g t c = record {
       c.args.left c.args.packs.now c.args.branch.now c.args.written.now.lists first last at
       pack c.open-opened.result.end c.args.written.now.directions.items
       c.children.written.directions.items c.children.written.lists c.children.below c.pop.new.self c.in-Some.place
-      c.index-job.result.now inside stands popped job) c.search-in-Some.new.written.directions.items c.take.new.self ends.0 ends.1
+      c.index-job.result.now inside stands popped job) c.search-in-Some.new.written.directions.items c.take.new.self
+      ends.0 ends.1
       (c.take.ensures c.args.instance.now.jobs first last c.index-job.result.now ends.3));
 }
 
