@@ -119,7 +119,7 @@ fn is_published(alloc: Global, row: &Published) -> bool {
         return false;
     };
     let begins = Sha256::digest(text.as_slice()).starts_with(&digest);
-    let over = prove(alloc, &instance, &[], &[], number, length - 1);
+    let over = prove(alloc, &instance, &[], &[], number, length.saturating_sub(1));
     begins && text.len() as u64 == length && over == Ok(Found::Over)
 }
 
@@ -154,17 +154,17 @@ fn is_written(alloc: Global, found: &Found, text: &str) -> bool {
 }
 
 /// The number that a word is.
-fn number(word: Option<&str>) -> Option<u64> {
-    word?.parse::<u64>().ok()
+fn number(word: Option<&str>) -> Option<u32> {
+    word?.parse::<u32>().ok()
 }
 
 /// Whether the search finds what a line says.
 fn is_drawn(alloc: Global, line: &str) -> Option<bool> {
     let mut words = line.splitn(5, ' ');
-    let jobs = number(words.next())? as u32;
-    let machines = number(words.next())? as u32;
-    let seed = number(words.next())? as u32;
-    let least = number(words.next())?;
+    let jobs = number(words.next())?;
+    let machines = number(words.next())?;
+    let seed = number(words.next())?;
+    let least = u64::from(number(words.next())?);
     let instance = generate(alloc, jobs, machines, seed).ok()?;
     let found = prove(alloc, &instance, &[], &[], least, 1_000).ok()?;
     Some(is_written(alloc, &found, words.next().unwrap_or("")))

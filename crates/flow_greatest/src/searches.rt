@@ -21,43 +21,47 @@ static EQUAL: [Equal; 8] = [
     (800, 26, 999_999),
 ];
 
+/// Whether these are directions, and there are none.
+fn is_empty(found: &Found) -> bool {
+    match found {
+        Found::Proved(text) => text.is_empty(),
+        _ => false,
+    }
+}
+
+/// Whether this is the sequence of so many jobs in their order, with this makespan.
+fn is_in_order(found: &Found, jobs: u32, least: u64) -> bool {
+    match found {
+        Found::Below { sequence, makespan } => {
+            let order = sequence.jobs();
+            *makespan == least && order.is_sorted() && order.len() == jobs as usize
+        }
+        _ => false,
+    }
+}
+
 /// Whether nothing is needed for the makespan; and for the next number the jobs in their order are below it, after as
 /// many directions as there are jobs, which are over a budget of one less.
-fn is_searched(alloc: Global, row: &Equal) -> bool {
+fn is_searched(alloc: Global, row: &Equal) -> Option<bool> {
     let (jobs, machines, time) = *row;
-    let Ok(times) = vec![in alloc; time; jobs.saturating_mul(machines) as usize] else {
-        return false;
-    };
-    let Ok(instance) = Instance::new(alloc, jobs, machines, times.as_slice()) else {
-        return false;
-    };
-    let steps = u64::from(jobs)
-        .saturating_add(u64::from(machines))
-        .saturating_sub(1);
+    let count = jobs.saturating_mul(machines) as usize;
+    let times = vec![in alloc; time; count].ok()?;
+    let instance = Instance::new(alloc, jobs, machines, times.as_slice()).ok()?;
+    let steps = u64::from(jobs.saturating_add(machines).saturating_sub(1));
     let least = steps.saturating_mul(u64::from(time));
     let next = least.saturating_add(1);
     let budget = u64::from(jobs);
-    let none = match prove(alloc, &instance, &[], &[], least, 0) {
-        Ok(Found::Proved(text)) => text.is_empty(),
-        _ => false,
-    };
-    let below = match prove(alloc, &instance, &[], &[], next, budget) {
-        Ok(Found::Below { sequence, makespan }) => {
-            makespan == least
-                && sequence.jobs().is_sorted()
-                && sequence.jobs().len() as u64 == budget
-        }
-        _ => false,
-    };
-    let over = prove(alloc, &instance, &[], &[], next, budget.saturating_sub(1));
-    none && below && over == Ok(Found::Over)
+    let none = prove(alloc, &instance, &[], &[], least, 0).ok()?;
+    let below = prove(alloc, &instance, &[], &[], next, budget).ok()?;
+    let over = prove(alloc, &instance, &[], &[], next, budget.saturating_sub(1)).ok()?;
+    Some(is_empty(&none) && is_in_order(&below, jobs, least) && over == Found::Over)
 }
 
 #[test]
 fn equal_times_need_no_directions(rt: HostRuntime) {
     for row in &EQUAL {
         assert!(rt;
-            is_searched(rt.alloc(), row),
+            is_searched(rt.alloc(), row) == Some(true),
             "{} jobs, time {}",
             row.0,
             row.2
