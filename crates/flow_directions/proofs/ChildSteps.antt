@@ -1,5 +1,5 @@
 -- The child that is searched next.
-use Rattle.std.proofs.Common.{◌≡◌, ℕ, zero, suc, ◌+◌, ◌-◌, ◌*◌, ◌<◌, ◌≤◌, List}
+use Rattle.std.proofs.Common.{◌≡◌, ℕ, zero, suc, ◌+◌, ◌-◌, ◌<◌, ◌≤◌, List}
 use Rattle.std.proofs.Common.{[], ◌∷◌, ◌++◌, length, slice_index, slice_index_or, Some, Err, refl, ap, sym}
 use Rattle.std.proofs.Common.{◌∙◌, subst, arith}
 use Rattle.flow_shop.specs.Shop.{Shop}
@@ -47,10 +47,6 @@ packs-keep shop one two three first second = record {
 module _ {V : Type 0} (list : V → List ℕ) (cap width : ℕ) (shop : Shop) (number left : ℕ) (packs : List (Pack V))
     (branch : Branch) (before : Lists) (first last : List ℕ)
     (at : IsAt list cap width shop number first last left before branch packs) (none : Pack V) where
-  pack-names : length (slice_index_or packs 0 none).names.items
-      ≡ length (slice_index_or packs 0 none).groups.items * 16
-  pack-names = (at.is_branch none).is_pack.room.names
-
   pub pack-few : length (slice_index_or packs 0 none).groups.items ≤ 50
   pack-few = (at.is_branch none).is_pack.room.few
 

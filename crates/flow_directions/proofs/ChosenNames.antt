@@ -1,12 +1,12 @@
 -- What the names at marked places are once marks are taken away, and word by word.
-use Rattle.std.proofs.Common.{ℕ, suc, ◌≡◌, ◌+◌, ◌-◌, ◌*◌, ◌/◌, ◌%◌, ◌^◌, ◌<◌, ◌≤◌, ◌↔◌, Bool, true}
-use Rattle.std.proofs.Common.{cond, nat_eq, filter, bit_and}
+use Rattle.std.proofs.Common.{ℕ, suc, ◌≡◌, ◌+◌, ◌*◌, ◌/◌, ◌%◌, ◌<◌, ◌↔◌, Bool, true}
+use Rattle.std.proofs.Common.{cond, nat_eq, filter}
 use Rattle.std.proofs.Common.{List, [], ◌∷◌, ◌++◌, length, slice_index, take, drop, refl, sym, ap, ◌∙◌, arith}
-use Rattle.std.specs.Int.{bit_at, w16}
+use Rattle.std.specs.Int.{bit_at}
 use Rattle.std.proofs.lemmas.List.{take-append-drop, length-take, length-drop, drop-drop, drop_more}
-use Rattle.std.proofs.lemmas.Nat.Bits.{bit_at-zero, bit_at_clear_same, bit_at_clear_other}
+use Rattle.std.proofs.lemmas.Nat.Bits.{bit_at-zero}
 use Rattle.flow_directions.specs.internal.Words.{mark, picked, chosen}
-use Rattle.flow_directions.proofs.MarkedNames.{kept, kept-same, kept-filter, kept-first, kept-none, kept-append}
+use Rattle.flow_directions.proofs.MarkedNames.{kept, kept-same, kept-filter, kept-none, kept-append}
 
 -- the names that a word has picked from a lane on, by its bits
 pub picked-kept : (word lane : ℕ) (names : List ℕ) → picked word lane names ≡ kept (λ i. bit_at word (lane + i)) names
@@ -92,16 +92,3 @@ chosen-group words names g low =
 -- of no names none is chosen
 pub chosen-nothing : (words : List ℕ) → chosen words [] ≡ []
 chosen-nothing words = chosen-kept words []
-
--- the first name that a word has picked is that of its lowest bit, and the others are picked once the bit is cleared
-pub picked-lane : (word lane : ℕ) (names : List ℕ) → lane < length names → length names ≤ 16 →
-    bit_at word lane ≡ 1 → ((i : ℕ) → i < lane → bit_at word i ≡ 0) →
-    picked word 0 names
-    ≡ slice_index names lane ∷ picked (bit_and word (65535 - 1 * 2 ^ lane % 65536)) 0 names
-picked-lane word lane names within few set below =
-    picked-bits word names
-    ∙ kept-first (bit_at word) (bit_at (bit_and word (65535 - 1 * 2 ^ lane % 65536))) names lane within set
-    (λ i low one. omega (arith, one, below i low))
-    (λ one. omega (arith, one, bit_at_clear_same w16 word lane (omega arith)))
-    (λ i low apart. bit_at_clear_other w16 word lane (omega arith) i (omega arith) apart)
-    ∙ ap (λ l. slice_index names lane ∷ l) (sym (picked-bits (bit_and word (65535 - 1 * 2 ^ lane % 65536)) names))

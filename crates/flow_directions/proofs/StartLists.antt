@@ -41,14 +41,6 @@ jobs-first n first rest are = record {
   distinct = distinct-first first rest are.distinct;
 }
 
--- and its end
-pub jobs-rest : (n : ℕ) (first rest : List ℕ) → AreJobs n (first ++ rest) → AreJobs n rest
-jobs-rest n first rest are = record {
-  range = All-from_recursion (λ job. (1 ≤ job) × (job ≤ n)) rest
-      (InRange-rest n first rest (recursion_from_All (λ job. (1 ≤ job) × (job ≤ n)) (first ++ rest) are.range));
-  distinct = distinct-rest first rest are.distinct;
-}
-
 apart-before : (first rest : List ℕ) (job : ℕ) → AreDistinct (first ++ job ∷ rest) → has first job ≡ false
 apart-before first rest job distinct = elim (cases_Bool (has first job)) [
   | inl there ↦

@@ -3,7 +3,6 @@ use Rattle.std.proofs.Common.{◌⊎◌, ◌≡◌, ℕ, zero, suc, ◌+◌, ◌
 use Rattle.std.proofs.Common.{Option, Some, None, refl, ap, sym, ◌∙◌, inl, inr, arith}
 use Rattle.std.specs.List.{flat_map, AllByRecursion}
 use Rattle.std.proofs.lemmas.Bool.{le-leb, lt-leb}
-use Rattle.std.proofs.lemmas.Grind.{flat_map-append}
 use Rattle.std.proofs.lemmas.Option.{none-some}
 use Rattle.flow_shop.specs.Shop.{Shop}
 use Rattle.flow_shop.specs.Sequences.{jobs_left}
@@ -122,25 +121,6 @@ module _ (visits_at : ℕ → List Visit) where
           },
         )
       ]
-
-  -- where those before a job reach none, and its own reaches a sequence, that is the first one
-  pub first_reached-part : (before : List ℕ) (job : ℕ) (after found : List ℕ) →
-      first_reached (flat_map visits_at before) ≡ None → first_reached (visits_at job) ≡ Some found →
-      first_reached (flat_map visits_at (before ++ job ∷ after)) ≡ Some found
-  first_reached-part before job after found none reached =
-      ap first_reached (flat_map-append visits_at before (job ∷ after))
-      ∙ first_reached-append (flat_map visits_at before) (flat_map visits_at (job ∷ after)) none
-      ∙ first_reached-append-reached (visits_at job) (flat_map visits_at after) found reached
-
-  -- and the signs are those up to it
-  pub signs-part : (before : List ℕ) (job : ℕ) (after found : List ℕ) →
-      first_reached (flat_map visits_at before) ≡ None → first_reached (visits_at job) ≡ Some found →
-      signs (flat_map visits_at (before ++ job ∷ after)) ≡ signs (flat_map visits_at before) ++ signs (visits_at job)
-  signs-part before job after found none reached =
-      ap signs (flat_map-append visits_at before (job ∷ after))
-      ∙ signs-append (flat_map visits_at before) (flat_map visits_at (job ∷ after)) none
-      ∙ ap (λ s. signs (flat_map visits_at before) ++ s)
-      (signs-append-reached (visits_at job) (flat_map visits_at after) found reached)
 
 -- the same lists of each job
 pub flat_map-same : {B : Type 0} (f g : ℕ → List B) (jobs : List ℕ) → AllByRecursion (λ job. f job ≡ g job) jobs →

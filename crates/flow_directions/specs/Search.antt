@@ -39,9 +39,9 @@ pub data Visit : Type 0 where
   opens : End → Visit
   reaches : List ℕ → Visit
 
--- what it meets at a node with so many jobs left, in order: nothing where the node's bound is at least the number; else
--- its sequence where no job is left; or else the node, and what it meets at the children at the end that is taken, in
--- increasing order of the job put there
+-- what the search meets at a node with so many jobs left, in order: nothing where the node's bound is at least the
+-- number; else its sequence where no job is left; or else the node, and what it meets at the children at the end that
+-- is taken, in increasing order of the job put there
 unfoldable pub visits_with : Shop → ℕ → ℕ → List ℕ → List ℕ → List Visit
 visits_with shop number zero first last =
     cond (nat_le number (end_bound shop first last)) [] (reaches (first ++ last) ∷ [])
@@ -116,8 +116,8 @@ DirectionsByChildren =
     (jobs_left shop.jobs (first ++ last)))
 
 -- What a search for a number found, with a budget of directions. `Proved`: it reaches no sequence below the number, and
--- these are the node's directions. `Below`: this is the first sequence that it reaches, with its makespan. In both cases
--- there are as many directions as the budget or fewer. `Over`: there are more.
+-- these are the node's directions. `Below`: this is the first sequence that it reaches, with its makespan. In both
+-- cases there are as many directions as the budget or fewer. `Over`: there are more.
 abbrev pub IsFound : Shop → ℕ → ℕ → List ℕ → List ℕ → Found → Type 0
 IsFound shop number budget first last (Proved text) =
     (first_below shop number first last ≡ None) × (text.items ≡ directions_of shop number first last)

@@ -27,8 +27,8 @@ const ABOVE_BOUNDS: u64 = 4_294_967_295;
 /// The greatest number that lanes of 16 bits have.
 const NARROW: u64 = 65_535;
 
-/// The most packs: the greatest has 50 groups, and each further one at most half as many.
-const MOST_PACKS: usize = 8;
+/// The most packs: the greatest has 50 groups, and each further one half as many or fewer.
+const MOST_PACKS: usize = 6;
 
 /// Packs for so many jobs, and for half as many, and so on down to sixteen.
 fn packs_for<V: Lanes>(
@@ -113,9 +113,10 @@ fn run<V: Lanes>(
     }
 }
 
-/// Searches the sequences of a node, which begin with the first list and end with the last one, for directions that
-/// prove a number for them, with a budget of directions. Returns them, or the first sequence whose makespan is below
-/// the number; or `Over`. `Jobs` where the lists have a job that is not one of the instance, or one twice.
+/// Searches a node for directions that prove that none of its sequences has a makespan below a number. These sequences
+/// begin with the first list and end with the last one. Returns the directions; or the first sequence below the number,
+/// with its makespan; or `Over`, where more directions than the budget come before that sequence, or in all. `Jobs`
+/// where the lists have a job that is not one of the instance, or one twice; `Memory` where memory ran out.
 pub fn prove(
     alloc: Global,
     instance: &Instance,

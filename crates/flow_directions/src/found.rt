@@ -10,20 +10,21 @@ use thiserror::Error;
 /// What a search for directions found.
 #[derive(Debug, PartialEq, Eq, Drop)]
 pub enum Found {
-    /// Directions that prove the number: no sequence of the node has a makespan below it.
+    /// Directions that prove the number: no sequence of the node has a makespan below it. Each byte is `+`, for the
+    /// front, or `-`, for the back.
     Proved(Vec<u8>),
-    /// A sequence of the node whose makespan is below the number.
+    /// The first sequence of the node, in the order of the search, whose makespan is below the number.
     Below {
         /// The sequence.
         sequence: Sequence,
         /// Its makespan.
         makespan: u64,
     },
-    /// There are more directions than the budget.
+    /// There are more directions than the budget, in all or before the first sequence below the number.
     Over,
 }
 
-/// Why nothing was searched.
+/// Why nothing was found.
 #[derive(Clone, Copy, Debug, PartialEq, Eq, Error)]
 pub enum ProveFault {
     /// The two lists are no node: a job is not one of the instance, or stands in them twice.

@@ -52,7 +52,7 @@ impl<V: Lanes> Pack<V> {
         }
     }
 
-    /// Has the jobs that another pack has at marked places, in order.
+    /// Fills the pack with the jobs that another one has at marked places, in order.
     pub(crate) fn fill(&mut self, instance: &Instance, from: &Pack<V>, marks: &Words)
         requires wide { V.WIDTH ≡ 16 }
         requires room { HasRoom instance.now self.old }

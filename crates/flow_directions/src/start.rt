@@ -1,9 +1,7 @@
 //! The node at which a search begins.
 
-ghost use Rattle.std.specs.Prelude.{◌≡◌, ◌↔◌, ℕ, ◌≤◌, Err, List, [], ◌++◌, length, take, IfOk, IsTrue};
-ghost use Rattle.flow_limits.specs.Limits.{most_jobs};
-ghost use Rattle.flow_shop.specs.JobSet.{contains};
-ghost use Rattle.flow_shop.specs.Sequences.{has, jobs_left, AreJobs};
+ghost use Rattle.std.specs.Prelude.{◌≡◌, ◌↔◌, ℕ, ◌≤◌, Err, List, ◌++◌, length, take, IfOk, IsTrue};
+ghost use Rattle.flow_shop.specs.Sequences.{jobs_left, AreJobs};
 ghost use Rattle.flow_directions.specs.internal.Packs.{HasRoom, IsPack};
 ghost use Rattle.flow_directions.specs.internal.Start.{Holds, IsStart};
 ghost use Rattle.flow_directions.specs.declared.found.ProveFault.TheVariants.{Jobs};
@@ -78,7 +76,7 @@ impl Start {
         })
     }
 
-    /// Has the jobs left in a pack, in order.
+    /// Fills a pack with the jobs left, in order.
     pub(crate) fn pack<V: Lanes>(&self, instance: &Instance, pack: &mut Pack<V>)
         requires wide { V.WIDTH ≡ 16 }
         requires room { HasRoom instance.now pack.old }

@@ -77,6 +77,7 @@ pub(crate) fn search<V: Lanes>(
         IsAt V.list V.CAP V.WIDTH instance.now aim.number first last left written.old.lists branch.now packs.old →
         Ends instance.now aim.number aim.budget first last written.old.directions.items written.new result }
 {
+    // The next pack has room for the jobs left: the search goes on there, with half the groups or fewer.
     if packs.len() > 1 && packs[1].names.len() >= left as usize {
         let (here, deeper) = packs.split_at_mut(1);
         deeper[0].fill(instance, &here[0], &branch.left);

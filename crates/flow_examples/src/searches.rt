@@ -10,7 +10,7 @@ use std::alloc::Global;
 /// SHA-256 of the directions begins. Programs in Python, C and plain Rust, written apart, found the same.
 type Published = (u32, u32, u32, u64, u64, [u8; 8]);
 
-static PUBLISHED: [Published; 12] = [
+static PUBLISHED: [Published; 13] = [
     (
         20,
         5,
@@ -107,6 +107,14 @@ static PUBLISHED: [Published; 12] = [
         51,
         [0x32, 0x0d, 0x2f, 0x83, 0x08, 0xca, 0xa1, 0xb1],
     ),
+    (
+        500,
+        20,
+        1_368_624_604,
+        26_040,
+        2_733,
+        [0x03, 0x73, 0x76, 0x34, 0xde, 0xe2, 0x09, 0xf0],
+    ),
 ];
 
 /// Whether the search finds these directions with a budget of as many, and none with one less.
@@ -201,7 +209,8 @@ const FOUR: [u32; 12] = [
 ];
 
 /// What is found of the first was worked out by hand, and of the second by a program in Python.
-static NODES: [Node; 12] = [
+static NODES: [Node; 16] = [
+    (3, 3, &THREE, &[], &[], 0, ""),
     (3, 3, &THREE, &[], &[], 10, ""),
     (3, 3, &THREE, &[], &[], 11, "-"),
     (3, 3, &THREE, &[], &[], 12, "++"),
@@ -213,7 +222,10 @@ static NODES: [Node; 12] = [
     (3, 3, &THREE, &[], &[3, 1, 2], 13, "3 1 2"),
     (3, 3, &THREE, &[3, 1], &[2], 12, ""),
     (3, 3, &THREE, &[1], &[], 13, ""),
+    (3, 3, &THREE, &[], &[], u64::MAX, "1 3 2"),
     (4, 3, &FOUR, &[], &[], 59_000, "-+++++-++"),
+    (4, 3, &FOUR, &[], &[], 65_535, "1 3 4 2"),
+    (4, 3, &FOUR, &[], &[], 65_536, "1 3 4 2"),
 ];
 
 /// Whether that is found.

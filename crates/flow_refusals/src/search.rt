@@ -1,4 +1,4 @@
-//! Plans, outcomes and verdicts.
+//! Plans, outcomes, verdicts and directions.
 
 use flow_certify::{Searched, find_certificate, raise_bound};
 use flow_commands::CommandFault;

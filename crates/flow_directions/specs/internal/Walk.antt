@@ -27,7 +27,7 @@ pub record KeepsPacks {V : Type 0} (shop : Shop) (old new : List (Pack V)) : Typ
   pub count : length new ≡ length old
   pub same : (none : Pack V) → slice_index_or new 0 none ≡ slice_index_or old 0 none
 
--- how the search of a node ends, of a budget, with what was written before and behind it
+-- how the search of a node ends, by the budget, the directions written before it, and what is written after it
 abbrev pub Ends : Shop → ℕ → ℕ → List ℕ → List ℕ → List ℕ → Written → Result Unit Stop → Type 0
 Ends shop number budget first last old new (Ok _) =
     (first_below shop number first last ≡ None) × (new.directions.items ≡ old ++ directions_of shop number first last)
