@@ -1,3 +1,1 @@
-pub mod Held
-pub mod Pairs
-pub mod Tried
+pub mod Known

@@ -1,11 +1,8 @@
-//! Certificates: which sequences are searched from and with which budgets, and, where all trees are longer, the bounds
-//! that searches below targets prove.
+//! Bounds of the least makespan: a sequence that has the upper one, and directions that prove the lower one.
 #![tactic(auto)]
 
-mod pair;
-mod raise;
-mod search;
-mod tries;
+mod known;
+mod ladder;
 
-pub use raise::{Proved, raise_bound};
-pub use search::{Searched, find_certificate};
+pub use known::Certified;
+pub use ladder::certify;
