@@ -1,8 +1,9 @@
 //! Bounds of the least makespan: a sequence that has the upper one, and directions that prove the lower one.
 #![tactic(auto)]
 
-mod known;
-mod ladder;
+mod certified;
+mod run;
+mod search;
 
-pub use known::Certified;
-pub use ladder::certify;
+pub use certified::Certified;
+pub use search::certify;

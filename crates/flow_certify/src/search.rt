@@ -1,0 +1,167 @@
+//! From a start to bounds: which sequences and numbers are searched, and with which budgets.
+
+ghost use Rattle.std.specs.Prelude.{◌≡◌, ◌<◌, ◌≤◌, min, length, IfOk};
+ghost use Rattle.flow_text.specs.Generator.{modulus};
+ghost use Rattle.flow_shop.specs.Paths.{span};
+ghost use Rattle.flow_shop.specs.Sequences.{IsSequence};
+ghost use Rattle.flow_shop.specs.Directions.{Proves};
+ghost use Rattle.flow_certify.specs.Signs.{most_signs};
+ghost use Rattle.flow_certify.specs.internal.Runs.{IsLater, IsRun};
+
+use crate::certified::Certified;
+use crate::run::Run;
+use flow_bound::taillard_bound;
+use flow_improve::{Effort, Reached, beam, beam_below, rounds_of_both};
+use flow_shop::{Instance, Sequence};
+use std::alloc::{AllocError, Global};
+
+/// The widest beam after which the searches have small budgets, before the whole beam.
+const NARROW: u32 = 16;
+
+/// The greatest width of a beam that is aimed at a number.
+const AIMED: u32 = 16_384;
+
+/// The budgets of the first searches.
+const SMALL: [u64; 3] = [10_000, 100_000, 1_000_000];
+
+/// Searches from the start, and from the best of beams and rounds, with greater and greater budgets.
+fn prove_best(
+    alloc: Global,
+    instance: &Instance,
+    start: &Sequence,
+    effort: &Effort,
+    run: &mut Run,
+) -> Result<(), AllocError>
+    requires start { length start.now ≡ instance.now.jobs }
+    requires seed_from { 1 ≤ effort.now.seed }
+    requires seed_to { effort.now.seed < modulus }
+    requires run { IsRun instance.now run.old }
+    ensures { IsLater instance.now run.old run.new }
+{
+    let whole = run.whole;
+    if run.known.upper == taillard_bound(instance) {
+        return run.prove_upper(alloc, instance, whole);
+    }
+    run.prove_upper(alloc, instance, SMALL[0])?;
+    run.prove_upper(alloc, instance, SMALL[1])?;
+    if run.is_proved() {
+        return Ok(());
+    }
+    let width = effort.width.min(NARROW);
+    let narrow = beam(alloc, instance, start, width, effort.beam_work())?;
+    run.take(alloc, instance, &narrow)?;
+    if narrow.whole {
+        return run.prove_upper(alloc, instance, whole);
+    }
+    run.prove_upper(alloc, instance, SMALL[0])?;
+    run.prove_upper(alloc, instance, SMALL[1])?;
+    if run.is_proved() {
+        return Ok(());
+    }
+    let beamed = widened(alloc, instance, start, narrow, effort)?;
+    prove_on(alloc, instance, start, effort, &beamed, run)
+}
+
+/// The same from the best of the whole beam, and of rounds.
+fn prove_on(
+    alloc: Global,
+    instance: &Instance,
+    start: &Sequence,
+    effort: &Effort,
+    beamed: &Reached,
+    run: &mut Run,
+) -> Result<(), AllocError>
+    requires start { length start.now ≡ instance.now.jobs }
+    requires seed_from { 1 ≤ effort.now.seed }
+    requires seed_to { effort.now.seed < modulus }
+    requires sequence { IsSequence instance.now.jobs beamed.now.sequence }
+    requires value { beamed.now.value ≡ span instance.now beamed.now.sequence }
+    requires run { IsRun instance.now run.old }
+    ensures { IsLater instance.now run.old run.new }
+{
+    let whole = run.whole;
+    run.take(alloc, instance, beamed)?;
+    if !beamed.whole {
+        run.prove_upper(alloc, instance, SMALL[0])?;
+        run.prove_upper(alloc, instance, SMALL[1])?;
+        run.prove_upper(alloc, instance, SMALL[2])?;
+        if run.is_proved() {
+            return Ok(());
+        }
+        let best = rounds_of_both(alloc, instance, start, beamed, effort)?;
+        run.take(alloc, instance, &best)?;
+    }
+    run.prove_upper(alloc, instance, whole)
+}
+
+/// What the whole beam reaches: what the narrow one did, where it is no wider.
+fn widened(
+    alloc: Global,
+    instance: &Instance,
+    start: &Sequence,
+    narrow: Reached,
+    effort: &Effort,
+) -> Result<Reached, AllocError>
+    requires start { length start.now ≡ instance.now.jobs }
+    requires sequence { IsSequence instance.now.jobs narrow.sequence }
+    requires value { narrow.value ≡ span instance.now narrow.sequence }
+    ensures sequence { IfOk result (λ reached. IsSequence instance.now.jobs reached.sequence) }
+    ensures value { IfOk result (λ reached. reached.value ≡ span instance.now reached.sequence) }
+{
+    if effort.width <= NARROW {
+        return Ok(narrow);
+    }
+    beam(alloc, instance, start, effort.width, effort.beam_work())
+}
+
+/// Looks for a sequence that has the proved number as its makespan, by a beam that is aimed at the next number, and
+/// searches again from what it comes to.
+fn aim(
+    alloc: Global,
+    instance: &Instance,
+    start: &Sequence,
+    effort: &Effort,
+    run: &mut Run,
+) -> Result<(), AllocError>
+    requires start { length start.now ≡ instance.now.jobs }
+    requires run { IsRun instance.now run.old }
+    ensures { IsLater instance.now run.old run.new }
+{
+    let number = run.known.lower.saturating_add(1);
+    let width = effort.width.saturating_mul(4).min(AIMED);
+    let aimed = beam_below(alloc, instance, start, number, width, effort.beam_work())?;
+    run.take(alloc, instance, &aimed)?;
+    let whole = run.whole;
+    run.prove_upper(alloc, instance, whole)
+}
+
+/// Bounds of the least makespan, a sequence that has the upper one, and directions that prove the lower one.
+pub fn certify(
+    alloc: Global,
+    instance: &Instance,
+    start: &Sequence,
+    effort: &Effort,
+    directions: u32,
+) -> Result<Certified, AllocError>
+    requires start { length start.now ≡ instance.now.jobs }
+    requires seed_from { 1 ≤ effort.now.seed }
+    requires seed_to { effort.now.seed < modulus }
+    ensures each { IfOk result (λ found. IsSequence instance.now.jobs found.sequence) }
+    ensures attained { IfOk result (λ found. span instance.now found.sequence ≡ found.upper) }
+    ensures no_worse { IfOk result (λ found. found.upper ≤ span instance.now start.now) }
+    ensures proved { IfOk result (λ found. Proves instance.now found.lower found.directions.items) }
+    ensures few { IfOk result (λ found. length found.directions.items ≤ min directions most_signs) }
+{
+    let mut run = Run::new(alloc, instance, start, directions)?;
+    prove_best(alloc, instance, start, effort, &mut run)?;
+    if !run.is_proved() {
+        let whole = run.whole;
+        run.raise(alloc, instance, whole / 1_000)?;
+        run.raise(alloc, instance, whole / 10)?;
+        if !run.is_proved() {
+            aim(alloc, instance, start, effort, &mut run)?;
+        }
+    }
+    let Run { known, .. } = run;
+    Ok(known)
+}
