@@ -17,19 +17,31 @@ use std::alloc::{AllocError, Global};
 /// The most directions of a two-ended certificate: with its other lines it is then within the bytes that `check` reads.
 const MOST_SIGNS: u64 = 999_990_000;
 
-/// In a shop of up to so many jobs times machines, and the constant part, all directions that are given are used.
-const SMALL: u64 = 600;
+/// The greatest makespan whose search has lanes of 16 bits. Beyond it a direction costs about twice as much.
+const NARROW: u64 = 65_535;
 
-/// The constant part of what a direction costs; each job adds one for each machine.
+/// How many directions all searches of a run may write, for each one that is given, at a cost of 1.
+const SHARE: u64 = 700;
+
+/// The part of a direction's cost that does not depend on the shop; each job adds 1 for each machine.
 const FIXED: u64 = 100;
 
-/// The most directions of one search: as many as are given, and fewer where a direction costs more.
-fn whole_of(instance: &Instance, directions: u32) -> u64
+/// How many directions all searches of a run may write: they are fewer where each of them costs more.
+fn fund_of(instance: &Instance, makespan: u64, directions: u32) -> u64 {
+    let narrow = u64::from(instance.jobs()) * u64::from(instance.machines()) + FIXED;
+    let cost = if makespan > NARROW {
+        narrow * 2
+    } else {
+        narrow
+    };
+    u64::from(directions) * SHARE / cost
+}
+
+/// The most directions of one search: as many as are given, but no more than two thirds of those of all searches.
+fn whole_of(fund: u64, directions: u32) -> u64
     ensures { result ≤ min directions most_signs }
 {
-    let given = u64::from(directions).min(MOST_SIGNS);
-    let cost = u64::from(instance.jobs()) * u64::from(instance.machines()) + FIXED;
-    given.min(given * SMALL / cost)
+    u64::from(directions).min(MOST_SIGNS).min(fund / 3 * 2)
 }
 
 /// Searches for directions, and what they found.
@@ -57,16 +69,17 @@ impl Run {
         ensures upper { IfOk result (λ run. run.known.upper ≡ span instance.now start.now) }
         ensures whole { IfOk result (λ run. run.whole ≤ min directions most_signs) }
     {
-        let whole = whole_of(instance, directions);
+        let upper = makespan(instance, start);
+        let fund = fund_of(instance, upper, directions);
         Ok(Run {
             known: Certified {
                 lower: 0,
-                upper: makespan(instance, start),
+                upper,
                 sequence: Sequence::of_known(alloc, start.jobs())?,
                 directions: Vec::new(alloc),
             },
-            whole,
-            left: whole.saturating_mul(2),
+            whole: whole_of(fund, directions),
+            left: fund,
             over: None,
         })
     }
@@ -181,8 +194,8 @@ impl Run {
         }
     }
 
-    /// Searches below the makespan of the best sequence with a budget, and again with the whole one from each better
-    /// sequence, until the makespan is proved or a search is over.
+    /// Searches below the makespan of the sequence with a budget, and with the same one from each better sequence,
+    /// until the makespan is proved or a search is over.
     pub(crate) fn prove_upper(
         &mut self,
         alloc: Global,
@@ -192,13 +205,27 @@ impl Run {
         requires { IsRun instance.now self.old }
         ensures { IsLater instance.now self.old self.new }
     {
-        let mut budget = budget;
         'better: while !self.is_proved() {
             let upper = self.known.upper;
             if self.search(alloc, instance, upper, budget)? {
                 break;
             }
-            budget = self.whole;
+        }
+        Ok(())
+    }
+
+    /// The same with each of some budgets, the least first.
+    pub(crate) fn prove_with(
+        &mut self,
+        alloc: Global,
+        instance: &Instance,
+        budgets: &[u64],
+    ) -> Result<(), AllocError>
+        requires { IsRun instance.now self.old }
+        ensures { IsLater instance.now self.old self.new }
+    {
+        'budgets: for budget in budgets {
+            self.prove_upper(alloc, instance, *budget)?;
         }
         Ok(())
     }

@@ -21,10 +21,14 @@ const NARROW: u32 = 16;
 /// The greatest width of a beam that is aimed at a number.
 const AIMED: u32 = 16_384;
 
-/// The budgets of the first searches.
-const SMALL: [u64; 3] = [10_000, 100_000, 1_000_000];
+/// The budgets of the searches from the start, and from the best of a narrow beam.
+const SMALL: [u64; 2] = [10_000, 100_000];
 
-/// Searches from the start, and from the best of beams and rounds, with greater and greater budgets.
+/// The budgets of the searches from the best of the whole beam.
+const MIDDLE: [u64; 3] = [10_000, 100_000, 1_000_000];
+
+/// Searches from the start, and from the best of a narrow beam, with small budgets; and then further. Where no better
+/// sequence exists, the whole budget is used at once.
 fn prove_best(
     alloc: Global,
     instance: &Instance,
@@ -42,8 +46,7 @@ fn prove_best(
     if run.known.upper == taillard_bound(instance) {
         return run.prove_upper(alloc, instance, whole);
     }
-    run.prove_upper(alloc, instance, SMALL[0])?;
-    run.prove_upper(alloc, instance, SMALL[1])?;
+    run.prove_with(alloc, instance, &SMALL)?;
     if run.is_proved() {
         return Ok(());
     }
@@ -53,8 +56,7 @@ fn prove_best(
     if narrow.whole {
         return run.prove_upper(alloc, instance, whole);
     }
-    run.prove_upper(alloc, instance, SMALL[0])?;
-    run.prove_upper(alloc, instance, SMALL[1])?;
+    run.prove_with(alloc, instance, &SMALL)?;
     if run.is_proved() {
         return Ok(());
     }
@@ -62,7 +64,7 @@ fn prove_best(
     prove_on(alloc, instance, start, effort, &beamed, run)
 }
 
-/// The same from the best of the whole beam, and of rounds.
+/// The same from the best of the whole beam, and of rounds, with greater budgets.
 fn prove_on(
     alloc: Global,
     instance: &Instance,
@@ -81,17 +83,17 @@ fn prove_on(
 {
     let whole = run.whole;
     run.take(alloc, instance, beamed)?;
-    if !beamed.whole {
-        run.prove_upper(alloc, instance, SMALL[0])?;
-        run.prove_upper(alloc, instance, SMALL[1])?;
-        run.prove_upper(alloc, instance, SMALL[2])?;
-        if run.is_proved() {
-            return Ok(());
-        }
-        let best = rounds_of_both(alloc, instance, start, beamed, effort)?;
-        run.take(alloc, instance, &best)?;
+    if beamed.whole {
+        return run.prove_upper(alloc, instance, whole);
     }
-    run.prove_upper(alloc, instance, whole)
+    run.prove_with(alloc, instance, &MIDDLE)?;
+    if run.is_proved() {
+        return Ok(());
+    }
+    let best = rounds_of_both(alloc, instance, start, beamed, effort)?;
+    run.take(alloc, instance, &best)?;
+    run.prove_with(alloc, instance, &MIDDLE)?;
+    run.prove_upper(alloc, instance, whole / 10)
 }
 
 /// What the whole beam reaches: what the narrow one did, where it is no wider.
@@ -114,8 +116,7 @@ fn widened(
     beam(alloc, instance, start, effort.width, effort.beam_work())
 }
 
-/// Looks for a sequence that has the proved number as its makespan, by a beam that is aimed at the next number, and
-/// searches again from what it comes to.
+/// Looks for a sequence that has the proved number as its makespan, by a beam that is aimed at the next number.
 fn aim(
     alloc: Global,
     instance: &Instance,
@@ -127,12 +128,39 @@ fn aim(
     requires run { IsRun instance.now run.old }
     ensures { IsLater instance.now run.old run.new }
 {
+    if run.is_proved() {
+        return Ok(());
+    }
     let number = run.known.lower.saturating_add(1);
     let width = effort.width.saturating_mul(4).min(AIMED);
     let aimed = beam_below(alloc, instance, start, number, width, effort.beam_work())?;
-    run.take(alloc, instance, &aimed)?;
+    run.take(alloc, instance, &aimed)
+}
+
+/// Raises the proved number with greater and greater budgets, looks for a sequence that has it as its makespan, and
+/// searches below the makespan of the best sequence with the whole budget.
+fn close(
+    alloc: Global,
+    instance: &Instance,
+    start: &Sequence,
+    effort: &Effort,
+    run: &mut Run,
+) -> Result<(), AllocError>
+    requires start { length start.now ≡ instance.now.jobs }
+    requires run { IsRun instance.now run.old }
+    ensures { IsLater instance.now run.old run.new }
+{
     let whole = run.whole;
-    run.prove_upper(alloc, instance, whole)
+    run.raise(alloc, instance, whole / 1_000)?;
+    run.raise(alloc, instance, whole / 30)?;
+    aim(alloc, instance, start, effort, run)?;
+    run.prove_upper(alloc, instance, whole)?;
+    let proved = run.known.lower;
+    run.raise(alloc, instance, whole / 10)?;
+    if run.known.lower > proved {
+        aim(alloc, instance, start, effort, run)?;
+    }
+    Ok(())
 }
 
 /// Bounds of the least makespan, a sequence that has the upper one, and directions that prove the lower one.
@@ -155,12 +183,7 @@ pub fn certify(
     let mut run = Run::new(alloc, instance, start, directions)?;
     prove_best(alloc, instance, start, effort, &mut run)?;
     if !run.is_proved() {
-        let whole = run.whole;
-        run.raise(alloc, instance, whole / 1_000)?;
-        run.raise(alloc, instance, whole / 10)?;
-        if !run.is_proved() {
-            aim(alloc, instance, start, effort, &mut run)?;
-        }
+        close(alloc, instance, start, effort, &mut run)?;
     }
     let Run { known, .. } = run;
     Ok(known)
