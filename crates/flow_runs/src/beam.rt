@@ -22,8 +22,8 @@ type Row = (
 );
 
 static ROWS: [Row; 23] = [
-    // The pass of width 8 by bounds drops no child.
-    ([20, 5, 379_008_056], ANY, 8, WORK, 1359, WHOLE, true),
+    // The pass of width 16 by bounds drops no child.
+    ([20, 5, 379_008_056], ANY, 16, WORK, 1359, WHOLE, true),
     ([20, 5, 379_008_056], ANY, 4096, WORK, 1359, WHOLE, true),
     // Some pass drops a child.
     (
@@ -63,16 +63,16 @@ static ROWS: [Row; 23] = [
     ([15, 8, 7], ANY, 32, 15 * 16 * 8 - 1, 1247, NEH, false),
     // Steps, and the makespan where no more are allowed: each is the least number with which one more pass is made, or
     // one less.
-    ([20, 10, 587_595_453], ANY, 4096, 34_579, 1680, ANY, false),
-    ([20, 10, 587_595_453], ANY, 4096, 34_580, 1657, ANY, false),
-    ([20, 10, 587_595_453], ANY, 4096, 82_199, 1657, ANY, false),
-    ([20, 10, 587_595_453], ANY, 4096, 82_200, 1642, ANY, false),
-    ([20, 10, 587_595_453], ANY, 4096, 175_559, 1642, ANY, false),
-    ([20, 10, 587_595_453], ANY, 4096, 175_560, 1636, ANY, false),
-    ([20, 10, 587_595_453], ANY, 4096, 364_359, 1636, ANY, false),
-    ([20, 10, 587_595_453], ANY, 4096, 364_360, 1608, ANY, false),
-    ([20, 10, 587_595_453], ANY, 4096, 480_039, 1608, ANY, false),
-    ([20, 10, 587_595_453], ANY, 4096, 480_040, 1601, ANY, false),
+    ([20, 10, 587_595_453], ANY, 4096, 81_479, 1680, ANY, false),
+    ([20, 10, 587_595_453], ANY, 4096, 81_480, 1670, ANY, false),
+    ([20, 10, 587_595_453], ANY, 4096, 112_279, 1670, ANY, false),
+    ([20, 10, 587_595_453], ANY, 4096, 112_280, 1661, ANY, false),
+    ([20, 10, 587_595_453], ANY, 4096, 176_439, 1661, ANY, false),
+    ([20, 10, 587_595_453], ANY, 4096, 176_440, 1636, ANY, false),
+    ([20, 10, 587_595_453], ANY, 4096, 365_539, 1636, ANY, false),
+    ([20, 10, 587_595_453], ANY, 4096, 365_540, 1608, ANY, false),
+    ([20, 10, 587_595_453], ANY, 4096, 481_219, 1608, ANY, false),
+    ([20, 10, 587_595_453], ANY, 4096, 481_220, 1601, ANY, false),
     // One job has one sequence, whose makespan is the bound: the search ends before its first pass.
     ([1, 3, 5], ANY, 4, WORK, 145, &[1], true),
     // The second pass of width 1, which is the last one, has the bound.
@@ -98,7 +98,7 @@ static ROWS: [Row; 23] = [
 
 /// The best sequence of the first instance.
 const WHOLE: &[u16] = &[
-    6, 10, 17, 7, 3, 18, 12, 15, 1, 13, 11, 9, 16, 20, 19, 4, 5, 2, 14, 8,
+    6, 10, 17, 7, 3, 18, 15, 12, 13, 9, 5, 8, 1, 16, 4, 19, 11, 20, 14, 2,
 ];
 
 /// The starting sequence of fifteen jobs on eight machines.
