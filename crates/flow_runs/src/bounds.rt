@@ -54,7 +54,16 @@ type Row = (
 
 static ROWS: [Row; 12] = [
     // Below 13 there is a sequence of 12, and two directions prove 12.
-    (3, 3, &THREE_MACHINES, &[2, 1, 3], 100_000_000, 12, 12, b"++"),
+    (
+        3,
+        3,
+        &THREE_MACHINES,
+        &[2, 1, 3],
+        100_000_000,
+        12,
+        12,
+        b"++",
+    ),
     (3, 3, &THREE_MACHINES, &[2, 1, 3], 3, 12, 12, b"++"),
     (3, 3, &THREE_MACHINES, &[3, 1, 2], 2, 12, 12, b"++"),
     // Empty directions prove 10. No sequence is reached without a direction.
