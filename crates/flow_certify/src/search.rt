@@ -151,7 +151,7 @@ fn close(
     ensures { IsLater instance.now run.old run.new }
 {
     let whole = run.whole;
-    run.raise(alloc, instance, whole / 1_000)?;
+    run.raise(alloc, instance, SMALL[0].min(whole / 10))?;
     run.raise(alloc, instance, whole / 30)?;
     aim(alloc, instance, start, effort, run)?;
     run.prove_upper(alloc, instance, whole)?;
