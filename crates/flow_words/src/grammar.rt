@@ -247,8 +247,8 @@ fn with<'a>(
 
 fn certify_command<'a>(alloc: Global) -> Result<Command<'a>, AllocError> {
     let about =
-        "Improves a starting sequence, proves a lower bound, and writes a two-ended certificate of both: of the \
-least makespan, where they meet";
+        "Writes a two-ended certificate: a sequence, and bounds of the least makespan, which are one number where \
+that is proved";
     let example = "Example: ./flowshop certify examples/three_machines.txt 1 >certificate";
     command_of(alloc, "certify", about, example, &CERTIFY)
 }
