@@ -85,7 +85,7 @@ covers-cases shop bound v start left prefix node low zip None e =
       zip,
     )
 
-pub tree-covers : (shop : Shop) (bound : Shop → List ℕ → ℕ → ℕ) (v start left : ℕ) (prefix node : List ℕ) → v ≤ start →
+tree-covers : (shop : Shop) (bound : Shop → List ℕ → ℕ → ℕ) (v start left : ℕ) (prefix node : List ℕ) → v ≤ start →
     Fresh shop.jobs prefix →
     length prefix ≤ shop.jobs → ((s : List ℕ) → IsSequence shop.jobs s → v ≤ span shop s) →
     Fresh shop.jobs node → length node + left ≡ shop.jobs →
@@ -128,7 +128,7 @@ span-fits shop sequence limits is =
     omega (arith, small, few)
 
 -- the trees from a number cover each value up to it that no sequence is below
-pub trees-cover : (shop : Shop) (version v start depth : ℕ) → depth ≤ shop.jobs → v ≤ start →
+trees-cover : (shop : Shop) (version v start depth : ℕ) → depth ≤ shop.jobs → v ≤ start →
     ((s : List ℕ) → IsSequence shop.jobs s → v ≤ span shop s) →
     AllZip (λ prefix part. Covers shop (bound_of version) v (shop.jobs - depth) prefix part) (cut shop.jobs depth)
     (trees shop (bound_of version) start depth)

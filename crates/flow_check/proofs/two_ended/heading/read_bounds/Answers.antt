@@ -2,7 +2,7 @@ use Rattle.std.proofs.Common.{ℕ, ◌∷◌, ◌++◌, sym, ap, ap₂, ◌∙�
 use Rattle.std.specs.Fmt.{decimal}
 use Rattle.flow_check.specs.declared.bounds.Bounds.{Bounds}
 use Rattle.flow_check.proofs.SizeLine.{first-bound, bounds-parts}
-use Rattle.flow_check.proofs.heading.read_bounds.Goals as goal
+use Rattle.flow_check.proofs.two_ended.heading.read_bounds.Goals as goal
 
 pub returns-in_err-lower-clause-only : goal.returns-in_err-lower-clause-only
 returns-in_err-lower-clause-only c bounds rest h =
