@@ -5,15 +5,14 @@ use Rattle.flow_shop.specs.Front.{IsFrontOf, IsWithinFront}
 use Rattle.flow_shop.specs.Bound.{bound_of}
 use Rattle.flow_search.specs.Search.{tree}
 use Rattle.flow_search.specs.Plans.{Planned, prefix_of, best_of, tree_of}
-use Rattle.flow_search.specs.Targets.{at_value, plan_below}
 use Rattle.flow_search.specs.internal.Nodes.{walked, found_if}
 use Rattle.flow_search.specs.declared.state.SearchState.{SearchState}
 use Rattle.flow_search.specs.declared.budget.SearchFault.{SearchFault}
 use Rattle.flow_search.specs.declared.budget.SearchFault.TheVariants.{OverBudget}
 use Rattle.flow_search.proofs.Nodes.{within-front}
 use Rattle.flow_search.proofs.Prefixes.{admissible-of, way-goes-on, prefix-answered, prefix-over, best-sequence}
-use Rattle.flow_search.proofs.outcome.search_below.Goals as goal
-use Rattle.flow_search.proofs.outcome.search_below.Goals.{In_ok-explore}
+use Rattle.flow_search.proofs.outcome.search_prefix.Goals as goal
+use Rattle.flow_search.proofs.outcome.search_prefix.Goals.{In_ok-explore}
 
 pub front_push-requires-clause-within : goal.front_push-requires-clause-within
 front_push-requires-clause-within c =
@@ -23,7 +22,7 @@ front_push-requires-clause-within c =
 
 pub loop-job-preserved : goal.loop-job-preserved
 loop-job-preserved c =
-    let plan : Planned = plan_below (at_value c.args.plan.now c.args.value) in
+    let plan : Planned = c.args.plan.now in
     let prefix : List ℕ = c.prefix-prefix.result.now in
     let deep : plan.options.depth ≤ plan.shop.jobs = c.prefix-prefix.ensures.plan.deep in
     let short : length prefix ≤ plan.shop.jobs = omega (arith, deep, c.prefix-prefix.ensures.size) in
@@ -41,7 +40,7 @@ loop-job-preserved c =
 
 pub returns-in_err-explore-clause-over : goal.returns-in_err-explore-clause-over
 returns-in_err-explore-clause-over c e =
-    let plan : Planned = plan_below (at_value c.args.plan.now c.args.value) in
+    let plan : Planned = c.args.plan.now in
     let prefix : List ℕ = c.prefix-prefix.result.now in
     let deep : plan.options.depth ≤ plan.shop.jobs = c.prefix-prefix.ensures.plan.deep in
     let short : length prefix ≤ plan.shop.jobs = omega (arith, deep, c.prefix-prefix.ensures.size) in
@@ -79,10 +78,10 @@ returns-in_err-explore-clause-over c e =
 
 -- what the prefix came to
 answered : (c : In_ok-explore) → (found_if c.explore.new.search
-    ≡ best_of (plan_below (at_value c.args.plan.now c.args.value)) c.args.number)
-    × (c.explore.new.search.tree.items ≡ tree_of (plan_below (at_value c.args.plan.now c.args.value)) c.args.number)
+    ≡ best_of c.args.plan.now c.args.number)
+    × (c.explore.new.search.tree.items ≡ tree_of c.args.plan.now c.args.number)
 answered c =
-    let plan : Planned = plan_below (at_value c.args.plan.now c.args.value) in
+    let plan : Planned = c.args.plan.now in
     let prefix : List ℕ = c.prefix-prefix.result.now in
     let deep : plan.options.depth ≤ plan.shop.jobs = c.prefix-prefix.ensures.plan.deep in
     let short : length prefix ≤ plan.shop.jobs = omega (arith, deep, c.prefix-prefix.ensures.size) in
@@ -102,6 +101,6 @@ returns-clause-tree c = (answered (goal.at.returns-clause-tree c).In_ok-explore)
 
 pub returns-clause-sequence : goal.returns-clause-sequence
 returns-clause-sequence c improved =
-    best-sequence (plan_below (at_value c.args.plan.now c.args.value)) c.args.number c.explore.new.search
+    best-sequence c.args.plan.now c.args.number c.explore.new.search
     c.prefix-prefix.ensures.plan.deep c.requires
     (returns-clause-best c) improved
