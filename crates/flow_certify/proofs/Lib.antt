@@ -1,5 +1,0 @@
-mod First
-mod Found
-mod Held
-mod Pairs
-mod Raised

@@ -1,4 +1,2 @@
-pub mod Certified
-pub mod Raised
-pub mod Tries
+pub mod Signs
 pub mod internal

@@ -1,11 +1,9 @@
-//! Certificates: which sequences are searched from and with which budgets, and, where all trees are longer, the bounds
-//! that searches below targets prove.
+//! Bounds of the least makespan: a sequence that has the upper one, and directions that prove the lower one.
 #![tactic(auto)]
 
-mod pair;
-mod raise;
+mod certified;
+mod run;
 mod search;
-mod tries;
 
-pub use raise::{Proved, raise_bound};
-pub use search::{Searched, find_certificate};
+pub use certified::Certified;
+pub use search::certify;

@@ -1,205 +1,99 @@
-//! The search for a certificate: which sequences are tried, and with which budgets.
+//! From a start to bounds: which sequences and numbers are searched, and with which budgets.
 
-ghost use Rattle.std.specs.Prelude.{◌≡◌, ◌≤◌, ◌<◌, true, nat_eq, if◌then◌else◌, length, IfOk};
-ghost use Rattle.std.specs.Int.{is_in_range};
-ghost use Rattle.flow_core.specs.Generator.{modulus};
-ghost use Rattle.flow_core.specs.Limits.{budgets, least_version, greatest_version};
-ghost use Rattle.flow_core.specs.Mirror.{mirrored};
-ghost use Rattle.flow_core.specs.Sequences.{IsSequence};
-ghost use Rattle.flow_certify.specs.Certified.{FindsCertificate};
-ghost use Rattle.flow_certify.specs.Tries.{AreInRange, IsNoWorse, second_budget};
-ghost use Rattle.flow_certify.specs.internal.Tried.{AreTried, HaveTried, IsSearched};
+ghost use Rattle.std.specs.Prelude.{◌≡◌, ◌<◌, ◌≤◌, min, length, IfOk};
+ghost use Rattle.flow_text.specs.Generator.{modulus};
+ghost use Rattle.flow_shop.specs.Paths.{span};
+ghost use Rattle.flow_shop.specs.Sequences.{IsSequence};
+ghost use Rattle.flow_shop.specs.Directions.{Proves};
+ghost use Rattle.flow_certify.specs.Signs.{most_signs};
+ghost use Rattle.flow_certify.specs.internal.Runs.{IsLater, IsRun};
 
-use crate::tries::{first_within, with_one_budget};
+use crate::certified::Certified;
+use crate::run::Run;
 use flow_bound::taillard_bound;
-use flow_core::{BUDGETS, Instance, MAX_VERSION, MIN_VERSION, Sequence, makespan};
-use flow_improve::{Effort, Reached, beam, rounds_of_both};
-use flow_search::{Plan, Verdict};
+use flow_improve::{Effort, Reached, beam, beam_below, rounds_of_both};
+use flow_shop::{Instance, Sequence};
 use std::alloc::{AllocError, Global};
 
-/// The widest beam after which a certificate is tried before the whole beam.
+/// The widest beam after which the searches have small budgets, before the whole beam.
 const NARROW: u32 = 16;
 
-/// What was tried: from a sequence of this makespan the trees of so many budgets are over. A tree depends on the
-/// makespan of the start alone.
-#[derive(Clone, Copy)]
-struct Tries {
-    value: u64,
-    over: usize,
-}
+/// The greatest width of a beam that is aimed at a number.
+const AIMED: u32 = 16_384;
 
-impl Tries {
-    /// How many budgets need not be tried from a sequence of this makespan.
-    fn over_from(&self, value: u64) -> usize
-        ensures { result ≡ (if nat_eq value self.now.value then self.now.over else 0) }
-    {
-        if value == self.value { self.over } else { 0 }
-    }
-}
+/// The budgets of the searches from the start, and from the best of a narrow beam.
+const SMALL: [u64; 2] = [10_000, 100_000];
 
-/// What a search for a certificate found.
-#[derive(Drop)]
-pub enum Searched<'a> {
-    /// A plan whose tree is within its budget, and its verdict.
-    Found(Plan<'a>, Verdict),
-    /// A sequence from which the trees of the instance and of the mirrored one are over all budgets.
-    Over(Sequence),
-}
+/// The budgets of the searches from the best of the whole beam.
+const MIDDLE: [u64; 3] = [10_000, 100_000, 1_000_000];
 
-/// Tries the first budgets from a sequence, but for those that are over.
-fn try_first<'a>(
+/// Searches from the start, and from the best of a narrow beam, with small budgets; and then further. Where no better
+/// sequence exists, the whole budget is used at once.
+fn prove_best(
     alloc: Global,
-    instance: &'a Instance,
-    mirror: &'a Instance,
-    jobs: &Sequence,
-    tries: &mut Tries,
-    to: usize,
-    version: u32,
-) -> Result<Option<(Plan<'a>, Verdict)>, AllocError>
-    requires is_mirror { mirror.now ≡ mirrored instance.now }
-    requires is_sequence { IsSequence instance.now.jobs jobs.now }
-    requires are_tried { AreTried version instance.now tries.old }
-    requires version { is_in_range least_version greatest_version version ≡ true }
-    requires few { to ≤ length budgets }
-    ensures { IfOk result (HaveTried version instance.now jobs.now tries.new) }
-{
-    let value = makespan(instance, jobs);
-    let from = tries.over_from(value);
-    let found = first_within(alloc, instance, mirror, jobs, from, to, version)?;
-    *tries = Tries {
-        value,
-        over: from.max(to),
-    };
-    Ok(found)
-}
-
-/// Tries all budgets from a sequence that is no worse than the start, but for those that are over.
-fn try_all<'a>(
-    alloc: Global,
-    instance: &'a Instance,
-    mirror: &'a Instance,
-    start: &Sequence,
-    jobs: Sequence,
-    tries: &Tries,
-    version: u32,
-) -> Result<Searched<'a>, AllocError>
-    requires is_mirror { mirror.now ≡ mirrored instance.now }
-    requires no_worse { IsNoWorse instance.now start.now jobs }
-    requires are_tried { AreTried version instance.now tries.now }
-    requires version { is_in_range least_version greatest_version version ≡ true }
-    ensures { IfOk result (IsSearched version instance.now start.now) }
-{
-    let from = tries.over_from(makespan(instance, &jobs));
-    let to = BUDGETS.len();
-    match first_within(alloc, instance, mirror, &jobs, from, to, version)? {
-        Some((plan, verdict)) => Ok(Searched::Found(plan, verdict)),
-        None => Ok(Searched::Over(jobs)),
-    }
-}
-
-/// Looks for a certificate with little work first: from the start with few budgets, then from the best of a narrow
-/// beam, and then further. Where no better sequence exists, all budgets are tried at once, and nothing more.
-fn search<'a>(
-    alloc: Global,
-    instance: &'a Instance,
-    mirror: &'a Instance,
+    instance: &Instance,
     start: &Sequence,
     effort: &Effort,
-    version: u32,
-) -> Result<Searched<'a>, AllocError>
-    requires is_mirror { mirror.now ≡ mirrored instance.now }
-    requires is_sequence { IsSequence instance.now.jobs start.now }
+    run: &mut Run,
+) -> Result<(), AllocError>
+    requires start { length start.now ≡ instance.now.jobs }
     requires seed_from { 1 ≤ effort.now.seed }
     requires seed_to { effort.now.seed < modulus }
-    requires version { is_in_range least_version greatest_version version ≡ true }
-    ensures { IfOk result (IsSearched version instance.now start.now) }
+    requires run { IsRun instance.now run.old }
+    ensures { IsLater instance.now run.old run.new }
 {
-    let value = makespan(instance, start);
-    let mut tries = Tries { value, over: 0 };
-    if value == taillard_bound(instance) {
-        let jobs = Sequence::of_known(alloc, start.jobs())?;
-        return try_all(alloc, instance, mirror, start, jobs, &tries, version);
+    let whole = run.whole;
+    if run.known.upper == taillard_bound(instance) {
+        return run.prove_upper(alloc, instance, whole);
     }
-    let found = try_first(alloc, instance, mirror, start, &mut tries, 2, version)?;
-    if let Some((plan, verdict)) = found {
-        return Ok(Searched::Found(plan, verdict));
+    run.prove_with(alloc, instance, &SMALL)?;
+    if run.is_proved() {
+        return Ok(());
     }
     let width = effort.width.min(NARROW);
     let narrow = beam(alloc, instance, start, width, effort.beam_work())?;
+    run.take(alloc, instance, &narrow)?;
     if narrow.whole {
-        return try_all(
-            alloc,
-            instance,
-            mirror,
-            start,
-            narrow.sequence,
-            &tries,
-            version,
-        );
+        return run.prove_upper(alloc, instance, whole);
     }
-    let found = try_first(
-        alloc,
-        instance,
-        mirror,
-        &narrow.sequence,
-        &mut tries,
-        2,
-        version,
-    )?;
-    if let Some((plan, verdict)) = found {
-        return Ok(Searched::Found(plan, verdict));
+    run.prove_with(alloc, instance, &SMALL)?;
+    if run.is_proved() {
+        return Ok(());
     }
-    search_on(
-        alloc, instance, mirror, start, narrow, effort, &mut tries, version,
-    )
+    let beamed = widened(alloc, instance, start, narrow, effort)?;
+    prove_on(alloc, instance, start, effort, &beamed, run)
 }
 
-/// Goes on from the best of the whole beam with one budget more, and from the best of the rounds with all budgets.
-fn search_on<'a>(
+/// The same from the best of the whole beam, and of rounds, with greater budgets.
+fn prove_on(
     alloc: Global,
-    instance: &'a Instance,
-    mirror: &'a Instance,
+    instance: &Instance,
     start: &Sequence,
-    narrow: Reached,
     effort: &Effort,
-    tries: &mut Tries,
-    version: u32,
-) -> Result<Searched<'a>, AllocError>
-    requires is_mirror { mirror.now ≡ mirrored instance.now }
-    requires is_sequence { IsSequence instance.now.jobs start.now }
-    requires no_worse { IsNoWorse instance.now start.now narrow.sequence }
-    requires are_tried { AreTried version instance.now tries.old }
+    beamed: &Reached,
+    run: &mut Run,
+) -> Result<(), AllocError>
+    requires start { length start.now ≡ instance.now.jobs }
     requires seed_from { 1 ≤ effort.now.seed }
     requires seed_to { effort.now.seed < modulus }
-    requires version { is_in_range least_version greatest_version version ≡ true }
-    ensures { IfOk result (IsSearched version instance.now start.now) }
+    requires sequence { IsSequence instance.now.jobs beamed.now.sequence }
+    requires value { beamed.now.value ≡ span instance.now beamed.now.sequence }
+    requires run { IsRun instance.now run.old }
+    ensures { IsLater instance.now run.old run.new }
 {
-    let beamed = widened(alloc, instance, start, narrow, effort)?;
+    let whole = run.whole;
+    run.take(alloc, instance, beamed)?;
     if beamed.whole {
-        return try_all(
-            alloc,
-            instance,
-            mirror,
-            start,
-            beamed.sequence,
-            tries,
-            version,
-        );
+        return run.prove_upper(alloc, instance, whole);
     }
-    let found = try_first(alloc, instance, mirror, &beamed.sequence, tries, 3, version)?;
-    if let Some((plan, verdict)) = found {
-        return Ok(Searched::Found(plan, verdict));
+    run.prove_with(alloc, instance, &MIDDLE)?;
+    if run.is_proved() {
+        return Ok(());
     }
-    let best = rounds_of_both(alloc, instance, start, &beamed, effort)?;
-    try_all(
-        alloc,
-        instance,
-        mirror,
-        start,
-        best.sequence,
-        tries,
-        version,
-    )
+    let best = rounds_of_both(alloc, instance, start, beamed, effort)?;
+    run.take(alloc, instance, &best)?;
+    run.prove_with(alloc, instance, &MIDDLE)?;
+    run.prove_upper(alloc, instance, whole / 10)
 }
 
 /// What the whole beam reaches: what the narrow one did, where it is no wider.
@@ -210,9 +104,11 @@ fn widened(
     narrow: Reached,
     effort: &Effort,
 ) -> Result<Reached, AllocError>
-    requires is_sequence { IsSequence instance.now.jobs start.now }
-    requires no_worse { IsNoWorse instance.now start.now narrow.sequence }
-    ensures { IfOk result (λ reached. IsNoWorse instance.now start.now reached.sequence) }
+    requires start { length start.now ≡ instance.now.jobs }
+    requires sequence { IsSequence instance.now.jobs narrow.sequence }
+    requires value { narrow.value ≡ span instance.now narrow.sequence }
+    ensures sequence { IfOk result (λ reached. IsSequence instance.now.jobs reached.sequence) }
+    ensures value { IfOk result (λ reached. reached.value ≡ span instance.now reached.sequence) }
 {
     if effort.width <= NARROW {
         return Ok(narrow);
@@ -220,47 +116,75 @@ fn widened(
     beam(alloc, instance, start, effort.width, effort.beam_work())
 }
 
-/// The most bytes of a tree of version 2 where no version is given: a byte of it costs more time on more machines.
-fn second_budget(machines: u16) -> u32
-    ensures { result ≡ second_budget machines }
-{
-    if machines <= 5 {
-        100_000_000
-    } else if machines <= 10 {
-        10_000_000
-    } else {
-        1_000_000
-    }
-}
-
-/// Looks for a certificate of an instance or of the mirrored one, from a sequence and from better ones: in the version
-/// that is given; or, where none is, in version 1, and else in version 2 with one budget.
-pub fn find_certificate<'a>(
+/// Looks for a sequence that has the proved number as its makespan, by a beam that is aimed at the next number.
+fn aim(
     alloc: Global,
-    instance: &'a Instance,
-    mirror: &'a Instance,
+    instance: &Instance,
     start: &Sequence,
     effort: &Effort,
-    given: Option<u32>,
-) -> Result<Searched<'a>, AllocError>
-    requires is_mirror { mirror.now ≡ mirrored instance.now }
-    requires is_sequence { IsSequence instance.now.jobs start.now }
+    run: &mut Run,
+) -> Result<(), AllocError>
+    requires start { length start.now ≡ instance.now.jobs }
+    requires run { IsRun instance.now run.old }
+    ensures { IsLater instance.now run.old run.new }
+{
+    if run.is_proved() {
+        return Ok(());
+    }
+    let number = run.known.lower.saturating_add(1);
+    let width = effort.width.saturating_mul(4).min(AIMED);
+    let aimed = beam_below(alloc, instance, start, number, width, effort.beam_work())?;
+    run.take(alloc, instance, &aimed)
+}
+
+/// Raises the proved number with greater and greater budgets, looks for a sequence that has it as its makespan, and
+/// searches below the makespan of the best sequence with the whole budget.
+fn close(
+    alloc: Global,
+    instance: &Instance,
+    start: &Sequence,
+    effort: &Effort,
+    run: &mut Run,
+) -> Result<(), AllocError>
+    requires start { length start.now ≡ instance.now.jobs }
+    requires run { IsRun instance.now run.old }
+    ensures { IsLater instance.now run.old run.new }
+{
+    let whole = run.whole;
+    run.raise(alloc, instance, whole / 1_000)?;
+    run.raise(alloc, instance, whole / 30)?;
+    aim(alloc, instance, start, effort, run)?;
+    run.prove_upper(alloc, instance, whole)?;
+    let proved = run.known.lower;
+    run.raise(alloc, instance, whole / 10)?;
+    if run.known.lower > proved {
+        aim(alloc, instance, start, effort, run)?;
+    }
+    Ok(())
+}
+
+/// Bounds of the least makespan, a sequence that has the upper one, and directions that prove the lower one.
+pub fn certify(
+    alloc: Global,
+    instance: &Instance,
+    start: &Sequence,
+    effort: &Effort,
+    directions: u32,
+) -> Result<Certified, AllocError>
+    requires start { length start.now ≡ instance.now.jobs }
     requires seed_from { 1 ≤ effort.now.seed }
     requires seed_to { effort.now.seed < modulus }
-    requires version { AreInRange given }
-    ensures { IfOk result (FindsCertificate given instance.now start.now) }
+    ensures each { IfOk result (λ found. IsSequence instance.now.jobs found.sequence) }
+    ensures attained { IfOk result (λ found. span instance.now found.sequence ≡ found.upper) }
+    ensures no_worse { IfOk result (λ found. found.upper ≤ span instance.now start.now) }
+    ensures proved { IfOk result (λ found. Proves instance.now found.lower found.directions.items) }
+    ensures few { IfOk result (λ found. length found.directions.items ≤ min directions most_signs) }
 {
-    let version = given.unwrap_or(MIN_VERSION);
-    let jobs = match search(alloc, instance, mirror, start, effort, version)? {
-        Searched::Found(plan, verdict) => return Ok(Searched::Found(plan, verdict)),
-        Searched::Over(jobs) => jobs,
-    };
-    if given.is_some() {
-        return Ok(Searched::Over(jobs));
+    let mut run = Run::new(alloc, instance, start, directions)?;
+    prove_best(alloc, instance, start, effort, &mut run)?;
+    if !run.is_proved() {
+        close(alloc, instance, start, effort, &mut run)?;
     }
-    let budget = second_budget(instance.machines());
-    match with_one_budget(alloc, instance, mirror, &jobs, budget, MAX_VERSION)? {
-        Some((plan, verdict)) => Ok(Searched::Found(plan, verdict)),
-        None => Ok(Searched::Over(jobs)),
-    }
+    let Run { known, .. } = run;
+    Ok(known)
 }

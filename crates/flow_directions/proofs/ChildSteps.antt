@@ -106,12 +106,9 @@ module _ {V : Type 0} (list : V → List ℕ) (cap width : ℕ) (shop : Shop) (n
     ends-stops budget written Below ends = (
       stands-reached shop number first last end old new lists job (jobs_at (slice_index_or packs 0 none) rest)
           stands-job written.lists.jobs.items ends.0,
-      omega (
-        arith,
-        ends.1,
-        ap length (stands-written shop number first last end old new lists job
-            (jobs_at (slice_index_or packs 0 none) rest) stands-job written.lists.jobs.items ends.0),
-      ),
+      ends.1 ∙ sym (stands-written shop number first last end old new lists job
+          (jobs_at (slice_index_or packs 0 none) rest) stands-job written.lists.jobs.items ends.0),
+      ends.2,
     )
     ends-stops budget written Over ends =
         omega (

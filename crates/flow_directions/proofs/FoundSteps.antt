@@ -8,14 +8,14 @@ use Rattle.flow_shop.specs.Paths.{span}
 use Rattle.flow_shop.specs.Sequences.{jobs_left, AreJobs}
 use Rattle.flow_shop.specs.Ends.{end_bound}
 use Rattle.flow_shop.specs.Directions.{ProvesFrom}
-use Rattle.flow_directions.specs.Search.{signs, first_reached, directions_of, first_below, IsFound, IsWithMakespan}
-use Rattle.flow_directions.specs.Search.{Shows}
+use Rattle.flow_directions.specs.Search.{signs, first_reached, directions_of, first_below, IsFound, Shows}
 use Rattle.flow_directions.specs.declared.found.Found.{Found}
 use Rattle.flow_directions.specs.declared.found.Found.TheVariants.{Proved, Below, Over}
 use Rattle.flow_directions.specs.declared.found.ProveFault.{ProveFault}
 use Rattle.flow_directions.specs.declared.found.ProveFault.TheVariants.{Jobs, Memory}
 use Rattle.flow_directions.specs.internal.Words.{chosen}
 use Rattle.flow_directions.specs.internal.Packs.{HasRoom, IsPack, IsBranch}
+use Rattle.flow_directions.specs.internal.Reached.{IsSequenceAfter}
 use Rattle.flow_directions.specs.internal.Start.{IsStart}
 use Rattle.flow_directions.specs.internal.Walk.{Ends, IsAt}
 use Rattle.flow_directions.specs.declared.pack.Pack.{Pack}
@@ -30,13 +30,13 @@ use Rattle.flow_directions.proofs.SearchProves.{directions_prove}
 use Rattle.flow_directions.proofs.SearchReaches.{reached_is_below}
 
 -- a sequence that is reached, with its makespan
-pub found-below : (shop : Shop) (number budget : ℕ) (first last jobs : List ℕ) (found : Found) →
-    first_below shop number first last ≡ Some jobs → length (directions_of shop number first last) ≤ budget →
-    IsWithMakespan shop jobs found → IsFound shop number budget first last found
-found-below shop number budget first last jobs (Proved text) reached within is = absurd is
-found-below shop number budget first last jobs (Below sequence makespan) reached within is =
-    (reached ∙ ap Some (sym is.0), is.1 ∙ ap (span shop) (sym is.0), within)
-found-below shop number budget first last jobs Over reached within is = absurd is
+pub found-below : (shop : Shop) (number budget : ℕ) (first last jobs : List ℕ) (count : ℕ) (found : Found) →
+    first_below shop number first last ≡ Some jobs → count ≡ length (directions_of shop number first last) →
+    count ≤ budget → IsSequenceAfter shop jobs count found → IsFound shop number budget first last found
+found-below shop number budget first last jobs count (Proved text) reached written within is = absurd is
+found-below shop number budget first last jobs count (Below sequence makespan directions) reached written within is =
+    (reached ∙ ap Some (sym is.0), is.1 ∙ ap (span shop) (sym is.0), is.2 ∙ written, omega (arith, is.2, within))
+found-below shop number budget first last jobs count Over reached written within is = absurd is
 
 -- what is found at a node whose bound is at least the number
 pub found-high : (shop : Shop) (number budget : ℕ) (first last : List ℕ) (text : Vec ℕ) → text.items ≡ [] →
@@ -48,11 +48,11 @@ found-high shop number budget first last text none high =
 -- and at one below the number, without jobs left
 pub found-whole : (shop : Shop) (number budget : ℕ) (first last : List ℕ) (found : Found) →
     length (jobs_left shop.jobs (first ++ last)) ≡ 0 → end_bound shop first last < number →
-    IsWithMakespan shop (first ++ last) found → IsFound shop number budget first last found
+    IsSequenceAfter shop (first ++ last) 0 found → IsFound shop number budget first last found
 found-whole shop number budget first last found none low is =
     let one = visits-whole shop number first last none low in
-    found-below shop number budget first last (first ++ last) found (ap first_reached one)
-    (omega (arith, ap (λ v. length (signs v)) one)) is
+    found-below shop number budget first last (first ++ last) 0 found (ap first_reached one)
+    (sym (ap (λ v. length (signs v)) one)) (omega arith) is
 
 -- what is found shows that the number is proved, or a sequence below it
 pub found-shows : (shop : Shop) (number budget : ℕ) (first last : List ℕ) (found : Found) →
@@ -60,7 +60,7 @@ pub found-shows : (shop : Shop) (number budget : ℕ) (first last : List ℕ) (f
     Shows shop number first last found
 found-shows shop number budget first last (Proved text) are is =
     subst (ProvesFrom shop number first last) (sym is.1) (directions_prove shop number first last are is.0)
-found-shows shop number budget first last (Below sequence makespan) are is =
+found-shows shop number budget first last (Below sequence makespan directions) are is =
     let reached = reached_is_below shop number first last sequence are is.0 in
     (reached.0, sym is.1, omega (arith, reached.1, is.1))
 found-shows shop number budget first last Over are is = tt
@@ -120,9 +120,9 @@ module _ (shop : Shop) (number budget : ℕ) (first last old : List ℕ) (new : 
   -- at a sequence below the number
   pub ends-below : (stop : Stop) → stop ≡ StopBelow → Ends shop number budget first last old new (Err stop) →
       (first_below shop number first last ≡ Some new.lists.jobs.items)
-      × (length (directions_of shop number first last) ≤ budget)
+      × (new.directions.items ≡ directions_of shop number first last) × (length new.directions.items ≤ budget)
   ends-below StopBelow is ends =
-      (ends.0, subst (λ xs. length (xs ++ directions_of shop number first last) ≤ budget) none ends.1)
+      (ends.0, ends.1 ∙ ap (λ xs. xs ++ directions_of shop number first last) none, ends.2)
   ends-below StopOver is ends = absurd (cc)
   ends-below StopMemory is ends = absurd (cc)
 

@@ -116,26 +116,21 @@ DirectionsByChildren =
     (jobs_left shop.jobs (first ++ last)))
 
 -- What a search for a number found, with a budget of directions. `Proved`: it reaches no sequence below the number, and
--- these are the node's directions. `Below`: this is the first sequence that it reaches, with its makespan. In both
--- cases there are as many directions as the budget or fewer. `Over`: there are more.
+-- these are the node's directions. `Below`: this is the first sequence that it reaches, with its makespan, and with how
+-- many directions come before it. In both cases there are as many directions as the budget or fewer. `Over`: there are
+-- more.
 abbrev pub IsFound : Shop → ℕ → ℕ → List ℕ → List ℕ → Found → Type 0
 IsFound shop number budget first last (Proved text) =
     (first_below shop number first last ≡ None) × (text.items ≡ directions_of shop number first last)
     × (length text.items ≤ budget)
-IsFound shop number budget first last (Below sequence makespan) =
+IsFound shop number budget first last (Below sequence makespan directions) =
     (first_below shop number first last ≡ Some sequence) × (makespan ≡ span shop sequence)
-    × (length (directions_of shop number first last) ≤ budget)
+    × (directions ≡ length (directions_of shop number first last)) × (directions ≤ budget)
 IsFound shop number budget first last Over = budget < length (directions_of shop number first last)
 
 -- what this shows: the directions prove the number for the node; or a sequence of the node is below the number
 abbrev pub Shows : Shop → ℕ → List ℕ → List ℕ → Found → Type 0
 Shows shop number first last (Proved text) = ProvesFrom shop number first last text.items
-Shows shop number first last (Below sequence makespan) =
+Shows shop number first last (Below sequence makespan directions) =
     IsOfNode shop first last sequence × (span shop sequence ≡ makespan) × (makespan < number)
 Shows shop number first last Over = Unit {0}
-
--- what was found is this sequence, with its makespan
-abbrev pub IsWithMakespan : Shop → List ℕ → Found → Type 0
-IsWithMakespan shop jobs (Proved text) = ⊥
-IsWithMakespan shop jobs (Below sequence makespan) = (sequence ≡ jobs) × (makespan ≡ span shop jobs)
-IsWithMakespan shop jobs Over = ⊥

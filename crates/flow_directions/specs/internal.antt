@@ -3,3 +3,4 @@ pub mod Lists
 pub mod Packs
 pub mod Walk
 pub mod Start
+pub mod Reached

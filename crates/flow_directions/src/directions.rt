@@ -5,8 +5,9 @@ ghost use Rattle.std.specs.Prelude.{IfOk, IfErr};
 ghost use Rattle.flow_limits.specs.Limits.{most_jobs};
 ghost use Rattle.flow_shop.specs.Sequences.{AreJobs, IsSequence};
 ghost use Rattle.flow_shop.specs.Ends.{end_bound};
-ghost use Rattle.flow_directions.specs.Search.{IsFound, IsWithMakespan, Shows};
+ghost use Rattle.flow_directions.specs.Search.{IsFound, Shows};
 ghost use Rattle.flow_directions.specs.internal.Packs.{HasRoom};
+ghost use Rattle.flow_directions.specs.internal.Reached.{IsSequenceAfter};
 ghost use Rattle.flow_directions.specs.internal.Start.{IsStart};
 ghost use Rattle.flow_directions.specs.declared.found.ProveFault.TheVariants.{Jobs, Memory};
 
@@ -53,15 +54,24 @@ fn packs_for<V: Lanes>(
     Ok(packs)
 }
 
-/// The sequence of jobs that are known to be one; with its makespan.
-fn sequence_of(alloc: Global, instance: &Instance, jobs: &[u16]) -> Result<Found, ProveFault>
+/// The sequence of jobs that are known to be one, with its makespan; it was reached after so many directions.
+fn sequence_of(
+    alloc: Global,
+    instance: &Instance,
+    jobs: &[u16],
+    directions: u64,
+) -> Result<Found, ProveFault>
     requires { IsSequence instance.now.jobs jobs.now }
     ensures fault { IfErr result (λ fault. fault ≡ Memory) }
-    ensures found { IfOk result (λ found. IsWithMakespan instance.now jobs.now found) }
+    ensures found { IfOk result (λ found. IsSequenceAfter instance.now jobs.now directions found) }
 {
     let sequence = Sequence::of_known(alloc, jobs)?;
     let makespan = makespan(instance, &sequence);
-    Ok(Found::Below { sequence, makespan })
+    Ok(Found::Below {
+        sequence,
+        makespan,
+        directions,
+    })
 }
 
 /// Searches the node of a start that is below the number, at which some job is left.
@@ -107,7 +117,10 @@ fn run<V: Lanes>(
         left,
     ) {
         Ok(()) => Ok(Found::Proved(written.directions)),
-        Err(Stop::Below) => sequence_of(alloc, instance, written.lists.all()),
+        Err(Stop::Below) => {
+            let count = written.directions.len() as u64;
+            sequence_of(alloc, instance, written.lists.all(), count)
+        }
         Err(Stop::Over) => Ok(Found::Over),
         Err(Stop::Memory) => Err(ProveFault::Memory),
     }
@@ -115,8 +128,9 @@ fn run<V: Lanes>(
 
 /// Searches a node for directions that prove that none of its sequences has a makespan below a number. These sequences
 /// begin with the first list and end with the last one. Returns the directions; or the first sequence below the number,
-/// with its makespan; or `Over`, where more directions than the budget come before that sequence, or in all. `Jobs`
-/// where the lists have a job that is not one of the instance, or one twice; `Memory` where memory ran out.
+/// with its makespan and the number of directions before it; or `Over`, where more directions than the budget come
+/// before that sequence, or in all. `Jobs` where the lists have a job that is not one of the instance, or one twice;
+/// `Memory` where memory ran out.
 pub fn prove(
     alloc: Global,
     instance: &Instance,
@@ -134,7 +148,7 @@ pub fn prove(
         return Ok(Found::Proved(Vec::new(alloc)));
     }
     if start.left == 0 {
-        return sequence_of(alloc, instance, start.lists.all());
+        return sequence_of(alloc, instance, start.lists.all(), 0);
     }
     if number <= NARROW {
         run::<u16x16>(alloc, instance, start, number, budget)

@@ -19,6 +19,8 @@ pub enum Found {
         sequence: Sequence,
         /// Its makespan.
         makespan: u64,
+        /// How many directions the search wrote before it.
+        directions: u64,
     },
     /// There are more directions than the budget, in all or before the first sequence below the number.
     Over,

@@ -29,12 +29,19 @@ fn is_empty(found: &Found) -> bool {
     }
 }
 
-/// Whether this is the sequence of so many jobs in their order, with this makespan.
+/// Whether this is the sequence of so many jobs in their order, with this makespan, after as many directions.
 fn is_in_order(found: &Found, jobs: u32, least: u64) -> bool {
     match found {
-        Found::Below { sequence, makespan } => {
+        Found::Below {
+            sequence,
+            makespan,
+            directions,
+        } => {
             let order = sequence.jobs();
-            *makespan == least && order.is_sorted() && order.len() == jobs as usize
+            *makespan == least
+                && *directions == u64::from(jobs)
+                && order.is_sorted()
+                && order.len() == jobs as usize
         }
         _ => false,
     }

@@ -34,7 +34,7 @@ Ends shop number budget first last old new (Ok _) =
     × (length new.directions.items ≤ budget) × HasLists shop.jobs first last new.lists
 Ends shop number budget first last old new (Err Below) =
     (first_below shop number first last ≡ Some new.lists.jobs.items)
-    × (length (old ++ directions_of shop number first last) ≤ budget)
+    × (new.directions.items ≡ old ++ directions_of shop number first last) × (length new.directions.items ≤ budget)
 Ends shop number budget first last old new (Err Over) =
     budget < length (old ++ directions_of shop number first last)
 Ends shop number budget first last old new (Err Memory) = Unit {0}

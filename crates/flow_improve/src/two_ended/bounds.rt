@@ -94,6 +94,19 @@ fn total(bounds: &[Columns; GROUPS], count: usize) -> u64
     total
 }
 
+/// How many of the first bounds, which are so many, are below a number.
+fn count_below(bounds: &[Columns; GROUPS], count: usize, number: u64) -> usize
+    requires { count ≤ most_jobs }
+{
+    let mut below: usize = 0;
+    for place in 0..count {
+        if u64::from(bounds[place / COLUMNS][place % COLUMNS]) < number {
+            below = below.wrapping_add(1);
+        }
+    }
+    below
+}
+
 /// The bounds of the children of a node, by the places of the free jobs.
 #[derive(Drop)]
 pub(crate) struct Bounds {
@@ -113,9 +126,8 @@ impl Bounds {
         }
     }
 
-    /// Computes the bounds of all children of a node with these free jobs. Returns the end at which their sum is
-    /// greater, and the prefix where both are equal.
-    pub(crate) fn fill(&mut self, node: &Node, free: &[u16], rows: &[Row], machines: usize) -> End
+    /// Computes the bounds of all children of a node with these free jobs.
+    pub(crate) fn fill(&mut self, node: &Node, free: &[u16], rows: &[Row], machines: usize)
         requires few { length free.now ≤ most_jobs }
         requires machines { machines ≤ most_machines }
     {
@@ -126,7 +138,18 @@ impl Bounds {
             self.forward[group] = forward;
             self.backward[group] = backward;
         }
-        if total(&self.backward, free.len()) > total(&self.forward, free.len()) {
+    }
+
+    /// The end at which fewer of so many children are below a number; on a tie the one at which their bounds sum to
+    /// more, and the prefix where both sums are equal.
+    pub(crate) fn end_taken(&self, count: usize, number: u64) -> End
+        requires { count ≤ most_jobs }
+    {
+        let forward = count_below(&self.forward, count, number);
+        let backward = count_below(&self.backward, count, number);
+        let takes_suffix = backward < forward
+            || backward == forward && total(&self.backward, count) > total(&self.forward, count);
+        if takes_suffix {
             End::Suffix
         } else {
             End::Prefix

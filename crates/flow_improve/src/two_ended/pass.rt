@@ -48,9 +48,16 @@ struct Offers<'a> {
     machines: usize,
     /// Children whose bound is not below this makespan are not offered.
     below: u64,
+    /// Whether the end of a node is chosen by this number too.
+    is_aimed: bool,
 }
 
 impl Offers<'_> {
+    /// The number by which the end of a node is chosen; the children below 0 are as many at both ends.
+    fn aim(&self) -> u64 {
+        if self.is_aimed { self.below } else { 0 }
+    }
+
     /// Offers the children of the node at a place, which has these free jobs.
     fn offer(
         &self,
@@ -63,7 +70,8 @@ impl Offers<'_> {
         requires machines { self.now.machines ≤ most_machines }
         requires few { length free.now ≤ most_jobs }
     {
-        let end = bounds.fill(node, free, self.rows, self.machines);
+        bounds.fill(node, free, self.rows, self.machines);
+        let end = bounds.end_taken(free.len(), self.aim());
         let same = self.order.kept_deficit(node, end, self.machines);
         for (place, &job) in free.iter().enumerate() {
             let bound = bounds.at(end, place);
@@ -113,6 +121,7 @@ impl Passes {
         order: &Order,
         bounds: &mut Bounds,
         below: u64,
+        is_aimed: bool,
     ) -> Result<(), AllocError> {
         let machines = usize::from(instance.machines());
         let offers = Offers {
@@ -120,6 +129,7 @@ impl Passes {
             rows: self.rows.as_slice(),
             machines,
             below,
+            is_aimed,
         };
         for place in 0..self.count {
             let free = self.list.free(place);
@@ -151,13 +161,15 @@ impl Passes {
         self.count = count;
     }
 
-    /// A pass of a width, over nodes whose bound is below a makespan. Returns whether no child was dropped.
+    /// A pass of a width, over nodes whose bound is below a makespan. Where it is aimed, the end of a node is the one
+    /// with fewer children below that, and on a tie as else. Returns whether no child was dropped.
     pub(crate) fn pass(
         &mut self,
         instance: &Instance,
         width: usize,
         mode: Mode,
         below: u64,
+        is_aimed: bool,
     ) -> Result<bool, AllocError> {
         let order = Order {
             mode,
@@ -169,7 +181,7 @@ impl Passes {
         let mut is_whole = true;
         for _ in 0..instance.jobs() {
             self.kept.clear(width);
-            self.bound_children(instance, &order, &mut bounds, below)?;
+            self.bound_children(instance, &order, &mut bounds, below, is_aimed)?;
             is_whole = is_whole && !self.kept.has_dropped;
             self.turn();
         }

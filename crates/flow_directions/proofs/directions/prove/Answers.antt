@@ -1,7 +1,8 @@
 use Rattle.std.proofs.Common.{◌≡◌, ◌<◌, ◌++◌, length, sym, subst, arith}
 use Rattle.flow_shop.specs.Sequences.{jobs_left, IsSequence}
 use Rattle.flow_shop.specs.Ends.{end_bound}
-use Rattle.flow_directions.specs.Search.{IsFound, IsWithMakespan, Shows}
+use Rattle.flow_directions.specs.Search.{IsFound, Shows}
+use Rattle.flow_directions.specs.internal.Reached.{IsSequenceAfter}
 use Rattle.flow_directions.specs.declared.found.Found.TheVariants.{Proved}
 use Rattle.flow_directions.proofs.NodeLists.{whole-node}
 use Rattle.flow_directions.proofs.FoundSteps.{found-high, found-whole, found-shows, each-ok}
@@ -51,12 +52,12 @@ returns-then-start-eq0-clause-found c =
     let sequence = whole-node shop.jobs (c.args.first.now ++ c.args.last.now) is.are_jobs none in
     let all : c.all.result.now ≡ c.args.first.now ++ c.args.last.now =
     c.all.ensures.lists shop.jobs c.args.first.now c.args.last.now is.has_lists sequence.whole in
-    each-ok (IsWithMakespan shop c.all.result.now)
+    each-ok (IsSequenceAfter shop c.all.result.now 0)
     (IsFound c.args.instance.now c.args.number c.args.budget c.args.first.now c.args.last.now)
     c.sequence_of.result
     (λ found makespan.
     found-whole c.args.instance.now c.args.number c.args.budget c.args.first.now c.args.last.now
-    found none low (subst (λ jobs. IsWithMakespan shop jobs found) all makespan))
+    found none low (subst (λ jobs. IsSequenceAfter shop jobs 0 found) all makespan))
     c.sequence_of.ensures.found
 
 pub returns-then-start-eq0-clause-shown : goal.returns-then-start-eq0-clause-shown

@@ -179,15 +179,12 @@ returns-then-left-eq1-clause-ends g t c first last at =
           pack c.open-opened.result.end c.args.written.now.directions.items
           c.children.written.directions.items c.children.written.lists c.children.below c.pop.new.self c.in-Some.place
           c.index-job.result.now inside stands popped job c.if-left-eq1.true c.put.new.self lists,
-      omega (
-        arith,
-        c.children.invariant.within,
-        ap length (last-written g.V.Lanes.list g.V.Lanes.CAP g.V.Lanes.WIDTH c.args.instance.now c.args.aim.number
-            c.args.left c.args.packs.now c.args.branch.now c.args.written.now.lists first last at
-            pack c.open-opened.result.end c.args.written.now.directions.items
-            c.children.written.directions.items c.children.written.lists c.children.below c.pop.new.self c.in-Some.place
-            c.index-job.result.now inside stands popped job c.if-left-eq1.true),
-      ),
+      sym (last-written g.V.Lanes.list g.V.Lanes.CAP g.V.Lanes.WIDTH c.args.instance.now c.args.aim.number
+          c.args.left c.args.packs.now c.args.branch.now c.args.written.now.lists first last at
+          pack c.open-opened.result.end c.args.written.now.directions.items
+          c.children.written.directions.items c.children.written.lists c.children.below c.pop.new.self c.in-Some.place
+          c.index-job.result.now inside stands popped job c.if-left-eq1.true),
+      c.children.invariant.within,
     )
 
 pub child-child-requires-clause-place : goal.child-child-requires-clause-place

@@ -1,0 +1,257 @@
+//! Searches for directions, one after the other, and what they found so far.
+
+ghost use Rattle.std.specs.Prelude.{◌≡◌, ◌↔◌, ◌<◌, ◌≤◌, min, length, IfOk, IsTrue};
+ghost use Rattle.flow_shop.specs.Shop.{Shop};
+ghost use Rattle.flow_shop.specs.Paths.{span};
+ghost use Rattle.flow_shop.specs.Directions.{Proves};
+ghost use Rattle.flow_shop.specs.Sequences.{IsSequence};
+ghost use Rattle.flow_certify.specs.Signs.{most_signs};
+ghost use Rattle.flow_certify.specs.internal.Runs.{IsLater, IsRun, IsSearched};
+
+use crate::certified::Certified;
+use flow_directions::{Found, prove};
+use flow_improve::Reached;
+use flow_shop::{Instance, Sequence, makespan};
+use std::alloc::{AllocError, Global};
+
+/// The most directions of a two-ended certificate: with its other lines it is then within the bytes that `check` reads.
+const MOST_SIGNS: u64 = 999_990_000;
+
+/// The greatest makespan whose search has lanes of 16 bits. Beyond it a direction costs about twice as much.
+const NARROW: u64 = 65_535;
+
+/// How many directions all searches of a run may write, for each one that is given, at a cost of 1.
+const SHARE: u64 = 700;
+
+/// The part of a direction's cost that does not depend on the shop; each job adds 1 for each machine.
+const FIXED: u64 = 100;
+
+/// How many directions all searches of a run may write: they are fewer where each of them costs more.
+fn fund_of(instance: &Instance, makespan: u64, directions: u32) -> u64 {
+    let narrow = u64::from(instance.jobs()) * u64::from(instance.machines()) + FIXED;
+    let cost = if makespan > NARROW {
+        narrow * 2
+    } else {
+        narrow
+    };
+    u64::from(directions) * SHARE / cost
+}
+
+/// The most directions of one search: as many as are given, but no more than two thirds of those of all searches.
+fn whole_of(fund: u64, directions: u32) -> u64
+    ensures { result ≤ min directions most_signs }
+{
+    u64::from(directions).min(MOST_SIGNS).min(fund / 3 * 2)
+}
+
+/// Searches for directions, and what they found.
+#[derive(Drop)]
+pub(crate) struct Run {
+    pub(crate) known: Certified,
+    /// The most directions of one search.
+    pub(crate) whole: u64,
+    /// How many directions the searches that are still to come may write.
+    left: u64,
+    /// The greatest budget with which the search below the makespan of the sequence was over.
+    over: Option<u64>,
+}
+
+impl Run {
+    /// A run that knows a sequence alone: empty directions prove 0.
+    pub(crate) fn new(
+        alloc: Global,
+        instance: &Instance,
+        start: &Sequence,
+        directions: u32,
+    ) -> Result<Run, AllocError>
+        requires { length start.now ≡ instance.now.jobs }
+        ensures run { IfOk result (IsRun instance.now) }
+        ensures upper { IfOk result (λ run. run.known.upper ≡ span instance.now start.now) }
+        ensures whole { IfOk result (λ run. run.whole ≤ min directions most_signs) }
+    {
+        let upper = makespan(instance, start);
+        let fund = fund_of(instance, upper, directions);
+        Ok(Run {
+            known: Certified {
+                lower: 0,
+                upper,
+                sequence: Sequence::of_known(alloc, start.jobs())?,
+                directions: Vec::new(alloc),
+            },
+            whole: whole_of(fund, directions),
+            left: fund,
+            over: None,
+        })
+    }
+
+    /// Whether the makespan of the sequence is proved.
+    pub(crate) fn is_proved(&self) -> bool
+        ensures { IsTrue result ↔ self.now.known.upper ≤ self.now.known.lower }
+    {
+        self.known.lower >= self.known.upper
+    }
+
+    /// Takes a sequence where its makespan is smaller.
+    pub(crate) fn take(
+        &mut self,
+        alloc: Global,
+        instance: &Instance,
+        reached: &Reached,
+    ) -> Result<(), AllocError>
+        requires run { IsRun instance.now self.old }
+        requires sequence { IsSequence instance.now.jobs reached.now.sequence }
+        requires value { reached.now.value ≡ span instance.now reached.now.sequence }
+        ensures { IsLater instance.now self.old self.new }
+    {
+        if reached.value < self.known.upper {
+            let sequence = Sequence::of_known(alloc, reached.sequence.jobs())?;
+            self.become_better(sequence, reached.value);
+        }
+        Ok(())
+    }
+
+    /// Takes a sequence of a smaller makespan.
+    fn become_better(&mut self, sequence: Sequence, makespan: u64)
+        requires { makespan < self.old.known.upper }
+        ensures later { (shop : Shop) → IsRun shop self.old → IsSequence shop.jobs sequence →
+            makespan ≡ span shop sequence → IsLater shop self.old self.new }
+        ensures lower { self.new.known.lower ≡ self.old.known.lower }
+        ensures upper { self.new.known.upper ≡ makespan }
+    {
+        self.known.sequence = sequence;
+        self.known.upper = makespan;
+        self.over = None;
+    }
+
+    /// Takes directions that prove a number.
+    fn hold(&mut self, number: u64, directions: Vec<u8>)
+        requires { length directions.items ≤ self.old.whole }
+        ensures later { (shop : Shop) → IsRun shop self.old → Proves shop number directions.items →
+            IsLater shop self.old self.new }
+        ensures lower { self.new.known.lower ≡ number }
+        ensures upper { self.new.known.upper ≡ self.old.known.upper }
+    {
+        self.left = self.left.saturating_sub(directions.len() as u64);
+        self.known.lower = number;
+        self.known.directions = directions;
+    }
+
+    /// Notes that the search below a number was over with a budget.
+    fn note_over(&mut self, number: u64, budget: u64)
+        ensures known { self.new.known ≡ self.old.known }
+        ensures whole { self.new.whole ≡ self.old.whole }
+    {
+        self.left = self.left.saturating_sub(budget);
+        if number == self.known.upper {
+            self.over = Some(budget);
+        }
+    }
+
+    /// Whether the search below a number is known to be over with a budget.
+    fn is_over(&self, number: u64, budget: u64) -> bool {
+        number == self.known.upper && self.over.is_some_and(|over| budget <= over)
+    }
+
+    /// Searches below a number with a budget, and keeps what it finds. Returns whether the search is over.
+    fn search(
+        &mut self,
+        alloc: Global,
+        instance: &Instance,
+        number: u64,
+        budget: u64,
+    ) -> Result<bool, AllocError>
+        requires run { IsRun instance.now self.old }
+        requires number { number ≤ self.old.known.upper }
+        ensures later { IsLater instance.now self.old self.new }
+        ensures searched { IfOk result (IsSearched number self.old self.new) }
+    {
+        let budget = budget.min(self.whole).min(self.left);
+        if self.is_over(number, budget) {
+            return Ok(true);
+        }
+        match prove(alloc, instance, &[], &[], number, budget) {
+            Ok(Found::Proved(directions)) => {
+                self.hold(number, directions);
+                Ok(false)
+            }
+            Ok(
+                Found::Below {
+                    sequence,
+                    makespan,
+                    directions,
+                },
+            ) => {
+                self.left = self.left.saturating_sub(directions);
+                self.become_better(sequence, makespan);
+                Ok(false)
+            }
+            Ok(Found::Over) => {
+                self.note_over(number, budget);
+                Ok(true)
+            }
+            // Two empty lists are a node, so a fault is that memory ran out.
+            Err(_) => Err(AllocError),
+        }
+    }
+
+    /// Searches below the makespan of the sequence with a budget, and with the same one from each better sequence,
+    /// until the makespan is proved or a search is over.
+    pub(crate) fn prove_upper(
+        &mut self,
+        alloc: Global,
+        instance: &Instance,
+        budget: u64,
+    ) -> Result<(), AllocError>
+        requires { IsRun instance.now self.old }
+        ensures { IsLater instance.now self.old self.new }
+    {
+        'better: while !self.is_proved() {
+            let upper = self.known.upper;
+            if self.search(alloc, instance, upper, budget)? {
+                break;
+            }
+        }
+        Ok(())
+    }
+
+    /// The same with each of some budgets, the least first.
+    pub(crate) fn prove_with(
+        &mut self,
+        alloc: Global,
+        instance: &Instance,
+        budgets: &[u64],
+    ) -> Result<(), AllocError>
+        requires { IsRun instance.now self.old }
+        ensures { IsLater instance.now self.old self.new }
+    {
+        'budgets: for budget in budgets {
+            self.prove_upper(alloc, instance, *budget)?;
+        }
+        Ok(())
+    }
+
+    /// Raises the proved number with a budget: by 1, 2, 4 and so on, but by no more than half of the way to the least
+    /// number whose search was over.
+    pub(crate) fn raise(
+        &mut self,
+        alloc: Global,
+        instance: &Instance,
+        budget: u64,
+    ) -> Result<(), AllocError>
+        requires { IsRun instance.now self.old }
+        ensures { IsLater instance.now self.old self.new }
+    {
+        let mut step = 1u64;
+        let mut top = self.known.upper.saturating_add(1);
+        'raised: while top.saturating_sub(self.known.lower) > 1 {
+            let number = self.known.lower + step.min((top - self.known.lower) / 2);
+            if self.search(alloc, instance, number, budget)? {
+                top = number;
+            } else {
+                step = step.saturating_mul(2);
+                top = top.min(self.known.upper.saturating_add(1));
+            }
+        }
+        Ok(())
+    }
+}
