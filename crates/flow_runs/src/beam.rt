@@ -3,7 +3,7 @@
 
 use crate::searches::{ANY, DOWN, comes_to, start_of};
 use flow_core::{Instance, generate};
-use flow_improve::{Reached, beam};
+use flow_improve::{Reached, beam, beam_below};
 use std::alloc::Global;
 
 /// More steps than the passes of these tests take.
@@ -134,6 +134,53 @@ fn holds(alloc: Global, row: &Row) -> bool {
 fn beam_ends_at_its_widths_and_steps(rt: HostRuntime) {
     for (number, row) in ROWS.iter().enumerate() {
         assert!(rt; holds(rt.alloc(), row), "row {number}");
+    }
+}
+
+/// A number, and what a search below it comes to with passes up to the width 32, of twenty jobs on ten machines: the
+/// makespan, the jobs, and whether the search was whole. The start has the makespan 1680, and the bound is 1448.
+static BELOW: [(u64, u64, &[u16], bool); 5] = [
+    (0, 1680, OF_TWENTY, true),
+    // A pass of width 1 keeps few children, and drops none.
+    (1449, 1680, OF_TWENTY, true),
+    // No pass comes to a sequence.
+    (1601, 1680, OF_TWENTY, false),
+    (
+        1637,
+        1636,
+        &[
+            18, 9, 3, 17, 5, 19, 12, 4, 2, 20, 8, 13, 10, 6, 11, 14, 15, 7, 16, 1,
+        ],
+        false,
+    ),
+    // The start is below the number.
+    (1681, 1680, OF_TWENTY, false),
+];
+
+/// The starting sequence of these jobs.
+const OF_TWENTY: &[u16] = &[
+    18, 5, 2, 17, 3, 6, 12, 9, 15, 10, 20, 13, 8, 14, 19, 11, 4, 7, 1, 16,
+];
+
+/// Whether the search below a number comes to what a row says.
+fn ends_below(alloc: Global, row: &(u64, u64, &'static [u16], bool)) -> bool {
+    let (number, value, list, whole) = *row;
+    let Ok(instance) = generate(alloc, 20, 10, 587_595_453) else {
+        return false;
+    };
+    let Some(start) = start_of(alloc, &instance, ANY) else {
+        return false;
+    };
+    match beam_below(alloc, &instance, &start, number, 32, WORK) {
+        Ok(best) => comes_to(&best, value, list, whole),
+        Err(_) => false,
+    }
+}
+
+#[test]
+fn beam_below_ends_with_a_sequence_below(rt: HostRuntime) {
+    for row in &BELOW {
+        assert!(rt; ends_below(rt.alloc(), row), "below {}", row.0);
     }
 }
 
