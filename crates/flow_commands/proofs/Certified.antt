@@ -47,10 +47,10 @@ line-length text = length-append text (10 ∷ [])
 
 -- the length of six lists, one after another
 six-length : (a b c d e f : List ℕ) →
-    length ((((a ++ b) ++ c) ++ d) ++ e ++ f) ≡ length a + length b + length c + length d + length e + length f
+    length (a ++ b ++ c ++ d ++ e ++ f) ≡ length a + length b + length c + length d + length e + length f
 six-length a b c d e f =
-    omega (arith, length-append (((a ++ b) ++ c) ++ d) (e ++ f), length-append ((a ++ b) ++ c) d,
-    length-append (a ++ b) c, length-append a b, length-append e f)
+    omega (arith, length-append (a ++ b ++ c ++ d ++ e) f, length-append (a ++ b ++ c ++ d) e,
+    length-append (a ++ b ++ c) d, length-append (a ++ b) c, length-append a b)
 
 -- a text with so many directions is within the bytes that `check` reads
 text-short : (shop : Shop) (bounds : Bounds) (jobs directions : List ℕ) → IsWithinLimits shop →
