@@ -1,5 +1,5 @@
 -- How long a two-ended certificate is, and how it is put together from one with no directions.
-use Rattle.std.proofs.Common.{◌≡◌, ◌∙◌, refl, ap, sym, ℕ, ◌+◌, ◌-◌, ◌*◌, ◌^◌, ◌<◌, ◌≤◌, List, [], ◌∷◌, ◌++◌, map}
+use Rattle.std.proofs.Common.{◌≡◌, ◌⊎◌, inr, ◌∙◌, refl, ap, sym, ℕ, ◌+◌, ◌-◌, ◌*◌, ◌^◌, ◌<◌, ◌≤◌, List, [], ◌∷◌, ◌++◌}
 use Rattle.std.proofs.Common.{length, take, drop, arith, append_assoc, length-append, length-drop}
 use Rattle.std.proofs.Math.Seq.{take-append_seam, drop-append_seam}
 use Rattle.std.proofs.lemmas.Fmt.{length-decimal-le}
@@ -16,7 +16,10 @@ use Rattle.flow_check.specs.TextLines.{line, spaced, ending}
 use Rattle.flow_check.specs.TwoEnded.{title_line, size_lines, bounds_lines, sequence_lines, two_ended_text}
 use Rattle.flow_check.specs.declared.bounds.Bounds.{Bounds}
 use Rattle.flow_cert.proofs.Lawful.{span-fits}
-use Rattle.flow_c.specs.Certify.{IsTextFrom}
+use Rattle.flow_c.specs.Statuses.{number, memory}
+use Rattle.flow_c.specs.Certify.{IsTextFrom, IsTextTooLong}
+use Rattle.flow_c.specs.declared.fault.Fault.{Fault}
+use Rattle.flow_c.specs.declared.fault.Fault.TheVariants.{Room}
 use Rattle.flow_c.specs.internal.Frames.{with_directions}
 
 -- a number of at most so many digits
@@ -56,9 +59,10 @@ lines-short : (shop : Shop) (bounds : Bounds) (sequence : List ℕ) → IsWithin
     bounds.upper < 2 ^ 64 → IsSequence shop.jobs sequence → length (sequence_lines shop bounds sequence) ≤ 3290
 lines-short shop bounds sequence limits low high is =
     let sizes : length (line (spaced (shop.jobs ∷ shop.machines ∷ []))) ≤ 9 =
-    line-short 3 (shop.jobs ∷ shop.machines ∷ []) (omega arith)
-    ((omega (arith, limits.jobs), omega (arith, limits.jobs)),
-    ((omega (arith, limits.machines), omega (arith, limits.machines)), tt)) in
+    line-short 3 (shop.jobs ∷ shop.machines ∷ []) (omega arith) (
+      (omega (arith, limits.jobs), omega (arith, limits.jobs)),
+      ((omega (arith, limits.machines), omega (arith, limits.machines)), tt),
+    ) in
     let both : length (line (spaced (bounds.lower ∷ bounds.upper ∷ []))) ≤ 43 =
     line-short 20 (bounds.lower ∷ bounds.upper ∷ []) (omega arith)
     ((omega (arith, low), low), ((omega (arith, high), high), tt)) in
@@ -178,3 +182,22 @@ text-found shop start most bounds sequence directions frame limits is attained n
             frame-short shop bounds sequence limits lower high is,
           );
     }
+
+-- a text that has no room
+pub too-long : (shop : Shop) (start : List ℕ) (most entries : ℕ) (bounds : Bounds)
+    (sequence directions frame : List ℕ) (fault : Fault) →
+    IsTextFrom shop start most (with_directions frame directions) bounds sequence →
+    frame ≡ two_ended_text shop bounds sequence [] →
+    (fault ≡ Room (length frame + length directions)) × (entries < length frame + length directions) →
+    (number fault ≡ memory) ⊎ IsTextTooLong shop start most entries fault
+too-long shop start most entries bounds sequence directions frame fault is text (refused, short) =
+    let enough : 5 ≤ length frame = omega (arith, ap length text, framed shop bounds sequence) in
+    let same = length-with frame directions enough in
+    inr (
+      with_directions frame directions,
+      bounds,
+      sequence,
+      is,
+      refused ∙ ap (λ n. Room n) (sym same),
+      omega (arith, same, short),
+    )
