@@ -5,7 +5,8 @@
 //! its makespan; and on standard error what each of the three came to, in how many steps, and how long it took.
 //!
 //! Build it with `rustc --edition 2024 -O bench/improve.rs`, and run it with jobs, machines, the instance's seed, the
-//! greatest width of the beam, rounds, the seed of the rounds, and the steps of the whole in millions.
+//! greatest width of the beam, rounds, the seed of the rounds, and the steps of the whole in millions. With a number
+//! behind these it makes the beam alone, and looks for a sequence below the number.
 
 mod beam;
 
@@ -225,9 +226,9 @@ impl Instance {
     }
 
     /// A beam, with a line on standard error; and whether it ended as whole.
-    fn beam_told(&self, start: &Known, width: u64, steps: u64) -> (Known, bool) {
+    fn beam_told(&self, start: &Known, width: u64, steps: u64, number: Option<u32>) -> (Known, bool) {
         let begin = Instant::now();
-        let mut beam = Beam::new(self, start.clone(), steps);
+        let mut beam = Beam::new(self, start.clone(), steps, number);
         let is_whole = beam.run(width);
         let took = begin.elapsed().as_secs_f64();
         let (makespan, steps) = (beam.best.makespan, beam.steps);
@@ -250,18 +251,21 @@ struct Asked {
     rounds: u32,
     seed: u64,
     millions: u64,
+    number: Option<u32>,
 }
 
 impl Asked {
-    /// The seven numbers, each in its range.
+    /// The seven numbers, each in its range, and perhaps one more.
     fn of(words: &[String]) -> Option<Asked> {
         let least = [1, 1, 1, 0, 0, 1, 0];
         let greatest = [800, 26, 2_147_483_646, 65_536, 100_000_000, 2_147_483_646, 1_000_000];
-        if words.len() != least.len() {
-            return None;
-        }
+        let number = match words.len() {
+            7 => None,
+            8 => Some(words[7].parse().ok()?),
+            _ => return None,
+        };
         let mut numbers = [0; 7];
-        for (i, word) in words.iter().enumerate() {
+        for (i, word) in words[..7].iter().enumerate() {
             numbers[i] = word.parse().ok()?;
             if numbers[i] < least[i] || numbers[i] > greatest[i] {
                 return None;
@@ -276,6 +280,7 @@ impl Asked {
             rounds: rounds as u32,
             seed,
             millions,
+            number,
         })
     }
 
@@ -287,8 +292,8 @@ impl Asked {
     fn improve(&self, instance: &Instance, start: Known) -> Known {
         let steps = self.millions * 1_000_000;
         let least = instance.lower_bound();
-        let (beamed, is_whole) = instance.beam_told(&start, self.width, steps * 12 / 17);
-        if is_whole || beamed.makespan <= least {
+        let (beamed, is_whole) = instance.beam_told(&start, self.width, steps * 12 / 17, self.number);
+        if is_whole || self.number.is_some() || beamed.makespan <= least {
             return beamed;
         }
         let mut best = beamed.clone();
@@ -308,7 +313,7 @@ impl Asked {
 fn main() -> ExitCode {
     let words: Vec<String> = env::args().skip(1).collect();
     let Some(asked) = Asked::of(&words) else {
-        eprintln!("improve JOBS MACHINES INSTANCE_SEED WIDTH ROUNDS SEED MILLIONS");
+        eprintln!("improve JOBS MACHINES INSTANCE_SEED WIDTH ROUNDS SEED MILLIONS [NUMBER]");
         return ExitCode::from(2);
     };
     let instance = Instance::generate(asked.jobs, asked.machines, asked.instance_seed);

@@ -6,6 +6,7 @@ use crate::blocks::push_line;
 use crate::fault::{Fault, refused};
 use crate::search::numbers_from_one;
 use crate::shop::{Instance, MAX_MACHINES, Row};
+use std::ops::Range;
 
 /// Where a child has its job.
 #[derive(Clone, Copy, PartialEq)]
@@ -109,6 +110,25 @@ impl Search<'_> {
         (self.below.len() - before, sum)
     }
 
+    /// How many children below the number the children at an end have, where these stand at so many places: each at the
+    /// end at which it has fewer.
+    fn weight(&mut self, node: &Node, end: End, children: Range<usize>) -> usize {
+        let mut weight = 0;
+        for place in children {
+            let job = self.below[place];
+            let at = self.left.partition_point(|&other| other < job);
+            self.left.remove(at);
+            let child = node.child(self.instance, end, job);
+            let before = self.below.len();
+            let (fronts, _) = self.open(&child, End::Front);
+            let (backs, _) = self.open(&child, End::Back);
+            self.below.truncate(before);
+            self.left.insert(at, job);
+            weight += fronts.min(backs);
+        }
+        weight
+    }
+
     /// Writes the directions of a node below the number.
     fn walk(&mut self, node: &Node) -> Result<(), Stop> {
         if self.left.is_empty() {
@@ -121,7 +141,15 @@ impl Search<'_> {
         let (fronts, front_sum) = self.open(node, End::Front);
         let (backs, back_sum) = self.open(node, End::Back);
         let middle = first + fronts;
-        let takes_front = fronts < backs || fronts == backs && front_sum >= back_sum;
+        let mut takes_front = fronts < backs || fronts == backs && front_sum >= back_sum;
+        let (fewer, more) = (fronts.min(backs), fronts.max(backs));
+        if self.left.len() >= 3 && fewer >= 2 && 3 * fewer >= 2 * more {
+            let front = self.weight(node, End::Front, first..middle);
+            let back = self.weight(node, End::Back, middle..middle + backs);
+            if front != back {
+                takes_front = front < back;
+            }
+        }
         let (end, sign, children) = if takes_front {
             (End::Front, b'+', first..middle)
         } else {

@@ -91,17 +91,22 @@ impl Run {
         self.known.lower >= self.known.upper
     }
 
+    /// The sequence and its makespan, as what a search for a better one has reached.
+    pub(crate) fn best(&self, alloc: Global) -> Result<Reached, AllocError>
+        ensures { (shop : Shop) → IsRun shop self.now →
+            IfOk result (λ best. IsSequence shop.jobs best.sequence) }
+    {
+        Ok(Reached {
+            sequence: Sequence::of_known(alloc, self.known.sequence.jobs())?,
+            value: self.known.upper,
+            whole: false,
+        })
+    }
+
     /// Takes a sequence where its makespan is smaller.
-    pub(crate) fn take(
-        &mut self,
-        alloc: Global,
-        instance: &Instance,
-        reached: &Reached,
-    ) -> Result<(), AllocError>
-        requires run { IsRun instance.now self.old }
-        requires sequence { IsSequence instance.now.jobs reached.now.sequence }
-        requires value { reached.now.value ≡ span instance.now reached.now.sequence }
-        ensures { IsLater instance.now self.old self.new }
+    pub(crate) fn take(&mut self, alloc: Global, reached: &Reached) -> Result<(), AllocError>
+        ensures { (shop : Shop) → IsRun shop self.old → IsSequence shop.jobs reached.now.sequence →
+            reached.now.value ≡ span shop reached.now.sequence → IsLater shop self.old self.new }
     {
         if reached.value < self.known.upper {
             let sequence = Sequence::of_known(alloc, reached.sequence.jobs())?;

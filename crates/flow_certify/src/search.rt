@@ -52,7 +52,7 @@ fn prove_best(
     }
     let width = effort.width.min(NARROW);
     let narrow = beam(alloc, instance, start, width, effort.beam_work())?;
-    run.take(alloc, instance, &narrow)?;
+    run.take(alloc, &narrow)?;
     if narrow.whole {
         return run.prove_upper(alloc, instance, whole);
     }
@@ -82,7 +82,7 @@ fn prove_on(
     ensures { IsLater instance.now run.old run.new }
 {
     let whole = run.whole;
-    run.take(alloc, instance, beamed)?;
+    run.take(alloc, beamed)?;
     if beamed.whole {
         return run.prove_upper(alloc, instance, whole);
     }
@@ -90,8 +90,9 @@ fn prove_on(
     if run.is_proved() {
         return Ok(());
     }
-    let best = rounds_of_both(alloc, instance, start, beamed, effort)?;
-    run.take(alloc, instance, &best)?;
+    let best = run.best(alloc)?;
+    let best = rounds_of_both(alloc, instance, start, &best, effort)?;
+    run.take(alloc, &best)?;
     run.prove_with(alloc, instance, &MIDDLE)?;
     run.prove_upper(alloc, instance, whole / 10)
 }
@@ -117,15 +118,8 @@ fn widened(
 }
 
 /// Looks for a sequence that has the proved number as its makespan, by a beam that is aimed at the next number.
-fn aim(
-    alloc: Global,
-    instance: &Instance,
-    start: &Sequence,
-    effort: &Effort,
-    run: &mut Run,
-) -> Result<(), AllocError>
-    requires start { length start.now ≡ instance.now.jobs }
-    requires run { IsRun instance.now run.old }
+fn aim(alloc: Global, instance: &Instance, effort: &Effort, run: &mut Run) -> Result<(), AllocError>
+    requires { IsRun instance.now run.old }
     ensures { IsLater instance.now run.old run.new }
 {
     if run.is_proved() {
@@ -133,32 +127,31 @@ fn aim(
     }
     let number = run.known.lower.saturating_add(1);
     let width = effort.width.saturating_mul(4).min(AIMED);
-    let aimed = beam_below(alloc, instance, start, number, width, effort.beam_work())?;
-    run.take(alloc, instance, &aimed)
+    let work = effort.beam_work();
+    let aimed = beam_below(alloc, instance, &run.known.sequence, number, width, work)?;
+    run.take(alloc, &aimed)
 }
 
 /// Raises the proved number with greater and greater budgets, looks for a sequence that has it as its makespan, and
 /// searches below the makespan of the best sequence with the whole budget.
-fn close(
+fn prove_more(
     alloc: Global,
     instance: &Instance,
-    start: &Sequence,
     effort: &Effort,
     run: &mut Run,
 ) -> Result<(), AllocError>
-    requires start { length start.now ≡ instance.now.jobs }
-    requires run { IsRun instance.now run.old }
+    requires { IsRun instance.now run.old }
     ensures { IsLater instance.now run.old run.new }
 {
     let whole = run.whole;
-    run.raise(alloc, instance, whole / 1_000)?;
+    run.raise(alloc, instance, SMALL[0].min(whole / 10))?;
     run.raise(alloc, instance, whole / 30)?;
-    aim(alloc, instance, start, effort, run)?;
+    aim(alloc, instance, effort, run)?;
     run.prove_upper(alloc, instance, whole)?;
     let proved = run.known.lower;
     run.raise(alloc, instance, whole / 10)?;
     if run.known.lower > proved {
-        aim(alloc, instance, start, effort, run)?;
+        aim(alloc, instance, effort, run)?;
     }
     Ok(())
 }
@@ -183,7 +176,7 @@ pub fn certify(
     let mut run = Run::new(alloc, instance, start, directions)?;
     prove_best(alloc, instance, start, effort, &mut run)?;
     if !run.is_proved() {
-        close(alloc, instance, start, effort, &mut run)?;
+        prove_more(alloc, instance, effort, &mut run)?;
     }
     let Run { known, .. } = run;
     Ok(known)

@@ -161,7 +161,8 @@ sequence-read shop version bytes depth value jobs rest limits h =
     ∙ ap (sequence_value shop version depth value rest)
     (numbers-whole jobs (omega (arith, whole, some)) fits)
     ∙ ap (λ o. option_map_or (λ fault. Err Sequence) o
-    (cond (nat_eq (span shop jobs) value) (cut_value shop version depth value rest) (Err NotAttained))) (is-fault-none shop.jobs jobs h.0)
+    (cond (nat_eq (span shop jobs) value) (cut_value shop version depth value rest) (Err NotAttained)))
+    (is-fault-none shop.jobs jobs h.0)
 
 no-sequence : {A : Type 0} (shop : Shop) (jobs : List ℕ) (next : Result A CheckFault) (o : Option SequenceFault) →
     (o ≡ None → ⊥) → option_map_or (λ fault. Err Sequence) o next ≡ Err Sequence

@@ -16,7 +16,7 @@ GivesSequence shop bytes sequence = IsCertificateWith shop bytes (span shop sequ
 abbrev pub both : ℕ → Bounds
 both value = record { lower = value; upper = value }
 
--- a text is a lawful one of a kind that states these bounds and this sequence; the value of a certificate is both bounds
+-- a text is a lawful one of a kind that states these bounds and this sequence; a certificate's value is both bounds
 abbrev pub GivesAs : TextKind → Shop → List ℕ → Bounds → List ℕ → Type 0
 GivesAs Certificate shop bytes bounds sequence =
     (value : ℕ) × (bounds ≡ both value) × IsCertificateWith shop bytes value sequence

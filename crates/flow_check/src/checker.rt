@@ -4,7 +4,6 @@ ghost use Rattle.std.specs.Prelude.{◌≡◌, ◌⊎◌, ℕ, List, IfOk, IfErr
 ghost use Rattle.std.specs.Str.{bytes_eq};
 ghost use Rattle.flow_shop.specs.Paths.{span};
 ghost use Rattle.flow_shop.specs.Sequences.{IsLeastMakespan, IsSequence};
-ghost use Rattle.flow_shop.specs.Shop.{IsWithinLimits};
 ghost use Rattle.flow_check.specs.Certificate.{IsCertificate};
 ghost use Rattle.flow_check.specs.TextLines.{line, ending};
 ghost use Rattle.flow_check.specs.Check.{IsFirstFault, IsOfNoValue};
@@ -37,7 +36,6 @@ pub(crate) fn check_certificate(
     instance: &Instance,
     bytes: &[u8],
 ) -> Result<Shown, CheckFault>
-    ensures limits { IsWithinLimits instance.now }
     ensures text { IfOk result (λ shown.
         GivesAs Certificate instance.now bytes.now shown.bounds shown.sequence) }
     ensures lawful { (bounds : Bounds) (sequence : List ℕ) →

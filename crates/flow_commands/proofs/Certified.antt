@@ -1,6 +1,6 @@
 -- What `certify` answers: a lawful text that is short enough for `check`.
-use Rattle.std.proofs.Common.{◌≡◌, ◌≤◌, ◌<◌, ◌+◌, ◌*◌, ◌^◌, refl, ℕ, zero, List, [], ◌∷◌, ◌++◌, length, min, arith}
-use Rattle.std.proofs.Common.{Option, Some, None, Ok, Err, decimal, length-append}
+use Rattle.std.proofs.Common.{◌≡◌, ◌≤◌, ◌<◌, ◌+◌, ◌*◌, ◌^◌, refl, ℕ, List, [], ◌∷◌, ◌++◌, length, min, arith}
+use Rattle.std.proofs.Common.{Option, None, Ok, decimal, length-append}
 use Rattle.std.specs.List.{AllByRecursion}
 use Rattle.std.proofs.lemmas.Fmt.{length-decimal-le}
 use Rattle.std.proofs.lemmas.List.Elements.{recursion_from_All}
@@ -9,11 +9,10 @@ use Rattle.flow_core.specs.Limits.{most_certificate, most_jobs, most_machines}
 use Rattle.flow_core.specs.Paths.{span}
 use Rattle.flow_core.specs.Sequences.{IsSequence}
 use Rattle.flow_core.specs.Shop.{Shop, IsWithinLimits}
-use Rattle.flow_shop.specs.Directions.{Proves}
+use Rattle.flow_core.specs.Directions.{Proves}
 use Rattle.flow_certify.specs.Signs.{most_signs}
 use Rattle.flow_check.specs.TextLines.{ending, line, spaced}
-use Rattle.flow_check.specs.TwoEnded.{IsTwoEnded, ShowsBounds, bounds_lines, sequence_lines, size_lines, title_line}
-use Rattle.flow_check.specs.TwoEnded.{two_ended_text}
+use Rattle.flow_check.specs.TwoEnded.{IsTwoEnded, ShowsBounds, title_line, two_ended_text}
 use Rattle.flow_check.specs.declared.bounds.Bounds.{Bounds}
 use Rattle.flow_check.proofs.TwoEndedLaws.{two_ended_is_sound}
 use Rattle.flow_requests.specs.declared.CertifyRequest.{CertifyRequest}
@@ -21,7 +20,6 @@ use Rattle.flow_commands.specs.Certify.{AnswersCertify, Certifies, WroteTwoEnded
 use Rattle.flow_commands.specs.Improve.{IsImproved}
 use Rattle.flow_commands.specs.Runs.{SinkRun, Took}
 use Rattle.flow_commands.specs.Start.{StartsFrom}
-use Rattle.flow_commands.specs.declared.fault.CommandFault.{CommandFault}
 
 -- two numbers and a space
 pair-short : (digits n m : ℕ) → 0 < digits → n < 10 ^ digits → m < 10 ^ digits → n < 2 ^ 64 → m < 2 ^ 64 →
@@ -47,6 +45,13 @@ jobs-short n limit (job ∷ other ∷ jobs) each =
 line-length : (text : List ℕ) → length (line text) ≡ length text + 1
 line-length text = length-append text (10 ∷ [])
 
+-- the length of six lists, one after another
+six-length : (a b c d e f : List ℕ) →
+    length (a ++ b ++ c ++ d ++ e ++ f) ≡ length a + length b + length c + length d + length e + length f
+six-length a b c d e f =
+    omega (arith, length-append (a ++ b ++ c ++ d ++ e) f, length-append (a ++ b ++ c ++ d) e,
+    length-append (a ++ b ++ c) d, length-append (a ++ b) c, length-append a b)
+
 -- a text with so many directions is within the bytes that `check` reads
 text-short : (shop : Shop) (bounds : Bounds) (jobs directions : List ℕ) → IsWithinLimits shop →
     ShowsBounds shop bounds jobs directions → length directions ≤ most_signs →
@@ -64,31 +69,34 @@ text-short shop bounds jobs directions limits shows few =
     shows.whole.each.range) in
     let size : List ℕ = spaced (shop.jobs ∷ shop.machines ∷ []) in
     let numbers : List ℕ = spaced (bounds.lower ∷ bounds.upper ∷ []) in
-    let in_title : length title_line ≡ 21 = refl in
-    let in_ending : length (line ending) ≡ 4 = refl in
-    let in_size : length (size_lines shop) ≤ 29 =
-    omega (arith, length-append title_line (line size), line-length size, of_size, in_title) in
-    let in_bounds : length (bounds_lines shop bounds) ≤ 71 =
-    omega (arith, length-append (size_lines shop) (line numbers), line-length numbers, of_bounds, in_size) in
-    let in_sequence : length (sequence_lines shop bounds jobs) ≤ 3272 =
-    omega (arith, length-append (bounds_lines shop bounds) (line (spaced jobs)), line-length (spaced jobs), of_jobs,
-    in_bounds, shows.whole.whole, few_jobs) in
-    omega (arith, length-append (sequence_lines shop bounds jobs) (line directions ++ line ending),
-    length-append (line directions) (line ending), line-length directions, in_sequence, in_ending, few)
+    omega (arith, six-length title_line (line size) (line numbers) (line (spaced jobs)) (line directions) (line ending),
+    line-length size, line-length numbers, line-length (spaced jobs), line-length directions, of_size, of_bounds,
+    of_jobs, shows.whole.whole, few_jobs, few)
 
 -- what a search finds from the sequence to start from is certified by its text
 pub certifies : (shop : Shop) (given : Option (List ℕ)) (start jobs directions : List ℕ) (bounds : Bounds)
-    (most : ℕ) → IsWithinLimits shop → StartsFrom shop given start → ShowsBounds shop bounds jobs directions →
-    bounds.upper ≤ span shop start → length directions ≤ min most most_signs →
+    (most : ℕ) → IsWithinLimits shop → StartsFrom shop given start → IsSequence shop.jobs jobs →
+    span shop jobs ≡ bounds.upper → bounds.upper ≤ span shop start → Proves shop bounds.lower directions →
+    length directions ≤ min most most_signs →
+    (IsSequence shop.jobs jobs → span shop jobs ≡ bounds.upper → Proves shop bounds.lower directions →
+    IsTwoEnded shop (two_ended_text shop bounds jobs directions) bounds jobs) →
     Certifies shop given most (two_ended_text shop bounds jobs directions)
-certifies shop given start jobs directions bounds most limits starts shows better few =
-    let of_start : span shop jobs ≤ span shop start = omega (arith, shows.attained, better) in
+certifies shop given start jobs directions bounds most limits starts whole attained better proved few lawful =
+    let shown = (lawful whole attained proved).shows in
+    let shows : ShowsBounds shop bounds jobs directions = record {
+      lower_fits = shown.lower_fits;
+      upper_fits = shown.upper_fits;
+      whole = whole;
+      attained = attained;
+      proved = proved;
+    } in
+    let of_start : span shop jobs ≤ span shop start = omega (arith, attained, better) in
     let within : length directions ≤ most = omega (arith, few, min-le_left most most_signs) in
     let short : length directions ≤ most_signs = omega (arith, few, min-le_right most most_signs) in (
       bounds,
       jobs,
       record { directions = directions; shows = shows; text = refl },
-      (start, starts, shows.whole, of_start),
+      (start, starts, whole, of_start),
       within,
       text-short shop bounds jobs directions limits shows short,
     )
@@ -99,13 +107,8 @@ pub certified-answers : (request : CertifyRequest) (shop : Shop) (given : Option
     AnswersCertify request shop given (Ok text)
 certified-answers request shop given text accepted is = rw (AnswersCertify, accepted) (text, is, refl)
 
--- what is answered where they are refused
-pub refused-answers : (request : CertifyRequest) (shop : Shop) (given : Option (List ℕ)) (fault : CommandFault) →
-    certify_fault request ≡ Some fault → AnswersCertify request shop given (Err fault)
-refused-answers request shop given fault refused = rw (AnswersCertify, refused) refl
-
 -- the bounds of a text that is written are proved
 pub wrote-two-ended : {K : Type 0} (shop : Shop) (given : Option (List ℕ)) (most : ℕ) (text : List ℕ)
     (sink : SinkRun K) → Certifies shop given most text → Took text sink → WroteTwoEnded shop sink
-wrote-two-ended shop given most text sink (bounds, jobs, lawful, rest) took =
-    (text, bounds, jobs, took, lawful, two_ended_is_sound shop text bounds jobs lawful)
+wrote-two-ended shop given most text sink is took =
+    (text, is.0, is.1, took, is.2, two_ended_is_sound shop text is.0 is.1 is.2)

@@ -40,29 +40,34 @@ fn tested(request: CertifyRequest) -> Result<Effort, CommandFault>
 /// Certifies a block from a given sequence, if there is one, and writes the two-ended certificate.
 fn certify_block<K: Sink>(
     alloc: Global,
-    instance: &Instance,
+    instance: Instance,
     given: Option<Sequence>,
     request: CertifyRequest,
     out: &mut K,
 ) -> Result<(), CommandFault>
     requires out_works { K.has_failed out.old ≡ false }
-    requires given { IfSome given (IsSequence instance.now.jobs) }
-    ensures written { OnOk result (Wrote (AnswersCertify request instance.now given)
-        (sink_run K.taken out.old out.new)) }
-    ensures lawful { OnOk result (WroteTwoEnded instance.now (sink_run K.taken out.old out.new)) }
-    ensures ended { IfErr result (EndsAlone (AnswersCertify request instance.now given)
+    requires given { IfSome given (IsSequence instance.jobs) }
+    ensures written { OnOk result (Wrote (AnswersCertify request instance given) (sink_run K.taken out.old out.new)) }
+    ensures lawful { OnOk result (WroteTwoEnded instance (sink_run K.taken out.old out.new)) }
+    ensures ended { IfErr result (EndsAlone (AnswersCertify request instance given)
         (sink_run K.taken out.old out.new)) }
     ensures write_device { IsErrOf result (CommandFault.Write write.Device) ↔ (K.has_failed out.new ≡ true) }
     ensures reads_nothing { IsErrOf result (CommandFault.Read read.Device) → ⊥ }
 {
     let effort = tested(request)?;
-    let start = start_of(alloc, instance, given)?;
-    let found = certify(alloc, instance, &start, &effort, request.directions)?;
+    let start = start_of(alloc, &instance, given)?;
+    let found = certify(alloc, &instance, &start, &effort, request.directions)?;
     let bounds = Bounds {
         lower: found.lower,
         upper: found.upper,
     };
-    write_two_ended(instance, bounds, &found.sequence, found.directions.as_slice(), out)?;
+    write_two_ended(
+        &instance,
+        bounds,
+        &found.sequence,
+        found.directions.as_slice(),
+        out,
+    )?;
     Ok(())
 }
 
@@ -96,5 +101,5 @@ pub fn run_certify<S: Source, T: Source, K: Sink>(
     ensures start_stays { is_some start.new ≡ is_some start.old }
 {
     let (block, given) = read_inputs(alloc, file, index, start)?;
-    certify_block(alloc, &block.instance, given, request, out)
+    certify_block(alloc, block.instance, given, request, out)
 }

@@ -1,4 +1,4 @@
--- Sums and counts of the bounds of children, group by group and lane by lane.
+-- Sums of the bounds of children, group by group and lane by lane.
 use Rattle.std.proofs.Common.{◌≡◌, ◌≢◌, ℕ, suc, ◌+◌, ◌*◌, ◌<◌, Bool, true, false, cond, nat_eq, List, [], ◌∷◌, length}
 use Rattle.std.proofs.Common.{slice_index, take, drop, map, refl, ap, ◌∙◌, arith}
 use Rattle.std.specs.Int.{bit_at}
@@ -72,15 +72,3 @@ group-sum f words names group low =
     (chosen (drop (suc group) words) (drop (suc group * 16) names))
     ∙ ap (λ g. sum_by f (picked (slice_index words group) 0 (take 16 (drop (group * 16) names)))
     + sum_by f (chosen (drop g words) (drop (g * 16) names))) e
-
--- a filter of a map
-pub filter-map : (p : ℕ → Bool) (f : ℕ → ℕ) (xs : List ℕ) → filter p (map f xs) ≡ map f (filter (λ x. p (f x)) xs)
-filter-map p f [] = refl
-filter-map p f (x ∷ xs) =
-    ap (λ l. cond (p (f x)) (f x ∷ l) l) (filter-map p f xs) ∙ each (p (f x))
-  where
-    each : (b : Bool) →
-        cond b (f x ∷ map f (filter (λ x. p (f x)) xs)) (map f (filter (λ x. p (f x)) xs))
-        ≡ map f (cond b (x ∷ filter (λ x. p (f x)) xs) (filter (λ x. p (f x)) xs))
-    each true = refl
-    each false = refl

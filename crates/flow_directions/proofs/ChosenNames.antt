@@ -1,12 +1,12 @@
 -- What the names at marked places are once marks are taken away, and word by word.
-use Rattle.std.proofs.Common.{ℕ, suc, ◌≡◌, ◌+◌, ◌*◌, ◌/◌, ◌%◌, ◌<◌, ◌↔◌, Bool, true}
+use Rattle.std.proofs.Common.{ℕ, suc, ◌≡◌, ◌+◌, ◌*◌, ◌/◌, ◌%◌, ◌<◌, ◌≤◌, ◌↔◌, Bool, true}
 use Rattle.std.proofs.Common.{cond, nat_eq, filter}
 use Rattle.std.proofs.Common.{List, [], ◌∷◌, ◌++◌, length, slice_index, take, drop, refl, sym, ap, ◌∙◌, arith}
 use Rattle.std.specs.Int.{bit_at}
 use Rattle.std.proofs.lemmas.List.{take-append-drop, length-take, length-drop, drop-drop, drop_more}
 use Rattle.std.proofs.lemmas.Nat.Bits.{bit_at-zero}
 use Rattle.flow_directions.specs.internal.Words.{mark, picked, chosen}
-use Rattle.flow_directions.proofs.MarkedNames.{kept, kept-same, kept-filter, kept-none, kept-append}
+use Rattle.flow_directions.proofs.MarkedNames.{kept, kept-same, kept-filter, kept-none, kept-append, kept-short}
 
 -- the names that a word has picked from a lane on, by its bits
 pub picked-kept : (word lane : ℕ) (names : List ℕ) → picked word lane names ≡ kept (λ i. bit_at word (lane + i)) names
@@ -92,3 +92,7 @@ chosen-group words names g low =
 -- of no names none is chosen
 pub chosen-nothing : (words : List ℕ) → chosen words [] ≡ []
 chosen-nothing words = chosen-kept words []
+
+-- no more names are chosen than there are
+pub chosen-short : (words names : List ℕ) → length (chosen words names) ≤ length names
+chosen-short words names = omega (arith, ap length (chosen-kept words names), kept-short (mark words) names)

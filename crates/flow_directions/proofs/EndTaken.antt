@@ -1,25 +1,15 @@
--- The end at which a node is opened, by counts and sums of the bounds of its children.
-use Rattle.std.proofs.Common.{◌≡◌, ℕ, suc, ◌<◌, ◌≤◌, true, false, cond, ◌&&◌, ◌||◌, nat_eq, nat_lt, nat_le}
-use Rattle.std.proofs.Common.{List, ◌++◌, length, sum_by, ap, sym, ◌∙◌, inl, inr, arith}
-use Rattle.std.proofs.lemmas.Bool.{eq-eqb}
-use Rattle.std.proofs.lemmas.Bool.Decides.{leb_tells, eqb_tells}
-use Rattle.std.proofs.lemmas.List.{length-map}
+-- The end at which a node is opened: that of the plain rule, or the other one.
+use Rattle.std.proofs.Common.{◌≡◌, ℕ, suc, ◌*◌, ◌<◌, ◌≤◌, Bool, true, false, cond, ◌&&◌, nat_lt, nat_le, List, ◌++◌}
+use Rattle.std.proofs.Common.{length, refl, ap, sym, ◌∙◌, inl, inr, arith}
+use Rattle.std.proofs.lemmas.Bool.Decides.{leb_tells}
 use Rattle.flow_shop.specs.Shop.{Shop}
 use Rattle.flow_shop.specs.Sequences.{jobs_left}
 use Rattle.flow_shop.specs.declared.end.End.{End}
-use Rattle.flow_shop.specs.declared.end.End.TheVariants.{Front, Back}
-use Rattle.flow_nodes.specs.Groups.{child_bound}
-use Rattle.flow_directions.specs.Search.{child_bounds, count_below, end_taken}
-use Rattle.flow_directions.specs.internal.Packs.{jobs_below}
-use Rattle.flow_directions.proofs.BoundSums.{filter-map}
-
--- as many bounds are below a number as there are jobs left whose children are
-count-below : (shop : Shop) (number : ℕ) (end : End) (first last : List ℕ) →
-    length (jobs_below shop number end first last) ≡ count_below number (child_bounds shop end first last)
-count-below shop number end first last =
-    sym (ap length (filter-map (λ bound. nat_lt bound number) (child_bound shop end first last)
-    (jobs_left shop.jobs (first ++ last)))
-    ∙ length-map (jobs_below shop number end first last) (child_bound shop end first last))
+use Rattle.flow_directions.specs.Search.{count_below, plain_end, other_end, weight, looks_ahead, end_taken}
+use Rattle.flow_directions.specs.internal.Packs.{jobs_at}
+use Rattle.flow_directions.specs.internal.Opened.{AreEnds}
+use Rattle.flow_directions.specs.declared.below.Opened.{Opened}
+use Rattle.flow_directions.specs.declared.pack.Pack.{Pack}
 
 lt-true : (a b : ℕ) → a < b → nat_lt a b ≡ true
 lt-true a b h = elim (leb_tells (suc a) b) [
@@ -33,72 +23,67 @@ lt-false a b h = elim (leb_tells (suc a) b) [
   | inr above ↦ above.0
 ]
 
-eq-false : (a b : ℕ) → b < a → nat_eq a b ≡ false
-eq-false a b h = elim (eqb_tells a b) [
-  | inl same ↦ absurd (omega (arith, same.1, h))
-  | inr apart ↦ apart.0
-]
+-- whether the search looks ahead, by the counts at the plain rule's end and at the other one, and that of the jobs left
+abbrev by_close : ℕ → ℕ → ℕ → Bool
+by_close plain other left = nat_le 2 plain && nat_le (2 * other) (3 * plain) && nat_le 3 left
 
--- the end by two counts and two sums
-abbrev by_counts : ℕ → ℕ → ℕ → ℕ → End
-by_counts front back front_sum back_sum =
-    cond (nat_lt front back || (nat_eq front back && nat_le back_sum front_sum)) Front Back
+and-false : (b : Bool) → b && false ≡ false
+and-false true = refl
+and-false false = refl
 
-module _ (front back front_sum back_sum : ℕ) where
-  by-fewer : front < back → by_counts front back front_sum back_sum ≡ Front
-  by-fewer less =
-      ap (λ b. cond (b || (nat_eq front back && nat_le back_sum front_sum)) Front Back) (lt-true front back less)
+module _ {V : Type 0} (shop : Shop) (number : ℕ) (first last : List ℕ) (pack : Pack V) (plain other : Opened)
+    (are : AreEnds shop number first last pack plain other) where
+  -- the search looks ahead just by these counts
+  pub close-is : (plain_count other_count left : ℕ) → plain_count ≡ length (jobs_at pack plain.below) →
+      other_count ≡ length (jobs_at pack other.below) → left ≡ length (jobs_left shop.jobs (first ++ last)) →
+      by_close plain_count other_count left ≡ looks_ahead shop number first last
+  close-is plain_count other_count left plain_counted other_counted left_is =
+      let plain_same : plain_count ≡ count_below shop number (plain_end shop number first last) first last =
+      plain_counted ∙ ap length are.plain_below ∙ ap (λ e. count_below shop number e first last) are.plain_is in
+      let other_same : other_count ≡ count_below shop number (other_end shop number first last) first last =
+      other_counted ∙ ap length are.other_below ∙ ap (λ e. count_below shop number e first last) are.other_is in
+      ap (λ n. by_close n other_count left) plain_same
+      ∙ ap (λ n. by_close (count_below shop number (plain_end shop number first last) first last) n left) other_same
+      ∙ ap (by_close (count_below shop number (plain_end shop number first last) first last)
+      (count_below shop number (other_end shop number first last) first last)) left_is
 
-  by-sum : front ≡ back → by_counts front back front_sum back_sum ≡ cond (nat_le back_sum front_sum) Front Back
-  by-sum same =
-      ap (λ b. cond (b || (nat_eq front back && nat_le back_sum front_sum)) Front Back)
-      (lt-false front back (omega (arith, same)))
-      ∙ ap (λ b. cond (false || (b && nat_le back_sum front_sum)) Front Back) (eq-eqb front back same)
+  abbrev chosen_by : Bool → Bool → End
+  chosen_by ahead lighter =
+      cond (ahead && lighter) (other_end shop number first last) (plain_end shop number first last)
 
-  by-more : back < front → by_counts front back front_sum back_sum ≡ Back
-  by-more more =
-      ap (λ b. cond (b || (nat_eq front back && nat_le back_sum front_sum)) Front Back)
-      (lt-false front back (omega (arith, more)))
-      ∙ ap (λ b. cond (false || (b && nat_le back_sum front_sum)) Front Back) (eq-false front back more)
+  taken-is : end_taken shop number first last ≡ chosen_by (looks_ahead shop number first last)
+      (nat_lt (weight shop number other.end first last) (weight shop number plain.end first last))
+  unfolding end_taken
+  taken-is =
+      ap (λ e. chosen_by (looks_ahead shop number first last)
+      (nat_lt (weight shop number e first last)
+      (weight shop number (plain_end shop number first last) first last))) (sym are.other_is)
+      ∙ ap (λ e. chosen_by (looks_ahead shop number first last)
+      (nat_lt (weight shop number other.end first last) (weight shop number e first last))) (sym are.plain_is)
 
-module _ (shop : Shop) (number : ℕ) (first last fronts backs : List ℕ)
-    (fronts_are : fronts ≡ jobs_below shop number Front first last)
-    (backs_are : backs ≡ jobs_below shop number Back first last) where
-  front-count : length fronts ≡ count_below number (child_bounds shop Front first last)
-  front-count = ap length fronts_are ∙ count-below shop number Front first last
+  -- where it does not look ahead, the end of the plain rule is taken
+  pub plain-far : looks_ahead shop number first last ≡ false → plain.end ≡ end_taken shop number first last
+  plain-far far =
+      are.plain_is ∙ sym (taken-is ∙ ap (λ b. chosen_by b
+      (nat_lt (weight shop number other.end first last) (weight shop number plain.end first last))) far)
 
-  back-count : length backs ≡ count_below number (child_bounds shop Back first last)
-  back-count = ap length backs_are ∙ count-below shop number Back first last
+  -- and where the other one has no smaller weight
+  pub plain-kept : weight shop number plain.end first last ≤ weight shop number other.end first last →
+      plain.end ≡ end_taken shop number first last
+  plain-kept lighter =
+      are.plain_is ∙ sym (taken-is
+      ∙ ap (chosen_by (looks_ahead shop number first last)) (lt-false (weight shop number other.end first last)
+      (weight shop number plain.end first last) lighter)
+      ∙ ap (λ b. cond b (other_end shop number first last) (plain_end shop number first last))
+      (and-false (looks_ahead shop number first last)))
 
-  -- the front has fewer children below the number
-  pub front-fewer : length fronts < length backs → end_taken shop number first last ≡ Front
-  front-fewer less =
-      by-fewer (count_below number (child_bounds shop Front first last))
-      (count_below number (child_bounds shop Back first last))
-      (sum_by (λ bound. bound) (child_bounds shop Front first last))
-      (sum_by (λ bound. bound) (child_bounds shop Back first last))
-      (omega (arith, less, front-count, back-count))
-
-  -- both have as many
-  pub as-many : (front_sum back_sum : ℕ) → length fronts ≡ length backs →
-      front_sum ≡ sum_by (λ bound. bound) (child_bounds shop Front first last) →
-      back_sum ≡ sum_by (λ bound. bound) (child_bounds shop Back first last) →
-      end_taken shop number first last ≡ cond (nat_le back_sum front_sum) Front Back
-  as-many front_sum back_sum same front_is back_is =
-      by-sum (count_below number (child_bounds shop Front first last))
-      (count_below number (child_bounds shop Back first last))
-      (sum_by (λ bound. bound) (child_bounds shop Front first last))
-      (sum_by (λ bound. bound) (child_bounds shop Back first last))
-      (omega (arith, same, front-count, back-count))
-      ∙ ap (λ s. cond (nat_le s (sum_by (λ bound. bound) (child_bounds shop Front first last))) Front Back)
-      (sym back_is)
-      ∙ ap (λ s. cond (nat_le back_sum s) Front Back) (sym front_is)
-
-  -- the back has fewer
-  pub back-fewer : length backs < length fronts → end_taken shop number first last ≡ Back
-  back-fewer more =
-      by-more (count_below number (child_bounds shop Front first last))
-      (count_below number (child_bounds shop Back first last))
-      (sum_by (λ bound. bound) (child_bounds shop Front first last))
-      (sum_by (λ bound. bound) (child_bounds shop Back first last))
-      (omega (arith, more, front-count, back-count))
+  -- or else the other one
+  pub other-lighter : looks_ahead shop number first last ≡ true →
+      weight shop number other.end first last < weight shop number plain.end first last →
+      other.end ≡ end_taken shop number first last
+  other-lighter close lighter =
+      are.other_is ∙ sym (taken-is
+      ∙ ap (λ b. chosen_by b (nat_lt (weight shop number other.end first last)
+      (weight shop number plain.end first last))) close
+      ∙ ap (chosen_by true) (lt-true (weight shop number other.end first last)
+      (weight shop number plain.end first last) lighter))

@@ -15,5 +15,6 @@ pub mod JobsMarked
 pub mod BoundSums
 pub mod PackSteps
 pub mod EndTaken
+pub mod WeightSteps
 pub mod StartLists
 pub mod FoundSteps

@@ -150,3 +150,13 @@ kept-append marks (name ∷ first) second =
           kept-no marks name (first ++ second) unmarked ∙ rest
           ∙ sym (ap (λ l. l ++ behind) (kept-no marks name first unmarked))
     ]
+
+-- no more names are kept than there are
+pub kept-short : (marks : ℕ → ℕ) (names : List ℕ) → length (kept marks names) ≤ length names
+kept-short marks [] = omega arith
+kept-short marks (name ∷ names) =
+    let rest = kept-short (λ i. marks (suc i)) names in
+    elim (cases_eq (marks 0) 1) [
+      | inl marked ↦ omega (arith, ap length (kept-yes marks name names marked), rest)
+      | inr unmarked ↦ omega (arith, ap length (kept-no marks name names unmarked), rest)
+    ]

@@ -15,9 +15,8 @@ use Rattle.flow_shop.proofs.JobsLeft.{each-left}
 use Rattle.flow_nodes.specs.Nodes.{IsJob}
 use Rattle.flow_nodes.specs.Groups.{child_bound}
 use Rattle.flow_directions.specs.Search.{end_taken, Visit, opens, visits, signs, first_reached}
-use Rattle.flow_directions.specs.Search.{directions_of, first_below}
+use Rattle.flow_directions.specs.Search.{directions_of, first_below, jobs_below}
 use Rattle.flow_directions.specs.internal.Lists.{HasLists}
-use Rattle.flow_directions.specs.internal.Packs.{jobs_below}
 use Rattle.flow_directions.specs.declared.lists.Lists.{Lists}
 use Rattle.flow_directions.proofs.VisitSteps.{child_visits, visits-high, visits-open, none-or-reached}
 use Rattle.flow_directions.proofs.VisitSteps.{signs-append, first_reached-append, signs-append-reached}

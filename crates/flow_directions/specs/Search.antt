@@ -1,6 +1,6 @@
 -- The search for directions that prove a number: at which end it opens a node, and what it meets.
-use Rattle.std.specs.Prelude.{ℕ, zero, suc, ◌≡◌, ◌<◌, ◌≤◌, ◌↔◌, Bool, cond, ◌||◌, ◌&&◌, nat_eq, nat_lt, nat_le}
-use Rattle.std.specs.Prelude.{List, [], ◌∷◌, ◌++◌, length, map, filter, sum_by, Option, Some, None}
+use Rattle.std.specs.Prelude.{ℕ, zero, suc, ◌≡◌, ◌*◌, ◌<◌, ◌≤◌, ◌↔◌, min, Bool, cond, ◌||◌, ◌&&◌, nat_eq, nat_lt, nat_le}
+use Rattle.std.specs.Prelude.{List, [], ◌∷◌, ◌++◌, length, filter, sum_by, Option, Some, None}
 use Rattle.std.specs.List.{flat_map}
 use Rattle.flow_shop.specs.Shop.{Shop}
 use Rattle.flow_shop.specs.Paths.{span}
@@ -13,26 +13,63 @@ use Rattle.flow_nodes.specs.Groups.{child_bound}
 use Rattle.flow_directions.specs.declared.found.Found.{Found}
 use Rattle.flow_directions.specs.declared.found.Found.TheVariants.{Proved, Below, Over}
 
--- the bounds of the children of a node that put a job at an end, in increasing order of the job
-abbrev pub child_bounds : Shop → End → List ℕ → List ℕ → List ℕ
-child_bounds shop end first last = map (child_bound shop end first last) (jobs_left shop.jobs (first ++ last))
+-- the jobs left whose children at an end are below a number, in increasing order
+abbrev pub jobs_below : Shop → ℕ → End → List ℕ → List ℕ → List ℕ
+jobs_below shop number end first last =
+    filter (λ job. nat_lt (child_bound shop end first last job) number) (jobs_left shop.jobs (first ++ last))
 
--- how many of some bounds are below a number
-abbrev pub count_below : ℕ → List ℕ → ℕ
-count_below number bounds = length (filter (λ bound. nat_lt bound number) bounds)
+-- how many children of a node at an end are below a number
+abbrev pub count_below : Shop → ℕ → End → List ℕ → List ℕ → ℕ
+count_below shop number end first last = length (jobs_below shop number end first last)
 
--- whether the front is taken, by the bounds of the children at both ends: there fewer are below the number; or as many
--- are, and the bounds sum to no less
-abbrev pub front_is_taken : ℕ → List ℕ → List ℕ → Bool
-front_is_taken number fronts backs =
-    nat_lt (count_below number fronts) (count_below number backs)
-    || (nat_eq (count_below number fronts) (count_below number backs)
-    && nat_le (sum_by (λ bound. bound) backs) (sum_by (λ bound. bound) fronts))
+-- the sum of the bounds of all children of a node at an end
+abbrev pub bound_sum : Shop → End → List ℕ → List ℕ → ℕ
+bound_sum shop end first last = sum_by (child_bound shop end first last) (jobs_left shop.jobs (first ++ last))
 
--- the end at which a node is opened
-abbrev pub end_taken : Shop → ℕ → List ℕ → List ℕ → End
+-- whether the plain rule takes the front: there fewer children are below the number; or as many are, and the bounds sum
+-- to no less
+abbrev pub is_plain_front : Shop → ℕ → List ℕ → List ℕ → Bool
+is_plain_front shop number first last =
+    nat_lt (count_below shop number Front first last) (count_below shop number Back first last)
+    || (nat_eq (count_below shop number Front first last) (count_below shop number Back first last)
+    && nat_le (bound_sum shop Back first last) (bound_sum shop Front first last))
+
+-- the end that the plain rule takes
+abbrev pub plain_end : Shop → ℕ → List ℕ → List ℕ → End
+plain_end shop number first last = cond (is_plain_front shop number first last) Front Back
+
+-- the end that the plain rule does not take
+abbrev pub other_end : Shop → ℕ → List ℕ → List ℕ → End
+other_end shop number first last = cond (is_plain_front shop number first last) Back Front
+
+-- how many children of a node are below the number at the end where they are fewer
+abbrev pub fewest_below : Shop → ℕ → List ℕ → List ℕ → ℕ
+fewest_below shop number first last =
+    min (count_below shop number Front first last) (count_below shop number Back first last)
+
+-- the weight of an end: the sum of these numbers, of each child there that is below the number
+unfoldable pub weight : Shop → ℕ → End → List ℕ → List ℕ → ℕ
+weight shop number end first last =
+    sum_by (λ job. fewest_below shop number (first_with end first job) (last_with end last job))
+    (jobs_below shop number end first last)
+
+-- whether the search looks ahead at a node: of the plain rule's end at least 2 children are below the number, of the
+-- other end at most half as many more, and at least 3 jobs are left
+abbrev pub looks_ahead : Shop → ℕ → List ℕ → List ℕ → Bool
+looks_ahead shop number first last =
+    nat_le 2 (count_below shop number (plain_end shop number first last) first last)
+    && nat_le (2 * count_below shop number (other_end shop number first last) first last)
+    (3 * count_below shop number (plain_end shop number first last) first last)
+    && nat_le 3 (length (jobs_left shop.jobs (first ++ last)))
+
+-- the end at which a node is opened: that of the plain rule; or the other one, where the search looks ahead and finds
+-- that the other one has the smaller weight
+unfoldable pub end_taken : Shop → ℕ → List ℕ → List ℕ → End
 end_taken shop number first last =
-    cond (front_is_taken number (child_bounds shop Front first last) (child_bounds shop Back first last)) Front Back
+    cond (looks_ahead shop number first last
+    && nat_lt (weight shop number (other_end shop number first last) first last)
+    (weight shop number (plain_end shop number first last) first last))
+    (other_end shop number first last) (plain_end shop number first last)
 
 -- what the search meets: a node that it opens, at an end; or a sequence below the number
 pub data Visit : Type 0 where

@@ -4,3 +4,4 @@ pub mod Packs
 pub mod Walk
 pub mod Start
 pub mod Reached
+pub mod Opened

@@ -1,6 +1,8 @@
 //! The search for directions that prove a lower bound on the makespans of a node's sequences.
 #![tactic(auto)]
 
+mod ahead;
+mod below;
 mod branch;
 mod directions;
 mod found;

@@ -1,52 +1,21 @@
-//! The end at which a node is opened, and its children below a number.
+//! The end at which a node is opened.
 
 ghost use Rattle.std.specs.Prelude.{◌≡◌, ℕ, ◌*◌, ◌<◌, ◌≤◌, false, List, ◌++◌, min, sum_by, length, slice_index};
 ghost use Rattle.std.specs.Int.{bit_at};
-ghost use Rattle.flow_limits.specs.Limits.{most_machines};
-ghost use Rattle.flow_shop.specs.Shop.{Shop};
 ghost use Rattle.flow_nodes.specs.Nodes.{IsJob, IsNode};
 ghost use Rattle.flow_nodes.specs.Groups.{IsGroup, child_bound};
 ghost use Rattle.flow_shop.specs.Sequences.{has};
-ghost use Rattle.flow_directions.specs.Search.{child_bounds, end_taken};
+ghost use Rattle.flow_directions.specs.Search.{bound_sum, end_taken, jobs_below};
 ghost use Rattle.flow_directions.specs.internal.Words.{mark, picked};
-ghost use Rattle.flow_directions.specs.internal.Packs.{HasRoom, IsBranch, jobs_at, jobs_below};
+ghost use Rattle.flow_directions.specs.internal.Packs.{IsBranch, jobs_at};
 
+use crate::ahead::look_ahead;
+use crate::below::{Opened, marks_below};
 use crate::branch::Branch;
 use crate::pack::Pack;
-use crate::words::{LANES, Words};
+use crate::words::LANES;
 use flow_nodes::{Lanes, Node};
 use flow_shop::{End, Instance};
-
-/// The end at which a node is opened, and marks of the jobs whose children there are below the number.
-#[derive(Clone, Copy)]
-pub(crate) struct Opened {
-    pub(crate) end: End,
-    pub(crate) below: Words,
-}
-
-/// Marks the jobs left whose children at an end are below a number.
-#[inline(always)]
-fn marks_below<V: Lanes>(pack: &Pack<V>, branch: &Branch, end: End, limit: u32) -> Words
-    requires wide { V.WIDTH ≡ 16 }
-    requires limit { limit ≤ V.CAP }
-    requires room { (shop : Shop) × HasRoom shop pack.now × (shop.machines ≤ most_machines) }
-    ensures within { (place : ℕ) → mark result.words place ≡ 1 → mark branch.now.left.words place ≡ 1 }
-    ensures below { (shop : Shop) (number : ℕ) (first last : List ℕ) → limit ≡ min number 4294967295 →
-        IsBranch V.list V.CAP V.WIDTH shop first last pack.now branch.now →
-        jobs_at pack.now result ≡ jobs_below shop number end first last }
-{
-    let mut below = Words::none();
-    for group in 0..pack.groups.len() {
-        let left = branch.left.words[group];
-        if left != 0 {
-            let bits = branch
-                .node
-                .children_below(end, pack.groups[group].as_slice(), limit);
-            below.words[group] = (bits & u64::from(left)) as u16;
-        }
-    }
-    below
-}
 
 /// The bound of the child that puts a job left at an end.
 fn bound_of_child(instance: &Instance, node: &Node, end: End, job: u16) -> u32
@@ -103,7 +72,7 @@ fn sum_of_bounds<V: Lanes>(instance: &Instance, pack: &Pack<V>, branch: &Branch,
     requires at { (first : List ℕ) × (last : List ℕ)
         × IsBranch V.list V.CAP V.WIDTH instance.now first last pack.now branch.now }
     ensures { (first last : List ℕ) → IsBranch V.list V.CAP V.WIDTH instance.now first last pack.now branch.now →
-        result ≡ sum_by (λ bound. bound) (child_bounds instance.now end first last) }
+        result ≡ bound_sum instance.now end first last }
 {
     let mut sum = 0;
     for group in 0..pack.groups.len() {
@@ -144,24 +113,24 @@ pub(crate) fn open<V: Lanes>(
         IsBranch V.list V.CAP V.WIDTH instance.now first last pack.now branch.now →
         jobs_at pack.now result.below ≡ jobs_below instance.now number result.end first last }
 {
-    let fronts = marks_below(pack, branch, End::Front, limit);
-    let backs = marks_below(pack, branch, End::Back, limit);
+    let front = Opened {
+        end: End::Front,
+        below: marks_below(pack, branch, End::Front, limit),
+    };
+    let back = Opened {
+        end: End::Back,
+        below: marks_below(pack, branch, End::Back, limit),
+    };
     let groups = pack.groups.len();
-    let front_count = fronts.count(groups);
-    let back_count = backs.count(groups);
+    let front_count = front.below.count(groups);
+    let back_count = back.below.count(groups);
     let takes_front = front_count < back_count
         || front_count == back_count
             && sum_of_bounds(instance, pack, branch, End::Back)
                 <= sum_of_bounds(instance, pack, branch, End::Front);
     if takes_front {
-        Opened {
-            end: End::Front,
-            below: fronts,
-        }
+        look_ahead(instance, pack, branch, limit, &front, &back)
     } else {
-        Opened {
-            end: End::Back,
-            below: backs,
-        }
+        look_ahead(instance, pack, branch, limit, &back, &front)
     }
 }

@@ -6,7 +6,7 @@ ghost use Rattle.flow_shop.specs.Paths.{span};
 ghost use Rattle.flow_shop.specs.Sequences.{IsSequence};
 ghost use Rattle.flow_improve.specs.internal.Reaches.{IsReached};
 
-use flow_shop::{Instance, Sequence, SequenceFault, makespan};
+use flow_shop::{Instance, Sequence, makespan};
 use std::alloc::{AllocError, Global};
 
 /// The best sequence of a search.
@@ -19,19 +19,6 @@ pub struct Reached {
     /// Whether the search ended because the makespan has Taillard's bound, or because a pass dropped nothing. No
     /// contract says that no sequence has a smaller makespan then.
     pub whole: bool,
-}
-
-/// The sequence of these jobs, which are one.
-pub(crate) fn sequence_of(
-    alloc: Global,
-    instance: &Instance,
-    jobs: &[u16],
-) -> Result<Sequence, AllocError>
-    requires { IsSequence instance.now.jobs jobs.now }
-    ensures { IfOk result (λ sequence. sequence ≡ jobs.now) }
-{
-    // The jobs are a sequence, so an error is that memory ran out.
-    Sequence::new(alloc, instance, jobs).map_err(|_| AllocError)
 }
 
 impl Reached {
@@ -47,36 +34,31 @@ impl Reached {
         ensures value { IfOk result (λ reached. reached.value ≡ span instance.now sequence.now) }
     {
         Ok(Reached {
-            sequence: sequence_of(alloc, instance, sequence.jobs())?,
+            sequence: Sequence::of_known(alloc, sequence.jobs())?,
             value: makespan(instance, sequence),
             whole,
         })
     }
 
-    /// Takes these jobs, where they are a sequence of a smaller makespan.
+    /// Takes the sequence of these jobs, where its makespan is smaller.
     pub(crate) fn take(
         &mut self,
         alloc: Global,
         instance: &Instance,
         jobs: &[u16],
     ) -> Result<(), AllocError>
-        requires { IsReached instance.now self.old }
+        requires reached { IsReached instance.now self.old }
+        requires jobs { IsSequence instance.now.jobs jobs.now }
         ensures reached { IsReached instance.now self.new }
         ensures least { self.new.value ≤ self.old.value }
     {
-        match Sequence::new(alloc, instance, jobs) {
-            Ok(sequence) => {
-                let value = makespan(instance, &sequence);
-                if value < self.value {
-                    self.sequence = sequence;
-                    self.value = value;
-                }
-                Ok(())
-            }
-            Err(SequenceFault::Memory) => Err(AllocError),
-            // No pass gives such jobs.
-            Err(_) => Ok(()),
+        let sequence = Sequence::of_known(alloc, jobs)?;
+        let value = makespan(instance, &sequence);
+        if value < self.value {
+            self.sequence = sequence;
+            self.value = value;
         }
+        Ok(())
     }
 
     /// The one of smaller makespan; on a tie this one.

@@ -6,7 +6,7 @@ ghost use Rattle.flow_shop.specs.Paths.{span};
 ghost use Rattle.flow_improve.specs.internal.Rooms.{IsKnown, IsRunOf};
 ghost use Rattle.flow_improve.specs.internal.Reaches.{IsReached};
 
-use crate::reached::{Reached, sequence_of};
+use crate::reached::Reached;
 use crate::round::Rounds;
 use flow_bound::taillard_bound;
 use flow_shop::{Instance, Sequence, makespan};
@@ -141,7 +141,7 @@ pub(crate) fn rounds(
         run.go_on(instance);
     }
     Ok(Reached {
-        sequence: sequence_of(alloc, instance, run.best.jobs.as_slice())?,
+        sequence: Sequence::of_known(alloc, run.best.jobs.as_slice())?,
         value: run.best.makespan,
         whole: run.best.makespan <= least,
     })

@@ -2,31 +2,37 @@
 
 ghost use Rattle.std.specs.Prelude.{◌≡◌, ◌≤◌, length, IfOk};
 ghost use Rattle.flow_shop.specs.Paths.{span};
+ghost use Rattle.flow_shop.specs.Rows.{AreRows};
 ghost use Rattle.flow_shop.specs.Sequences.{IsSequence};
+ghost use Rattle.flow_improve.specs.internal.Beams.{ArePasses};
 ghost use Rattle.flow_improve.specs.internal.Reaches.{IsReached};
 
 mod bounds;
-mod columns;
+mod entry;
+mod groups;
 mod kept;
-mod list;
-mod node;
 mod order;
 mod pass;
 
 use crate::reached::Reached;
 use crate::two_ended::order::Mode;
-use crate::two_ended::pass::Passes;
+use crate::two_ended::pass::{Passes, Plan, greatest_time};
 use flow_bound::taillard_bound;
-use flow_shop::{Instance, Sequence};
+use flow_nodes::Lanes;
+use flow_shop::{Instance, Row, Sequence, rows};
 use std::alloc::{AllocError, Global};
+use std::simd::prelude::*;
 
 /// When a search ends.
 #[derive(Drop)]
 struct Limits {
     /// Taillard's lower bound.
     least: u64,
-    /// The number that is aimed at: a sequence below it ends the search, and no other child is kept.
+    /// The number that is aimed at: no child is kept whose bound is not below it, and a sequence below it ends the
+    /// search.
     aim: Option<u64>,
+    /// The greatest width of a pass.
+    width: u32,
     /// The most steps of a pass of width 1. One of another width has as many for each unit of its width.
     narrow: u64,
     /// The most steps of all passes.
@@ -35,12 +41,13 @@ struct Limits {
 
 impl Limits {
     /// Those of an instance.
-    fn of(instance: &Instance, aim: Option<u64>, work: u64) -> Limits {
+    fn of(instance: &Instance, aim: Option<u64>, width: u32, work: u64) -> Limits {
         let jobs = u64::from(instance.jobs());
         let machines = u64::from(instance.machines());
         Limits {
             least: taillard_bound(instance),
             aim,
+            width,
             narrow: jobs
                 .saturating_mul(jobs.saturating_add(1))
                 .saturating_mul(machines),
@@ -49,38 +56,44 @@ impl Limits {
     }
 
     /// The most steps of a pass.
-    fn steps(&self, width: u32) -> u64 {
-        self.narrow.saturating_mul(u64::from(width))
+    fn steps(&self, plan: &Plan) -> u64 {
+        self.narrow.saturating_mul(u64::from(plan.width))
     }
 
-    /// Children whose bound is at least this number are not kept where the best makespan so far is the given one.
-    fn below(&self, best: u64) -> u64 {
-        best.min(self.aim.unwrap_or(best))
+    /// A width that no pass exceeds.
+    fn widest(&self) -> usize {
+        u64::from(self.width).min(self.work / self.narrow.max(1)) as usize
     }
 
     /// Whether a sequence of this makespan is below the number that is aimed at.
-    fn is_aimed(&self, makespan: u64) -> bool {
+    fn is_reached(&self, makespan: u64) -> bool {
         self.aim.is_some_and(|number| makespan < number)
     }
 
-    /// A width that no pass exceeds, where none exceeds the given one.
-    fn widest(&self, width: u32) -> usize {
-        u64::from(width).min(self.work / self.narrow.max(1)) as usize
+    /// A pass of a width.
+    fn plan(&self, width: u32, mode: Mode) -> Plan {
+        Plan {
+            width,
+            mode,
+            below: self.aim.unwrap_or(u64::MAX),
+        }
     }
 }
 
 /// Makes a pass and takes the sequence that it comes to. Returns whether the search has ended, with this pass or before
 /// it.
-fn ends_with(
+fn ends_with<V: Lanes>(
     alloc: Global,
     instance: &Instance,
     limits: &Limits,
-    passes: &mut Passes,
+    passes: &mut Passes<V>,
     reached: &mut Reached,
-    width: u32,
-    mode: Mode,
+    plan: &Plan,
 ) -> Result<bool, AllocError>
-    requires { IsReached instance.now reached.old }
+    requires wide { V.WIDTH ≡ 16 }
+    requires passes { ArePasses V.list V.CAP V.WIDTH instance.now passes.old }
+    requires reached { IsReached instance.now reached.old }
+    ensures passes { ArePasses V.list V.CAP V.WIDTH instance.now passes.new }
     ensures reached { IsReached instance.now reached.new }
     ensures least { reached.new.value ≤ reached.old.value }
 {
@@ -88,15 +101,13 @@ fn ends_with(
         reached.whole = true;
         return Ok(true);
     }
-    if limits.is_aimed(reached.value)
-        || passes.steps.saturating_add(limits.steps(width)) > limits.work
+    if limits.is_reached(reached.value)
+        || passes.steps.saturating_add(limits.steps(plan)) > limits.work
     {
         return Ok(true);
     }
-    let is_aimed = limits.aim.is_some();
-    let below = limits.below(reached.value);
-    let is_whole = passes.pass(instance, width as usize, mode, below, is_aimed)?;
-    if let Some(jobs) = passes.least() {
+    let is_whole = passes.pass(instance, &plan.at_most(reached.value))?;
+    if let Some(jobs) = passes.least(instance) {
         reached.take(alloc, instance, jobs)?;
     }
     reached.whole = is_whole;
@@ -104,38 +115,62 @@ fn ends_with(
 }
 
 /// Makes passes of the widths 1, 2, 4 and so on, two of each, until the search has ended.
-fn search(
+fn search<V: Lanes>(
     alloc: Global,
     instance: &Instance,
     limits: &Limits,
-    passes: &mut Passes,
+    passes: &mut Passes<V>,
     reached: &mut Reached,
-    widest: u32,
 ) -> Result<(), AllocError>
-    requires { IsReached instance.now reached.old }
+    requires wide { V.WIDTH ≡ 16 }
+    requires passes { ArePasses V.list V.CAP V.WIDTH instance.now passes.old }
+    requires reached { IsReached instance.now reached.old }
     ensures reached { IsReached instance.now reached.new }
     ensures least { reached.new.value ≤ reached.old.value }
 {
     for doublings in 0..32_u32 {
         let width = 1_u32 << doublings;
-        if width > widest {
+        if width > limits.width {
             break;
         }
-        if ends_with(alloc, instance, limits, passes, reached, width, Mode::Bound)?
-            || ends_with(alloc, instance, limits, passes, reached, width, Mode::Sum)?
-        {
+        let plan = limits.plan(width, Mode::Bound);
+        if ends_with(alloc, instance, limits, passes, reached, &plan)? {
+            break;
+        }
+        let plan = limits.plan(width, Mode::Sum);
+        if ends_with(alloc, instance, limits, passes, reached, &plan)? {
             break;
         }
     }
     Ok(())
 }
 
+/// Makes passes until the search has ended, with bounds side by side in lanes.
+fn search_in<V: Lanes>(
+    alloc: Global,
+    instance: &Instance,
+    limits: &Limits,
+    rows: Vec<Row>,
+    reached: &mut Reached,
+) -> Result<(), AllocError>
+    requires wide { V.WIDTH ≡ 16 }
+    requires rows { AreRows instance.now rows.items }
+    requires reached { IsReached instance.now reached.old }
+    ensures reached { IsReached instance.now reached.new }
+    ensures least { reached.new.value ≤ reached.old.value }
+{
+    let mut passes = Passes::<V>::new(alloc, instance, rows, limits.widest())?;
+    search(alloc, instance, limits, &mut passes, reached)
+}
+
+/// The greatest number below the cap of lanes of 16 bits.
+const NARROW: u64 = 65_534;
+
 /// The best sequence of a search within limits, and whether it ended as whole.
 fn best_within(
     alloc: Global,
     instance: &Instance,
     start: &Sequence,
-    width: u32,
     limits: &Limits,
 ) -> Result<Reached, AllocError>
     requires start { length start.now ≡ instance.now.jobs }
@@ -143,8 +178,14 @@ fn best_within(
     ensures least { IfOk result (λ reached. reached.value ≤ span instance.now start.now) }
 {
     let mut reached = Reached::new(alloc, instance, start, false)?;
-    let mut passes = Passes::new(alloc, instance, limits.widest(width))?;
-    search(alloc, instance, limits, &mut passes, &mut reached, width)?;
+    let rows = rows(alloc, instance)?;
+    // No bound is the sum of more times than these.
+    let most = u64::from(instance.jobs()) + u64::from(instance.machines());
+    if most * u64::from(greatest_time(rows.as_slice())) <= NARROW {
+        search_in::<u16x16>(alloc, instance, limits, rows, &mut reached)?;
+    } else {
+        search_in::<u32x16>(alloc, instance, limits, rows, &mut reached)?;
+    }
     reached.whole = reached.whole || reached.value <= limits.least;
     Ok(reached)
 }
@@ -164,13 +205,8 @@ pub fn beam(
     ensures value { IfOk result (λ reached. reached.value ≡ span instance.now reached.sequence) }
     ensures least { IfOk result (λ reached. reached.value ≤ span instance.now start.now) }
 {
-    best_within(
-        alloc,
-        instance,
-        start,
-        width,
-        &Limits::of(instance, None, work),
-    )
+    let limits = Limits::of(instance, None, width, work);
+    best_within(alloc, instance, start, &limits)
 }
 
 /// The same for a number: no child is kept whose bound is at least the number, and the search ends as soon as it comes
@@ -188,6 +224,6 @@ pub fn beam_below(
     ensures value { IfOk result (λ reached. reached.value ≡ span instance.now reached.sequence) }
     ensures least { IfOk result (λ reached. reached.value ≤ span instance.now start.now) }
 {
-    let limits = Limits::of(instance, Some(number), work);
-    best_within(alloc, instance, start, width, &limits)
+    let limits = Limits::of(instance, Some(number), width, work);
+    best_within(alloc, instance, start, &limits)
 }

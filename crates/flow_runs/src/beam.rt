@@ -3,7 +3,7 @@
 
 use crate::searches::{ANY, DOWN, comes_to, start_of};
 use flow_core::{Instance, generate};
-use flow_improve::{Reached, beam};
+use flow_improve::{Reached, beam, beam_below};
 use std::alloc::Global;
 
 /// More steps than the passes of these tests take.
@@ -22,8 +22,8 @@ type Row = (
 );
 
 static ROWS: [Row; 23] = [
-    // The pass of width 8 by bounds drops no child.
-    ([20, 5, 379_008_056], ANY, 8, WORK, 1359, WHOLE, true),
+    // The pass of width 16 by bounds drops no child.
+    ([20, 5, 379_008_056], ANY, 16, WORK, 1359, WHOLE, true),
     ([20, 5, 379_008_056], ANY, 4096, WORK, 1359, WHOLE, true),
     // Some pass drops a child.
     (
@@ -63,16 +63,16 @@ static ROWS: [Row; 23] = [
     ([15, 8, 7], ANY, 32, 15 * 16 * 8 - 1, 1247, NEH, false),
     // Steps, and the makespan where no more are allowed: each is the least number with which one more pass is made, or
     // one less.
-    ([20, 10, 587_595_453], ANY, 4096, 34_579, 1680, ANY, false),
-    ([20, 10, 587_595_453], ANY, 4096, 34_580, 1657, ANY, false),
-    ([20, 10, 587_595_453], ANY, 4096, 82_199, 1657, ANY, false),
-    ([20, 10, 587_595_453], ANY, 4096, 82_200, 1642, ANY, false),
-    ([20, 10, 587_595_453], ANY, 4096, 175_559, 1642, ANY, false),
-    ([20, 10, 587_595_453], ANY, 4096, 175_560, 1636, ANY, false),
-    ([20, 10, 587_595_453], ANY, 4096, 364_359, 1636, ANY, false),
-    ([20, 10, 587_595_453], ANY, 4096, 364_360, 1608, ANY, false),
-    ([20, 10, 587_595_453], ANY, 4096, 480_039, 1608, ANY, false),
-    ([20, 10, 587_595_453], ANY, 4096, 480_040, 1601, ANY, false),
+    ([20, 10, 587_595_453], ANY, 4096, 81_479, 1680, ANY, false),
+    ([20, 10, 587_595_453], ANY, 4096, 81_480, 1670, ANY, false),
+    ([20, 10, 587_595_453], ANY, 4096, 112_279, 1670, ANY, false),
+    ([20, 10, 587_595_453], ANY, 4096, 112_280, 1661, ANY, false),
+    ([20, 10, 587_595_453], ANY, 4096, 176_439, 1661, ANY, false),
+    ([20, 10, 587_595_453], ANY, 4096, 176_440, 1636, ANY, false),
+    ([20, 10, 587_595_453], ANY, 4096, 365_539, 1636, ANY, false),
+    ([20, 10, 587_595_453], ANY, 4096, 365_540, 1608, ANY, false),
+    ([20, 10, 587_595_453], ANY, 4096, 481_219, 1608, ANY, false),
+    ([20, 10, 587_595_453], ANY, 4096, 481_220, 1601, ANY, false),
     // One job has one sequence, whose makespan is the bound: the search ends before its first pass.
     ([1, 3, 5], ANY, 4, WORK, 145, &[1], true),
     // The second pass of width 1, which is the last one, has the bound.
@@ -98,7 +98,7 @@ static ROWS: [Row; 23] = [
 
 /// The best sequence of the first instance.
 const WHOLE: &[u16] = &[
-    6, 10, 17, 7, 3, 18, 12, 15, 1, 13, 11, 9, 16, 20, 19, 4, 5, 2, 14, 8,
+    6, 10, 17, 7, 3, 18, 15, 12, 13, 9, 5, 8, 1, 16, 4, 19, 11, 20, 14, 2,
 ];
 
 /// The starting sequence of fifteen jobs on eight machines.
@@ -134,6 +134,53 @@ fn holds(alloc: Global, row: &Row) -> bool {
 fn beam_ends_at_its_widths_and_steps(rt: HostRuntime) {
     for (number, row) in ROWS.iter().enumerate() {
         assert!(rt; holds(rt.alloc(), row), "row {number}");
+    }
+}
+
+/// A number, and what a search below it comes to with passes up to the width 32, of twenty jobs on ten machines: the
+/// makespan, the jobs, and whether the search was whole. The start has the makespan 1680, and the bound is 1448.
+static BELOW: [(u64, u64, &[u16], bool); 5] = [
+    (0, 1680, OF_TWENTY, true),
+    // A pass of width 1 keeps few children, and drops none.
+    (1449, 1680, OF_TWENTY, true),
+    // No pass comes to a sequence.
+    (1601, 1680, OF_TWENTY, false),
+    (
+        1637,
+        1636,
+        &[
+            18, 9, 3, 17, 5, 19, 12, 4, 2, 20, 8, 13, 10, 6, 11, 14, 15, 7, 16, 1,
+        ],
+        false,
+    ),
+    // The start is below the number.
+    (1681, 1680, OF_TWENTY, false),
+];
+
+/// The starting sequence of these jobs.
+const OF_TWENTY: &[u16] = &[
+    18, 5, 2, 17, 3, 6, 12, 9, 15, 10, 20, 13, 8, 14, 19, 11, 4, 7, 1, 16,
+];
+
+/// Whether the search below a number comes to what a row says.
+fn ends_below(alloc: Global, row: &(u64, u64, &'static [u16], bool)) -> bool {
+    let (number, value, list, whole) = *row;
+    let Ok(instance) = generate(alloc, 20, 10, 587_595_453) else {
+        return false;
+    };
+    let Some(start) = start_of(alloc, &instance, ANY) else {
+        return false;
+    };
+    match beam_below(alloc, &instance, &start, number, 32, WORK) {
+        Ok(best) => comes_to(&best, value, list, whole),
+        Err(_) => false,
+    }
+}
+
+#[test]
+fn beam_below_ends_with_a_sequence_below(rt: HostRuntime) {
+    for row in &BELOW {
+        assert!(rt; ends_below(rt.alloc(), row), "below {}", row.0);
     }
 }
 

@@ -1,12 +1,10 @@
 -- Packs: jobs side by side, sixteen to a group, with their names.
 use Rattle.std.specs.Prelude.{ℕ, ◌≡◌, ◌*◌, ◌<◌, ◌≤◌, List, ◌++◌, length, take, drop, slice_index, slice_index_or}
-use Rattle.std.specs.Prelude.{filter, nat_lt}
 use Rattle.std.specs.Global.{Vec}
 use Rattle.flow_shop.specs.Shop.{Shop}
 use Rattle.flow_shop.specs.Sequences.{jobs_left}
-use Rattle.flow_shop.specs.declared.end.End.{End}
 use Rattle.flow_nodes.specs.Nodes.{IsJob, IsNode}
-use Rattle.flow_nodes.specs.Groups.{IsGroup, child_bound}
+use Rattle.flow_nodes.specs.Groups.{IsGroup}
 use Rattle.flow_directions.specs.internal.Words.{chosen}
 use Rattle.flow_directions.specs.declared.words.Words.{Words}
 use Rattle.flow_directions.specs.declared.pack.Pack.{Pack}
@@ -41,8 +39,3 @@ pub record IsBranch {V : Type 0} (list : V → List ℕ) (cap width : ℕ) (shop
   pub is_node : IsNode shop first last branch.node
   pub is_pack : IsPack list cap width shop pack
   pub left : HasLeft shop first last pack.names.items branch.left
-
--- the jobs left whose children at an end are below a number
-abbrev pub jobs_below : Shop → ℕ → End → List ℕ → List ℕ → List ℕ
-jobs_below shop number end first last =
-    filter (λ job. nat_lt (child_bound shop end first last job) number) (jobs_left shop.jobs (first ++ last))

@@ -1,169 +1,135 @@
 //! The bounds of the children of a node, at both ends.
 
-ghost use Rattle.std.specs.Prelude.{◌<◌, ◌≤◌, length};
-ghost use Rattle.flow_limits.specs.Limits.{most_jobs, most_machines};
-ghost use Rattle.flow_improve.specs.declared.two_ended.columns.TheConstants.{COLUMNS};
+ghost use Rattle.std.specs.Prelude.{◌≡◌, ◌≢◌, ℕ, ◌+◌, ◌*◌, ◌/◌, ◌-◌, ◌<◌, ◌≤◌, true, false, length, slice_index, slice_index_or, All};
+ghost use Rattle.flow_limits.specs.Limits.{most_jobs};
+ghost use Rattle.flow_nodes.specs.Lanes.{capped, HasLane};
+ghost use Rattle.flow_nodes.specs.Nodes.{IsJob};
+ghost use Rattle.flow_nodes.specs.Groups.{child_bound};
+ghost use Rattle.flow_improve.specs.internal.Beams.{AreGroups, HasBounds, IsEntry, first_of, job_at, last_of};
 
-use crate::two_ended::columns::{COLUMNS, Columns, at_least, greater, plus, sums};
-use crate::two_ended::node::{End, MachineTimes, Node, add, row_of};
-use flow_limits::{MAX_JOBS, MAX_MACHINES};
-use flow_shop::Row;
+use crate::two_ended::entry::Entry;
+use crate::two_ended::groups::LANES;
+use flow_limits::MAX_JOBS;
+use flow_nodes::Lanes;
+use flow_shop::{End, Instance};
 
-/// How many groups of jobs side by side there are at most.
-const GROUPS: usize = MAX_JOBS / COLUMNS;
+/// How many groups of jobs there are at most.
+const GROUPS: usize = MAX_JOBS / LANES;
 
-/// The times of jobs side by side, a row for each machine.
-type GroupTimes = [Columns; MAX_MACHINES];
-
-/// What the bounds of a node's children are computed from.
-#[derive(Drop)]
-struct Sums {
-    front: MachineTimes,
-    back: MachineTimes,
-    /// The completion times of the prefix, and the times of all free jobs.
-    with_front: MachineTimes,
-    /// The completion times of the suffix in the mirrored instance, and the times of all free jobs.
-    with_back: MachineTimes,
-}
-
-impl Sums {
-    /// Those of a node.
-    fn of(node: &Node) -> Sums {
-        let mut with_front = node.rest;
-        add(&mut with_front, &node.front);
-        let mut with_back = node.rest;
-        add(&mut with_back, &node.back);
-        Sums {
-            front: node.front,
-            back: node.back,
-            with_front,
-            with_back,
-        }
-    }
-
-    /// The bounds of the children of some jobs: put after the prefix, and put before the suffix.
-    fn bounds(&self, times: &GroupTimes, machines: usize) -> (Columns, Columns)
-        requires { machines ≤ most_machines }
-    {
-        let mut head = [0; COLUMNS];
-        let mut forward = [0; COLUMNS];
-        let mut tail = [0; COLUMNS];
-        let mut backward = [0; COLUMNS];
-        for place in 0..machines {
-            let start = at_least(&head, self.front[place]);
-            forward = greater(&forward, &plus(&start, self.with_back[place]));
-            head = sums(&start, &times[place]);
-            let other = machines - 1 - place;
-            let end = at_least(&tail, self.back[other]);
-            backward = greater(&backward, &plus(&end, self.with_front[other]));
-            tail = sums(&end, &times[other]);
-        }
-        (forward, backward)
-    }
-}
-
-/// Writes the times of a job to its column.
-fn write_column(times: &mut GroupTimes, column: usize, row: &Row, machines: usize)
-    requires column { column < COLUMNS }
-    requires machines { machines ≤ most_machines }
+/// The groups in which one of these jobs stands.
+fn groups_of(jobs: &[u16]) -> [bool; GROUPS]
+    requires { All (λ job. (1 ≤ job) × (job ≤ most_jobs)) jobs.now }
+    ensures count { length result ≡ 50 }
+    ensures each { (place : ℕ) → place < length jobs.now →
+        slice_index_or result ((slice_index jobs.now place - 1) / 16) false ≡ true }
 {
-    for place in 0..machines {
-        times[place][column] = row.times[place];
+    let mut groups = [false; GROUPS];
+    for place in 0..jobs.len() {
+        groups[(usize::from(jobs[place]) - 1) / LANES] = true;
     }
+    groups
 }
 
-/// Writes the times of some jobs side by side. Columns after the last job stay.
-fn write_columns(times: &mut GroupTimes, jobs: &[u16], rows: &[Row], machines: usize)
-    requires { machines ≤ most_machines }
+/// Writes the numbers of a group.
+fn write_lanes<V: Lanes>(numbers: &mut [u32; MAX_JOBS], group: usize, lanes: V)
+    requires wide { V.WIDTH ≡ 16 }
+    requires group { group < 50 }
+    ensures count { length numbers.new ≡ most_jobs }
+    ensures here { (lane value : ℕ) → lane < 16 → HasLane V.CAP V.WIDTH (V.list lanes) lane value →
+        slice_index numbers.new (group * 16 + lane) ≡ capped V.CAP value }
+    ensures others { (place : ℕ) → place / 16 ≢ group → slice_index numbers.new place ≡ slice_index numbers.old place }
 {
-    for (column, &job) in jobs.iter().take(COLUMNS).enumerate() {
-        if let Some(row) = row_of(rows, job) {
-            write_column(times, column, row, machines);
-        }
+    let from = group * LANES;
+    for lane in 0..LANES {
+        numbers[from + lane] = lanes.at(lane);
     }
 }
 
-/// The sum of the first bounds, which are so many.
-fn total(bounds: &[Columns; GROUPS], count: usize) -> u64
-    requires { count ≤ most_jobs }
-{
-    let mut total: u64 = 0;
-    for place in 0..count {
-        total = total.wrapping_add(u64::from(bounds[place / COLUMNS][place % COLUMNS]));
-    }
-    total
-}
-
-/// How many of the first bounds, which are so many, are below a number.
-fn count_below(bounds: &[Columns; GROUPS], count: usize, number: u64) -> usize
-    requires { count ≤ most_jobs }
-{
-    let mut below: usize = 0;
-    for place in 0..count {
-        if u64::from(bounds[place / COLUMNS][place % COLUMNS]) < number {
-            below = below.wrapping_add(1);
-        }
-    }
-    below
-}
-
-/// The bounds of the children of a node, by the places of the free jobs.
+/// The bounds of the children of a node, by their jobs: a number of the cap or more stands as the cap.
 #[derive(Drop)]
 pub(crate) struct Bounds {
-    forward: [Columns; GROUPS],
-    backward: [Columns; GROUPS],
-    /// Room for the times of a group.
-    times: GroupTimes,
+    cap: u32,
+    front: [u32; MAX_JOBS],
+    back: [u32; MAX_JOBS],
 }
 
 impl Bounds {
-    /// Bounds to be written over.
-    pub(crate) fn new() -> Bounds {
+    /// Room for bounds up to a cap.
+    pub(crate) fn new(cap: u32) -> Bounds
+        ensures { result.cap ≡ cap }
+    {
         Bounds {
-            forward: [[0; COLUMNS]; GROUPS],
-            backward: [[0; COLUMNS]; GROUPS],
-            times: [[0; COLUMNS]; MAX_MACHINES],
+            cap,
+            front: [0; MAX_JOBS],
+            back: [0; MAX_JOBS],
         }
     }
 
-    /// Computes the bounds of all children of a node with these free jobs.
-    pub(crate) fn fill(&mut self, node: &Node, free: &[u16], rows: &[Row], machines: usize)
-        requires few { length free.now ≤ most_jobs }
-        requires machines { machines ≤ most_machines }
+    /// Computes the bounds of all children of a node.
+    pub(crate) fn fill<V: Lanes>(&mut self, instance: &Instance, groups: &[Vec<V>], entry: &Entry)
+        requires wide { V.WIDTH ≡ 16 }
+        requires cap { self.old.cap ≡ V.CAP }
+        requires groups { AreGroups V.list V.CAP V.WIDTH instance.now groups.now }
+        requires entry { IsEntry instance.now entry.now }
+        ensures cap { self.new.cap ≡ self.old.cap }
+        ensures bounds { HasBounds instance.now entry.now self.new }
     {
-        let ends = Sums::of(node);
-        for (group, jobs) in free.chunks(COLUMNS).take(GROUPS).enumerate() {
-            write_columns(&mut self.times, jobs, rows, machines);
-            let (forward, backward) = ends.bounds(&self.times, machines);
-            self.forward[group] = forward;
-            self.backward[group] = backward;
+        let used = groups_of(&entry.jobs[entry.first..entry.before]);
+        for group in 0..groups.len() {
+            if used[group] {
+                let times = groups[group].as_slice();
+                let fronts = entry.node.child_bounds(End::Front, times);
+                let backs = entry.node.child_bounds(End::Back, times);
+                write_lanes(&mut self.front, group, fronts);
+                write_lanes(&mut self.back, group, backs);
+            }
         }
     }
 
-    /// The end at which fewer of so many children are below a number; on a tie the one at which their bounds sum to
-    /// more, and the prefix where both sums are equal.
-    pub(crate) fn end_taken(&self, count: usize, number: u64) -> End
-        requires { count ≤ most_jobs }
+    /// The bound of the child that puts the job left at a place at an end.
+    pub(crate) fn at(&self, instance: &Instance, entry: &Entry, end: End, place: usize) -> u32
+        requires entry { IsEntry instance.now entry.now }
+        requires bounds { HasBounds instance.now entry.now self.now }
+        requires from { entry.now.first ≤ place }
+        requires before { place < entry.now.before }
+        ensures { result ≡
+            child_bound instance.now end (first_of entry.now) (last_of entry.now) (job_at entry.now place) }
     {
-        let forward = count_below(&self.forward, count, number);
-        let backward = count_below(&self.backward, count, number);
-        let takes_suffix = backward < forward
-            || backward == forward && total(&self.backward, count) > total(&self.forward, count);
-        if takes_suffix {
-            End::Suffix
-        } else {
-            End::Prefix
-        }
-    }
-
-    /// The bound of the child of the free job at a place, put at an end.
-    pub(crate) fn at(&self, end: End, place: usize) -> u32
-        requires { place < most_jobs }
-    {
+        let job = entry.jobs[place];
         let bounds = match end {
-            End::Prefix => &self.forward,
-            End::Suffix => &self.backward,
+            End::Front => &self.front,
+            End::Back => &self.back,
         };
-        bounds[place / COLUMNS][place % COLUMNS]
+        let bound = bounds[usize::from(job) - 1];
+        if bound < self.cap {
+            return bound;
+        }
+        let mut child = entry.node;
+        child.put(instance, end, job);
+        child.bound(instance)
+    }
+
+    /// The sum of the bounds of the children at an end.
+    fn sum(&self, instance: &Instance, entry: &Entry, end: End) -> u64
+        requires entry { IsEntry instance.now entry.now }
+        requires bounds { HasBounds instance.now entry.now self.now }
+    {
+        let mut sum: u64 = 0;
+        for place in entry.first..entry.before {
+            sum = sum.wrapping_add(u64::from(self.at(instance, entry, end, place)));
+        }
+        sum
+    }
+
+    /// The end at which the bounds of all children sum to more, and the front where both sums are equal.
+    pub(crate) fn end_taken(&self, instance: &Instance, entry: &Entry) -> End
+        requires entry { IsEntry instance.now entry.now }
+        requires bounds { HasBounds instance.now entry.now self.now }
+    {
+        if self.sum(instance, entry, End::Back) > self.sum(instance, entry, End::Front) {
+            End::Back
+        } else {
+            End::Front
+        }
     }
 }

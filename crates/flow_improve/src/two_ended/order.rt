@@ -3,10 +3,13 @@
 ghost use Rattle.std.specs.Prelude.{◌≤◌};
 ghost use Rattle.flow_limits.specs.Limits.{most_machines};
 
-use crate::two_ended::node::{End, MachineTimes, Node, add_first, add_last};
-use flow_shop::Row;
+use flow_limits::MAX_MACHINES;
+use flow_shop::{End, Row};
 
-/// What the order of children goes by.
+/// A time for each machine, with machine 1 first.
+type MachineTimes = [u32; MAX_MACHINES];
+
+/// What the order goes by.
 #[derive(Clone, Copy)]
 pub(crate) enum Mode {
     /// By the bound, and then by the deficit.
@@ -33,13 +36,72 @@ pub(crate) struct Key {
     second: u64,
 }
 
+/// The front and the back of a node on each machine.
+#[derive(Clone, Copy)]
+pub(crate) struct EndTimes {
+    front: MachineTimes,
+    back: MachineTimes,
+}
+
+/// Makes each time the least of it and of another one.
+fn at_most(least: &mut MachineTimes, times: &MachineTimes) {
+    for place in 0..MAX_MACHINES {
+        least[place] = least[place].min(times[place]);
+    }
+}
+
+/// The times of a job before each machine.
+fn heads_of(row: &Row) -> MachineTimes {
+    let mut heads = [0; MAX_MACHINES];
+    let mut sum: u32 = 0;
+    for place in 0..MAX_MACHINES {
+        heads[place] = sum;
+        sum = sum.wrapping_add(row.times[place]);
+    }
+    heads
+}
+
+impl EndTimes {
+    /// Those of the node at which all jobs are left: the heads and the tails.
+    pub(crate) fn root(rows: &[Row]) -> EndTimes {
+        let mut front = [u32::MAX; MAX_MACHINES];
+        let mut back = front;
+        for row in rows {
+            at_most(&mut front, &heads_of(row));
+            at_most(&mut back, &row.tails);
+        }
+        EndTimes { front, back }
+    }
+
+    /// Puts a job with these times at an end.
+    pub(crate) fn put(&mut self, machines: usize, end: End, times: &MachineTimes)
+        requires { machines ≤ most_machines }
+    {
+        let mut free = 0;
+        match end {
+            End::Front => {
+                for place in 0..machines {
+                    free = self.front[place].max(free).wrapping_add(times[place]);
+                    self.front[place] = free;
+                }
+            }
+            End::Back => {
+                for place in (0..machines).rev() {
+                    free = self.back[place].max(free).wrapping_add(times[place]);
+                    self.back[place] = free;
+                }
+            }
+        }
+    }
+}
+
 /// The square of what a machine's work in store is below the cap.
 fn lack(cap: u32, later: u32, earlier: u32) -> u64 {
     let below = u64::from(cap.saturating_sub(later.wrapping_sub(earlier)));
     below.wrapping_mul(below)
 }
 
-/// The deficit of completion times.
+/// The deficit of a front.
 fn front_deficit(front: &MachineTimes, machines: usize, cap: u32) -> u64
     requires { machines ≤ most_machines }
 {
@@ -50,7 +112,7 @@ fn front_deficit(front: &MachineTimes, machines: usize, cap: u32) -> u64
     deficit
 }
 
-/// The deficit of completion times in the mirrored instance.
+/// The deficit of a back.
 fn back_deficit(back: &MachineTimes, machines: usize, cap: u32) -> u64
     requires { machines ≤ most_machines }
 {
@@ -70,6 +132,11 @@ impl Order {
         }
     }
 
+    /// What a bound counts in a sum.
+    fn weight(&self) -> u64 {
+        BOUND_WEIGHT.wrapping_mul(u64::from(self.greatest))
+    }
+
     /// The key of a bound and a deficit. It is below 2^56, since bounds are below 2^30, and times below 2^20.
     pub(crate) fn key(&self, bound: u32, deficit: u64) -> Key {
         let bound = u64::from(bound);
@@ -79,40 +146,67 @@ impl Order {
                 second: deficit,
             },
             Mode::Sum => Key {
-                first: BOUND_WEIGHT
-                    .wrapping_mul(u64::from(self.greatest))
-                    .wrapping_mul(bound)
-                    .wrapping_add(deficit),
+                first: self.weight().wrapping_mul(bound).wrapping_add(deficit),
                 second: 0,
             },
         }
     }
 
+    /// The least bound whose key with a deficit is above a key.
+    pub(crate) fn bound_above(&self, key: &Key, deficit: u64) -> u64 {
+        match self.mode {
+            Mode::Bound => key.first.wrapping_add(u64::from(deficit <= key.second)),
+            Mode::Sum if key.first < deficit => 0,
+            Mode::Sum => match (key.first - deficit).checked_div(self.weight()) {
+                Some(most) => most.wrapping_add(1),
+                None => u64::MAX,
+            },
+        }
+    }
+
     /// The deficit of the end of a node at which no job is put.
-    pub(crate) fn kept_deficit(&self, node: &Node, end: End, machines: usize) -> u64
+    pub(crate) fn kept_deficit(&self, times: &EndTimes, end: End, machines: usize) -> u64
         requires { machines ≤ most_machines }
     {
         match end {
-            End::Prefix => back_deficit(&node.back, machines, self.cap()),
-            End::Suffix => front_deficit(&node.front, machines, self.cap()),
+            End::Front => back_deficit(&times.back, machines, self.cap()),
+            End::Back => front_deficit(&times.front, machines, self.cap()),
         }
     }
 
     /// The deficit of the end of a node at which a job is put.
-    pub(crate) fn changed_deficit(&self, node: &Node, end: End, row: &Row, machines: usize) -> u64
+    pub(crate) fn changed_deficit(
+        &self,
+        times: &EndTimes,
+        end: End,
+        job: &MachineTimes,
+        machines: usize,
+    ) -> u64
         requires { machines ≤ most_machines }
     {
+        let cap = self.cap();
+        let mut deficit: u64 = 0;
+        let mut earlier: u32 = 0;
         match end {
-            End::Prefix => {
-                let mut front = node.front;
-                add_last(&mut front, &row.times, machines);
-                front_deficit(&front, machines, self.cap())
+            End::Front => {
+                for place in 0..machines {
+                    let free = times.front[place].max(earlier).wrapping_add(job[place]);
+                    if place > 0 {
+                        deficit = deficit.wrapping_add(lack(cap, free, earlier));
+                    }
+                    earlier = free;
+                }
             }
-            End::Suffix => {
-                let mut back = node.back;
-                add_first(&mut back, &row.times, machines);
-                back_deficit(&back, machines, self.cap())
+            End::Back => {
+                for place in (0..machines).rev() {
+                    let free = times.back[place].max(earlier).wrapping_add(job[place]);
+                    if place + 1 < machines {
+                        deficit = deficit.wrapping_add(lack(cap, free, earlier));
+                    }
+                    earlier = free;
+                }
             }
         }
+        deficit
     }
 }

@@ -1,35 +1,62 @@
-//! A pass: from the node at which all jobs are free, list by list to nodes with all jobs.
+//! A pass: from the node at which all jobs are left, list by list to nodes at which none is.
 
-ghost use Rattle.std.specs.Prelude.{◌≤◌, length};
-ghost use Rattle.flow_limits.specs.Limits.{most_jobs, most_machines};
+ghost use Rattle.std.specs.Prelude.{◌≡◌, ◌<◌, vec_len, IfOk, IfSome};
+ghost use Rattle.flow_shop.specs.Rows.{AreRows};
+ghost use Rattle.flow_shop.specs.Sequences.{IsSequence};
+ghost use Rattle.flow_improve.specs.internal.Beams.{ArePasses, HasBounds, IsEntry};
 
 use crate::two_ended::bounds::Bounds;
+use crate::two_ended::entry::{Entry, copies};
+use crate::two_ended::groups::groups;
 use crate::two_ended::kept::{Child, Kept};
-use crate::two_ended::list::Nodes;
-use crate::two_ended::node::{Node, row_of};
 use crate::two_ended::order::{Mode, Order};
-use flow_shop::{Instance, Row, rows};
+use flow_nodes::Lanes;
+use flow_shop::{End, Instance, Row};
 use std::alloc::{AllocError, Global};
 use std::mem;
 
+/// What a pass goes by.
+#[derive(Clone, Copy)]
+pub(crate) struct Plan {
+    /// The most nodes of a list.
+    pub(crate) width: u32,
+    pub(crate) mode: Mode,
+    /// Children are kept whose bound is below this number.
+    pub(crate) below: u64,
+}
+
+impl Plan {
+    /// The same pass over children below a number too.
+    pub(crate) fn at_most(&self, number: u64) -> Plan {
+        Plan {
+            width: self.width,
+            mode: self.mode,
+            below: self.below.min(number),
+        }
+    }
+}
+
 /// What passes compute in. It is made once for all passes.
 #[derive(Drop)]
-pub(crate) struct Passes {
+pub(crate) struct Passes<V> {
     rows: Vec<Row>,
     /// The greatest time of a job on a machine.
     greatest: u32,
+    groups: Vec<Vec<V>>,
+    bounds: Bounds,
+    root: Entry,
     /// The list of nodes, and how many there are.
-    list: Nodes,
+    list: Vec<Entry>,
     count: usize,
     /// Room for the next list.
-    next: Nodes,
+    next: Vec<Entry>,
     kept: Kept,
-    /// The steps of all passes: a node whose children are bounded takes two for each free job and machine.
+    /// The steps of all passes: a node whose children are bounded takes two for each job left and machine.
     pub(crate) steps: u64,
 }
 
 /// The greatest time of a job on a machine.
-fn greatest_time(rows: &[Row]) -> u32 {
+pub(crate) fn greatest_time(rows: &[Row]) -> u32 {
     let mut greatest = 0;
     for row in rows {
         greatest = row
@@ -40,163 +67,193 @@ fn greatest_time(rows: &[Row]) -> u32 {
     greatest
 }
 
-/// What the children of a list are offered by.
-#[derive(Drop)]
-struct Offers<'a> {
+/// What the children of a node are offered by.
+#[derive(Clone, Copy)]
+struct Offers {
     order: Order,
-    rows: &'a [Row],
-    machines: usize,
-    /// Children whose bound is not below this makespan are not offered.
+    /// Children are offered whose bound is below this number.
     below: u64,
-    /// Whether the end of a node is chosen by this number too.
-    is_aimed: bool,
+    /// The place of the node in the list.
+    parent: usize,
+    /// The end at which it is opened.
+    end: End,
 }
 
-impl Offers<'_> {
-    /// The number by which the end of a node is chosen; the children below 0 are as many at both ends.
-    fn aim(&self) -> u64 {
-        if self.is_aimed { self.below } else { 0 }
-    }
-
-    /// Offers the children of the node at a place, which has these free jobs.
+impl Offers {
+    /// Offers the children of a node.
     fn offer(
         &self,
+        instance: &Instance,
+        rows: &[Row],
+        entry: &Entry,
+        bounds: &Bounds,
         kept: &mut Kept,
-        bounds: &mut Bounds,
-        node: &Node,
-        free: &[u16],
-        parent: usize,
     ) -> Result<(), AllocError>
-        requires machines { self.now.machines ≤ most_machines }
-        requires few { length free.now ≤ most_jobs }
+        requires rows { AreRows instance.now rows.now }
+        requires entry { IsEntry instance.now entry.now }
+        requires bounds { HasBounds instance.now entry.now bounds.now }
     {
-        bounds.fill(node, free, self.rows, self.machines);
-        let end = bounds.end_taken(free.len(), self.aim());
-        let same = self.order.kept_deficit(node, end, self.machines);
-        for (place, &job) in free.iter().enumerate() {
-            let bound = bounds.at(end, place);
-            if u64::from(bound) >= self.below || kept.drops(&self.order.key(bound, same)) {
+        let machines = usize::from(instance.machines());
+        let same = self.order.kept_deficit(&entry.ends, self.end, machines);
+        let mut limit = self.below.min(kept.limit(&self.order, same));
+        for place in entry.first..entry.before {
+            let bound = bounds.at(instance, entry, self.end, place);
+            if u64::from(bound) >= limit {
                 continue;
             }
-            if let Some(row) = row_of(self.rows, job) {
-                let changed = self.order.changed_deficit(node, end, row, self.machines);
-                kept.offer(Child {
-                    key: self.order.key(bound, same.wrapping_add(changed)),
-                    parent,
-                    job,
-                    place,
-                    end,
-                    bound,
-                })?;
-            }
+            let job = entry.jobs[place];
+            let times = &rows[usize::from(job) - 1].times;
+            let changed = self
+                .order
+                .changed_deficit(&entry.ends, self.end, times, machines);
+            kept.offer(Child {
+                key: self.order.key(bound, same.wrapping_add(changed)),
+                parent: self.parent,
+                job,
+                place: place as u16,
+                at_back: self.end == End::Back,
+            })?;
+            limit = self.below.min(kept.limit(&self.order, same));
         }
         Ok(())
     }
 }
 
-impl Passes {
+impl<V: Lanes> Passes<V> {
     /// Room for passes of at most this width.
     pub(crate) fn new(
         alloc: Global,
         instance: &Instance,
+        rows: Vec<Row>,
         width: usize,
-    ) -> Result<Passes, AllocError> {
-        let rows = rows(alloc, instance)?;
+    ) -> Result<Passes<V>, AllocError>
+        requires wide { V.WIDTH ≡ 16 }
+        requires rows { AreRows instance.now rows.items }
+        ensures { IfOk result (ArePasses V.list V.CAP V.WIDTH instance.now) }
+    {
         let greatest = greatest_time(rows.as_slice());
+        let root = Entry::root(alloc, instance, rows.as_slice())?;
+        let list = copies(alloc, instance, &root, width.max(1))?;
+        let next = copies(alloc, instance, &root, width.max(1))?;
         Ok(Passes {
             rows,
             greatest,
-            list: Nodes::new(alloc, instance, width)?,
+            groups: groups(alloc, instance)?,
+            bounds: Bounds::new(V::CAP),
+            root,
+            list,
             count: 0,
-            next: Nodes::new(alloc, instance, width)?,
+            next,
             kept: Kept::new(alloc, width)?,
             steps: 0,
         })
     }
 
-    /// Finds the children of the list that are kept.
-    fn bound_children(
-        &mut self,
-        instance: &Instance,
-        order: &Order,
-        bounds: &mut Bounds,
-        below: u64,
-        is_aimed: bool,
-    ) -> Result<(), AllocError> {
-        let machines = usize::from(instance.machines());
+    /// Bounds the children of the node at a place of the list, and offers them.
+    fn open(&mut self, instance: &Instance, plan: &Plan, place: usize) -> Result<(), AllocError>
+        requires wide { V.WIDTH ≡ 16 }
+        requires passes { ArePasses V.list V.CAP V.WIDTH instance.now self.old }
+        requires place { place < self.old.count }
+        ensures passes { ArePasses V.list V.CAP V.WIDTH instance.now self.new }
+        ensures count { self.new.count ≡ self.old.count }
+    {
+        let entry = &self.list[place];
+        let steps = 2 * entry.left(instance) * usize::from(instance.machines());
+        self.steps = self.steps.saturating_add(steps as u64);
+        self.bounds.fill(instance, self.groups.as_slice(), entry);
         let offers = Offers {
-            order: *order,
-            rows: self.rows.as_slice(),
-            machines,
-            below,
-            is_aimed,
+            order: Order {
+                mode: plan.mode,
+                greatest: self.greatest,
+            },
+            below: plan.below,
+            parent: place,
+            end: self.bounds.end_taken(instance, entry),
         };
+        let rows = self.rows.as_slice();
+        offers.offer(instance, rows, entry, &self.bounds, &mut self.kept)
+    }
+
+    /// Finds the children of the list that are kept.
+    fn bound_children(&mut self, instance: &Instance, plan: &Plan) -> Result<(), AllocError>
+        requires wide { V.WIDTH ≡ 16 }
+        requires passes { ArePasses V.list V.CAP V.WIDTH instance.now self.old }
+        ensures { ArePasses V.list V.CAP V.WIDTH instance.now self.new }
+    {
         for place in 0..self.count {
-            let free = self.list.free(place);
-            self.steps = self
-                .steps
-                .saturating_add(2 * (free.len() * machines) as u64);
-            let node = self.list.node(place);
-            offers.offer(&mut self.kept, bounds, &node, free, place)?;
+            self.open(instance, plan, place)?;
         }
         Ok(())
     }
 
-    /// Writes a child to its place in the next list.
-    fn write(&mut self, place: usize, child: &Child) {
-        if let Some(row) = row_of(self.rows.as_slice(), child.job) {
-            self.next.write_child(place, &self.list, child, row);
+    /// Writes a child to its place in the next list. Its job is left at its parent.
+    fn write(&mut self, instance: &Instance, place: usize, child: &Child)
+        requires passes { ArePasses V.list V.CAP V.WIDTH instance.now self.old }
+        requires place { place < vec_len self.old.next }
+        ensures passes { ArePasses V.list V.CAP V.WIDTH instance.now self.new }
+        ensures count { vec_len self.new.next ≡ vec_len self.old.next }
+    {
+        let from = usize::from(child.place);
+        if let Some(parent) = self.list.get(child.parent)
+            && parent.first <= from
+            && from < parent.before
+        {
+            let entry = &mut self.next[place];
+            entry.copy_from(instance, parent);
+            entry.put(instance, self.rows.as_slice(), child.end(), from);
         }
     }
 
     /// Makes the children that are kept the list, in their order.
-    fn turn(&mut self) {
-        let count = self.kept.count();
-        for place in (0..count).rev() {
-            if let Some(child) = self.kept.take_last() {
-                self.write(place, &child);
+    fn turn(&mut self, instance: &Instance)
+        requires passes { ArePasses V.list V.CAP V.WIDTH instance.now self.old }
+        ensures { ArePasses V.list V.CAP V.WIDTH instance.now self.new }
+    {
+        let count = self.kept.sort().min(self.next.len());
+        for place in 0..count {
+            if let Some(child) = self.kept.child(place) {
+                self.write(instance, place, &child);
             }
         }
         mem::swap(&mut self.list, &mut self.next);
         self.count = count;
     }
 
-    /// A pass of a width, over nodes whose bound is below a makespan. Where it is aimed, the end of a node is the one
-    /// with fewer children below that, and on a tie as else. Returns whether no child was dropped.
-    pub(crate) fn pass(
-        &mut self,
-        instance: &Instance,
-        width: usize,
-        mode: Mode,
-        below: u64,
-        is_aimed: bool,
-    ) -> Result<bool, AllocError> {
-        let order = Order {
-            mode,
-            greatest: self.greatest,
-        };
-        let mut bounds = Bounds::new();
-        self.list.write_root(self.rows.as_slice());
+    /// A pass. Returns whether no child was dropped.
+    pub(crate) fn pass(&mut self, instance: &Instance, plan: &Plan) -> Result<bool, AllocError>
+        requires wide { V.WIDTH ≡ 16 }
+        requires passes { ArePasses V.list V.CAP V.WIDTH instance.now self.old }
+        ensures { ArePasses V.list V.CAP V.WIDTH instance.now self.new }
+    {
+        self.list[0].copy_from(instance, &self.root);
         self.count = 1;
         let mut is_whole = true;
         for _ in 0..instance.jobs() {
-            self.kept.clear(width);
-            self.bound_children(instance, &order, &mut bounds, below, is_aimed)?;
-            is_whole = is_whole && !self.kept.has_dropped;
-            self.turn();
+            self.kept.clear(plan.width as usize);
+            self.bound_children(instance, plan)?;
+            self.turn(instance);
+            is_whole = is_whole && !self.kept.has_dropped();
         }
         Ok(is_whole)
     }
 
     /// The jobs of the first node of least bound in the list, if there is one.
-    pub(crate) fn least(&self) -> Option<&[u16]> {
-        let mut least: Option<(u32, usize)> = None;
-        for place in 0..self.count {
-            let bound = self.list.ends(place).bound;
-            if least.is_none_or(|other| bound < other.0) {
-                least = Some((bound, place));
+    pub(crate) fn least(&self, instance: &Instance) -> Option<&[u16]>
+        requires passes { ArePasses V.list V.CAP V.WIDTH instance.now self.now }
+        ensures { IfSome result (λ jobs. IsSequence instance.now.jobs jobs.now) }
+    {
+        if self.count == 0 {
+            return None;
+        }
+        let mut least = 0;
+        let mut bound = self.list[0].node.bound(instance);
+        for place in 1..self.count {
+            let other = self.list[place].node.bound(instance);
+            if other < bound {
+                least = place;
+                bound = other;
             }
         }
-        least.map(|(_, place)| self.list.order(place))
+        Some(self.list[least].jobs.as_slice())
     }
 }

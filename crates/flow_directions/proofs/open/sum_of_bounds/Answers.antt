@@ -1,7 +1,6 @@
 use Rattle.std.proofs.Common.{◌≡◌, ℕ, ◌+◌, ◌-◌, ◌*◌, ◌<◌, List, [], ◌++◌, sum_by, length, take, drop, slice_index}
 use Rattle.std.proofs.Common.{ap, sym, ◌∙◌, arith, rules}
 use Rattle.std.proofs.lemmas.List.{drop_all}
-use Rattle.std.proofs.lemmas.List.Sums.{sum-map}
 use Rattle.flow_shop.specs.Sequences.{jobs_left}
 use Rattle.flow_nodes.specs.Groups.{child_bound}
 use Rattle.flow_directions.specs.internal.Words.{picked, chosen}
@@ -95,7 +94,4 @@ returns g c first last is =
       ap (λ l. sum_by (child_bound c.args.instance.now c.args.end first last) (chosen (drop group words) l)) end
           ∙ none-chosen (child_bound c.args.instance.now c.args.end first last) (drop group words),
     ) in
-    whole
-    ∙ ap (sum_by (child_bound c.args.instance.now c.args.end first last)) is.left
-    ∙ sym (sum-map (child_bound c.args.instance.now c.args.end first last)
-    (jobs_left c.args.instance.now.jobs (first ++ last)))
+    whole ∙ ap (sum_by (child_bound c.args.instance.now c.args.end first last)) is.left

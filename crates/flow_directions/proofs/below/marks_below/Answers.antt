@@ -9,8 +9,8 @@ use Rattle.flow_directions.proofs.ChosenNames.{chosen-filter}
 use Rattle.flow_directions.proofs.MarkSteps.{mark-elsewhere}
 use Rattle.flow_directions.proofs.JobsMarked.{IsBelow, within-set, below-set, below-none, below-kept}
 use Rattle.flow_directions.proofs.JobsMarked.{marked-left, group-tells}
-use Rattle.flow_directions.proofs.open.marks_below.Goals as goal
-use Rattle.flow_directions.proofs.open.marks_below.Goals.{then-left-ne0, else-left-ne0}
+use Rattle.flow_directions.proofs.below.marks_below.Goals as goal
+use Rattle.flow_directions.proofs.below.marks_below.Goals.{then-left-ne0, else-left-ne0}
 
 pub loop-group-preserved : goal.loop-group-preserved
 loop-group-preserved g c =

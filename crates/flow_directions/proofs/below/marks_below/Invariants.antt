@@ -3,7 +3,7 @@ use Rattle.flow_shop.specs.Shop.{Shop}
 use Rattle.flow_directions.specs.internal.Words.{mark}
 use Rattle.flow_directions.specs.internal.Packs.{IsBranch}
 use Rattle.flow_directions.proofs.JobsMarked.{IsBelow}
-use Rattle.flow_directions.proofs.open.marks_below.Given as goal
+use Rattle.flow_directions.proofs.below.marks_below.Given as goal
 
 -- the words so far have their marks, and the others have none
 abbrev pub invariant-loop-group : goal.invariant-loop-group

@@ -1,0 +1,45 @@
+//! The children of a node at an end that are below a number.
+
+ghost use Rattle.std.specs.Prelude.{◌≡◌, ℕ, ◌≤◌, List, min};
+ghost use Rattle.flow_limits.specs.Limits.{most_machines};
+ghost use Rattle.flow_shop.specs.Shop.{Shop};
+ghost use Rattle.flow_directions.specs.Search.{jobs_below};
+ghost use Rattle.flow_directions.specs.internal.Words.{mark};
+ghost use Rattle.flow_directions.specs.internal.Packs.{HasRoom, IsBranch, jobs_at};
+
+use crate::branch::Branch;
+use crate::pack::Pack;
+use crate::words::Words;
+use flow_nodes::Lanes;
+use flow_shop::End;
+
+/// An end of a node, and marks of the jobs whose children there are below the number.
+#[derive(Clone, Copy)]
+pub(crate) struct Opened {
+    pub(crate) end: End,
+    pub(crate) below: Words,
+}
+
+/// Marks the jobs left whose children at an end are below a number.
+#[inline(always)]
+pub(crate) fn marks_below<V: Lanes>(pack: &Pack<V>, branch: &Branch, end: End, limit: u32) -> Words
+    requires wide { V.WIDTH ≡ 16 }
+    requires limit { limit ≤ V.CAP }
+    requires room { (shop : Shop) × HasRoom shop pack.now × (shop.machines ≤ most_machines) }
+    ensures within { (place : ℕ) → mark result.words place ≡ 1 → mark branch.now.left.words place ≡ 1 }
+    ensures below { (shop : Shop) (number : ℕ) (first last : List ℕ) → limit ≡ min number 4294967295 →
+        IsBranch V.list V.CAP V.WIDTH shop first last pack.now branch.now →
+        jobs_at pack.now result ≡ jobs_below shop number end first last }
+{
+    let mut below = Words::none();
+    for group in 0..pack.groups.len() {
+        let left = branch.left.words[group];
+        if left != 0 {
+            let bits = branch
+                .node
+                .children_below(end, pack.groups[group].as_slice(), limit);
+            below.words[group] = (bits & u64::from(left)) as u16;
+        }
+    }
+    below
+}

@@ -1,0 +1,9 @@
+use Rattle.std.proofs.Common.{◌≡◌, ℕ, ◌+◌, ◌*◌, ◌<◌, min, length, slice_index}
+use Rattle.flow_improve.proofs.two_ended.groups.names_of.Given as goal
+
+-- the names so far
+abbrev pub invariant-loop-lane : goal.invariant-loop-lane
+invariant-loop-lane l = record {
+  count : length l.names ≡ 16;
+  done : (lane : ℕ) → lane < l.lane → slice_index l.names lane ≡ min (l.group * 16 + lane + 1) l.jobs;
+}

@@ -1,0 +1,76 @@
+-- What a beam computes in.
+use Rattle.std.specs.Prelude.{ℕ, ◌≡◌, ◌+◌, ◌-◌, ◌*◌, ◌<◌, ◌≤◌, List, length, take, drop, slice_index, slice_index_or}
+use Rattle.std.specs.Prelude.{min, All}
+use Rattle.std.specs.Global.{Vec}
+use Rattle.flow_shop.specs.Shop.{Shop}
+use Rattle.flow_shop.specs.Rows.{AreRows}
+use Rattle.flow_shop.specs.Sequences.{IsSequence}
+use Rattle.flow_shop.specs.declared.end.End.TheVariants.{Front, Back}
+use Rattle.flow_nodes.specs.Lanes.{capped}
+use Rattle.flow_nodes.specs.Nodes.{IsNode}
+use Rattle.flow_nodes.specs.Groups.{IsGroup, child_bound}
+use Rattle.flow_improve.specs.declared.two_ended.bounds.Bounds.{Bounds}
+use Rattle.flow_improve.specs.declared.two_ended.entry.Entry.{Entry}
+use Rattle.flow_improve.specs.declared.two_ended.pass.Passes.{Passes}
+
+-- the first list of an entry's node
+abbrev pub first_of : Entry → List ℕ
+first_of entry = take entry.first entry.jobs.items
+
+-- the last list of an entry's node
+abbrev pub last_of : Entry → List ℕ
+last_of entry = drop entry.before entry.jobs.items
+
+-- the job of an entry at a place
+abbrev pub job_at : Entry → ℕ → ℕ
+job_at entry place = slice_index entry.jobs.items place
+
+-- an entry has the node of its two lists, and the jobs left between them
+pub record IsEntry (shop : Shop) (entry : Entry) : Type 0 where
+  pub jobs : IsSequence shop.jobs entry.jobs.items
+  pub order : entry.first ≤ entry.before
+  pub within : entry.before ≤ shop.jobs
+  pub node : IsNode shop (first_of entry) (last_of entry) entry.node
+
+-- entries of an instance
+abbrev pub AreEntries : Shop → List Entry → Type 0
+AreEntries shop entries = All (λ entry. IsEntry shop entry) entries
+
+-- the jobs of a group: sixteen after the groups before it; behind the last job of the instance that job stands again
+abbrev pub AreNames : Shop → ℕ → List ℕ → Type 0
+AreNames shop group names =
+    (lane : ℕ) → lane < 16 → slice_index names lane ≡ min (group * 16 + lane + 1) shop.jobs
+
+-- groups with the times of all jobs
+pub record AreGroups {V : Type 0} (list : V → List ℕ) (cap width : ℕ) (shop : Shop)
+    (groups : List (Vec V)) : Type 0 where
+  pub all : shop.jobs ≤ length groups * 16
+  pub few : length groups ≤ 50
+  pub each : (group : ℕ) (none : Vec V) → group < length groups → (names : List ℕ) × AreNames shop group names
+      × IsGroup list cap width shop names (slice_index_or groups group none).items
+
+-- the bounds of the children that put the job of an entry at a place at the front and at the back, or the cap where
+-- that is less
+abbrev pub HasBoundsAt : Shop → Entry → Bounds → ℕ → Type 0
+HasBoundsAt shop entry bounds place =
+    (slice_index bounds.front (job_at entry place - 1)
+    ≡ capped bounds.cap (child_bound shop Front (first_of entry) (last_of entry) (job_at entry place)))
+    × (slice_index bounds.back (job_at entry place - 1)
+    ≡ capped bounds.cap (child_bound shop Back (first_of entry) (last_of entry) (job_at entry place)))
+
+-- the bounds of all children of an entry's node
+abbrev pub HasBounds : Shop → Entry → Bounds → Type 0
+HasBounds shop entry bounds =
+    (place : ℕ) → entry.first ≤ place → place < entry.before → HasBoundsAt shop entry bounds place
+
+-- what passes compute in: lists of entries of an instance, and the times of its jobs
+pub record ArePasses {V : Type 0} (list : V → List ℕ) (cap width : ℕ) (shop : Shop) (passes : Passes V) : Type 0 where
+  pub rows : AreRows shop passes.rows.items
+  pub groups : AreGroups list cap width shop passes.groups.items
+  pub cap_is : passes.bounds.cap ≡ cap
+  pub root : IsEntry shop passes.root
+  pub entries : AreEntries shop passes.list.items
+  pub next : AreEntries shop passes.next.items
+  pub some : 1 ≤ length passes.list.items
+  pub as_many : length passes.next.items ≡ length passes.list.items
+  pub count : passes.count ≤ length passes.list.items
