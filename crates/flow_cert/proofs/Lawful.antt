@@ -128,7 +128,7 @@ span-fits shop sequence limits is =
     omega (arith, small, few)
 
 -- the trees from a number cover each value up to it that no sequence is below
-trees-cover : (shop : Shop) (version v start depth : ℕ) → depth ≤ shop.jobs → v ≤ start →
+pub trees-cover : (shop : Shop) (version v start depth : ℕ) → depth ≤ shop.jobs → v ≤ start →
     ((s : List ℕ) → IsSequence shop.jobs s → v ≤ span shop s) →
     AllZip (λ prefix part. Covers shop (bound_of version) v (shop.jobs - depth) prefix part) (cut shop.jobs depth)
     (trees shop (bound_of version) start depth)
