@@ -22,24 +22,18 @@ static double now(void) {
     return 1e6 * (double)at.tv_sec + 1e-3 * (double)at.tv_nsec;
 }
 
-/* One call of flowshop_check, or of flowshop_check_bounds, on the first bytes of the text. Returns its status. */
-static uint32_t check(bool bounds, size_t bytes) {
+/* Prints the microseconds of a call of flowshop_check on the first bytes of the text, those of the fastest of many
+ * batches of calls. */
+static void measure(const char *name, size_t bytes, uint32_t wanted) {
     uint16_t sequence[JOBS];
     uint64_t lower, upper;
-    bool mirrored;
-    if (bounds)
-        return flowshop_check_bounds(JOBS, MACHINES, times, ALL, text, bytes, false, sequence, JOBS, &lower, &upper,
-                                     &mirrored, &place);
-    return flowshop_check(JOBS, MACHINES, times, ALL, text, bytes, false, sequence, JOBS, &lower, &mirrored, &place);
-}
-
-/* Prints the microseconds of a call, those of the fastest of many batches of calls. */
-static void measure(const char *name, bool bounds, size_t bytes, uint32_t wanted) {
     double least = 1e300;
     for (int batch = 0; batch < BATCHES; batch++) {
         const double begun = now();
         for (int call = 0; call < CALLS; call++)
-            if (check(bounds, bytes) != wanted) exit(1);
+            if (flowshop_check(JOBS, MACHINES, times, ALL, text, bytes, sequence, JOBS, &lower, &upper, &place) !=
+                wanted)
+                exit(1);
         const double took = (now() - begun) / CALLS;
         if (took < least) least = took;
     }
@@ -55,7 +49,6 @@ int main(int count, char **words) {
     done(flowshop_solve(JOBS, MACHINES, times, ALL, start, JOBS, 0, 1000000, 1, best, JOBS, &value, text, ROOM, &length,
                         &place));
     printf("bytes %zu\n", length);
-    measure("check", false, length, FLOWSHOP_DONE);
-    measure("check_nothing", false, 0, FLOWSHOP_HEADER);
-    measure("check_bounds", true, length, FLOWSHOP_DONE);
+    measure("check", length, FLOWSHOP_DONE);
+    measure("check_nothing", 0, FLOWSHOP_HEADER);
 }

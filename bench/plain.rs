@@ -119,7 +119,7 @@ fn run_solve(file: impl Read, index: u32, request: &Request) -> Result<Vec<u8>, 
     solve(&instance, &options)
 }
 
-/// The text of bounds whose lower one is a number, where directions within the budget prove it.
+/// The two-ended certificate whose lower bound is a number, where directions within the budget prove it.
 fn run_two_ended(
     file: impl Read,
     index: u32,
@@ -140,7 +140,6 @@ fn request(words: &[&str]) -> Result<Request, Fault> {
         depth: 1,
         budget: 1_000_000,
         version: 1,
-        target: u64::MAX,
     };
     for pair in words.chunks(2) {
         let [name, value] = *pair else {
@@ -151,7 +150,6 @@ fn request(words: &[&str]) -> Result<Request, Fault> {
             "--depth" => request.depth = argument::<u32>(value)? as usize,
             "--budget" => request.budget = argument::<u32>(value)? as usize,
             "--certificate" => request.version = argument(value)?,
-            "--target" => request.target = argument(value)?,
             _ => return Err(command_line()),
         }
     }

@@ -6,8 +6,8 @@
  * list of all job numbers, each once.
  *
  * A slice is a pointer and a count of entries. No pointer may be null, also where the count is 0; each is aligned for
- * its type, and what is written to overlaps nothing else that the call is lent. A bool is true or false. Nothing is
- * kept of what a call is lent, and nothing is left for the caller to free.
+ * its type, and what is written to overlaps nothing else that the call is lent. Nothing is kept of what a call is
+ * lent, and nothing is left for the caller to free.
  *
  * Each call returns a status: FLOWSHOP_DONE, or the number of what is wrong, which is the first fault in the order
  * that the call lists; or FLOWSHOP_MEMORY where memory ran out, which can come in the place of any later fault. A
@@ -26,7 +26,6 @@
 #ifndef FLOWSHOP_H
 #define FLOWSHOP_H
 
-#include <stdbool.h>
 #include <stddef.h>
 #include <stdint.h>
 
@@ -43,6 +42,7 @@ enum flowshop_limit {
     FLOWSHOP_MAX_WIDTH = 65536,
     FLOWSHOP_MAX_ROUNDS = 100000000,
     FLOWSHOP_MAX_WORK = 1000000,
+    FLOWSHOP_MAX_DIRECTIONS = 1000000000,
     FLOWSHOP_MAX_DEPTH = 3,
     FLOWSHOP_MAX_PREFIXES = 100000,
     FLOWSHOP_MAX_BUDGET = 100000000,
@@ -70,12 +70,15 @@ enum flowshop_status {
     /* The numbers are no options of a run. */
     FLOWSHOP_DEPTH = 31, /* the depth is above 3 */
     FLOWSHOP_BUDGET = 32, /* the budget is not 1 to 100000000 */
-    FLOWSHOP_VERSION = 33, /* the version is not 1 or 2; in flowshop_certify it may be 0 too */
+    FLOWSHOP_VERSION = 33, /* the version is not 1 or 2 */
 
     /* The numbers of an improvement are not within their limits; or SEED. */
     FLOWSHOP_WIDTH = 34, /* the width is above 65536 */
     FLOWSHOP_ROUNDS = 35, /* the rounds are above 100000000 */
     FLOWSHOP_WORK = 36, /* the work is above 1000000 */
+
+    /* The number of a certificate is not within its limits. */
+    FLOWSHOP_DIRECTIONS = 37, /* the directions are not 1 to 1000000000 */
 
     /* The shop and the options have no plan. */
     FLOWSHOP_PLAN_DEPTH = 40, /* the depth is above the number of jobs */
@@ -161,28 +164,15 @@ uint32_t flowshop_improve(uint32_t jobs, uint32_t machines, const uint32_t *time
                           const uint16_t *start, size_t start_count, uint32_t width, uint32_t rounds, uint32_t seed,
                           uint32_t work, uint16_t *sequence, size_t sequence_count, uint64_t *value, size_t *place);
 
-/* The least makespan, as a certificate proves it, and a sequence that has it: the one that the certificate states, in
- * the first `jobs` entries of `sequence`. Every lawful certificate of version 1 or 2 is accepted, whoever made it, and
- * nothing else: a two-ended one is HEADER here, and flowshop_check_bounds reads it.
- * With `either`, one of the mirrored shop, whose machines are in reverse order, is accepted too, where the text is
- * none of the shop; then `mirrored` becomes true, and the sequence is that of the certificate in reverse order, so
- * that it is one of the shop with the same makespan. A fault is that of the text as a certificate of the shop.
+/* The bounds that a text proves, between which the least makespan lies, and the sequence that it states, whose
+ * makespan is the upper bound, in the first `jobs` entries of `sequence`; the rest stays as it was. Bounds that are
+ * equal are the least makespan. A text with line 1 of a two-ended certificate is read as one; every other text as a
+ * certificate of version 1 or 2, whose value becomes both bounds. Every lawful text of its kind is accepted, whoever
+ * made it, and nothing else. A fault is that of the text, as one of its kind.
  * Faults in order: JOBS, MACHINES, COUNT, TIME; ROOM; HEADER to END. */
 uint32_t flowshop_check(uint32_t jobs, uint32_t machines, const uint32_t *times, size_t times_count,
-                        const uint8_t *certificate, size_t certificate_count, bool either, uint16_t *sequence,
-                        size_t sequence_count, uint64_t *value, bool *mirrored, size_t *place);
-
-/* The bounds that a text proves, between which the least makespan lies, and the sequence that it states, whose
- * makespan is the upper bound, in the first `jobs` entries of `sequence`. A text whose line 1 is that of a two-ended
- * certificate or of a text of bounds is read as one; every other text as a certificate, whose value becomes both
- * bounds. Bounds that are equal are the least makespan. Every lawful text of its kind is accepted, whoever made it, and
- * nothing else. `either` and `mirrored` are as in flowshop_check. A fault is that of the text, as one of its kind, of
- * the shop.
- * Faults in order: JOBS, MACHINES, COUNT, TIME; ROOM; HEADER to END. */
-uint32_t flowshop_check_bounds(uint32_t jobs, uint32_t machines, const uint32_t *times, size_t times_count,
-                               const uint8_t *text, size_t text_count, bool either, uint16_t *sequence,
-                               size_t sequence_count, uint64_t *lower, uint64_t *upper, bool *mirrored,
-                               size_t *place);
+                        const uint8_t *text, size_t text_count, uint16_t *sequence, size_t sequence_count,
+                        uint64_t *lower, uint64_t *upper, size_t *place);
 
 /* The least makespan, a sequence that has it, and a certificate of both, by a search from the sequence `start`, on
  * the calling thread. The first `jobs` entries of `sequence` become the sequence, and the first `*length` bytes of
@@ -198,24 +188,22 @@ uint32_t flowshop_solve(uint32_t jobs, uint32_t machines, const uint32_t *times,
                         uint16_t *sequence, size_t sequence_count, uint64_t *value, uint8_t *certificate,
                         size_t certificate_count, size_t *length, size_t *place);
 
-/* A text that proves the least makespan, or bounds of it, by searches on the calling thread, from the sequence `start`
- * and from better ones: the shop and the mirrored one are searched in turn, with five budgets, as the program's
- * `certify` does (docs/manual.md). `width`, `rounds`, `seed` and `work` are as in flowshop_improve. `version` is 1 or
- * 2, or 0 for either, as where the program's `--certificate` is left out. The text is a certificate of the shop or of
- * the mirrored one, and both bounds are its value, the least makespan. Where all trees are over their budgets the call
- * is refused, with the place 0; with `bounds` it gives a text of bounds of one of both then. The first `*length` bytes
- * of `text` become the text, and the first `jobs` entries of `sequence` the sequence that it states, whose makespan is
- * the upper bound; the rest of both stays as it was. `mirrored` becomes true where the text is of the mirrored shop,
- * and false where it is of the shop; the sequence is one of the shop in either case, so where it is true the text has
- * it in reverse order. flowshop_check_bounds with `either` accepts the text. Where the text has no room, `place` has
- * its length, and the searches are to be made again. It has at most 100003201 bytes.
- * Faults in order: JOBS, MACHINES, COUNT, TIME; LENGTH, JOB, TWICE (of start); WIDTH, ROUNDS, SEED, WORK; VERSION;
- * ROOM (of sequence); OVER_BUDGET; ROOM (of text). */
+/* Bounds between which the least makespan lies, a sequence whose makespan is the upper one, and a two-ended
+ * certificate of them, by searches on the calling thread from the sequence `start` and from better ones, as the
+ * program's `certify` makes them (docs/manual.md). Bounds that are equal are the least makespan. The upper one is at
+ * most the makespan of `start`. The first `jobs` entries of `sequence` become the sequence, and the first `*length`
+ * bytes of `text` the text, which flowshop_check accepts; the rest of both stays as it was. `width`, `rounds`, `seed`
+ * and `work` are as in flowshop_improve. `directions`, 1 to 1000000000, is the most directions that the text may have;
+ * the program's `certify` has 100000000 where it is left out. The more there may be, the longer the searches take where
+ * they do not find the least makespan. The text has at most directions + 3300 bytes. Where it has no room, `place` has
+ * its length, and the searches are to be made again.
+ * Faults in order: JOBS, MACHINES, COUNT, TIME; LENGTH, JOB, TWICE (of start); WIDTH, ROUNDS, SEED, WORK; DIRECTIONS;
+ * ROOM (of sequence); ROOM (of text). */
 uint32_t flowshop_certify(uint32_t jobs, uint32_t machines, const uint32_t *times, size_t times_count,
                           const uint16_t *start, size_t start_count, uint32_t width, uint32_t rounds, uint32_t seed,
-                          uint32_t work, uint32_t version, bool bounds, uint16_t *sequence, size_t sequence_count,
-                          uint64_t *lower, uint64_t *upper, bool *mirrored, uint8_t *text, size_t text_count,
-                          size_t *length, size_t *place);
+                          uint32_t work, uint32_t directions, uint16_t *sequence, size_t sequence_count,
+                          uint64_t *lower, uint64_t *upper, uint8_t *text, size_t text_count, size_t *length,
+                          size_t *place);
 
 #ifdef __cplusplus
 }

@@ -1,11 +1,11 @@
 //! The lines of a text before its proof: what it is, of which sizes, what it claims, and its sequence.
 //!
-//! | Line | Certificate | Text of bounds | Two-ended certificate |
-//! |---|---|---|---|
-//! | 1 | `flowshop certificate 1` or `2` | `flowshop bounds 1` or `2` | `flowshop two-ended 1` |
-//! | 2 | jobs, machines, depth | jobs, machines, depth | jobs, machines |
-//! | 3 | the value | `L` and `U` | `L` and `U` |
-//! | 4 | a sequence that has the value | a sequence that has `U` | a sequence that has `U` |
+//! | Line | Certificate | Two-ended certificate |
+//! |---|---|---|
+//! | 1 | `flowshop certificate 1` or `2` | `flowshop two-ended 1` |
+//! | 2 | jobs, machines, depth | jobs, machines |
+//! | 3 | the value | `L` and `U` |
+//! | 4 | a sequence that has the value | a sequence that has `U` |
 //!
 //! LF ends each line. Numbers are decimal without leading zeros, with one space between those of a line. A line that is
 //! in any other form, that is not there or that no LF ends is at fault, and the first line at fault decides.
@@ -29,7 +29,6 @@ pub enum Bound {
 #[derive(Clone, Copy)]
 pub enum Kind {
     Certificate(Bound),
-    Bounds(Bound),
     TwoEnded,
 }
 
@@ -46,12 +45,7 @@ pub struct Claim {
 impl Claim {
     /// The line that says what a lawful text proves.
     pub fn line(&self) -> String {
-        let is_optimal = match self.kind {
-            Kind::Certificate(_) => true,
-            Kind::Bounds(_) => false,
-            Kind::TwoEnded => self.lower == self.upper,
-        };
-        if is_optimal {
+        if self.lower == self.upper {
             format!("optimal {}\n", self.upper)
         } else {
             format!("bounds {} {}\n", self.lower, self.upper)
@@ -110,8 +104,6 @@ fn kind_of(line: &[u8]) -> Option<Kind> {
     match line {
         b"flowshop certificate 1" => Some(Kind::Certificate(Bound::Machine)),
         b"flowshop certificate 2" => Some(Kind::Certificate(Bound::Released)),
-        b"flowshop bounds 1" => Some(Kind::Bounds(Bound::Machine)),
-        b"flowshop bounds 2" => Some(Kind::Bounds(Bound::Released)),
         b"flowshop two-ended 1" => Some(Kind::TwoEnded),
         _ => None,
     }
@@ -121,12 +113,12 @@ fn kind_of(line: &[u8]) -> Option<Kind> {
 fn depth_of(shop: &Shop, kind: Kind, line: &[u8]) -> Option<usize> {
     let jobs = shop.jobs.len() as u64;
     let (sizes, depth) = match kind {
-        Kind::TwoEnded => (numbers(line, 2)?, 0),
-        Kind::Certificate(_) | Kind::Bounds(_) => {
+        Kind::Certificate(_) => {
             let mut sizes = numbers(line, 3)?;
             let depth = sizes.pop()?;
             (sizes, depth)
         }
+        Kind::TwoEnded => (numbers(line, 2)?, 0),
     };
     let fits = sizes == [jobs, shop.machines as u64] && depth <= MAX_DEPTH && depth <= jobs;
     usize::try_from(depth).ok().filter(|_| fits)
@@ -136,7 +128,7 @@ fn depth_of(shop: &Shop, kind: Kind, line: &[u8]) -> Option<usize> {
 fn values_of(kind: Kind, line: &[u8]) -> Option<(u64, u64)> {
     match kind {
         Kind::Certificate(_) => numbers(line, 1).map(|value| (value[0], value[0])),
-        Kind::Bounds(_) | Kind::TwoEnded => numbers(line, 2).map(|values| (values[0], values[1])),
+        Kind::TwoEnded => numbers(line, 2).map(|values| (values[0], values[1])),
     }
 }
 

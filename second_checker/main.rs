@@ -1,4 +1,4 @@
-//! A second checker of certificates, two-ended or not, and of texts of bounds, of permutation flow shops.
+//! A second checker of certificates and two-ended certificates of permutation flow shops.
 //!
 //! It is a program of its own, in plain safe Rust. It was written apart from the proved checker of `flowshop`, by the
 //! same authors, from the rules of the texts alone. It is not proved, and shares no source file with a solver.
@@ -8,7 +8,7 @@
 //! - `shop.rs`: the shop, and the two recurrences;
 //! - `blocks.rs`: the benchmark text;
 //! - `heading.rs`: lines 1 to 4 of a text, which say what it claims;
-//! - `trees.rs`: the trees of a certificate or of a text of bounds;
+//! - `trees.rs`: the trees of a certificate;
 //! - `directions.rs`: the directions of a two-ended certificate;
 //! - `files.rs`, `fault.rs`: files, and the lines of refused runs.
 //!
@@ -36,13 +36,12 @@ use std::process::ExitCode;
 const HELP: &str = "\
 Checks a text that says what the least makespan of a permutation flow shop is, or between which bounds it is.
 
-Usage: second check FILE INDEX CERT [--either] [--sequence] [--optimal]
+Usage: second check FILE INDEX CERT [--sequence] [--optimal]
 
   FILE        The file of the benchmark text, or stdin for standard input
   INDEX       The number of the block in the text, from 1
-  CERT        The file of the certificate, two-ended or not, or of the text of bounds; /dev/stdin for a pipe
-  --either    Accepts a text of the mirrored instance too
-  --sequence  Prints the sequence of the text for the instance, and its makespan
+  CERT        The file of the certificate or two-ended certificate; /dev/stdin for a pipe
+  --sequence  Prints the sequence of the text and its makespan
   --optimal   Refuses a text whose bounds differ
   --help      Prints this
 
@@ -57,19 +56,17 @@ struct Request<'a> {
     file: &'a str,
     index: u32,
     cert: &'a str,
-    either: bool,
     sequence: bool,
     optimal: bool,
 }
 
 /// Reads the command line: the word `check`, and behind it three names, and each option at most once, in any order.
 fn request_of(words: &[String]) -> Option<Request<'_>> {
-    let (mut either, mut sequence, mut optimal) = (false, false, false);
+    let (mut sequence, mut optimal) = (false, false);
     let mut names = Vec::new();
     let (command, words) = words.split_first()?;
     for word in words {
         let option = match word.as_str() {
-            "--either" => &mut either,
             "--sequence" => &mut sequence,
             "--optimal" => &mut optimal,
             other if other.starts_with('-') => return None,
@@ -88,7 +85,6 @@ fn request_of(words: &[String]) -> Option<Request<'_>> {
             file,
             index: index.parse().ok()?,
             cert,
-            either,
             sequence,
             optimal,
         }),
@@ -101,33 +97,13 @@ fn check(shop: &Shop, text: &[u8]) -> Result<Claim, Fault> {
     let (claim, rest) = heading::read(shop, text)?;
     let rest = match claim.kind {
         Kind::TwoEnded => directions::check(shop, claim.lower, rest)?,
-        Kind::Certificate(bound) | Kind::Bounds(bound) => {
-            trees::check(shop, bound, claim.lower, claim.depth, rest)?
-        }
+        Kind::Certificate(bound) => trees::check(shop, bound, claim.lower, claim.depth, rest)?,
     };
     // The last line is `end` with its LF, and nothing follows.
     if rest != b"end\n" {
         return Err(Fault::Certificate("End"));
     }
     Ok(claim)
-}
-
-/// Checks a text of a shop or, where that fails, of the mirrored shop.
-///
-/// The mirrored shop has the machines in reverse order. A sequence has the makespan there that the reversed one has
-/// here, so both have the same least makespan. Where neither check succeeds, the fault is that of the shop itself.
-fn check_either(shop: &Shop, text: &[u8]) -> Result<Claim, Fault> {
-    let fault = match check(shop, text) {
-        Ok(claim) => return Ok(claim),
-        Err(fault) => fault,
-    };
-    match check(&shop.mirrored(), text) {
-        Ok(mut claim) => {
-            claim.sequence.reverse();
-            Ok(claim)
-        }
-        Err(_) => Err(fault),
-    }
 }
 
 /// What the run prints on standard output.
@@ -137,11 +113,7 @@ fn output(request: &Request) -> Result<String, Fault> {
     let cert = files::open(request.cert)?;
     let shop = blocks::read(&files::read_text(file)?, request.index)?;
     let text = files::read_certificate(cert)?;
-    let claim = if request.either {
-        check_either(&shop, &text)?
-    } else {
-        check(&shop, &text)?
-    };
+    let claim = check(&shop, &text)?;
     if request.optimal && claim.lower != claim.upper {
         return Err(Fault::Bounds(claim.lower, claim.upper));
     }

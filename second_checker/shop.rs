@@ -56,19 +56,6 @@ impl Shop {
         }
     }
 
-    /// The shop with its machines in reverse order.
-    pub fn mirrored(&self) -> Shop {
-        let turned = |job: &Job| {
-            let mut times = job.times;
-            times[..self.machines].reverse();
-            Job::new(times)
-        };
-        Shop {
-            machines: self.machines,
-            jobs: self.jobs.iter().map(turned).collect(),
-        }
-    }
-
     /// The jobs of no list: all of them, in increasing order.
     pub fn all_jobs(&self) -> Vec<usize> {
         (0..self.jobs.len()).collect()
@@ -89,8 +76,7 @@ impl Shop {
     /// Puts a job before the first of a list.
     ///
     /// The back of a list is, for each machine, the least time from the start of its first job there to the end of its
-    /// last job on the last machine. It is the front of the reversed list on the mirrored shop, so its rule is that of
-    /// the front, from the last machine to the first.
+    /// last job on the last machine. Its rule is that of the front, from the last machine to the first.
     pub fn put_before(&self, back: &mut PerMachine, job: usize) {
         let times = &self.jobs[job].times[..self.machines];
         let mut done = 0;

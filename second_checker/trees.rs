@@ -1,4 +1,4 @@
-//! The trees of a certificate or of a text of bounds: why no sequence has a makespan below a value.
+//! The trees of a certificate: why no sequence has a makespan below its value.
 //!
 //! There is a line for each list of so many distinct jobs as the depth says, in lexicographic order, with one tree. A
 //! tree speaks of all sequences that begin with a list:

@@ -256,59 +256,48 @@ static void certificates(void) {
     is("its length", length, needed);
     is("its value", value, 12);
     uint16_t found[3] = {0, 0, 0};
-    uint64_t least = 0;
-    bool mirrored = true;
-    is("a check", flowshop_check(3, 3, TIMES, 9, text, needed, false, found, 3, &least, &mirrored, &place),
-       FLOWSHOP_DONE);
-    is("its value", least, 12);
+    uint64_t lower = 0, upper = 0;
+    is("a check", flowshop_check(3, 3, TIMES, 9, text, needed, found, 3, &lower, &upper, &place), FLOWSHOP_DONE);
+    is("its bounds", lower == 12 && upper == 12, 1);
     is("its sequence", memcmp(found, sequence, sizeof found) == 0, 1);
-    is("not mirrored", mirrored, false);
-    is("a check without room", flowshop_check(3, 3, TIMES, 9, text, needed, false, found, 2, &least, &mirrored, &place),
+    is("a check without room", flowshop_check(3, 3, TIMES, 9, text, needed, found, 2, &lower, &upper, &place),
        FLOWSHOP_ROOM);
     for (size_t short_of = 0; short_of < needed; short_of++)
         is("a text cut short",
-           flowshop_check(3, 3, TIMES, 9, text, short_of, true, found, 3, &least, &mirrored, &place) >= FLOWSHOP_HEADER,
-           1);
+           flowshop_check(3, 3, TIMES, 9, text, short_of, found, 3, &lower, &upper, &place) >= FLOWSHOP_HEADER, 1);
     free(text);
 }
 
 /* The bounds of a text, and slices that are too short for its sequence. */
 static void bounds(void) {
-    const char *words = "flowshop bounds 1\n3 3 0\n11 13\n2 1 3\n+BB+AB\nend\n";
+    const char *words = "flowshop two-ended 1\n3 3\n11 13\n2 1 3\n-\nend\n";
     const uint8_t *text = (const uint8_t *)words;
     const size_t count = strlen(words);
     uint16_t sequence[4] = {9, 9, 9, 9};
-    uint64_t lower = 77, upper = 77, value = 77;
+    uint64_t lower = 77, upper = 77;
     size_t place = 0;
-    bool mirrored = true;
     for (size_t room = 0; room < 3; room++) {
-        is("bounds without room",
-           flowshop_check_bounds(3, 3, TIMES, 9, text, count, false, sequence, room, &lower, &upper, &mirrored, &place),
+        is("bounds without room", flowshop_check(3, 3, TIMES, 9, text, count, sequence, room, &lower, &upper, &place),
            FLOWSHOP_ROOM);
         is("the room needed", place, 3);
     }
-    is("a certificate is wanted", flowshop_check(3, 3, TIMES, 9, text, count, true, sequence, 3, &value, &mirrored,
-       &place), FLOWSHOP_HEADER);
     for (size_t short_of = 0; short_of < count; short_of++)
-        is("bounds cut short", flowshop_check_bounds(3, 3, TIMES, 9, text, short_of, true, sequence, 3, &lower, &upper,
-           &mirrored, &place) >= FLOWSHOP_HEADER, 1);
-    is("what is kept", lower == 77 && upper == 77 && value == 77 && mirrored && sequence[0] == 9, 1);
-    is("bounds",
-       flowshop_check_bounds(3, 3, TIMES, 9, text, count, false, sequence, 4, &lower, &upper, &mirrored, &place),
-       FLOWSHOP_DONE);
+        is("bounds cut short",
+           flowshop_check(3, 3, TIMES, 9, text, short_of, sequence, 3, &lower, &upper, &place) >= FLOWSHOP_HEADER, 1);
+    is("what is kept", lower == 77 && upper == 77 && sequence[0] == 9, 1);
+    is("bounds", flowshop_check(3, 3, TIMES, 9, text, count, sequence, 4, &lower, &upper, &place), FLOWSHOP_DONE);
     is("the lower bound", lower, 11);
     is("the upper bound", upper, 13);
     is("its jobs", (uint64_t)(sequence[0] * 100 + sequence[1] * 10 + sequence[2]), 213);
     is("the rest", sequence[3], 9);
-    is("not mirrored", mirrored, false);
 }
 
 /* Searches from the sequence 2 1 3 of the shop in a slice of so many bytes, and returns the status. */
 static uint32_t certify(size_t room, uint8_t *text, size_t *length, uint64_t *values, uint16_t *sequence,
-                        bool *mirrored, size_t *place) {
+                        size_t *place) {
     const uint16_t start[3] = {2, 1, 3};
-    return flowshop_certify(3, 3, TIMES, 9, start, 3, 0, 0, 1, 0, 1, false, sequence, 3, &values[0], &values[1],
-                            mirrored, text, room, length, place);
+    return flowshop_certify(3, 3, TIMES, 9, start, 3, 0, 0, 1, 0, 1000, sequence, 3, &values[0], &values[1], text, room,
+                            length, place);
 }
 
 /* Searches with these numbers, a start of so many jobs and a sequence of so many entries, and returns the status. */
@@ -317,41 +306,47 @@ static uint32_t refused(const uint16_t *start, size_t count, const uint32_t *num
     uint64_t lower = 77, upper = 77;
     uint8_t text[100] = {7};
     size_t length = 55;
-    bool mirrored = true;
     uint32_t status = flowshop_certify(3, 3, TIMES, 9, start, count, numbers[0], numbers[1], numbers[2], numbers[3],
-                                       numbers[4], true, sequence, entries, &lower, &upper, &mirrored, text, 0, &length,
-                                       place);
-    is("what is kept", lower == 77 && upper == 77 && mirrored && length == 55 && sequence[0] == 9 && text[0] == 7, 1);
+                                       numbers[4], sequence, entries, &lower, &upper, text, 0, &length, place);
+    is("what is kept", lower == 77 && upper == 77 && length == 55 && sequence[0] == 9 && text[0] == 7, 1);
     return status;
 }
 
 static void certified(void) {
-    const char *wanted = "flowshop certificate 1\n3 3 0\n12\n3 1 2\n+BC++.B\nend\n";
-    const size_t needed = strlen(wanted);
-    uint16_t sequence[3] = {9, 9, 9};
-    uint64_t values[2] = {77, 77};
+    const char *wanted = "flowshop two-ended 1\n3 3\n12 12\n";
+    uint16_t sequence[3] = {9, 9, 9}, found[3] = {0, 0, 0};
+    uint64_t values[2] = {77, 77}, value = 0;
     size_t place = 0, length = 55;
-    bool mirrored = true;
+    is("no room at all", certify(0, (uint8_t[1]){7}, &length, values, sequence, &place), FLOWSHOP_ROOM);
+    const size_t needed = place;
     for (size_t room = 0; room < needed; room++) {
         uint8_t *text = malloc(room + 1);
         memset(text, 7, room + 1);
-        is("a room too short", certify(room, text, &length, values, sequence, &mirrored, &place), FLOWSHOP_ROOM);
+        is("a room too short", certify(room, text, &length, values, sequence, &place), FLOWSHOP_ROOM);
         is("the room needed", place, needed);
-        is("a text that is kept", text[0] == 7 && text[room] == 7, 1);
+        size_t changed = 0;
+        for (size_t i = 0; i <= room; i++) changed += text[i] != 7;
+        is("a text that is kept", changed, 0);
         free(text);
     }
-    is("what is kept", length == 55 && values[0] == 77 && values[1] == 77 && sequence[0] == 9 && mirrored, 1);
+    is("what is kept", length == 55 && values[0] == 77 && values[1] == 77 && sequence[0] == 9, 1);
     uint8_t *text = malloc(needed + 1);
     text[needed] = 7;
-    is("a certificate", certify(needed + 1, text, &length, values, sequence, &mirrored, &place), FLOWSHOP_DONE);
-    is("its bytes", length == needed && memcmp(text, wanted, needed) == 0 && text[needed] == 7, 1);
+    is("a two-ended certificate", certify(needed + 1, text, &length, values, sequence, &place), FLOWSHOP_DONE);
+    is("its length", length, needed);
+    is("its first lines", memcmp(text, wanted, strlen(wanted)) == 0, 1);
+    is("the rest", text[needed], 7);
     is("its bounds", values[0] == 12 && values[1] == 12, 1);
-    is("its sequence", memcmp(sequence, BEST, sizeof BEST) == 0, 1);
-    is("not mirrored", mirrored, false);
+    is("the makespan of its sequence", flowshop_makespan(3, 3, TIMES, 9, sequence, 3, &value, &place), FLOWSHOP_DONE);
+    is("the least", value, 12);
+    is("a check of it", flowshop_check(3, 3, TIMES, 9, text, length, found, 3, &values[0], &values[1], &place),
+       FLOWSHOP_DONE);
+    is("the same bounds", values[0] == 12 && values[1] == 12, 1);
+    is("the same sequence", memcmp(found, sequence, sizeof found) == 0, 1);
     free(text);
     const uint16_t start[3] = {2, 1, 3}, twice[3] = {2, 1, 2}, strange[3] = {2, 4, 3};
-    const uint32_t faults[5] = {65537, 100000001, 0, 1000001, 3}, least[5] = {0, 0, 1, 0, 0};
-    const uint32_t statuses[5] = {FLOWSHOP_WIDTH, FLOWSHOP_ROUNDS, FLOWSHOP_SEED, FLOWSHOP_WORK, FLOWSHOP_VERSION};
+    const uint32_t faults[5] = {65537, 100000001, 0, 1000001, 1000000001}, least[5] = {0, 0, 1, 0, 1000};
+    const uint32_t statuses[5] = {FLOWSHOP_WIDTH, FLOWSHOP_ROUNDS, FLOWSHOP_SEED, FLOWSHOP_WORK, FLOWSHOP_DIRECTIONS};
     uint32_t numbers[5];
     memcpy(numbers, faults, sizeof numbers);
     is("a short start", refused(start, 2, numbers, 0, &place), FLOWSHOP_LENGTH);
@@ -364,41 +359,35 @@ static void certified(void) {
         is("no place", place, 0);
         numbers[i] = least[i];
     }
+    numbers[4] = 0;
+    is("no directions", refused(start, 3, numbers, 0, &place), FLOWSHOP_DIRECTIONS);
+    numbers[4] = FLOWSHOP_MAX_DIRECTIONS;
     for (size_t entries = 0; entries < 3; entries++) {
         is("a sequence too short", refused(start, 3, numbers, entries, &place), FLOWSHOP_ROOM);
         is("the entries needed", place, 3);
     }
+    numbers[4] = 1000;
     is("no room for a text", refused(start, 3, numbers, 3, &place), FLOWSHOP_ROOM);
     is("the room needed", place, needed);
 }
 
-/* A shop whose trees are all over their budgets: 13 jobs of times 1 and 1, and one of 10 and 11. */
+/* A shop of which a thousand directions prove no more than the bound with no job put: 13 jobs of times 1 and 1, and one
+ * of 10 and 11. Each sequence has 34. */
 static void over(void) {
-    const char *wanted =
-        "flowshop bounds 1\n14 2 0\n25 34\n14 1 2 3 4 5 6 7 8 9 10 11 12 13\nA\nend\n";
     uint32_t times[28];
-    uint16_t start[14], sequence[14] = {9};
+    uint16_t start[14], sequence[14] = {9}, found[14];
     for (int i = 0; i < 28; i++) times[i] = i == 13 ? 10 : i == 27 ? 11 : 1;
-    for (int i = 0; i < 14; i++) start[i] = i == 13 ? 14 : (uint16_t)(13 - i);
+    for (int i = 0; i < 14; i++) start[i] = (uint16_t)(14 - i);
     uint64_t lower = 77, upper = 77;
-    uint8_t text[100] = {7};
+    uint8_t text[1000 + 3300];
     size_t place = 9, length = 55;
-    bool mirrored = false;
-    is("all trees over their budgets", flowshop_certify(14, 2, times, 28, start, 14, 0, 0, 1, 0, 1, false, sequence, 14,
-       &lower, &upper, &mirrored, text, 100, &length, &place), FLOWSHOP_OVER_BUDGET);
-    is("no place", place, 0);
-    is("what is kept", lower == 77 && upper == 77 && !mirrored && length == 55 && sequence[0] == 9 && text[0] == 7, 1);
-    is("bounds", flowshop_certify(14, 2, times, 28, start, 14, 0, 0, 1, 0, 1, true, sequence, 14, &lower, &upper,
-       &mirrored, text, 100, &length, &place), FLOWSHOP_DONE);
-    is("their bytes", length == strlen(wanted) && memcmp(text, wanted, length) == 0, 1);
+    is("bounds", flowshop_certify(14, 2, times, 28, start, 14, 0, 0, 1, 0, 1000, sequence, 14, &lower, &upper, text,
+       sizeof text, &length, &place), FLOWSHOP_DONE);
     is("both bounds", lower == 25 && upper == 34, 1);
-    is("mirrored", mirrored, true);
-    is("the sequence of the shop", memcmp(sequence, start, sizeof start) == 0, 1);
-    is("a check of it", flowshop_check_bounds(14, 2, times, 28, text, length, true, sequence, 14, &lower, &upper,
-       &mirrored, &place), FLOWSHOP_DONE);
-    is("the same", lower == 25 && upper == 34 && mirrored && memcmp(sequence, start, sizeof start) == 0, 1);
-    is("no lawful text of the shop itself", flowshop_check_bounds(14, 2, times, 28, text, length, false, sequence, 14,
-       &lower, &upper, &mirrored, &place), FLOWSHOP_WEAK);
+    is("the place that stays", place, 9);
+    is("a check of them", flowshop_check(14, 2, times, 28, text, length, found, 14, &lower, &upper, &place),
+       FLOWSHOP_DONE);
+    is("the same", lower == 25 && upper == 34 && memcmp(sequence, found, sizeof found) == 0, 1);
 }
 
 /* Many calls at once, each on data of its own. */
@@ -411,16 +400,11 @@ static void *many(void *from) {
         uint64_t value, least, checked, better, upper, starts[12], ends[12];
         uint8_t text[8192];
         size_t length, place;
-        bool mirrored;
         wrong += flowshop_neh(4, 3, times, 12, start, 4, &value, &place) != FLOWSHOP_DONE;
         wrong += flowshop_solve(4, 3, times, 12, start, 4, 1, 900, 2, best, 4, &least, text, 4096, &length, &place) !=
                  FLOWSHOP_DONE;
-        wrong += flowshop_check(4, 3, times, 12, text, length, false, found, 4, &checked, &mirrored, &place) !=
-                 FLOWSHOP_DONE;
-        wrong += checked != least || least > value || memcmp(found, best, sizeof best) != 0;
-        wrong += flowshop_check_bounds(4, 3, times, 12, text, length, false, found, 4, &checked, &upper, &mirrored,
-                                       &place) != FLOWSHOP_DONE;
-        wrong += checked != least || upper != least || memcmp(found, best, sizeof best) != 0;
+        wrong += flowshop_check(4, 3, times, 12, text, length, found, 4, &checked, &upper, &place) != FLOWSHOP_DONE;
+        wrong += checked != least || upper != least || least > value || memcmp(found, best, sizeof best) != 0;
         wrong += flowshop_timetable(4, 3, times, 12, start, 4, starts, 12, ends, 12, &place) != FLOWSHOP_DONE;
         wrong += ends[11] != value;
         wrong += flowshop_picture(4, 3, times, 12, start, 4, text, sizeof text, &length, &place) !=
@@ -428,9 +412,11 @@ static void *many(void *from) {
         wrong += flowshop_improve(4, 3, times, 12, start, 4, 4, 4, seed + 1, 1, found, 4, &better,
                                   &place) != FLOWSHOP_DONE;
         wrong += better < least || better > value;
-        wrong += flowshop_certify(4, 3, times, 12, start, 4, 2, 2, seed + 1, 1, seed % 3, false, found, 4, &checked,
-                                  &upper, &mirrored, text, 4096, &length, &place) != FLOWSHOP_DONE;
-        wrong += checked != least || upper != least || mirrored;
+        wrong += flowshop_certify(4, 3, times, 12, start, 4, 2, 2, seed + 1, 1, 1000, best, 4, &checked, &upper, text,
+                                  4300, &length, &place) != FLOWSHOP_DONE;
+        wrong += checked != least || upper != least;
+        wrong += flowshop_check(4, 3, times, 12, text, length, found, 4, &checked, &upper, &place) != FLOWSHOP_DONE;
+        wrong += checked != least || upper != least || memcmp(found, best, sizeof best) != 0;
     }
     return (void *)wrong;
 }

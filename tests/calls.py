@@ -12,6 +12,9 @@ import tempfile
 import threading
 
 TOP = os.path.dirname(os.path.dirname(os.path.abspath(__file__)))
+sys.path.insert(0, os.path.join(TOP, "examples", "python"))
+import check_two_ended  # noqa: E402
+
 LIBRARY = ctypes.CDLL(os.environ.get("FLOWSHOP_LIBRARY", os.path.join(TOP, "out", "libflowshop.so")))
 HEADER = open(os.path.join(TOP, "library", "flowshop.h"), encoding="ascii").read()
 STATUS = {name: int(number) for name, number in re.findall(r"FLOWSHOP_(\w+) = (\d+)", HEADER)}
@@ -164,50 +167,34 @@ def solve(shop, start, depth=0, budget=100_000, version=1, room=None, text_room=
     return list(sequence.array[: shop[0]]), value.value, bytes(text.array[: length.value])
 
 
-def check(shop, text, either=False, room=None):
-    value, mirrored, place = ctypes.c_uint64(7), ctypes.c_bool(False), ctypes.c_size_t(0)
+def check(shop, text, room=None):
+    lower, upper, place = ctypes.c_uint64(7), ctypes.c_uint64(7), ctypes.c_size_t(0)
     sequence = Room(ctypes.c_uint16, shop[0] if room is None else room)
-    words = [*shop_words(shop), *slice_of(ctypes.c_uint8, text), ctypes.c_bool(either), *sequence.words()]
-    status = LIBRARY.flowshop_check(*words, ctypes.byref(value), ctypes.byref(mirrored), ctypes.byref(place))
+    words = [*shop_words(shop), *slice_of(ctypes.c_uint8, text), *sequence.words()]
+    status = LIBRARY.flowshop_check(*words, *[ctypes.byref(number) for number in (lower, upper, place)])
     if status:
-        equal("what is kept", (value.value, mirrored.value, sequence.untouched()), (7, False, True))
-        return outcome(status, place)
-    return list(sequence.array[: shop[0]]), value.value, mirrored.value
-
-
-def check_bounds(shop, text, either=False, room=None):
-    lower, upper = ctypes.c_uint64(7), ctypes.c_uint64(7)
-    mirrored, place = ctypes.c_bool(False), ctypes.c_size_t(0)
-    sequence = Room(ctypes.c_uint16, shop[0] if room is None else room)
-    words = [*shop_words(shop), *slice_of(ctypes.c_uint8, text), ctypes.c_bool(either), *sequence.words()]
-    results = [ctypes.byref(number) for number in (lower, upper, mirrored, place)]
-    status = LIBRARY.flowshop_check_bounds(*words, *results)
-    if status:
-        kept = (lower.value, upper.value, mirrored.value, sequence.untouched())
-        equal("what is kept", kept, (7, 7, False, True))
+        equal("what is kept", (lower.value, upper.value, sequence.untouched()), (7, 7, True))
         return outcome(status, place)
     equal("the rest of the sequence", set(sequence.array[shop[0] :]), {7})
-    return list(sequence.array[: shop[0]]), lower.value, upper.value, mirrored.value
+    return list(sequence.array[: shop[0]]), lower.value, upper.value
 
 
-def certify(shop, start, numbers=(0, 0, 1, 0, 1), bounds=False, room=None, text_room=800):
-    """`numbers` are the width, the rounds, the seed, the work and the version."""
-    lower, upper, length = ctypes.c_uint64(7), ctypes.c_uint64(7), ctypes.c_size_t(7)
-    mirrored, place = ctypes.c_bool(False), ctypes.c_size_t(0)
+def certify(shop, start, numbers=(0, 0, 1, 0, 1_000), room=None, text_room=4_300):
+    """`numbers` are the width, the rounds, the seed, the work and the directions."""
+    lower, upper = ctypes.c_uint64(7), ctypes.c_uint64(7)
+    length, place = ctypes.c_size_t(7), ctypes.c_size_t(0)
     sequence = Room(ctypes.c_uint16, shop[0] if room is None else room)
     text = Room(ctypes.c_uint8, text_room)
     words = [*shop_words(shop), *slice_of(ctypes.c_uint16, start), *[ctypes.c_uint32(number) for number in numbers]]
-    results = [ctypes.byref(number) for number in (lower, upper, mirrored)]
-    rooms = [*sequence.words(), *results, *text.words()]
-    status = LIBRARY.flowshop_certify(*words, ctypes.c_bool(bounds), *rooms, ctypes.byref(length), ctypes.byref(place))
+    rooms = [*sequence.words(), ctypes.byref(lower), ctypes.byref(upper), *text.words()]
+    status = LIBRARY.flowshop_certify(*words, *rooms, ctypes.byref(length), ctypes.byref(place))
     if status:
-        kept = (lower.value, upper.value, mirrored.value, length.value, sequence.untouched(), text.untouched())
-        equal("what is kept", kept, (7, 7, False, 7, True, True))
+        kept = (lower.value, upper.value, length.value, sequence.untouched(), text.untouched())
+        equal("what is kept", kept, (7, 7, 7, True, True))
         return outcome(status, place)
     equal("the rest of the sequence", set(sequence.array[shop[0] :]), {7})
     equal("the rest of the text", set(text.array[length.value :]), {7})
-    stated = bytes(text.array[: length.value])
-    return list(sequence.array[: shop[0]]), lower.value, upper.value, mirrored.value, stated
+    return list(sequence.array[: shop[0]]), lower.value, upper.value, bytes(text.array[: length.value])
 
 
 def plain_times(jobs, machines, seed):
@@ -314,10 +301,12 @@ def plain_least(shop):
     return min(plain_makespan(shop, sequence) for sequence in itertools.permutations(range(1, shop[0] + 1)))
 
 
-def mirrored(shop):
-    jobs, machines, times = shop
-    rows = [times[machine * jobs : (machine + 1) * jobs] for machine in range(machines)]
-    return jobs, machines, [time for row in reversed(rows) for time in row]
+def plain_check(shop, text, most):
+    """What a two-ended certificate proves, by the checker of examples/python; and that it has few directions."""
+    jobs, _, times = shop
+    lower, upper, sequence = check_two_ended.check([times[job::jobs] for job in range(jobs)], text)
+    equal("how many directions", len(text.split(b"\n")[4]) <= most, True)
+    return sequence, lower, upper
 
 
 def drawn(draw):
@@ -326,7 +315,7 @@ def drawn(draw):
 
 
 def compare_shop(draw):
-    """One random shop: its start, its least makespan, and its certificate, also as that of the mirrored shop."""
+    """One random shop: its start, its least makespan, and its certificates."""
     shop = drawn(draw)
     start, start_value = neh(shop)
     equal("a start", (start, start_value), (plain_neh(shop), plain_makespan(shop, plain_neh(shop))))
@@ -341,18 +330,17 @@ def compare_shop(draw):
     depth = draw.randint(0, min(2, shop[0]))
     sequence, value, text = solve(shop, start, depth, version=draw.randint(1, 2))
     equal("a least makespan", (value, plain_makespan(shop, sequence)), (least, least))
-    equal("a check", check(shop, text), (sequence, least, False))
-    equal("a check of its bounds", check_bounds(shop, text), (sequence, least, least, False))
-    turned = check(mirrored(shop), text, True)
-    equal("a check of the mirrored shop", turned[1], least)
-    equal("the same, of its bounds", check_bounds(mirrored(shop), text, True), (turned[0], least, *turned[1:]))
-    if turned[2]:
-        equal("a sequence turned", turned[0], sequence[::-1])
-        equal("its makespan", plain_makespan(mirrored(shop), turned[0]), least)
-    numbers = draw.choice((0, 1, 20)), draw.choice((0, 9)), draw.randint(1, 2_147_483_646), 1, draw.randint(0, 2)
-    sequence, *bounds, is_mirrored, text = certify(shop, start, numbers, bounds=draw.random() < 0.5)
+    equal("a check", check(shop, text), (sequence, least, least))
+    effort = draw.choice((0, 1, 20)), draw.choice((0, 9)), draw.randint(1, 2_147_483_646), 1
+    sequence, *bounds, text = certify(shop, start, (*effort, 1_000))
     equal("bounds that are certified", (bounds, plain_makespan(shop, sequence)), ([least, least], least))
-    equal("a check of its text", check(shop, text), (sequence, least, is_mirrored))
+    equal("a check of its text", check(shop, text), (sequence, least, least))
+    equal("a plain check of it", plain_check(shop, text, 1_000), (sequence, least, least))
+    most = draw.randint(1, 9)
+    sequence, lower, upper, text = certify(shop, start, (*effort, most))
+    equal("whether they are bounds", lower <= least <= upper <= plain_makespan(shop, start), True)
+    equal("a check of few directions", check(shop, text), (sequence, lower, upper))
+    equal("a plain check of them", plain_check(shop, text, most), (sequence, lower, upper))
 
 
 SHOP = (3, 3, [4, 0, 0, 0, 8, 2, 4, 0, 1])
@@ -408,6 +396,7 @@ def compare_statuses():
         (solve((1, 1, [5]), [1], 2), ("PLAN_DEPTH", 0)),
         (solve((100, 1, [5] * 100), list(range(1, 101)), 3), ("PLAN_PREFIXES", 0)),
         (solve(SHOP, [1, 2, 3], room=2), ("ROOM", 3)),
+        (check((3, 3, [1]), b"", room=2), ("COUNT", 0)),
         (check(SHOP, b"", room=2), ("ROOM", 3)),
         (check(SHOP, b""), ("HEADER", 0)),
     ]
@@ -433,7 +422,7 @@ def compare_statuses():
         equal(f"line {number + 1} as {line!r}", check(SHOP, changed), wanted)
     two = (2, 1, [1, 1])
     point = b"flowshop certificate 1\n2 1 2\n2\n1 2\n.\n.\nend\n"
-    equal("points", check(two, point), ([1, 2], 2, False))
+    equal("points", check(two, point), ([1, 2], 2, 2))
     # The first sequence has 5 and the second 4, so that the second is low.
     low = b"flowshop certificate 1\n2 2 2\n5\n1 2\n.\n.\nend\n"
     equal("a low point", check((2, 2, [2, 1, 1, 2]), low), ("LOW", 6))
@@ -505,62 +494,24 @@ def compare_blocks():
         equal(f"{old!r} as {new!r}", block(text.replace(old, new, 1), 1), wanted)
 
 
-def compare_bounds():
-    """Texts of bounds, each read by hand, and the first fault of changed ones; certificates are read as such."""
-    text = b"flowshop bounds 1\n3 3 0\n11 13\n2 1 3\n+BB+AB\nend\n"
-    turned = b"flowshop bounds 2\n3 3 0\n10 13\n3 1 2\nB\nend\n"
-    certificate = b"flowshop certificate 1\n3 3 0\n12\n3 1 2\n+BC+AB\nend\n"
-    for got, wanted in [
-        (check_bounds(SHOP, text), ([2, 1, 3], 11, 13, False)),
-        (check_bounds(SHOP, text, True), ([2, 1, 3], 11, 13, False)),
-        (check_bounds(SHOP, text, room=5), ([2, 1, 3], 11, 13, False)),
-        (check_bounds(SHOP, text, room=2), ("ROOM", 3)),
-        (check_bounds((3, 3, [1]), text, room=2), ("COUNT", 0)),
-        (check_bounds(SHOP, turned), ("NOT_ATTAINED", 0)),
-        (check_bounds(SHOP, turned, True), ([2, 1, 3], 10, 13, True)),
-        (check_bounds(SHOP, certificate), ([3, 1, 2], 12, 12, False)),
-        (check_bounds(SHOP, certificate.replace(b"12", b"13", 1)), ("NOT_ATTAINED", 0)),
-        (check_bounds(SHOP, b"flowshop bounds 1\n3 3 0\n12 12\n3 1 2\n+BC+AB\nend\n"), ([3, 1, 2], 12, 12, False)),
-        # A letter of any machine reaches 0.
-        (check_bounds((1, 1, [999_999]), b"flowshop bounds 1\n1 1 0\n0 999999\n1\nA\nend\n"), ([1], 0, 999_999, False)),
-        (check_bounds(SHOP, b""), ("HEADER", 0)),
-        (check(SHOP, text), ("HEADER", 0)),
-        (check(SHOP, text, True), ("HEADER", 0)),
-    ]:
-        equal("bounds", got, wanted)
-    for old, new, wanted in [
-        (b"bounds 1", b"bounds 3", ("HEADER", 0)),
-        (b"3 3 0", b"3 2 0", ("SIZE", 0)),
-        (b"11 13", b"11", ("VALUE", 0)),
-        (b"11 13", b"11 18446744073709551616", ("VALUE", 0)),
-        (b"2 1 3", b"2 1 2", ("SEQUENCE", 0)),
-        (b"11 13", b"11 14", ("NOT_ATTAINED", 0)),
-        (b"11 13", b"12 13", ("WEAK", 5)),
-        (b"11 13\n2 1 3\n+BB+AB", b"13 12\n3 1 2\n+BC++.B", ("LOW", 5)),
-        (b"+BB+AB", b"+BB+ABA", ("TREE", 5)),
-        (b"end", b"end\n", ("END", 0)),
-    ]:
-        equal(f"{old!r} as {new!r}", check_bounds(SHOP, text.replace(old, new, 1)), wanted)
-
-
 def compare_directions():
     """Two-ended certificates, each read by hand, and the first fault of changed ones."""
     text = b"flowshop two-ended 1\n3 3\n11 13\n2 1 3\n-\nend\n"
     least = b"flowshop two-ended 1\n3 3\n12 12\n3 1 2\n+-\nend\n"
-    turned = least.replace(b"3 1 2", b"2 1 3")
     for got, wanted in [
-        (check_bounds(SHOP, text), ([2, 1, 3], 11, 13, False)),
-        (check_bounds(SHOP, text, True), ([2, 1, 3], 11, 13, False)),
-        (check_bounds(SHOP, text, room=5), ([2, 1, 3], 11, 13, False)),
-        (check_bounds(SHOP, text, room=2), ("ROOM", 3)),
-        (check_bounds((3, 3, [1]), text, room=2), ("COUNT", 0)),
-        (check_bounds(SHOP, least), ([3, 1, 2], 12, 12, False)),
-        (check_bounds(SHOP, turned), ("NOT_ATTAINED", 0)),
-        (check_bounds(SHOP, turned, True), ([3, 1, 2], 12, 12, True)),
-        (check_bounds((1, 1, [7]), b"flowshop two-ended 1\n1 1\n7 7\n1\n\nend\n"), ([1], 7, 7, False)),
-        (check_bounds((1, 1, [7]), b"flowshop two-ended 1\n1 1\n8 7\n1\n+\nend\n"), ("LOW", 5)),
-        (check(SHOP, least), ("HEADER", 0)),
-        (check(SHOP, least, True), ("HEADER", 0)),
+        (check(SHOP, text), ([2, 1, 3], 11, 13)),
+        (check(SHOP, text, room=5), ([2, 1, 3], 11, 13)),
+        (check(SHOP, text, room=2), ("ROOM", 3)),
+        (check((3, 3, [1]), text, room=2), ("COUNT", 0)),
+        (check(SHOP, least), ([3, 1, 2], 12, 12)),
+        (check(SHOP, least.replace(b"3 1 2", b"2 1 3")), ("NOT_ATTAINED", 0)),
+        (check((1, 1, [7]), b"flowshop two-ended 1\n1 1\n7 7\n1\n\nend\n"), ([1], 7, 7)),
+        (check((1, 1, [7]), b"flowshop two-ended 1\n1 1\n8 7\n1\n+\nend\n"), ("LOW", 5)),
+        # No directions are needed to prove 0.
+        (check((1, 1, [999_999]), b"flowshop two-ended 1\n1 1\n0 999999\n1\n\nend\n"), ([1], 0, 999_999)),
+        # Texts of bounds by trees are of no kind.
+        (check(SHOP, b"flowshop bounds 1\n3 3 0\n11 13\n2 1 3\n+BB+AB\nend\n"), ("HEADER", 0)),
+        (check(SHOP, b"flowshop certificate 1\n3 3 0\n12\n3 1 2\n+BC+AB\nend\n"), ([3, 1, 2], 12, 12)),
     ]:
         equal("directions", got, wanted)
     for old, new, wanted in [
@@ -578,51 +529,49 @@ def compare_directions():
         (b"11 13\n2 1 3\n-", b"13 12\n3 1 2\n+++", ("LOW", 5)),
         (b"\nend", b"\nend\n", ("END", 0)),
     ]:
-        equal(f"{old!r} as {new!r}", check_bounds(SHOP, text.replace(old, new, 1)), wanted)
+        equal(f"{old!r} as {new!r}", check(SHOP, text.replace(old, new, 1)), wanted)
 
 
 def compare_certify():
-    """Certificates and bounds, worked out by hand, and each status of the arguments."""
+    """Bounds of shops that are known, and each status of the arguments."""
     start = [2, 1, 3]
-    text = b"flowshop certificate 1\n3 3 0\n12\n3 1 2\n+BC++.B\nend\n"
-    found = [3, 1, 2], 12, 12, False, text
+    *found, text = certify(SHOP, start)
+    equal("a least makespan", (found, plain_makespan(SHOP, found[0])), ([found[0], 12, 12], 12))
+    equal("a plain check of it", plain_check(SHOP, text, 1_000), tuple(found))
+    found = *found, text
     for got, wanted in [
-        (certify(SHOP, start), found),
-        (certify(SHOP, start, bounds=True), found),
-        (certify(SHOP, start, (0, 0, 1, 0, 0)), found),
         (certify(SHOP, start, room=9), found),
         (certify(SHOP, start, text_room=len(text)), found),
         (certify(SHOP, start, text_room=len(text) - 1), ("ROOM", len(text))),
         (certify(SHOP, start, text_room=0), ("ROOM", len(text))),
         (certify(SHOP, start, room=2, text_room=0), ("ROOM", 3)),
-        (certify(SHOP, start, (0, 0, 1, 0, 3), room=2), ("VERSION", 0)),
-        (certify(SHOP, start, (0, 0, 1, 0, 4_294_967_295), room=2), ("VERSION", 0)),
-        (certify(SHOP, start, (0, 0, 1, 1_000_001, 3)), ("WORK", 0)),
-        (certify(SHOP, start, (0, 0, 0, 1_000_001, 3)), ("SEED", 0)),
-        (certify(SHOP, start, (0, 0, 2_147_483_647, 0, 1)), ("SEED", 0)),
-        (certify(SHOP, start, (0, 100_000_001, 0, 0, 3)), ("ROUNDS", 0)),
-        (certify(SHOP, start, (65_537, 100_000_001, 0, 0, 3)), ("WIDTH", 0)),
-        (certify(SHOP, [2, 1, 1], (65_537, 0, 0, 0, 3)), ("TWICE", 3)),
-        (certify(SHOP, [2, 4, 3], (65_537, 0, 0, 0, 3)), ("JOB", 2)),
-        (certify(SHOP, [2, 1], (65_537, 0, 0, 0, 3)), ("LENGTH", 0)),
+        (certify(SHOP, start, (0, 0, 1, 0, 0), room=2), ("DIRECTIONS", 0)),
+        (certify(SHOP, start, (0, 0, 1, 0, 1_000_000_001), room=2), ("DIRECTIONS", 0)),
+        (certify(SHOP, start, (0, 0, 1, 0, 4_294_967_295), room=2), ("DIRECTIONS", 0)),
+        (certify(SHOP, start, (0, 0, 1, 0, 1_000_000_000), room=2), ("ROOM", 3)),
+        (certify(SHOP, start, (0, 0, 1, 1_000_001, 0)), ("WORK", 0)),
+        (certify(SHOP, start, (0, 0, 0, 1_000_001, 0)), ("SEED", 0)),
+        (certify(SHOP, start, (0, 0, 2_147_483_647, 0, 0)), ("SEED", 0)),
+        (certify(SHOP, start, (0, 100_000_001, 0, 0, 0)), ("ROUNDS", 0)),
+        (certify(SHOP, start, (65_537, 100_000_001, 0, 0, 0)), ("WIDTH", 0)),
+        (certify(SHOP, [2, 1, 1], (65_537, 0, 0, 0, 0)), ("TWICE", 3)),
+        (certify(SHOP, [2, 4, 3], (65_537, 0, 0, 0, 0)), ("JOB", 2)),
+        (certify(SHOP, [2, 1], (65_537, 0, 0, 0, 0)), ("LENGTH", 0)),
         (certify((2, 1, [1, 1_000_000]), [2]), ("TIME", 2)),
         (certify((3, 3, [1]), [2]), ("COUNT", 0)),
         (certify((3, 27, [1]), [2]), ("MACHINES", 0)),
         (certify((0, 27, [1]), [2]), ("JOBS", 0)),
+        # One machine: the bound with no job put is the makespan of each sequence.
+        (certify((2, 1, [3, 4]), [2, 1], (0, 0, 1, 0, 1))[1:3], (7, 7)),
     ]:
         equal("a text that is certified", got, wanted)
-    for version, name in enumerate((b"certificate 1", b"certificate 1", b"certificate 2")):
-        got = certify(SHOP, start, (0, 0, 1, 0, version))
-        equal("a version", (got[:4], got[4].startswith(b"flowshop " + name + b"\n")), (found[:4], True))
-    # All trees are over their budgets. The bound of machine 1 is 25 in the mirrored shop alone; all sequences have 34.
+    # Each sequence has the makespan 34. The bound of a node is 25 until job 14 is put at an end, so that a thousand
+    # directions prove no more.
     long = 14, 2, [1] * 13 + [10] + [1] * 13 + [11]
-    turned = list(range(13, 0, -1)) + [14]
-    bounds = b"flowshop bounds 1\n14 2 0\n25 34\n14 1 2 3 4 5 6 7 8 9 10 11 12 13\nA\nend\n"
-    equal("no certificate", certify(long, turned), ("OVER_BUDGET", 0))
-    equal("bounds", certify(long, turned, bounds=True), (turned, 25, 34, True, bounds))
-    equal("bounds without room", certify(long, turned, bounds=True, text_room=len(bounds) - 1), ("ROOM", len(bounds)))
-    equal("a check of them", check_bounds(long, bounds, True), (turned, 25, 34, True))
-    equal("a check of them for the mirrored shop", check_bounds(mirrored(long), bounds), (turned[::-1], 25, 34, False))
+    sequence, *bounds, text = certify(long, list(range(1, 15)))
+    equal("bounds", bounds, [25, 34])
+    equal("a check of them", check(long, text), (sequence, 25, 34))
+    equal("a plain check of them", plain_check(long, text, 1_000), (sequence, 25, 34))
 
 
 def compare_pictures(draw):
@@ -688,7 +637,6 @@ def compare_at_once():
 
 
 compare_statuses()
-compare_bounds()
 compare_directions()
 compare_certify()
 compare_blocks()

@@ -71,41 +71,31 @@ with tempfile.TemporaryDirectory() as folder:
     with open(os.path.join(folder, "picture.svg"), "rb") as saved:
         equal("a picture that is saved", saved.read().decode("ascii"), drawing)
 found = shop.solve()
-equal("a least makespan", (found.value, found.sequence, shop.makespan(found.sequence)), (12, [3, 1, 2], 12))
+equal("a least makespan", (found.upper, found.sequence, shop.makespan(found.sequence)), (12, [3, 1, 2], 12))
 equal("a check", shop.check(found.text), found)
-turned = Shop.from_rows([row[::-1] for row in rows]).check(found.text, either=True)
-equal("a check of the mirrored shop", turned[:4], (12, 12, [2, 1, 3], True))
-equal("a least value", (turned.value, turned.is_least), (12, True))
-# The texts of bounds that docs/formats.md reads by hand, and one of the mirrored shop.
-bounds = b"flowshop bounds 1\n3 3 0\n11 13\n2 1 3\n+BB+AB\nend\n"
+shown = f"Certificate(lower=12, upper=12, sequence=[3, 1, 2], text=<{len(found.text)} bytes>)"
+equal("what is shown of it", (repr(found), str(found)), (shown, shown))
+equal("that it is the least", (found.lower, found.upper, found.optimal), (12, 12, True))
+# The two-ended certificates that docs/formats.md reads by hand.
+bounds = b"flowshop two-ended 1\n3 3\n11 13\n2 1 3\n-\nend\n"
 checked = shop.check(bounds)
-equal("bounds", checked, (11, 13, [2, 1, 3], False, bounds))
-equal("bounds that are not equal", (checked.value, checked.is_least), (13, False))
-turned_bounds = b"flowshop bounds 2\n3 3 0\n10 13\n3 1 2\nB\nend\n"
-equal("bounds of the mirrored shop", shop.check(turned_bounds, either=True)[:4], (10, 13, [2, 1, 3], True))
-# The two-ended certificates that it reads by hand.
-directions = b"flowshop two-ended 1\n3 3\n11 13\n2 1 3\n-\nend\n"
-checked = shop.check(directions)
-equal("bounds by directions", (checked, checked.is_least), ((11, 13, [2, 1, 3], False, directions), False))
+equal("bounds", checked, (11, 13, [2, 1, 3], bounds))
+equal("bounds that are not equal", checked.optimal, False)
 directions = b"flowshop two-ended 1\n3 3\n12 12\n3 1 2\n++\nend\n"
 checked = shop.check(directions)
-equal("a least value by directions", (checked[:4], checked.is_least), ((12, 12, [3, 1, 2], False), True))
+equal("a least value by directions", (checked[:3], checked.optimal), ((12, 12, [3, 1, 2]), True))
 equal("directions that do not", refused(lambda: shop.check(directions[:-6] + b"\nend\n")), ("TREE", 5))
-certificate = b"flowshop certificate 1\n3 3 0\n12\n3 1 2\n+BC++.B\nend\n"
-few = {"width": 0, "rounds": 0, "seed": 1, "work": 0}
-equal("a certificate", shop.certify([2, 1, 3], version=1, **few), (12, 12, [3, 1, 2], False, certificate))
-equal("one from that of neh", shop.certify(**few), (12, 12, [3, 1, 2], False, certificate))
-equal("one where bounds are asked for", shop.certify(bounds=True, **few)[4], certificate)
-second = shop.certify(version=2, width=8, rounds=5, seed=7, work=1)
-equal("one in version 2", (second.value, second.text.split(b"\n")[0]), (12, b"flowshop certificate 2"))
-equal("a check of it", shop.check(second.text), second)
-# All trees are over their budgets. The bound of machine 1 is 25 in the mirrored shop alone; all sequences have 34.
-long, jobs = Shop([[1] * 13 + [10], [1] * 13 + [11]]), list(range(13, 0, -1)) + [14]
-equal("no certificate", refused(lambda: long.certify(jobs, version=1, **few)), ("OVER_BUDGET", 0))
-shown = long.certify(jobs, version=1, bounds=True, **few)
-stated = b"flowshop bounds 1\n14 2 0\n25 34\n14 1 2 3 4 5 6 7 8 9 10 11 12 13\nA\nend\n"
-equal("bounds of the mirrored shop", shown, (25, 34, jobs, True, stated))
-equal("a check of them", long.check(shown.text, either=True), shown)
+few = {"width": 0, "rounds": 0, "seed": 1, "work": 0, "directions": 1000}
+for certified in (shop.certify([2, 1, 3], **few), shop.certify(**few), shop.certify(width=8, rounds=5, seed=7, work=1)):
+    equal("a two-ended certificate", certified.text.startswith(b"flowshop two-ended 1\n3 3\n12 12\n"), True)
+    equal("what it proves", (certified.lower, certified.optimal, shop.makespan(certified.sequence)), (12, True, 12))
+    equal("a check of it", shop.check(certified.text), certified)
+# Each sequence of this shop has the makespan 34. The bound of a node is 25 until job 14 is put at an end, so that a
+# thousand directions prove no more.
+long = Shop([[1] * 13 + [10], [1] * 13 + [11]])
+certified = long.certify(**few)
+equal("bounds that are certified", (certified.lower, certified.upper, certified.optimal), (25, 34, False))
+equal("a check of them", long.check(certified.text), certified)
 with tempfile.TemporaryDirectory() as folder:
     found.save(os.path.join(folder, "certificate"))
     with open(os.path.join(folder, "certificate"), "rb") as saved:
@@ -186,11 +176,11 @@ for what, call, wanted in [
     ("many rounds", lambda: shop.certify(rounds=100_000_001), ("ROUNDS", 0)),
     ("a seed of 0 for it", lambda: shop.certify(seed=0), ("SEED", 0)),
     ("much work", lambda: shop.certify(work=1_000_001), ("WORK", 0)),
-    ("a version 3", lambda: shop.certify(version=3), ("VERSION", 0)),
-    ("a version 0", lambda: shop.certify(version=0), ("VERSION", 0)),
+    ("no directions", lambda: shop.certify(directions=0), ("DIRECTIONS", 0)),
+    ("too many directions", lambda: shop.certify(directions=1_000_000_001), ("DIRECTIONS", 0)),
+    ("directions below 0", lambda: shop.certify(directions=-1), ("DIRECTIONS", 0)),
     ("no text", lambda: shop.check(b""), ("HEADER", 0)),
-    ("bounds of the mirrored shop, unasked", lambda: shop.check(turned_bounds), ("NOT_ATTAINED", 0)),
-    ("bounds too high", lambda: shop.check(bounds.replace(b"11", b"14")), ("WEAK", 5)),
+    ("a bound too high", lambda: shop.check(bounds.replace(b"11", b"12")), ("TREE", 5)),
     ("a text cut short", lambda: shop.check(found.text[:-1]), ("END", 0)),
 ]:
     equal(what, refused(call), wanted)

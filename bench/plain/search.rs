@@ -67,7 +67,7 @@ struct Search<'a> {
     tree: Vec<u8>,
 }
 
-/// The tree of a prefix, and the least makespan below the one that the search begins with, with its first sequence.
+/// The tree of a prefix, and the least makespan below that of the start, with its first sequence.
 struct Found {
     tree: Vec<u8>,
     best: Option<(u64, Vec<usize>)>,
@@ -111,15 +111,15 @@ impl Search<'_> {
     }
 }
 
-/// What a prefix answers for the makespan that the search begins with; `None` where its tree is longer than the budget.
-fn answer(instance: &Instance, prefix: &[usize], begin: u64, options: &Options) -> Option<Found> {
+/// What a prefix answers for the makespan of the start; `None` where its tree is longer than the budget.
+fn answer(instance: &Instance, prefix: &[usize], start: u64, options: &Options) -> Option<Found> {
     let mut search = Search {
         instance,
         bound: options.bound,
         budget: options.budget,
         list: prefix.to_vec(),
         left: jobs_left(instance.jobs.len(), prefix),
-        incumbent: begin,
+        incumbent: start,
         best: None,
         tree: Vec::new(),
     };
@@ -139,8 +139,6 @@ pub struct Request {
     pub depth: usize,
     pub budget: usize,
     pub version: u32,
-    /// The number below which sequences are searched for; the makespan of the start where it is less.
-    pub target: u64,
 }
 
 /// A request within the limits.
@@ -149,7 +147,6 @@ pub struct Options {
     depth: usize,
     budget: usize,
     bound: Bound,
-    target: u64,
 }
 
 impl Request {
@@ -176,21 +173,18 @@ impl Request {
             depth: self.depth,
             budget: self.budget,
             bound,
-            target: self.target,
         })
     }
 }
 
-/// The certificate of an instance; or a text of bounds, where no sequence is below a target that is below the makespan
-/// of the start.
+/// The certificate of an instance.
 pub fn solve(instance: &Instance, options: &Options) -> Result<Vec<u8>, Fault> {
-    let (start_sequence, start) = instance.start();
-    let begin = start.min(options.target);
+    let (mut sequence, start) = instance.start();
     let prefixes: Vec<_> = Cut::new(instance.jobs.len(), options.depth).collect();
     // A worker stops at its first prefix over the budget: no later answer is looked at.
     let work = |worker| {
         let mine = prefixes.iter().skip(worker).step_by(options.workers);
-        mine.map_while(|prefix| answer(instance, prefix, begin, options))
+        mine.map_while(|prefix| answer(instance, prefix, start, options))
             .collect::<Vec<_>>()
     };
     let answers: Vec<_> = thread::scope(|scope| {
@@ -203,30 +197,24 @@ pub fn solve(instance: &Instance, options: &Options) -> Result<Vec<u8>, Fault> {
         let answers = answers.map_err(|_| refused("run Threads"))?;
         lanes.push(answers.into_iter());
     }
-    let mut best = None;
+    let mut least = start;
     let mut trees = Vec::with_capacity(prefixes.len());
     for number in 0..prefixes.len() {
         let Some(found) = lanes[number % options.workers].next() else {
             return Err(refused(format!("run OverBudget {number}")));
         };
         trees.push(found.tree);
-        let least = best.as_ref().map_or(begin, |&(least, _)| least);
-        best = match found.best {
-            Some(found) if found.0 < least => Some(found),
-            _ => best,
-        };
+        match found.best {
+            Some((makespan, found)) if makespan < least => (least, sequence) = (makespan, found),
+            _ => {}
+        }
     }
-    let (kind, values, sequence) = match best {
-        Some((least, sequence)) => ("certificate", vec![least], sequence),
-        None if begin == start => ("certificate", vec![start], start_sequence),
-        None => ("bounds", vec![begin, start], start_sequence),
-    };
-    let mut text = format!("flowshop {kind} {}\n", options.bound.version());
+    let mut text = format!("flowshop certificate {}\n", options.bound.version());
     push_line(
         &mut text,
         &[instance.jobs.len(), instance.machines, options.depth],
     );
-    push_line(&mut text, &values);
+    push_line(&mut text, &[least]);
     push_line(&mut text, &numbers_from_one(&sequence));
     Ok(with_trees(text, &trees))
 }

@@ -121,4 +121,7 @@ def main(file, index, text):
 
 
 if __name__ == "__main__":
+    if len(sys.argv) != 4:
+        print("usage: check_two_ended.py FILE INDEX TEXT", file=sys.stderr)
+        sys.exit(2)
     sys.exit(main(*sys.argv[1:]))

@@ -5,4 +5,4 @@ from flowshop import Shop
 shop = Shop([[4, 0, 0], [0, 8, 2], [4, 0, 1]])  # three machines, each with the times of three jobs
 found = shop.solve()
 checked = shop.check(found.text)
-print(f"least makespan {checked.value}:", *checked.sequence)
+print(f"least makespan {checked.lower}:", *checked.sequence)

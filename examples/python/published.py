@@ -1,6 +1,7 @@
-"""Finds the least makespan of a block of a benchmark text, or bounds of it: published.py [FILE [INDEX]]
+"""Finds the least makespan of a block of a benchmark text, or bounds of it: published.py [FILE [INDEX [DIRECTIONS]]]
 
-It writes the text that proves them to published.certificate, and a picture of the sequence to published.svg."""
+It writes the text that proves them to published.certificate, and a picture of the sequence to published.svg. DIRECTIONS
+is the most that the text has."""
 
 import sys
 from pathlib import Path
@@ -12,17 +13,13 @@ def main() -> None:
     """Reads, certifies, checks and writes, and prints what is proved."""
     path = sys.argv[1] if len(sys.argv) > 1 else Path(__file__).parent.parent / "taillard_20_5.txt"
     index = int(sys.argv[2]) if len(sys.argv) > 2 else 1
+    directions = int(sys.argv[3]) if len(sys.argv) > 3 else 100_000_000
     shop = read(path, index).shop
-    found = shop.certify(bounds=True)
-    checked = shop.check(found.text, either=True)
+    checked = shop.check(shop.certify(directions=directions).text)
     checked.save("published.certificate")
     shop.gantt(checked.sequence).save("published.svg")
-    if checked.is_least:
-        print(f"least makespan {checked.value}:", *checked.sequence)
-    else:
-        print(f"least makespan {checked.lower} to {checked.upper}:", *checked.sequence)
-    if checked.mirrored:
-        print("the text is one of the mirrored shop")
+    proved = checked.lower if checked.optimal else f"{checked.lower} to {checked.upper}"
+    print(f"least makespan {proved}:", *checked.sequence)
 
 
 try:

@@ -11,15 +11,15 @@ unsafe extern "C" {
     fn flowshop_solve(jobs: u32, machines: u32, times: *const u32, times_count: usize, start: *const u16,
         start_count: usize, depth: u32, budget: u32, version: u32, sequence: *mut u16, sequence_count: usize,
         value: *mut u64, certificate: *mut u8, certificate_count: usize, length: *mut usize, place: *mut usize) -> u32;
-    fn flowshop_check(jobs: u32, machines: u32, times: *const u32, times_count: usize, certificate: *const u8,
-        certificate_count: usize, either: bool, sequence: *mut u16, sequence_count: usize, value: *mut u64,
-        mirrored: *mut bool, place: *mut usize) -> u32;
+    fn flowshop_check(jobs: u32, machines: u32, times: *const u32, times_count: usize, text: *const u8,
+        text_count: usize, sequence: *mut u16, sequence_count: usize, lower: *mut u64, upper: *mut u64,
+        place: *mut usize) -> u32;
 }
 
 fn main() -> ExitCode {
     let times = [4u32, 0, 0, 0, 8, 2, 4, 0, 1]; // three machines, each with the times of three jobs
     let (mut start, mut best, mut text) = ([0u16; 3], [0u16; 3], [0u8; 4096]);
-    let (mut value, mut length, mut place, mut mirrored) = (0u64, 0usize, 0usize, false);
+    let (mut value, mut lower, mut upper, mut length, mut place) = (0u64, 0u64, 0u64, 0usize, 0usize);
     let (value_at, place_at) = (from_mut(&mut value), from_mut(&mut place));
     // SAFETY: each pointer is that of a slice or of a number that lives here, and goes with the slice's own length.
     let status = unsafe {
@@ -29,8 +29,8 @@ fn main() -> ExitCode {
                 value_at, text.as_mut_ptr(), text.len(), &mut length, place_at);
         }
         if status == 0 {
-            status = flowshop_check(3, 3, times.as_ptr(), 9, text.as_ptr(), length, false, best.as_mut_ptr(), 3,
-                value_at, &mut mirrored, place_at);
+            status = flowshop_check(3, 3, times.as_ptr(), 9, text.as_ptr(), length, best.as_mut_ptr(), 3, &mut lower,
+                &mut upper, place_at);
         }
         status
     };
@@ -38,6 +38,6 @@ fn main() -> ExitCode {
         println!("refused {status} at {place}");
         return ExitCode::FAILURE;
     }
-    println!("least makespan {value}: {} {} {}", best[0], best[1], best[2]);
+    println!("least makespan {lower}: {} {} {}", best[0], best[1], best[2]);
     ExitCode::SUCCESS
 }

@@ -6,13 +6,15 @@ results are proved; this package, which only hands numbers to them and back, is 
 
     >>> shop = Shop([[4, 0, 0], [0, 8, 2], [4, 0, 1]])
     >>> certificate = shop.solve()
-    >>> certificate.value, shop.check(certificate.text).value
-    (12, 12)
+    >>> certificate.upper, certificate.optimal, shop.check(certificate.text) == certificate
+    (12, True, True)
 """
 
 import ctypes
+import mmap
 import os
 from array import array
+from math import perm
 from operator import index
 from typing import Any, Callable, Iterable, List, NamedTuple, Optional, Sequence, Tuple, Union
 
@@ -21,8 +23,10 @@ from . import _library
 __all__ = ["Block", "Certificate", "FlowshopError", "Operation", "Picture", "Shop", "Start", "read"]
 
 _LIBRARY = _library.load()
-# The bytes that a certificate is given room for at first. No memory is used for what is not written.
-_ROOM = 1 << 26
+# The most bytes that a text has beside its trees or its directions.
+_BESIDE = 3300
+# The most bytes that a text is given room for at first. No memory is used for what is not written.
+_MOST_ROOM = 1 << 30
 _MOST = 0xFFFFFFFF
 _Buffer = Tuple[Any, int]
 
@@ -70,24 +74,23 @@ class Picture(str):
 
 class Certificate(NamedTuple):
     """What a text proves of a shop: no sequence has a makespan below `lower`, in the unit of the times, and `sequence`,
-    as job numbers from 1, has `upper`. Both are the least makespan where they are equal, as for every certificate
-    that is not two-ended. `mirrored` says whether the text is one of the mirrored shop."""
+    as job numbers from 1, has the makespan `upper`. Where both are equal they are the least makespan, and `optimal` is
+    true; so it is with every certificate of version 1 or 2."""
 
     lower: int
     upper: int
     sequence: List[int]
-    mirrored: bool
     text: bytes
 
     @property
-    def value(self) -> int:
-        """The makespan of the sequence: the upper bound."""
-        return self.upper
-
-    @property
-    def is_least(self) -> bool:
-        """Whether the bounds are equal, so that no sequence has a smaller makespan."""
+    def optimal(self) -> bool:
+        """Whether the bounds are equal, so that no sequence has a smaller makespan than this one."""
         return self.lower == self.upper
+
+    def __repr__(self) -> str:
+        """All but the text, which can be long, and how long that is."""
+        proved = f"lower={self.lower}, upper={self.upper}, sequence={self.sequence}"
+        return f"Certificate({proved}, text=<{len(self.text)} bytes>)"
 
     def save(self, path: Union[str, "os.PathLike[str]"]) -> None:
         """Writes the text to a file. OSError where that fails."""
@@ -127,17 +130,23 @@ def _call(name: str, *words: Any) -> None:
 
 
 def _text(room: int, call: Callable[..., None]) -> bytes:
-    """The text that a call writes, with so much room at first; it is made again where the text has no room."""
+    """The text that a call writes, which has at most so many bytes. Memory is used only for those that it has. Where
+    there may be more than there can be room for, the call is made again if the text has no room."""
+    room = min(room, _MOST_ROOM)
     while True:
-        text, length = bytearray(room), _library.size(0)
         try:
-            call((_library.u8 * room).from_buffer(text), room, ctypes.byref(length))
+            memory = mmap.mmap(-1, room, flags=mmap.MAP_PRIVATE | mmap.MAP_ANONYMOUS)
+        except OSError as error:
+            raise MemoryError("flowshop: memory ran out") from error
+        length = _library.size(0)
+        try:
+            call((_library.u8 * room).from_buffer(memory), room, ctypes.byref(length))
         except FlowshopError as error:
             if error.name != "ROOM":
                 raise
             room = error.place
             continue
-        return bytes(memoryview(text)[: length.value])
+        return memory[: length.value]
 
 
 class Shop:
@@ -267,9 +276,10 @@ class Shop:
         TWICE where the start is no sequence, DEPTH, BUDGET, VERSION, PLAN_DEPTH or PLAN_PREFIXES where the numbers are
         not as said here. The search can take long, and no time limit ends it."""
         choice = [_option(number) for number in (depth, budget, version)]
-        value = _library.u64(0)
-        sequence, text = self._written("solve", start, choice, [ctypes.byref(value)])
-        return Certificate(value.value, value.value, sequence, False, text)
+        trees = perm(self.jobs, min(choice[0], 3))
+        value, room = _library.u64(0), _BESIDE + trees * (choice[1] + 1)
+        sequence, text = self._written("solve", start, choice, [ctypes.byref(value)], room)
+        return Certificate(value.value, value.value, sequence, text)
 
     def certify(
         self,
@@ -279,45 +289,40 @@ class Shop:
         rounds: int = 10_000,
         seed: int = 1,
         work: int = 8500,
-        version: Optional[int] = None,
-        bounds: bool = False,
+        directions: int = 100_000_000,
     ) -> Certificate:
-        """A certificate of the least makespan, of this shop or of the mirrored one, by searches on this thread from a
-        sequence, or from that of `neh`, and from better ones, with budgets of up to 100,000,000 bytes. With `bounds`, a
-        text of bounds where all trees are longer. The sequence is one of this shop in either case. `version`, 1 or 2,
-        says by which bound the searches cut; where it is left out, they are in version 1, and at last in version 2.
-        The other numbers are those of `improve`. FlowshopError OVER_BUDGET where all trees are longer and no bounds are
-        asked for, LENGTH, JOB or TWICE where the start is no sequence, WIDTH, ROUNDS, SEED, WORK or VERSION where the
-        numbers are not as said here. The searches can take long, and no time limit ends them."""
-        choice = [_option(number) for number in (width, rounds, seed, work)]
-        choice.append(0 if version is None else _option(version) or _MOST)
-        lower, upper, mirrored = _library.u64(0), _library.u64(0), _library.flag(False)
-        places = [ctypes.byref(number) for number in (lower, upper, mirrored)]
-        sequence, text = self._written("certify", start, [*choice, bool(bounds)], places)
-        return Certificate(lower.value, upper.value, sequence, mirrored.value, text)
+        """Bounds of the least makespan with a two-ended certificate of them, by searches on this thread from a
+        sequence, or from that of `neh`, and from better ones. The least makespan is proved where `optimal` is true; the
+        upper bound is at most the makespan of the start. The text has at most `directions` directions, 1 to
+        1,000,000,000: the more it may have, the longer the searches take where they do not find the least makespan. The
+        other numbers are those of `improve`. FlowshopError LENGTH, JOB or TWICE where the start is no sequence, WIDTH,
+        ROUNDS, SEED, WORK or DIRECTIONS where the numbers are not as said here. No time limit ends the searches."""
+        choice = [_option(number) for number in (width, rounds, seed, work, directions)]
+        lower, upper = _library.u64(0), _library.u64(0)
+        bounds = [ctypes.byref(lower), ctypes.byref(upper)]
+        sequence, text = self._written("certify", start, choice, bounds, _BESIDE + choice[-1])
+        return Certificate(lower.value, upper.value, sequence, text)
 
     def _written(
-        self, name: str, start: Optional[Sequence[int]], choice: List[Any], places: List[Any]
+        self, name: str, start: Optional[Sequence[int]], choice: List[int], values: List[Any], room: int
     ) -> Tuple[List[int], bytes]:
-        """The sequence and the text that a call writes."""
+        """The sequence and the text that a call writes, which has at most so many bytes."""
         jobs = self.neh().sequence if start is None else list(start)
         begun = _numbers("H", _library.u16, jobs, "start")
         sequence = (_library.u16 * self.jobs)()
-        words = [*begun, *choice, sequence, self.jobs, *places]
-        text = _text(_ROOM, lambda *written: self._call(name, *words, *written))
+        words = [*begun, *choice, sequence, self.jobs, *values]
+        text = _text(room, lambda *written: self._call(name, *words, *written))
         return list(sequence), text
 
-    def check(self, text: bytes, *, either: bool = False) -> Certificate:
-        """What a certificate, two-ended or not, or a text of bounds proves, with the sequence that it states; line 1
-        tells which it is. The least makespan is proved where `is_least` is true. With `either`, a text of the mirrored
-        shop, whose machines are in reverse order, is accepted too; its sequence is turned round, so that it is one of
-        this shop. FlowshopError with the first fault of the text and its line where it is not lawful."""
+    def check(self, text: bytes) -> Certificate:
+        """What a text proves, with the sequence that it states: a certificate of version 1 or 2, or a two-ended one;
+        line 1 tells which it is. The least makespan is proved where `optimal` is true. FlowshopError with the first
+        fault of the text and its line where it is not lawful."""
         data = bytes(text)
-        sequence, mirrored = (_library.u16 * self.jobs)(), _library.flag(False)
+        sequence = (_library.u16 * self.jobs)()
         lower, upper = _library.u64(0), _library.u64(0)
-        places = [ctypes.byref(number) for number in (lower, upper, mirrored)]
-        self._call("check_bounds", data, len(data), bool(either), sequence, self.jobs, *places)
-        return Certificate(lower.value, upper.value, list(sequence), mirrored.value, data)
+        self._call("check", data, len(data), sequence, self.jobs, ctypes.byref(lower), ctypes.byref(upper))
+        return Certificate(lower.value, upper.value, list(sequence), data)
 
 
 class Block(NamedTuple):

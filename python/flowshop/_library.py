@@ -22,6 +22,7 @@ STATUSES: Dict[int, str] = {
     34: "WIDTH",
     35: "ROUNDS",
     36: "WORK",
+    37: "DIRECTIONS",
     40: "PLAN_DEPTH",
     41: "PLAN_PREFIXES",
     50: "OVER_BUDGET",
@@ -48,7 +49,7 @@ STATUSES: Dict[int, str] = {
 MOST_TIMES = 20_800
 
 u16, u32, u64, u8 = ctypes.c_uint16, ctypes.c_uint32, ctypes.c_uint64, ctypes.c_uint8
-size, flag, out = ctypes.c_size_t, ctypes.c_bool, ctypes.POINTER
+size, out = ctypes.c_size_t, ctypes.POINTER
 # Bytes that a call reads. They are not copied, and where there are none the pointer is not null.
 data = ctypes.c_char_p
 SHOP = [u32, u32, out(u32), size]
@@ -60,13 +61,12 @@ CALLS = {
     "picture": SHOP + [out(u16), size, out(u8), size, out(size), out(size)],
     "neh": SHOP + [out(u16), size, out(u64), out(size)],
     "improve": SHOP + [out(u16), size, u32, u32, u32, u32, out(u16), size, out(u64), out(size)],
-    "check": SHOP + [data, size, flag, out(u16), size, out(u64), out(flag), out(size)],
-    "check_bounds": SHOP + [data, size, flag, out(u16), size, out(u64), out(u64), out(flag), out(size)],
+    "check": SHOP + [data, size, out(u16), size, out(u64), out(u64), out(size)],
     "solve": SHOP
     + [out(u16), size, u32, u32, u32, out(u16), size, out(u64), out(u8), size, out(size), out(size)],
     "certify": SHOP
-    + [out(u16), size, u32, u32, u32, u32, u32, flag, out(u16), size]
-    + [out(u64), out(u64), out(flag), out(u8), size, out(size), out(size)],
+    + [out(u16), size, u32, u32, u32, u32, u32, out(u16), size]
+    + [out(u64), out(u64), out(u8), size, out(size), out(size)],
 }
 
 

@@ -9,7 +9,7 @@ use Rattle.flow_c.specs.Statuses.{number, memory}
 use Rattle.flow_c.specs.Places.{place_of}
 use Rattle.flow_c.specs.declared.fault.Fault.{Fault}
 use Rattle.flow_c.specs.declared.fault.Fault.TheVariants.{Memory, Room, Instance, Sequence, Choice, Effort, Plan, Run}
-use Rattle.flow_c.specs.declared.fault.Fault.TheVariants.{Certificate, Text, Index}
+use Rattle.flow_c.specs.declared.fault.Fault.TheVariants.{Certificate, Text, Index, Directions}
 
 -- a fault whose number is that of want of memory has no place
 pub no-place : (fault : Fault) → number fault ≡ memory → place_of fault ≡ 0
@@ -27,6 +27,7 @@ no-place (Sequence (sequence.Job place)) is = absurd (omega (arith, is))
 no-place (Sequence (sequence.Twice place)) is = absurd (omega (arith, is))
 no-place (Choice fault) is = refl
 no-place (Effort fault) is = refl
+no-place Directions is = refl
 no-place (Plan fault) is = refl
 no-place (Run run.Memory) is = refl
 no-place (Run (run.OverBudget prefix)) is = absurd (omega (arith, is))

@@ -1,6 +1,6 @@
-mod Turned
 mod Tested
-mod Told
 mod Found
+mod TextSize
+mod Puts
 mod Asked
 mod Ended

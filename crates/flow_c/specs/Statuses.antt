@@ -18,7 +18,7 @@ use Rattle.flow_c.specs.declared.fault.EffortFault.{EffortFault}
 use Rattle.flow_c.specs.declared.fault.EffortFault.TheVariants as effort
 use Rattle.flow_c.specs.declared.fault.Fault.{Fault}
 use Rattle.flow_c.specs.declared.fault.Fault.TheVariants.{Memory, Room, Instance, Sequence, Choice, Effort, Plan, Run}
-use Rattle.flow_c.specs.declared.fault.Fault.TheVariants.{Certificate, Text, Index}
+use Rattle.flow_c.specs.declared.fault.Fault.TheVariants.{Certificate, Text, Index, Directions}
 
 -- the call was done
 abbrev pub done : ℕ
@@ -61,6 +61,10 @@ of_effort effort.Seed = 14
 of_effort effort.Width = 34
 of_effort effort.Rounds = 35
 of_effort effort.Work = 36
+
+-- the number of directions that are out of their limits
+abbrev pub directions : ℕ
+directions = 37
 
 -- the number of a fault of a plan
 abbrev pub of_plan : PlanFault → ℕ
@@ -109,6 +113,7 @@ number (Instance fault) = of_instance fault
 number (Sequence fault) = of_sequence fault
 number (Choice fault) = of_choice fault
 number (Effort fault) = of_effort fault
+number Directions = directions
 number (Plan fault) = of_plan fault
 number (Run fault) = of_run fault
 number (Certificate fault) = of_check fault

@@ -1,238 +1,109 @@
-//! The search for a certificate, or for bounds.
+//! The search for bounds, and the text that proves them.
 
-ghost use Rattle.std.specs.Prelude.{◌≡◌, ◌⊎◌, ◌≤◌, ◌<◌, false, None, Some, IfOk, OnOk, IfErr, length, take, drop};
+ghost use Rattle.std.specs.Prelude.{◌≡◌, ◌⊎◌, ◌+◌, ◌≤◌, ◌<◌, None, Some, IfOk, OnOk, IfErr, length, take, drop, []};
 ghost use Rattle.flow_shop.specs.InstanceFaults.{instance_fault};
-ghost use Rattle.flow_shop.specs.Mirror.{mirrored};
+ghost use Rattle.flow_shop.specs.Shop.{IsWithinLimits};
 ghost use Rattle.flow_shop.specs.Paths.{span};
 ghost use Rattle.flow_shop.specs.Sequences.{IsSequence, IsLeastMakespan};
 ghost use Rattle.flow_text.specs.Generator.{modulus};
-ghost use Rattle.flow_search.specs.Findings.{IsFinding};
-ghost use Rattle.flow_search.specs.Targets.{IsTarget};
 ghost use Rattle.flow_check.specs.Certificate.{AreBounds};
-ghost use Rattle.flow_check.specs.Kinds.{IsReadAs};
-ghost use Rattle.flow_check.specs.Stated.{GivesAs};
-ghost use Rattle.flow_cert.specs.FindingCertificates.{finding_text};
-ghost use Rattle.flow_certify.specs.Tries.{AreInRange};
+ghost use Rattle.flow_check.specs.TwoEnded.{two_ended_text};
 ghost use Rattle.flow_c.specs.Statuses.{number, done, memory};
 ghost use Rattle.flow_c.specs.Faults.{shop_of};
-ghost use Rattle.flow_c.specs.Certify.{IsOver, IsTextOf, IsUncertified, certify_fault, version_asked, version_fault};
-ghost use Rattle.flow_c.specs.Checks.{ReportsCheck, TellsText, jobs_if, shop_if};
-ghost use Rattle.flow_c.specs.internal.Certified.{IsFoundFor, bounds_in, kind_in, sequence_in};
+ghost use Rattle.flow_c.specs.Certify.{IsTextFrom, IsTextTooLong, certify_fault, directions_fault, most_beside};
+ghost use Rattle.flow_c.specs.Checks.{ReportsCheck};
+ghost use Rattle.flow_c.specs.internal.Frames.{behind, with_directions};
 
 use crate::fault::Fault;
 use crate::improve::test;
 use crate::report::{DONE, report};
 use crate::room::{fill, need};
 use crate::solve::Room;
-use flow_cert::write_finding;
-use flow_certify::{Proved, Searched, find_certificate, raise_bound};
+use flow_cert::write_two_ended;
+use flow_certify::certify;
 use flow_check::Bounds;
 use flow_improve::Effort;
-use flow_limits::{MAX_VERSION, MIN_VERSION};
-use flow_search::{Finding, OptionFault, Plan, RunFault, Target};
+use flow_limits::MAX_DIRECTIONS;
 use flow_shop::{Instance, Sequence};
 use flow_text::MemorySink;
-use std::alloc::{AllocError, Global};
+use std::alloc::Global;
 
-/// What the caller asks for beside the effort.
-#[derive(Clone, Copy, Debug)]
-struct Request {
-    /// The version; 0 asks for either.
-    version: u32,
-    /// Whether bounds are to be given where there is no certificate.
-    bounds: bool,
-}
+/// The bytes behind the directions of a text.
+const BEHIND: usize = 5;
 
-/// What is proved of the instance of a plan, and a sequence of it.
+/// Bounds, a sequence that has the upper one, and the text that proves them.
 #[derive(Debug, Drop)]
 struct Written {
     bounds: Bounds,
     sequence: Sequence,
-    text: MemorySink,
+    /// The text with no directions.
+    frame: MemorySink,
+    directions: Vec<u8>,
 }
 
-/// What is proved of the instance.
-#[derive(Debug, Drop)]
-struct Certified {
-    /// The bounds. In a certificate its value is both.
-    bounds: Bounds,
-    /// A sequence of the instance that has the upper bound.
-    sequence: Sequence,
-    text: MemorySink,
-    /// Whether it is a text of the mirrored instance.
-    mirrored: bool,
-}
-
-/// The version that a number asks for.
-fn asked(version: u32) -> Result<Option<u32>, OptionFault>
-    ensures value { IfOk result (λ given. given ≡ version_asked version) }
-    ensures range { IfOk result (λ given. AreInRange given) }
-    ensures accepted { OnOk result (version_fault version ≡ None) }
-    ensures refused { IfErr result (λ fault. version_fault version ≡ Some (Fault.Choice fault)) }
+/// The most directions, where they are within their limits.
+fn most(directions: u32) -> Result<u32, Fault>
+    ensures same { IfOk result (λ most. most ≡ directions) }
+    ensures accepted { OnOk result (directions_fault directions ≡ None) }
+    ensures refused { IfErr result (λ fault. directions_fault directions ≡ Some fault) }
 {
-    if version > MAX_VERSION {
-        return Err(OptionFault::Version);
+    if directions < 1 || directions > MAX_DIRECTIONS {
+        return Err(Fault::Directions);
     }
-    Ok(if version == 0 { None } else { Some(version) })
+    Ok(directions)
 }
 
-/// Looks for a certificate; or, where there is none and bounds are asked for, raises a lower bound as long as the next
-/// number can be proved.
-fn find<'a>(
+/// The text of bounds and a sequence, with no directions.
+fn frame(
     alloc: Global,
-    instance: &'a Instance,
-    mirror: &'a Instance,
-    start: &Sequence,
-    effort: &Effort,
-    version: Option<u32>,
-    bounds: bool,
-) -> Result<Proved<'a>, Fault>
-    requires is_mirror { mirror.now ≡ mirrored instance.now }
-    requires is_sequence { IsSequence instance.now.jobs start.now }
-    requires seed_from { 1 ≤ effort.now.seed }
-    requires seed_to { effort.now.seed < modulus }
-    requires version { AreInRange version }
-    ensures found { IfOk result (λ proved. IsFoundFor bounds version instance.now start.now
-        proved.plan proved.number proved.finding) }
-    ensures refused { IfErr result (λ fault. (number fault ≡ memory)
-        ⊎ IsOver bounds version instance.now start.now fault) }
-{
-    let jobs = match find_certificate(alloc, instance, mirror, start, effort, version)? {
-        Searched::Found(plan, verdict) => {
-            return Ok(Proved {
-                number: plan.start_value(),
-                plan,
-                finding: Finding::Least(verdict),
-            });
-        }
-        Searched::Over(jobs) => jobs,
-    };
-    if !bounds {
-        return Err(Fault::Run(RunFault::OverBudget(0)));
-    }
-    let version = version.unwrap_or(MIN_VERSION);
-    Ok(raise_bound(alloc, instance, mirror, &jobs, version)?)
-}
-
-/// The bounds and the sequence of a finding.
-fn claim(alloc: Global, target: &Target, finding: Finding) -> Result<(Bounds, Sequence), AllocError>
-    ensures bounds { IfOk result (λ claim. claim.0 ≡ bounds_in target.now finding) }
-    ensures sequence { IfOk result (λ claim. claim.1 ≡ sequence_in target.now finding) }
-{
-    match finding {
-        Finding::Least(verdict) => {
-            let bounds = Bounds {
-                lower: verdict.value,
-                upper: verdict.value,
-            };
-            Ok((bounds, verdict.sequence))
-        }
-        Finding::Bound { .. } => {
-            let plan = target.plan();
-            let bounds = Bounds {
-                lower: target.value(),
-                upper: plan.start_value(),
-            };
-            Ok((bounds, Sequence::of_known(alloc, plan.start().jobs())?))
-        }
-    }
-}
-
-/// The text of a finding.
-fn text_of(alloc: Global, target: &Target, finding: &Finding) -> Result<MemorySink, Fault>
-    requires { IsFinding target.now finding.now }
-    ensures text { IfOk result (λ text. text.bytes ≡ finding_text target.now finding.now) }
+    instance: &Instance,
+    bounds: Bounds,
+    sequence: &Sequence,
+) -> Result<MemorySink, Fault>
+    ensures text { IfOk result (λ text. text.bytes ≡ two_ended_text instance.now bounds sequence.now []) }
     ensures refused { IfErr result (λ fault. number fault ≡ memory) }
 {
     let mut text = MemorySink::new(alloc, usize::MAX);
-    write_finding(target, finding, &mut text)?;
+    write_two_ended(instance, bounds, sequence, &[], &mut text)?;
     Ok(text)
 }
 
-/// The text of a finding, and what it proves.
-fn write(alloc: Global, target: &Target, finding: Finding) -> Result<Written, Fault>
-    requires target { IsTarget target.now }
-    requires finding { IsFinding target.now finding }
-    ensures text { IfOk result (λ written. written.text.bytes ≡ finding_text target.now finding) }
-    ensures read { IfOk result (λ written. IsReadAs written.text.bytes (kind_in finding)) }
-    ensures gives { IfOk result (λ written. GivesAs (kind_in finding) target.now.plan.shop written.text.bytes
-        written.bounds written.sequence) }
-    ensures bounds { IfOk result (λ written. written.bounds ≡ bounds_in target.now finding) }
-    ensures refused { IfErr result (λ fault. number fault ≡ memory) }
-{
-    let text = text_of(alloc, target, &finding)?;
-    let (bounds, sequence) = claim(alloc, target, finding)?;
-    Ok(Written {
-        bounds,
-        sequence,
-        text,
-    })
-}
-
-/// Whether a plan of an instance or of the mirrored one is of the mirrored one. It is not where both have the same
-/// times.
-fn is_mirrored(alloc: Global, plan: &Plan, instance: &Instance) -> Result<bool, AllocError>
-    requires { (plan.now.shop ≡ instance.now) ⊎ (plan.now.shop ≡ mirrored instance.now) }
-    ensures { IfOk result (λ mirrored. plan.now.shop ≡ shop_if mirrored instance.now) }
-{
-    let planned = plan.instance().times(alloc)?;
-    let times = instance.times(alloc)?;
-    Ok(planned.as_slice() != times.as_slice())
-}
-
-/// The jobs in the order of the instance.
-fn turn(sequence: Sequence, mirrored: bool) -> Sequence
-    ensures { sequence ≡ jobs_if mirrored result }
-{
-    if mirrored {
-        sequence.reversed()
-    } else {
-        sequence
-    }
-}
-
-/// Looks for a certificate or for bounds of an instance, from a sequence, and gives the text, where there is room for
-/// it.
+/// Searches for bounds of an instance from a sequence, and gives the text that proves them, where there is room for it.
 fn certify_from(
     alloc: Global,
     instance: &Instance,
     start: &Sequence,
     effort: &Effort,
-    version: Option<u32>,
-    bounds: bool,
+    directions: u32,
     room: usize,
-) -> Result<Certified, Fault>
+) -> Result<Written, Fault>
+    requires limits { IsWithinLimits instance.now }
     requires is_sequence { IsSequence instance.now.jobs start.now }
     requires seed_from { 1 ≤ effort.now.seed }
     requires seed_to { effort.now.seed < modulus }
-    requires version { AreInRange version }
-    ensures text { IfOk result (λ found. IsTextOf bounds version instance.now start.now found.text.bytes) }
-    ensures tells { IfOk result
-        (λ found. TellsText found.mirrored instance.now found.text.bytes found.bounds found.sequence) }
-    ensures certificate { IfOk result (λ found. bounds ≡ false → found.bounds.lower ≡ found.bounds.upper) }
-    ensures enough { IfOk result (λ found. length found.text.bytes ≤ room) }
+    ensures text { IfOk result (λ found. IsTextFrom instance.now start.now directions
+        (with_directions found.frame.bytes found.directions.items) found.bounds found.sequence) }
+    ensures framed { IfOk result (λ found. behind ≤ length found.frame.bytes) }
+    ensures enough { IfOk result (λ found. length found.frame.bytes + length found.directions.items ≤ room) }
     ensures refused { IfErr result (λ fault. (number fault ≡ memory)
-        ⊎ IsUncertified bounds version instance.now start.now room fault) }
+        ⊎ IsTextTooLong instance.now start.now directions room fault) }
 {
-    let mirror = instance.mirrored(alloc)?;
-    let Proved {
-        plan,
-        number,
-        finding,
-    } = find(alloc, instance, &mirror, start, effort, version, bounds)?;
-    let mirrored = is_mirrored(alloc, &plan, instance)?;
-    let target = Target::new(&plan, number);
-    let written = write(alloc, &target, finding)?;
-    need(written.text.bytes().len(), room)?;
-    Ok(Certified {
-        bounds: written.bounds,
-        sequence: turn(written.sequence, mirrored),
-        text: written.text,
-        mirrored,
+    let found = certify(alloc, instance, start, effort, directions)?;
+    let bounds = Bounds {
+        lower: found.lower,
+        upper: found.upper,
+    };
+    let frame = frame(alloc, instance, bounds, &found.sequence)?;
+    need(frame.bytes().len() + found.directions.len(), room)?;
+    Ok(Written {
+        bounds,
+        sequence: found.sequence,
+        frame,
+        directions: found.directions,
     })
 }
 
-/// Looks for a certificate or for bounds of the instance of these numbers, from a sequence of it.
+/// Searches for bounds of the instance of these numbers, from a sequence of it.
 fn certify_numbers(
     alloc: Global,
     jobs: u32,
@@ -240,50 +111,55 @@ fn certify_numbers(
     times: &[u32],
     start: &[u16],
     effort: Effort,
-    request: Request,
+    directions: u32,
     room: Room,
-) -> Result<Certified, Fault>
-    ensures text { IfOk result (λ found. IsTextOf request.bounds (version_asked request.version)
-        (shop_of jobs machines times.now) start.now found.text.bytes) }
-    ensures tells { IfOk result (λ found. TellsText found.mirrored (shop_of jobs machines times.now) found.text.bytes
-        found.bounds found.sequence) }
+) -> Result<Written, Fault>
+    ensures text { IfOk result (λ found. IsTextFrom (shop_of jobs machines times.now) start.now directions
+        (with_directions found.frame.bytes found.directions.items) found.bounds found.sequence) }
+    ensures framed { IfOk result (λ found. behind ≤ length found.frame.bytes) }
     ensures bounds { IfOk result (λ found. AreBounds (shop_of jobs machines times.now) found.bounds) }
     ensures each { IfOk result (λ found. IsSequence jobs found.sequence) }
     ensures upper { IfOk result
         (λ found. span (shop_of jobs machines times.now) found.sequence ≡ found.bounds.upper) }
-    ensures certificate { IfOk result (λ found. request.bounds ≡ false → found.bounds.lower ≡ found.bounds.upper) }
-    ensures enough { IfOk result (λ found. length found.text.bytes ≤ room.text) }
+    ensures enough { IfOk result (λ found. length found.frame.bytes + length found.directions.items ≤ room.text) }
     ensures accepted { OnOk result (certify_fault jobs machines times.now start.now effort.width effort.rounds
-        effort.seed effort.work request.version room.sequence ≡ None) }
+        effort.seed effort.work directions room.sequence ≡ None) }
     ensures refused { IfErr result (λ fault. (number fault ≡ memory)
         ⊎ (certify_fault jobs machines times.now start.now effort.width effort.rounds
-        effort.seed effort.work request.version room.sequence ≡ Some fault)
+        effort.seed effort.work directions room.sequence ≡ Some fault)
         ⊎ ((certify_fault jobs machines times.now start.now effort.width effort.rounds
-        effort.seed effort.work request.version room.sequence ≡ None)
-        × IsUncertified request.bounds (version_asked request.version) (shop_of jobs machines times.now) start.now
-        room.text fault)) }
+        effort.seed effort.work directions room.sequence ≡ None)
+        × IsTextTooLong (shop_of jobs machines times.now) start.now directions room.text fault)) }
     ensures memory { IfErr result (λ fault. number fault ≡ memory → instance_fault jobs machines times.now ≡ None) }
 {
     let instance = Instance::new(alloc, jobs, machines, times)?;
     let start = Sequence::new(alloc, &instance, start)?;
     let effort = test(effort)?;
-    let version = asked(request.version)?;
+    let directions = most(directions)?;
     need(jobs as usize, room.sequence)?;
-    certify_from(
-        alloc,
-        &instance,
-        &start,
-        &effort,
-        version,
-        request.bounds,
-        room.text,
-    )
+    certify_from(alloc, &instance, &start, &effort, directions, room.text)
 }
 
-/// Looks for a certificate of an instance or of the mirrored one, from a starting sequence and from better ones, on one
-/// thread; or, where all trees are over their budgets and bounds are asked for, for bounds. The bytes of the text
-/// become the first `count` entries of `text`; `mirrored` says whether it is one of the mirrored instance. The times
-/// are machine by machine. The first entries of `sequence` become the jobs, in the order of the instance.
+/// Puts a text with these directions at the front of a slice that has room for it, and returns its length.
+fn put(frame: &[u8], directions: &[u8], room: &mut [u8]) -> usize
+    requires framed { behind ≤ length frame.now }
+    requires enough { length frame.now + length directions.now ≤ length room.old }
+    ensures count { result ≡ length frame.now + length directions.now }
+    ensures front { take result room.new ≡ with_directions frame.now directions.now }
+    ensures rest { drop result room.new ≡ drop result room.old }
+{
+    let lines = frame.len() - BEHIND;
+    let end = lines + directions.len();
+    fill(&frame[..lines], room);
+    fill(directions, &mut room[lines..]);
+    fill(&frame[lines..], &mut room[end..]);
+    end + BEHIND
+}
+
+/// Searches for the least makespan of an instance, or for bounds of it, from a starting sequence and from better ones,
+/// on one thread, and gives the two-ended certificate that proves them, with at most so many directions. Its bytes
+/// become the first `count` entries of `text`. The times are machine by machine. The first entries of `sequence` become
+/// the jobs.
 #[unsafe(no_mangle)]
 pub extern "C" fn flowshop_certify(
     alloc: Global,
@@ -295,38 +171,34 @@ pub extern "C" fn flowshop_certify(
     rounds: u32,
     seed: u32,
     work: u32,
-    version: u32,
-    bounds: bool,
+    directions: u32,
     sequence: &mut [u16],
     lower: &mut u64,
     upper: &mut u64,
-    mirrored: &mut bool,
     text: &mut [u8],
     count: &mut usize,
     place: &mut usize,
 ) -> u32
-    ensures status { ReportsCheck (certify_fault jobs machines times.now start.now width rounds seed work version
-        (length sequence.old)) (IsUncertified bounds (version_asked version) (shop_of jobs machines times.now)
-        start.now (length text.old)) result place.new }
+    ensures status { ReportsCheck (certify_fault jobs machines times.now start.now width rounds seed work directions
+        (length sequence.old))
+        (IsTextTooLong (shop_of jobs machines times.now) start.now directions (length text.old)) result place.new }
     ensures memory { result ≡ memory → instance_fault jobs machines times.now ≡ None }
-    ensures text { result ≡ done → IsTextOf bounds (version_asked version) (shop_of jobs machines times.now) start.now
-        (take count.new text.new) }
-    ensures tells { result ≡ done → TellsText mirrored.new (shop_of jobs machines times.now) (take count.new text.new)
-        (record { lower = lower.new; upper = upper.new }) (take jobs sequence.new) }
+    ensures text { result ≡ done → IsTextFrom (shop_of jobs machines times.now) start.now directions
+        (take count.new text.new) (record { lower = lower.new; upper = upper.new }) (take jobs sequence.new) }
     ensures bounds { result ≡ done →
         AreBounds (shop_of jobs machines times.now) (record { lower = lower.new; upper = upper.new }) }
     ensures least { result ≡ done → lower.new ≡ upper.new →
         IsLeastMakespan (shop_of jobs machines times.now) lower.new }
-    ensures certificate { result ≡ done → bounds ≡ false → lower.new ≡ upper.new }
     ensures each { result ≡ done → IsSequence jobs (take jobs sequence.new) }
     ensures upper { result ≡ done → span (shop_of jobs machines times.now) (take jobs sequence.new) ≡ upper.new }
+    ensures no_worse { result ≡ done → upper.new ≤ span (shop_of jobs machines times.now) start.now }
     ensures rest { drop jobs sequence.new ≡ drop jobs sequence.old }
     ensures within { result ≡ done → count.new ≤ length text.old }
+    ensures short { result ≡ done → count.new ≤ directions + most_beside }
     ensures beyond { result ≡ done → drop count.new text.new ≡ drop count.new text.old }
     ensures stays { result ≡ done → place.new ≡ place.old }
     ensures kept { (result ≡ done) ⊎ ((lower.new ≡ lower.old) × (upper.new ≡ upper.old)
-        × (mirrored.new ≡ mirrored.old) × (sequence.new ≡ sequence.old)
-        × (count.new ≡ count.old) × (text.new ≡ text.old)) }
+        × (sequence.new ≡ sequence.old) × (count.new ≡ count.old) × (text.new ≡ text.old)) }
 {
     let effort = Effort {
         width,
@@ -334,19 +206,18 @@ pub extern "C" fn flowshop_certify(
         seed,
         work,
     };
-    let request = Request { version, bounds };
     let room = Room {
         sequence: sequence.len(),
         text: text.len(),
     };
-    match certify_numbers(alloc, jobs, machines, times, start, effort, request, room) {
+    match certify_numbers(
+        alloc, jobs, machines, times, start, effort, directions, room,
+    ) {
         Ok(found) => {
             fill(found.sequence.jobs(), sequence);
-            fill(found.text.bytes(), text);
-            *count = found.text.bytes().len();
+            *count = put(found.frame.bytes(), found.directions.as_slice(), text);
             *lower = found.bounds.lower;
             *upper = found.bounds.upper;
-            *mirrored = found.mirrored;
             DONE
         }
         Err(fault) => report(fault, place),

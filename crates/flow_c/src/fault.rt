@@ -41,6 +41,8 @@ pub enum Fault {
     Choice(OptionFault),
     /// The numbers of an improvement are not within their limits.
     Effort(EffortFault),
+    /// The directions are not in `1..=MAX_DIRECTIONS`.
+    Directions,
     /// The instance and the options have no plan.
     Plan(PlanFault),
     /// A tree is longer than the budget.
@@ -251,6 +253,7 @@ impl Fault {
             Fault::Sequence(fault) => of_sequence(fault),
             Fault::Choice(fault) => (of_choice(fault), 0),
             Fault::Effort(fault) => (of_effort(fault), 0),
+            Fault::Directions => (37, 0),
             Fault::Plan(fault) => (of_plan(fault), 0),
             Fault::Run(fault) => of_run(fault),
             Fault::Certificate(fault) => of_check(fault),

@@ -6,8 +6,6 @@
 mod block;
 mod certify;
 mod check;
-mod check_bounds;
-mod checked;
 mod fault;
 mod generate;
 mod improve;

@@ -85,7 +85,7 @@ covers-cases shop bound v start left prefix node low zip None e =
       zip,
     )
 
-pub tree-covers : (shop : Shop) (bound : Shop → List ℕ → ℕ → ℕ) (v start left : ℕ) (prefix node : List ℕ) → v ≤ start →
+tree-covers : (shop : Shop) (bound : Shop → List ℕ → ℕ → ℕ) (v start left : ℕ) (prefix node : List ℕ) → v ≤ start →
     Fresh shop.jobs prefix →
     length prefix ≤ shop.jobs → ((s : List ℕ) → IsSequence shop.jobs s → v ≤ span shop s) →
     Fresh shop.jobs node → length node + left ≡ shop.jobs →

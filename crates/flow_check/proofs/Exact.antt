@@ -1,4 +1,4 @@
--- A text is read as what it states exactly where it is a lawful one of its kind.
+-- A text is read as a value exactly where it is a lawful certificate of it.
 use Rattle.std.proofs.Common.{◌≡◌, ◌&&◌, nat_eq, nat_le, ◌^◌, ℕ, ◌-◌, ◌<◌, ◌≤◌, Bool, true}
 use Rattle.std.proofs.Common.{cond, List, []}
 use Rattle.std.proofs.Common.{◌∷◌, ◌++◌, length, Option, Some, None, Result, Ok, Err, refl, ap, sym, subst, ◌∙◌}
@@ -16,22 +16,19 @@ use Rattle.flow_shop.specs.declared.sequence.SequenceFault.{SequenceFault}
 use Rattle.flow_shop.specs.Bound.{bound_of}
 use Rattle.flow_shop.proofs.SequenceLemmas.{sequence-fault-none-is, is-fault-none}
 use Rattle.flow_check.specs.Certificate.{Shows}
-use Rattle.flow_check.specs.TextLines.{line, spaced, title, ending, text_of, Stated}
-use Rattle.flow_check.specs.Certificate.{IsLawful}
-use Rattle.flow_check.specs.TextLines.{IsStated, stated_bounds, numbers_of}
+use Rattle.std.specs.Fmt.{decimal}
+use Rattle.flow_check.specs.TextLines.{line, spaced, title, ending, certificate_text}
+use Rattle.flow_check.specs.Certificate.{IsCertificate}
 use Rattle.flow_check.specs.internal.Reading.{ValueIsExact, text_value, header_value, size_value, value_value}
-use Rattle.flow_check.specs.internal.Reading.{sequence_value, after_heading, stated_once, stated_by}
+use Rattle.flow_check.specs.internal.Reading.{sequence_value, value_of}
 use Rattle.flow_check.specs.internal.ReadTrees.{cut_value}
 use Rattle.flow_check.specs.internal.Reading.{on_line, numbers_in, version_of}
-use Rattle.flow_check.specs.declared.kind.TreeKind.{TreeKind}
-use Rattle.flow_check.specs.declared.kind.TreeKind.TheVariants.{Certificate, OfBounds}
 use Rattle.flow_check.specs.declared.fault.CheckFault.{CheckFault}
 use Rattle.flow_check.specs.declared.fault.CheckFault.TheVariants.{Header, Size, Value, Sequence, NotAttained}
 use Rattle.flow_check.proofs.TreesExact.{trees-sound, trees-complete, fault-value, passes}
-use Rattle.flow_check.proofs.Sound.{shown-order}
 use Rattle.flow_check.proofs.Numbers.{both, Fit, numbers-sound, numbers-complete, spaced-plain}
 use Rattle.flow_check.proofs.ExactLines.{on-line-sound, on-line-complete, title-known, title-plain, known-title}
-use Rattle.flow_check.proofs.ExactLines.{stated-plain, stated-known, stated-text}
+use Rattle.flow_check.proofs.ExactLines.{value-plain, value-known, value-text}
 
 all-weaken : (P Q : ℕ → Type 0) (xs : List ℕ) → ((x : ℕ) → P x → Q x) → AllByRecursion P xs → AllByRecursion Q xs
 all-weaken P Q [] f h = tt
@@ -39,36 +36,34 @@ all-weaken P Q (x ∷ xs) f h = (f x h.0, all-weaken P Q xs f h.1)
 
 -- the lines that the form prescribes
 
-abbrev pub after_header : (kind : TreeKind) → Shop → ℕ → List ℕ → List ℕ → Result (Stated kind) CheckFault
-after_header kind shop version text more = size_value kind shop version more (numbers_in text)
+abbrev pub after_header : Shop → ℕ → List ℕ → List ℕ → Result ℕ CheckFault
+after_header shop version text more = size_value shop version more (numbers_in text)
 
-abbrev pub after_size : (kind : TreeKind) → Shop → ℕ → ℕ → List ℕ → List ℕ → Result (Stated kind) CheckFault
-after_size kind shop version depth text more = value_value kind shop version depth more (numbers_in text)
+abbrev pub after_size : Shop → ℕ → ℕ → List ℕ → List ℕ → Result ℕ CheckFault
+after_size shop version depth text more = value_value shop version depth more (numbers_in text)
 
-abbrev pub after_stated :
-    (kind : TreeKind) → Shop → ℕ → ℕ → Stated kind → List ℕ → List ℕ → Result (Stated kind) CheckFault
-after_stated kind shop version depth stated text more =
-    sequence_value kind shop version depth stated more (numbers_in text)
+abbrev pub after_value : Shop → ℕ → ℕ → ℕ → List ℕ → List ℕ → Result ℕ CheckFault
+after_value shop version depth value text more = sequence_value shop version depth value more (numbers_in text)
 
 pub four : (a b c d : Bool) → (a && b && c && d) ≡ true → (a ≡ true) × (b ≡ true) × (c ≡ true) × (d ≡ true)
 four a b c d e = let k = both (a && b && c) d e in let l = both (a && b) c k.0 in let m = both a b l.0 in
     (m.0, m.1, l.1, k.1)
 
-abbrev SizeOf : (kind : TreeKind) → Shop → ℕ → List ℕ → Option (List ℕ) → Stated kind → Type 0
-SizeOf kind shop version rest o s = (depth : ℕ) × (o ≡ Some (shop.jobs ∷ shop.machines ∷ depth ∷ []))
+abbrev SizeOf : Shop → ℕ → List ℕ → Option (List ℕ) → ℕ → Type 0
+SizeOf shop version rest o s = (depth : ℕ) × (o ≡ Some (shop.jobs ∷ shop.machines ∷ depth ∷ []))
     × (depth ≤ shop.jobs) × (depth ≤ greatest_depth)
-    × (on_line Value (after_size kind shop version depth) rest ≡ Ok s)
+    × (on_line Value (after_size shop version depth) rest ≡ Ok s)
 
-size-sound : (kind : TreeKind) (shop : Shop) (version : ℕ) (rest : List ℕ) (o : Option (List ℕ)) (s : Stated kind) →
-    size_value kind shop version rest o ≡ Ok s → SizeOf kind shop version rest o s
-size-sound kind shop version rest None s e = absurd (fault-value Size s e)
-size-sound kind shop version rest (Some []) s e = absurd (fault-value Size s e)
-size-sound kind shop version rest (Some (a ∷ [])) s e = absurd (fault-value Size s e)
-size-sound kind shop version rest (Some (a ∷ b ∷ [])) s e = absurd (fault-value Size s e)
-size-sound kind shop version rest (Some (a ∷ b ∷ d ∷ x ∷ xs)) s e = absurd (fault-value Size s e)
-size-sound kind shop version rest (Some (a ∷ b ∷ d ∷ [])) s e =
+size-sound : (shop : Shop) (version : ℕ) (rest : List ℕ) (o : Option (List ℕ)) (s : ℕ) →
+    size_value shop version rest o ≡ Ok s → SizeOf shop version rest o s
+size-sound shop version rest None s e = absurd (fault-value Size s e)
+size-sound shop version rest (Some []) s e = absurd (fault-value Size s e)
+size-sound shop version rest (Some (a ∷ [])) s e = absurd (fault-value Size s e)
+size-sound shop version rest (Some (a ∷ b ∷ [])) s e = absurd (fault-value Size s e)
+size-sound shop version rest (Some (a ∷ b ∷ d ∷ x ∷ xs)) s e = absurd (fault-value Size s e)
+size-sound shop version rest (Some (a ∷ b ∷ d ∷ [])) s e =
     let p = passes (nat_eq a shop.jobs && nat_eq b shop.machines && nat_le d shop.jobs
-    && nat_le d greatest_depth) (on_line Value (after_size kind shop version d) rest) Size s e in
+    && nat_le d greatest_depth) (on_line Value (after_size shop version d) rest) Size s e in
     let t = four (nat_eq a shop.jobs) (nat_eq b shop.machines) (nat_le d shop.jobs) (nat_le d greatest_depth) p.0 in (
       d,
       ap (λ k. Some (k ∷ b ∷ d ∷ [])) (eqb-true a shop.jobs t.0)
@@ -90,33 +85,20 @@ no-fault : {A : Type 0} (o : Option SequenceFault) (next : Result A CheckFault) 
 no-fault None next s e = (refl, e)
 no-fault (Some fault) next s e = absurd (fault-value Sequence s e)
 
--- the value of what was read; another one where it failed
-abbrev pub worth : {A : Type 0} → A → Result A CheckFault → A
-worth other (Ok value) = value
-worth other (Err fault) = other
+abbrev SequenceOf : Shop → ℕ → ℕ → ℕ → List ℕ → Option (List ℕ) → ℕ → Type 0
+SequenceOf shop version depth value rest o s = (jobs : List ℕ) × (o ≡ Some jobs) × IsSequence shop.jobs jobs
+    × (span shop jobs ≡ value) × (cut_value shop version depth value rest ≡ Ok s)
 
--- what is stated once the trees are read
-once-sound : {A : Type 0} (stated : A) (r : Result ℕ CheckFault) (s : A) → stated_once stated r ≡ Ok s →
-    (value : ℕ) × (r ≡ Ok value) × (stated ≡ s)
-once-sound stated (Ok value) s e = (value, refl, ap (worth stated) e)
-once-sound stated (Err fault) s e = absurd (fault-value fault s e)
-
-abbrev SequenceOf : (kind : TreeKind) → Shop → ℕ → ℕ → Stated kind → List ℕ → Option (List ℕ) → Stated kind → Type 0
-SequenceOf kind shop version depth stated rest o s = (jobs : List ℕ) × (o ≡ Some jobs) × IsSequence shop.jobs jobs
-    × (span shop jobs ≡ (stated_bounds kind stated).upper)
-    × (after_heading kind shop version depth stated rest ≡ Ok s)
-
-sequence-sound : (kind : TreeKind) (shop : Shop) (version depth : ℕ) (stated : Stated kind) (rest : List ℕ)
-    (o : Option (List ℕ)) (s : Stated kind) → sequence_value kind shop version depth stated rest o ≡ Ok s →
-    SequenceOf kind shop version depth stated rest o s
-sequence-sound kind shop version depth stated rest None s e = absurd (fault-value Sequence s e)
-sequence-sound kind shop version depth stated rest (Some jobs) s e =
-    let upper : ℕ = (stated_bounds kind stated).upper in
-    let next : Result (Stated kind) CheckFault = after_heading kind shop version depth stated rest in
-    let p = no-fault (sequence_fault shop.jobs jobs) (cond (nat_eq (span shop jobs) upper) next (Err NotAttained)) s
+sequence-sound : (shop : Shop) (version depth value : ℕ) (rest : List ℕ) (o : Option (List ℕ)) (s : ℕ) →
+    sequence_value shop version depth value rest o ≡ Ok s →
+    SequenceOf shop version depth value rest o s
+sequence-sound shop version depth value rest None s e = absurd (fault-value Sequence s e)
+sequence-sound shop version depth value rest (Some jobs) s e =
+    let next : Result ℕ CheckFault = cut_value shop version depth value rest in
+    let p = no-fault (sequence_fault shop.jobs jobs) (cond (nat_eq (span shop jobs) value) next (Err NotAttained)) s
     e in
-    let q = passes (nat_eq (span shop jobs) upper) next NotAttained s p.1 in
-    (jobs, refl, sequence-fault-none-is shop.jobs jobs p.0, eqb-true (span shop jobs) upper q.0, q.1)
+    let q = passes (nat_eq (span shop jobs) value) next NotAttained s p.1 in
+    (jobs, refl, sequence-fault-none-is shop.jobs jobs p.0, eqb-true (span shop jobs) value q.0, q.1)
 
 -- the lines in a row
 pub glue : (a b c d f e : List ℕ) → a ++ 10 ∷ (b ++ 10 ∷ (c ++ 10 ∷ (d ++ 10 ∷ (f ++ e))))
@@ -170,27 +152,25 @@ size-fit shop depth limits shallow =
       ),
     )
 
-sound : (kind : TreeKind) (shop : Shop) (bytes : List ℕ) (s : Stated kind) → IsWithinLimits shop →
-    on_line Header (header_value kind shop) bytes ≡ Ok s → IsLawful kind shop bytes s
-sound kind shop bytes s limits e =
-    let l1 = on-line-sound Header (header_value kind shop) bytes s e in
-    let s1 = found-sound (λ version. on_line Size (after_header kind shop version) l1.1) (version_of kind l1.0) Header s
+sound : (shop : Shop) (bytes : List ℕ) (s : ℕ) → IsWithinLimits shop →
+    on_line Header (header_value shop) bytes ≡ Ok s → IsCertificate shop bytes s
+sound shop bytes s limits e =
+    let l1 = on-line-sound Header (header_value shop) bytes s e in
+    let s1 = found-sound (λ version. on_line Size (after_header shop version) l1.1) (version_of l1.0) Header s
     l1.3 in
     let version : ℕ = s1.0 in
-    let titled = known-title kind l1.0 version s1.1 in
-    let l2 = on-line-sound Size (after_header kind shop version) l1.1 s s1.2 in
-    let s2 = size-sound kind shop version l2.1 (numbers_in l2.0) s l2.3 in
+    let titled = known-title l1.0 version s1.1 in
+    let l2 = on-line-sound Size (after_header shop version) l1.1 s s1.2 in
+    let s2 = size-sound shop version l2.1 (numbers_in l2.0) s l2.3 in
     let depth : ℕ = s2.0 in
-    let l3 = on-line-sound Value (after_size kind shop version depth) l2.1 s s2.4 in
-    let s3 = found-sound (λ stated. on_line Sequence (after_stated kind shop version depth stated) l3.1)
-    (stated_by kind (numbers_in l3.0)) Value s l3.3 in
-    let third = stated-text kind l3.0 s3.0 s3.1 in
-    let l4 = on-line-sound Sequence (after_stated kind shop version depth s3.0) l3.1 s s3.2 in
-    let s4 = sequence-sound kind shop version depth s3.0 l4.1 (numbers_in l4.0) s l4.3 in
-    let lower : ℕ = (stated_bounds kind s3.0).lower in
-    let once = once-sound s3.0 (cut_value shop version depth lower l4.1) s s4.4 in
-    let t = trees-sound shop (bound_of version) lower (shop.jobs - depth) (cut shop.jobs depth) 5 l4.1 once.0 once.1 in
-    let is : IsLawful kind shop bytes s3.0 = (
+    let l3 = on-line-sound Value (after_size shop version depth) l2.1 s s2.4 in
+    let s3 = found-sound (λ value. on_line Sequence (after_value shop version depth value) l3.1)
+    (value_of (numbers_in l3.0)) Value s l3.3 in
+    let third = value-text l3.0 s3.0 s3.1 in
+    let l4 = on-line-sound Sequence (after_value shop version depth s3.0) l3.1 s s3.2 in
+    let s4 = sequence-sound shop version depth s3.0 l4.1 (numbers_in l4.0) s l4.3 in
+    let t = trees-sound shop (bound_of version) s3.0 (shop.jobs - depth) (cut shop.jobs depth) 5 l4.1 s s4.4 in
+    let is : IsCertificate shop bytes s3.0 = (
       s4.0,
       (
         version,
@@ -200,14 +180,13 @@ sound kind shop bytes s limits e =
           known = titled.0;
           jobs_enough = s2.2;
           shallow = s2.3;
-          fits = upper-fits kind s3.0 third.0;
+          fits = third.0;
           whole = s4.2;
           attained = s4.3;
-          covered
-              = t.0.2;
+          covered = t.0.2;
         },
-        chain bytes (title kind version) (spaced (shop.jobs ∷ shop.machines ∷ depth
-            ∷ [])) (spaced (numbers_of kind s3.0)) (spaced s4.0) (flat_map line t.0.0)
+        chain bytes (title version) (spaced (shop.jobs ∷ shop.machines ∷ depth
+            ∷ [])) (decimal s3.0) (spaced s4.0) (flat_map line t.0.0)
             (line ending) l1.0 l2.0 l3.0 l4.0 l1.1 l2.1 l3.1 l4.1
             l1.2 titled.1
             l2.2 (numbers-sound l2.0 (shop.jobs ∷ shop.machines ∷ depth ∷ []) s2.1 (size-fit shop depth limits s2.3))
@@ -216,12 +195,7 @@ sound kind shop bytes s limits e =
             t.0.1,
       ),
     ) in
-    subst (IsLawful kind shop bytes) once.2 is
-  where
-    upper-fits : (kind : TreeKind) (stated : Stated kind) → IsStated kind stated →
-        (stated_bounds kind stated).upper < 2 ^ 64
-    upper-fits Certificate value fits = fits
-    upper-fits OfBounds bounds fits = fits.1
+    subst (IsCertificate shop bytes) t.1 is
 
 pub numbers-whole : (ns : List ℕ) → 0 < length ns → Fit ns → numbers_in (spaced ns) ≡ Some ns
 numbers-whole [] some h = absurd (omega arith)
@@ -237,62 +211,47 @@ size-true shop depth short shallow =
     ∙ ap (λ b. b && nat_le depth greatest_depth) (le-leb depth shop.jobs short)
     ∙ le-leb depth greatest_depth shallow
 
--- bounds that are shown fit a word
-pub shown-fit : (kind : TreeKind) (shop : Shop) (stated : Stated kind) (version depth : ℕ) (sequence : List ℕ)
-    (trees : List (List ℕ)) →
-    Shows shop version (stated_bounds kind stated).lower (stated_bounds kind stated).upper depth sequence trees →
-    IsStated kind stated
-shown-fit Certificate shop value version depth sequence trees shows = shows.fits
-shown-fit OfBounds shop bounds version depth sequence trees shows =
-    let order = shown-order shop version bounds.lower bounds.upper depth sequence trees shows in
-    (omega (arith, order, shows.fits), shows.fits)
-
-complete : (kind : TreeKind) (shop : Shop) (stated : Stated kind) (version depth : ℕ) (sequence : List ℕ)
-    (trees : List (List ℕ)) → IsWithinLimits shop →
-    Shows shop version (stated_bounds kind stated).lower (stated_bounds kind stated).upper depth sequence trees →
-    on_line Header (header_value kind shop) (text_of kind shop version depth stated sequence trees) ≡ Ok stated
-complete kind shop stated version depth sequence trees limits shows =
-    let lower : ℕ = (stated_bounds kind stated).lower in
-    let upper : ℕ = (stated_bounds kind stated).upper in
+complete : (shop : Shop) (version depth value : ℕ) (sequence : List ℕ) (trees : List (List ℕ)) →
+    IsWithinLimits shop → Shows shop version value depth sequence trees →
+    on_line Header (header_value shop) (certificate_text shop version depth value sequence trees) ≡ Ok value
+complete shop version depth value sequence trees limits shows =
     let size : List ℕ = spaced (shop.jobs ∷ shop.machines ∷ depth ∷ []) in
-    let third : List ℕ = spaced (numbers_of kind stated) in
+    let third : List ℕ = decimal value in
     let rest4 : List ℕ = flat_map line trees ++ line ending in
     let rest3 : List ℕ = spaced sequence ++ 10 ∷ rest4 in
     let rest2 : List ℕ = third ++ 10 ∷ rest3 in
     let rest1 : List ℕ = size ++ 10 ∷ rest2 in
     let size_fits : Fit (shop.jobs ∷ shop.machines ∷ depth ∷ []) = size-fit shop depth limits shows.shallow in
-    let stated_fits : IsStated kind stated = shown-fit kind shop stated version depth sequence trees shows in
     let sequence_fits : Fit sequence = sequence-fit shop.jobs sequence limits.jobs shows.whole in
     let some_job : 1 ≤ shop.jobs = limits.some_job in
-    let last : Result (Stated kind) CheckFault = after_heading kind shop version depth stated rest4 in
-    ap (on_line Header (header_value kind shop)) (sym (glue (title kind version) size third (spaced sequence)
+    let last : Result ℕ CheckFault = cut_value shop version depth value rest4 in
+    ap (on_line Header (header_value shop)) (sym (glue (title version) size third (spaced sequence)
     (flat_map line trees) (line ending)))
-    ∙ on-line-complete Header (header_value kind shop) (title kind version) rest1
-    (title-plain kind version shows.known)
-    ∙ ap (λ o. option_map_or (λ version. on_line Size (after_header kind shop version) rest1) o (Err Header))
-    (title-known kind version shows.known)
-    ∙ on-line-complete Size (after_header kind shop version) size rest2
+    ∙ on-line-complete Header (header_value shop) (title version) rest1
+    (title-plain version shows.known)
+    ∙ ap (λ o. option_map_or (λ version. on_line Size (after_header shop version) rest1) o (Err Header))
+    (title-known version shows.known)
+    ∙ on-line-complete Size (after_header shop version) size rest2
     (spaced-plain (shop.jobs ∷ shop.machines ∷ depth ∷ []) size_fits)
-    ∙ ap (size_value kind shop version rest2) (numbers-complete shop.jobs (shop.machines ∷ depth ∷ []) size_fits)
-    ∙ ap (λ b. cond b (on_line Value (after_size kind shop version depth) rest2) (Err Size))
+    ∙ ap (size_value shop version rest2) (numbers-complete shop.jobs (shop.machines ∷ depth ∷ []) size_fits)
+    ∙ ap (λ b. cond b (on_line Value (after_size shop version depth) rest2) (Err Size))
     (size-true shop depth shows.jobs_enough shows.shallow)
-    ∙ on-line-complete Value (after_size kind shop version depth) third rest3 (stated-plain kind stated stated_fits)
-    ∙ ap (λ o. option_map_or (λ s. on_line Sequence (after_stated kind shop version depth s) rest3) o (Err Value))
-    (stated-known kind stated stated_fits)
-    ∙ on-line-complete Sequence (after_stated kind shop version depth stated) (spaced sequence) rest4
+    ∙ on-line-complete Value (after_size shop version depth) third rest3 (value-plain value shows.fits)
+    ∙ ap (λ o. option_map_or (λ s. on_line Sequence (after_value shop version depth s) rest3) o (Err Value))
+    (value-known value shows.fits)
+    ∙ on-line-complete Sequence (after_value shop version depth value) (spaced sequence) rest4
     (spaced-plain sequence sequence_fits)
-    ∙ ap (sequence_value kind shop version depth stated rest4) (numbers-whole sequence (omega
+    ∙ ap (sequence_value shop version depth value rest4) (numbers-whole sequence (omega
     (arith, shows.whole.whole, some_job)) sequence_fits)
-    ∙ ap (λ o. option_map_or (λ fault. Err Sequence) o (cond (nat_eq (span shop sequence) upper) last
+    ∙ ap (λ o. option_map_or (λ fault. Err Sequence) o (cond (nat_eq (span shop sequence) value) last
     (Err NotAttained))) (is-fault-none shop.jobs sequence shows.whole)
-    ∙ ap (λ b. cond b last (Err NotAttained)) (eq-eqb (span shop sequence) upper shows.attained)
-    ∙ ap (stated_once stated) (trees-complete shop (bound_of version) lower (shop.jobs - depth)
-    (cut shop.jobs depth) 5 trees shows.covered)
+    ∙ ap (λ b. cond b last (Err NotAttained)) (eq-eqb (span shop sequence) value shows.attained)
+    ∙ trees-complete shop (bound_of version) value (shop.jobs - depth) (cut shop.jobs depth) 5 trees shows.covered
 
 pub value_is_exact : ValueIsExact
 unfolding text_value
-value_is_exact kind shop bytes stated limits = (
-  λ e. sound kind shop bytes stated limits e,
-  λ is. ap (on_line Header (header_value kind shop)) is.1.4
-      ∙ complete kind shop stated is.1.0 is.1.1 is.0 is.1.2 limits is.1.3,
+value_is_exact shop bytes value limits = (
+  λ e. sound shop bytes value limits e,
+  λ is. ap (on_line Header (header_value shop)) is.1.4
+      ∙ complete shop is.1.0 is.1.1 value is.0 is.1.2 limits is.1.3,
 )

@@ -8,16 +8,13 @@ use Rattle.std.specs.Str.{bytes_eq}
 use Rattle.std.specs.Cmp.Lexicographic.{bytes_decides}
 use Rattle.std.specs.Prelude.{codes}
 use Rattle.std.specs.List.{list_all}
+use Rattle.std.specs.Fmt.{decimal}
 use Rattle.std.proofs.lemmas.Fmt.{decimal_digit}
 use Rattle.std.proofs.lemmas.Option.{none-some, same_Some}
 use Rattle.std.proofs.lemmas.Bool.{cases_Bool, eqb-true, ltb-true, lt-ltb}
-use Rattle.flow_check.specs.TextLines.{IsVersion, spaced, opening, title, Stated}
-use Rattle.flow_check.specs.TextLines.{IsStated, numbers_of}
-use Rattle.flow_check.specs.internal.Reading.{stated_by}
+use Rattle.flow_check.specs.TextLines.{IsVersion, title}
+use Rattle.flow_check.specs.internal.Reading.{value_of}
 use Rattle.flow_check.specs.internal.Reading.{first_line, on_line, numbers_in, version_of}
-use Rattle.flow_check.specs.declared.bounds.Bounds.{Bounds}
-use Rattle.flow_check.specs.declared.kind.TreeKind.{TreeKind}
-use Rattle.flow_check.specs.declared.kind.TreeKind.TheVariants.{Certificate, OfBounds}
 use Rattle.flow_check.specs.declared.fault.CheckFault.{CheckFault}
 use Rattle.flow_shop.proofs.Lists.{find-some}
 use Rattle.flow_check.proofs.TreesExact.{fault-value}
@@ -87,111 +84,63 @@ version-cases P one two (suc (suc zero)) is = two
 version-cases P one two (suc (suc (suc n))) is = absurd (omega (arith, is.1))
 
 -- the version's digit ends the title
-title-digit : (kind : TreeKind) (version : ℕ) → version < 10 →
-    title kind version ≡ opening kind ++ (48 + version) ∷ []
-title-digit kind version small = ap (λ ds. opening kind ++ ds) (decimal_digit version small)
+title-digit : (version : ℕ) → version < 10 → title version ≡ codes "flowshop certificate " ++ (48 + version) ∷ []
+title-digit version small = ap (λ ds. codes "flowshop certificate " ++ ds) (decimal_digit version small)
 
--- the titles of the two versions differ
-titles-differ : (kind : TreeKind) → bytes_eq (opening kind ++ 50 ∷ []) (opening kind ++ 49 ∷ []) ≡ false
-titles-differ Certificate = refl
-titles-differ OfBounds = refl
-
-pub title-known : (kind : TreeKind) (version : ℕ) → IsVersion version →
-    version_of kind (title kind version) ≡ Some version
-title-known kind = version-cases (λ version. version_of kind (title kind version) ≡ Some version)
-    (ap (λ b. cond b (Some 1) (cond (bytes_eq (title kind 1) (title kind 2)) (Some 2) None)) (same (title kind 1)))
-    (ap (λ b. cond b (Some 1) (cond (bytes_eq (title kind 2) (title kind 2)) (Some 2) None)) apart
-    ∙ ap (λ b. cond b (Some 2) None) (same (title kind 2)))
+pub title-known : (version : ℕ) → IsVersion version → version_of (title version) ≡ Some version
+title-known = version-cases (λ version. version_of (title version) ≡ Some version)
+    (ap (λ b. cond b (Some 1) (cond (bytes_eq (title 1) (title 2)) (Some 2) None)) (same (title 1)))
+    (ap (λ b. cond b (Some 1) (cond (bytes_eq (title 2) (title 2)) (Some 2) None)) apart
+    ∙ ap (λ b. cond b (Some 2) None) (same (title 2)))
   where
     same : (text : List ℕ) → bytes_eq text text ≡ true
     same text = (bytes_decides text text).1 refl
 
-    apart : bytes_eq (title kind 2) (title kind 1) ≡ false
-    apart = ap₂ (λ two one. bytes_eq two one) (title-digit kind 2 (omega arith)) (title-digit kind 1 (omega arith))
-        ∙ titles-differ kind
+    apart : bytes_eq (title 2) (title 1) ≡ false
+    apart = ap₂ (λ two one. bytes_eq two one) (title-digit 2 (omega arith)) (title-digit 1 (omega arith))
 
-plain-titles : (kind : TreeKind) → IsPlain (opening kind ++ 49 ∷ []) × IsPlain (opening kind ++ 50 ∷ [])
-plain-titles Certificate = (
-  plain-test (codes "flowshop certificate " ++ 49 ∷ []) refl,
-  plain-test (codes "flowshop certificate " ++ 50 ∷ []) refl,
-)
-plain-titles OfBounds = (
-  plain-test (codes "flowshop bounds " ++ 49 ∷ []) refl,
-  plain-test (codes "flowshop bounds " ++ 50 ∷ []) refl,
-)
+pub title-plain : (version : ℕ) → IsVersion version → IsPlain (title version)
+title-plain = version-cases (λ version. IsPlain (title version))
+    (subst IsPlain (sym (title-digit 1 (omega arith))) (plain-test (codes "flowshop certificate " ++ 49 ∷ []) refl))
+    (subst IsPlain (sym (title-digit 2 (omega arith))) (plain-test (codes "flowshop certificate " ++ 50 ∷ []) refl))
 
-pub title-plain : (kind : TreeKind) (version : ℕ) → IsVersion version → IsPlain (title kind version)
-title-plain kind = version-cases (λ version. IsPlain (title kind version))
-    (subst IsPlain (sym (title-digit kind 1 (omega arith))) (plain-titles kind).0)
-    (subst IsPlain (sym (title-digit kind 2 (omega arith))) (plain-titles kind).1)
-
-pub known-title : (kind : TreeKind) (text : List ℕ) (version : ℕ) → version_of kind text ≡ Some version →
-    IsVersion version × (text ≡ title kind version)
-known-title kind text version e =
+pub known-title : (text : List ℕ) (version : ℕ) → version_of text ≡ Some version →
+    IsVersion version × (text ≡ title version)
+known-title text version e =
     let one : IsVersion 1 = (omega arith, omega arith) in
     let two : IsVersion 2 = (omega arith, omega arith) in
-    let is = find-some (λ v. bytes_eq text (title kind v)) IsVersion (1 ∷ 2 ∷ []) version (one, (two, tt)) e in
-    (is.1, (bytes_decides text (title kind version)).0 is.0)
+    let is = find-some (λ v. bytes_eq text (title v)) IsVersion (1 ∷ 2 ∷ []) version (one, (two, tt)) e in
+    (is.1, (bytes_decides text (title version)).0 is.0)
 
--- the third line
+-- the line of the value
 
-pub stated-plain : (kind : TreeKind) (stated : Stated kind) → IsStated kind stated →
-    IsPlain (spaced (numbers_of kind stated))
-stated-plain Certificate value fits = spaced-plain (value ∷ []) (fits, tt)
-stated-plain OfBounds bounds fits = spaced-plain (bounds.lower ∷ bounds.upper ∷ []) (fits.0, (fits.1, tt))
+pub value-plain : (value : ℕ) → value < 2 ^ 64 → IsPlain (decimal value)
+value-plain value fits = spaced-plain (value ∷ []) (fits, tt)
 
-both-true : (a b : Bool) → a ≡ true → b ≡ true → (a && b) ≡ true
-both-true a b e f = ap (λ t. t && b) e ∙ f
-
-pub stated-known : (kind : TreeKind) (stated : Stated kind) → IsStated kind stated →
-    stated_by kind (numbers_in (spaced (numbers_of kind stated))) ≡ Some stated
-stated-known Certificate value fits =
-    ap (stated_by Certificate) (numbers-complete value [] (fits, tt))
+pub value-known : (value : ℕ) → value < 2 ^ 64 → value_of (numbers_in (decimal value)) ≡ Some value
+value-known value fits =
+    ap value_of (numbers-complete value [] (fits, tt))
     ∙ ap (λ b. cond b (Some value) None) (lt-ltb value (2 ^ 64) fits)
-stated-known OfBounds bounds fits =
-    ap (stated_by OfBounds) (numbers-complete bounds.lower (bounds.upper ∷ []) (fits.0, (fits.1, tt)))
-    ∙ ap (λ b. cond b (Some bounds) None)
-    (both-true (nat_lt bounds.lower (2 ^ 64)) (nat_lt bounds.upper (2 ^ 64))
-    (lt-ltb bounds.lower (2 ^ 64) fits.0) (lt-ltb bounds.upper (2 ^ 64) fits.1))
 
 -- what is stated where a test holds
-stated-if : {A : Type 0} (b : Bool) (value stated : A) → cond b (Some value) None ≡ Some stated →
-    (b ≡ true) × (value ≡ stated)
-stated-if true value stated e = (refl, same_Some value stated e)
-stated-if false value stated e = absurd (none-some stated e)
+pub stated-if : {A : Type 0} (b : Bool) (read stated : A) → cond b (Some read) None ≡ Some stated →
+    (b ≡ true) × (read ≡ stated)
+stated-if true read stated e = (refl, same_Some read stated e)
+stated-if false read stated e = absurd (none-some stated e)
 
--- numbers that state something are those of a third line
-pub states : (kind : TreeKind) (numbers : Option (List ℕ)) (stated : Stated kind) →
-    stated_by kind numbers ≡ Some stated →
-    IsStated kind stated × (numbers ≡ Some (numbers_of kind stated))
-states Certificate None stated e = absurd (none-some stated e)
-states Certificate (Some []) stated e = absurd (none-some stated e)
-states Certificate (Some (a ∷ b ∷ ns)) stated e = absurd (none-some stated e)
-states Certificate (Some (value ∷ [])) stated e =
-    let is = stated-if (nat_lt value (2 ^ 64)) value stated e in (
-      subst (λ n. n < 2 ^ 64) is.1 (ltb-true value (2 ^ 64) is.0),
-      ap (λ n. Some (n ∷ [])) is.1,
-    )
-states OfBounds None stated e = absurd (none-some stated e)
-states OfBounds (Some []) stated e = absurd (none-some stated e)
-states OfBounds (Some (a ∷ [])) stated e = absurd (none-some stated e)
-states OfBounds (Some (a ∷ b ∷ n ∷ ns)) stated e = absurd (none-some stated e)
-states OfBounds (Some (lower ∷ upper ∷ [])) stated e =
-    let bounds : Bounds = record { lower = lower; upper = upper } in
-    let is = stated-if (nat_lt lower (2 ^ 64) && nat_lt upper (2 ^ 64)) bounds stated e in
-    let small = both (nat_lt lower (2 ^ 64)) (nat_lt upper (2 ^ 64)) is.0 in (
-      subst (IsStated OfBounds) is.1 (ltb-true lower (2 ^ 64) small.0, ltb-true upper (2 ^ 64) small.1),
-      ap (λ (b : Bounds). Some (b.lower ∷ b.upper ∷ [])) is.1,
-    )
+-- numbers that state a value are those of its line
+states : (numbers : Option (List ℕ)) (value : ℕ) → value_of numbers ≡ Some value →
+    (value < 2 ^ 64) × (numbers ≡ Some (value ∷ []))
+states None value e = absurd (none-some value e)
+states (Some []) value e = absurd (none-some value e)
+states (Some (a ∷ b ∷ ns)) value e = absurd (none-some value e)
+states (Some (read ∷ [])) value e =
+    let is = stated-if (nat_lt read (2 ^ 64)) read value e in
+    (subst (λ n. n < 2 ^ 64) is.1 (ltb-true read (2 ^ 64) is.0), ap (λ n. Some (n ∷ [])) is.1)
 
-stated-fit : (kind : TreeKind) (stated : Stated kind) → IsStated kind stated → Fit (numbers_of kind stated)
-stated-fit Certificate value fits = (fits, tt)
-stated-fit OfBounds bounds fits = (fits.0, (fits.1, tt))
-
--- a text whose numbers state something is the third line of what they state
-pub stated-text : (kind : TreeKind) (text : List ℕ) (stated : Stated kind) →
-    stated_by kind (numbers_in text) ≡ Some stated →
-    IsStated kind stated × (text ≡ spaced (numbers_of kind stated))
-stated-text kind text stated e =
-    let is = states kind (numbers_in text) stated e in
-    (is.0, numbers-sound text (numbers_of kind stated) is.1 (stated-fit kind stated is.0))
+-- a text whose numbers state a value is its line
+pub value-text : (text : List ℕ) (value : ℕ) → value_of (numbers_in text) ≡ Some value →
+    (value < 2 ^ 64) × (text ≡ decimal value)
+value-text text value e =
+    let is = states (numbers_in text) value e in
+    (is.0, numbers-sound text (value ∷ []) is.1 (is.0, tt))

@@ -1,6 +1,7 @@
 -- What each line before the trees makes of the value of a text, and what its absence makes of it.
 use Rattle.std.proofs.Common.{◌≡◌, ℕ, ◌≤◌, cond, ◌&&◌, nat_eq, nat_le, List, [], ◌∷◌, ◌++◌, length}
-use Rattle.std.proofs.Common.{Option, Some, None, Result, Err, refl, ap, sym, subst, ◌∙◌, inl, inr, arith, append_assoc}
+use Rattle.std.proofs.Common.{Option, Some, None, Result, Err, refl, ap, sym, subst, ◌∙◌, inl, inr, arith}
+use Rattle.std.proofs.Common.{append_assoc}
 use Rattle.std.specs.Option.{option_map_or}
 use Rattle.std.proofs.lemmas.Bool.{cases_Bool, eqb-true, leb-true}
 use Rattle.flow_shop.specs.Limits.{greatest_depth}
@@ -10,19 +11,20 @@ use Rattle.flow_shop.specs.Sequences.{IsSequence}
 use Rattle.flow_shop.specs.SequenceFaults.{sequence_fault}
 use Rattle.flow_shop.specs.declared.sequence.SequenceFault.{SequenceFault}
 use Rattle.flow_shop.proofs.SequenceLemmas.{sequence-fault-none-is, is-fault-none}
-use Rattle.flow_check.specs.TextLines.{IsVersion, Stated, stated_bounds, numbers_of, line, spaced, title}
-use Rattle.flow_check.specs.internal.Reading.{header_value, size_value, sequence_value, stated_by, after_heading}
+use Rattle.std.specs.Fmt.{decimal}
+use Rattle.flow_check.specs.TextLines.{IsVersion, line, spaced, title}
+use Rattle.flow_check.specs.internal.Reading.{header_value, size_value, sequence_value, value_of}
 use Rattle.flow_check.specs.internal.Reading.{first_line, on_line, numbers_in, version_of}
-use Rattle.flow_check.specs.internal.Heading.{BeginsWithSize, BeginsWithStated, BeginsWithSequence}
+use Rattle.flow_check.specs.internal.ReadTrees.{cut_value}
+use Rattle.flow_check.specs.internal.Heading.{BeginsWithNumber, BeginsWithSize, BeginsWithSequence}
 use Rattle.flow_check.specs.declared.fault.CheckFault.{CheckFault}
 use Rattle.flow_check.specs.declared.fault.CheckFault.TheVariants.{Header, Size, Value, Sequence, NotAttained}
-use Rattle.flow_check.specs.declared.kind.TreeKind.{TreeKind}
 use Rattle.flow_check.proofs.Numbers.{Fit, numbers-sound, numbers-complete, spaced-plain}
 use Rattle.flow_check.proofs.ExactLines.{LineOf, first-line-is, on-line-complete, title-plain, title-known}
 use Rattle.flow_check.proofs.ExactLines.{known-title}
 use Rattle.flow_check.proofs.Exact.{numbers-whole, size-true}
-use Rattle.flow_check.proofs.ExactLines.{stated-plain, stated-known, stated-text}
-use Rattle.flow_check.proofs.Exact.{size-fit, sequence-fit, four, after_header, after_size, after_stated}
+use Rattle.flow_check.proofs.ExactLines.{value-plain, value-known, value-text}
+use Rattle.flow_check.proofs.Exact.{size-fit, sequence-fit, four, after_header, after_size, after_value}
 
 -- a line that is at fault whatever stands in it
 refused-of : {A : Type 0} (fault : CheckFault) (next : List ℕ → List ℕ →
@@ -58,48 +60,48 @@ line-read fault next bytes line_text rest e reads = ap (on_line fault next) (e �
 
 -- the first line
 
-pub title-read : (kind : TreeKind) (shop : Shop) (version : ℕ) (bytes rest : List ℕ) → IsVersion version →
-    bytes ≡ line (title kind version) ++ rest →
-    on_line Header (header_value kind shop) bytes ≡ on_line Size (after_header kind shop version) rest
-title-read kind shop version bytes rest known e =
-    line-read Header (header_value kind shop) bytes (title kind version) rest e (on-line-complete Header
-    (header_value kind shop) (title kind version) rest (title-plain kind version known))
-    ∙ ap (λ o. option_map_or (λ v. on_line Size (after_header kind shop v) rest) o (Err Header))
-    (title-known kind version known)
+pub title-read : (shop : Shop) (version : ℕ) (bytes rest : List ℕ) → IsVersion version →
+    bytes ≡ line (title version) ++ rest →
+    on_line Header (header_value shop) bytes ≡ on_line Size (after_header shop version) rest
+title-read shop version bytes rest known e =
+    line-read Header (header_value shop) bytes (title version) rest e (on-line-complete Header
+    (header_value shop) (title version) rest (title-plain version known))
+    ∙ ap (λ o. option_map_or (λ v. on_line Size (after_header shop v) rest) o (Err Header))
+    (title-known version known)
 
-pub title-refused : (kind : TreeKind) (shop : Shop) (bytes : List ℕ) →
-    ((version : ℕ) (rest : List ℕ) → IsVersion version → bytes ≡ line (title kind version) ++ rest → ⊥) →
-    on_line Header (header_value kind shop) bytes ≡ Err Header
-title-refused kind shop bytes none = line-refused Header (header_value kind shop) bytes (λ text rest e.
-    not-found (λ version. on_line Size (after_header kind shop version) rest) (version_of kind text) Header
+pub title-refused : (shop : Shop) (bytes : List ℕ) →
+    ((version : ℕ) (rest : List ℕ) → IsVersion version → bytes ≡ line (title version) ++ rest → ⊥) →
+    on_line Header (header_value shop) bytes ≡ Err Header
+title-refused shop bytes none = line-refused Header (header_value shop) bytes (λ text rest e.
+    not-found (λ version. on_line Size (after_header shop version) rest) (version_of text) Header
     (λ version is.
-    let titled = known-title kind text version is in
-    none version rest titled.0 (as-line bytes text (title kind version) rest e titled.1)))
+    let titled = known-title text version is in
+    none version rest titled.0 (as-line bytes text (title version) rest e titled.1)))
 
 -- the line of the size
 
-pub size-read : (kind : TreeKind) (shop : Shop) (version : ℕ) (bytes : List ℕ) (depth : ℕ) (rest : List ℕ) →
+pub size-read : (shop : Shop) (version : ℕ) (bytes : List ℕ) (depth : ℕ) (rest : List ℕ) →
     IsWithinLimits shop → BeginsWithSize shop.jobs shop.machines bytes depth rest →
-    on_line Size (after_header kind shop version) bytes ≡ on_line Value (after_size kind shop version depth) rest
-size-read kind shop version bytes depth rest limits h =
+    on_line Size (after_header shop version) bytes ≡ on_line Value (after_size shop version depth) rest
+size-read shop version bytes depth rest limits h =
     let fits : Fit (shop.jobs ∷ shop.machines ∷ depth ∷ []) = size-fit shop depth limits h.1 in
     let text : List ℕ = spaced (shop.jobs ∷ shop.machines ∷ depth ∷ []) in
-    line-read Size (after_header kind shop version) bytes text rest h.2
-    (on-line-complete Size (after_header kind shop version) text rest
+    line-read Size (after_header shop version) bytes text rest h.2
+    (on-line-complete Size (after_header shop version) text rest
     (spaced-plain (shop.jobs ∷ shop.machines ∷ depth ∷ []) fits))
-    ∙ ap (size_value kind shop version rest) (numbers-complete shop.jobs (shop.machines ∷ depth ∷ []) fits)
-    ∙ ap (λ b. cond b (on_line Value (after_size kind shop version depth) rest) (Err Size))
+    ∙ ap (size_value shop version rest) (numbers-complete shop.jobs (shop.machines ∷ depth ∷ []) fits)
+    ∙ ap (λ b. cond b (on_line Value (after_size shop version depth) rest) (Err Size))
     (size-true shop depth h.0 h.1)
 
-size-other : (kind : TreeKind) (shop : Shop) (version : ℕ) (rest : List ℕ) (o : Option (List ℕ)) →
+size-other : (shop : Shop) (version : ℕ) (rest : List ℕ) (o : Option (List ℕ)) →
     ((depth : ℕ) → depth ≤ shop.jobs → depth ≤ greatest_depth → o ≡ Some (shop.jobs ∷ shop.machines ∷ depth ∷ []) → ⊥) →
-    size_value kind shop version rest o ≡ Err Size
-size-other kind shop version rest None none = refl
-size-other kind shop version rest (Some []) none = refl
-size-other kind shop version rest (Some (a ∷ [])) none = refl
-size-other kind shop version rest (Some (a ∷ b ∷ [])) none = refl
-size-other kind shop version rest (Some (a ∷ b ∷ d ∷ x ∷ xs)) none = refl
-size-other kind shop version rest (Some (a ∷ b ∷ d ∷ [])) none =
+    size_value shop version rest o ≡ Err Size
+size-other shop version rest None none = refl
+size-other shop version rest (Some []) none = refl
+size-other shop version rest (Some (a ∷ [])) none = refl
+size-other shop version rest (Some (a ∷ b ∷ [])) none = refl
+size-other shop version rest (Some (a ∷ b ∷ d ∷ x ∷ xs)) none = refl
+size-other shop version rest (Some (a ∷ b ∷ d ∷ [])) none =
     elim (cases_Bool (nat_eq a shop.jobs && nat_eq b shop.machines && nat_le d shop.jobs && nat_le d greatest_depth)) [
       | inl same ↦
           let t = four (nat_eq a shop.jobs) (nat_eq b shop.machines) (nat_le d shop.jobs)
@@ -107,15 +109,15 @@ size-other kind shop version rest (Some (a ∷ b ∷ d ∷ [])) none =
           absurd (none d (leb-true d shop.jobs t.2) (leb-true d greatest_depth t.3) (ap (λ k. Some (k ∷ b ∷ d
           ∷ [])) (eqb-true a shop.jobs t.0)
           ∙ ap (λ k. Some (shop.jobs ∷ k ∷ d ∷ [])) (eqb-true b shop.machines t.1)))
-      | inr other ↦ ap (λ b. cond b (on_line Value (after_size kind shop version d) rest) (Err Size)) other
+      | inr other ↦ ap (λ b. cond b (on_line Value (after_size shop version d) rest) (Err Size)) other
     ]
 
-pub size-refused : (kind : TreeKind) (shop : Shop) (version : ℕ) (bytes : List ℕ) → IsWithinLimits shop →
+pub size-refused : (shop : Shop) (version : ℕ) (bytes : List ℕ) → IsWithinLimits shop →
     ((depth : ℕ) (rest : List ℕ) → BeginsWithSize shop.jobs shop.machines bytes depth rest → ⊥) →
-    on_line Size (after_header kind shop version) bytes ≡ Err Size
-size-refused kind shop version bytes limits none =
-    line-refused Size (after_header kind shop version) bytes (λ text rest e.
-    size-other kind shop version rest (numbers_in text) (λ depth short shallow is.
+    on_line Size (after_header shop version) bytes ≡ Err Size
+size-refused shop version bytes limits none =
+    line-refused Size (after_header shop version) bytes (λ text rest e.
+    size-other shop version rest (numbers_in text) (λ depth short shallow is.
     none depth rest (
       short,
       shallow,
@@ -123,70 +125,66 @@ size-refused kind shop version bytes limits none =
           (numbers-sound text (shop.jobs ∷ shop.machines ∷ depth ∷ []) is (size-fit shop depth limits shallow)),
     )))
 
--- the line of the value, or of the bounds
+-- the line of the value
 
-pub stated-read : (kind : TreeKind) (shop : Shop) (version : ℕ) (bytes : List ℕ) (depth : ℕ) (stated : Stated kind)
-    (rest : List ℕ) → BeginsWithStated kind bytes stated rest →
-    on_line Value (after_size kind shop version depth) bytes
-    ≡ on_line Sequence (after_stated kind shop version depth stated) rest
-stated-read kind shop version bytes depth stated rest h =
-    let text : List ℕ = spaced (numbers_of kind stated) in
-    line-read Value (after_size kind shop version depth) bytes text rest h.1
-    (on-line-complete Value (after_size kind shop version depth) text rest (stated-plain kind stated h.0))
-    ∙ ap (λ o. option_map_or (λ s. on_line Sequence (after_stated kind shop version depth s) rest) o (Err Value))
-    (stated-known kind stated h.0)
+pub value-read : (shop : Shop) (version : ℕ) (bytes : List ℕ) (depth value : ℕ) (rest : List ℕ) →
+    BeginsWithNumber bytes 10 value rest →
+    on_line Value (after_size shop version depth) bytes ≡ on_line Sequence (after_value shop version depth value) rest
+value-read shop version bytes depth value rest h =
+    ap (on_line Value (after_size shop version depth)) h.1
+    ∙ on-line-complete Value (after_size shop version depth) (decimal value) rest (value-plain value h.0)
+    ∙ ap (λ o. option_map_or (λ v. on_line Sequence (after_value shop version depth v) rest) o (Err Value))
+    (value-known value h.0)
 
-pub stated-refused : (kind : TreeKind) (shop : Shop) (version : ℕ) (bytes : List ℕ) (depth : ℕ) →
-    ((stated : Stated kind) (rest : List ℕ) → BeginsWithStated kind bytes stated rest → ⊥) →
-    on_line Value (after_size kind shop version depth) bytes ≡ Err Value
-stated-refused kind shop version bytes depth none =
-    line-refused Value (after_size kind shop version depth) bytes (λ text rest e.
-    not-found (λ stated. on_line Sequence (after_stated kind shop version depth stated) rest)
-    (stated_by kind (numbers_in text)) Value (λ stated is.
-    let third = stated-text kind text stated is in
-    none stated rest (third.0, as-line bytes text (spaced (numbers_of kind stated)) rest e third.1)))
+pub value-refused : (shop : Shop) (version : ℕ) (bytes : List ℕ) (depth : ℕ) →
+    ((value : ℕ) (rest : List ℕ) → BeginsWithNumber bytes 10 value rest → ⊥) →
+    on_line Value (after_size shop version depth) bytes ≡ Err Value
+value-refused shop version bytes depth none =
+    line-refused Value (after_size shop version depth) bytes (λ text rest e.
+    not-found (λ value. on_line Sequence (after_value shop version depth value) rest)
+    (value_of (numbers_in text)) Value (λ value is.
+    let third = value-text text value is in
+    none value rest (third.0, e ∙ ap (λ xs. xs ++ 10 ∷ rest) third.1)))
 
 -- the line of the sequence
 
-pub sequence-read : (kind : TreeKind) (shop : Shop) (version : ℕ) (bytes : List ℕ) (depth : ℕ) (stated : Stated kind)
-    (jobs rest : List ℕ) → IsWithinLimits shop → BeginsWithSequence shop.jobs bytes jobs rest →
-    on_line Sequence (after_stated kind shop version depth stated) bytes
-    ≡ cond (nat_eq (span shop jobs) (stated_bounds kind stated).upper)
-    (after_heading kind shop version depth stated rest) (Err NotAttained)
-sequence-read kind shop version bytes depth stated jobs rest limits h =
+pub sequence-read : (shop : Shop) (version : ℕ) (bytes : List ℕ) (depth value : ℕ) (jobs rest : List ℕ) →
+    IsWithinLimits shop → BeginsWithSequence shop.jobs bytes jobs rest →
+    on_line Sequence (after_value shop version depth value) bytes
+    ≡ cond (nat_eq (span shop jobs) value) (cut_value shop version depth value rest) (Err NotAttained)
+sequence-read shop version bytes depth value jobs rest limits h =
     let fits : Fit jobs = sequence-fit shop.jobs jobs limits.jobs h.0 in
     let whole : length jobs ≡ shop.jobs = h.0.whole in
     let some : 1 ≤ shop.jobs = limits.some_job in
-    line-read Sequence (after_stated kind shop version depth stated) bytes (spaced jobs) rest h.1 (on-line-complete
-    Sequence (after_stated kind shop version depth stated) (spaced jobs) rest (spaced-plain jobs fits))
-    ∙ ap (sequence_value kind shop version depth stated rest)
+    line-read Sequence (after_value shop version depth value) bytes (spaced jobs) rest h.1 (on-line-complete
+    Sequence (after_value shop version depth value) (spaced jobs) rest (spaced-plain jobs fits))
+    ∙ ap (sequence_value shop version depth value rest)
     (numbers-whole jobs (omega (arith, whole, some)) fits)
     ∙ ap (λ o. option_map_or (λ fault. Err Sequence) o
-    (cond (nat_eq (span shop jobs) (stated_bounds kind stated).upper)
-    (after_heading kind shop version depth stated rest) (Err NotAttained))) (is-fault-none shop.jobs jobs h.0)
+    (cond (nat_eq (span shop jobs) value) (cut_value shop version depth value rest) (Err NotAttained)))
+    (is-fault-none shop.jobs jobs h.0)
 
 no-sequence : {A : Type 0} (shop : Shop) (jobs : List ℕ) (next : Result A CheckFault) (o : Option SequenceFault) →
     (o ≡ None → ⊥) → option_map_or (λ fault. Err Sequence) o next ≡ Err Sequence
 no-sequence shop jobs next None none = absurd (none refl)
 no-sequence shop jobs next (Some fault) none = refl
 
-sequence-other : (kind : TreeKind) (shop : Shop) (version depth : ℕ) (stated : Stated kind) (rest : List ℕ)
+sequence-other : (shop : Shop) (version depth value : ℕ) (rest : List ℕ)
     (o : Option (List ℕ)) → ((jobs : List ℕ) → IsSequence shop.jobs jobs → o ≡ Some jobs → ⊥) →
-    sequence_value kind shop version depth stated rest o ≡ Err Sequence
-sequence-other kind shop version depth stated rest None none = refl
-sequence-other kind shop version depth stated rest (Some jobs) none =
-    no-sequence shop jobs (cond (nat_eq (span shop jobs) (stated_bounds kind stated).upper)
-    (after_heading kind shop version depth stated rest) (Err NotAttained))
+    sequence_value shop version depth value rest o ≡ Err Sequence
+sequence-other shop version depth value rest None none = refl
+sequence-other shop version depth value rest (Some jobs) none =
+    no-sequence shop jobs (cond (nat_eq (span shop jobs) value)
+    (cut_value shop version depth value rest) (Err NotAttained))
     (sequence_fault shop.jobs jobs)
     (λ fine. none jobs (sequence-fault-none-is shop.jobs jobs fine) refl)
 
-pub sequence-refused : (kind : TreeKind) (shop : Shop) (version : ℕ) (bytes : List ℕ) (depth : ℕ)
-    (stated : Stated kind) → IsWithinLimits shop →
+pub sequence-refused : (shop : Shop) (version : ℕ) (bytes : List ℕ) (depth value : ℕ) → IsWithinLimits shop →
     ((jobs rest : List ℕ) → BeginsWithSequence shop.jobs bytes jobs rest → ⊥) →
-    on_line Sequence (after_stated kind shop version depth stated) bytes ≡ Err Sequence
-sequence-refused kind shop version bytes depth stated limits none =
-    line-refused Sequence (after_stated kind shop version depth stated) bytes (λ text rest e.
-    sequence-other kind shop version depth stated rest (numbers_in text) (λ jobs is found.
+    on_line Sequence (after_value shop version depth value) bytes ≡ Err Sequence
+sequence-refused shop version bytes depth value limits none =
+    line-refused Sequence (after_value shop version depth value) bytes (λ text rest e.
+    sequence-other shop version depth value rest (numbers_in text) (λ jobs is found.
     none jobs rest (
       is,
       as-line bytes text (spaced jobs) rest e (numbers-sound text jobs found

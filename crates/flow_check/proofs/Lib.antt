@@ -4,6 +4,7 @@ pub mod TreesExact
 pub mod Numbers
 pub mod Exact
 pub mod ExactLines
+pub mod BoundsLine
 pub mod OneSequence
 pub mod TreeFaults
 pub mod FirstFaults
@@ -17,7 +18,7 @@ pub mod Releases
 pub mod Numerals
 pub mod SizeLine
 pub mod SequenceLine
-pub mod StatedLines
+pub mod CertificateLines
 pub mod HeadingLines
 pub mod Exits
 pub mod Readers

@@ -1,4 +1,4 @@
--- The first line, the line of an instance's size and a depth, and the line of a value or of two bounds.
+-- The first line, the line of an instance's size and a depth, and the line of two bounds.
 use Rattle.std.proofs.Common.{◌≡◌, ℕ, ◌+◌, ◌≤◌, ◌<◌, ◌^◌, true, false, nat_eq, List, [], ◌∷◌, ◌++◌, length, take, drop}
 use Rattle.std.proofs.Common.{Option, Some, None, IfSome, Bor, ap, sym, ◌∙◌, append_assoc, arith}
 use Rattle.std.specs.Fmt.{decimal}
@@ -7,18 +7,18 @@ use Rattle.std.specs.Cmp.Lexicographic.{pointwise}
 use Rattle.std.proofs.lemmas.Bool.Decides.{Decides-eqb}
 use Rattle.std.proofs.lemmas.Slice.Eq.{strip_prefix_is}
 use Rattle.flow_shop.specs.Limits.{greatest_depth}
-use Rattle.flow_check.specs.TextLines.{line, spaced, title, opening}
-use Rattle.flow_check.specs.internal.Heading.{BeginsWithNumber, BeginsWithSize, BeginsWithStated}
+use Rattle.std.specs.Prelude.{codes}
+use Rattle.flow_check.specs.TextLines.{line, spaced, title}
+use Rattle.flow_check.specs.internal.Heading.{BeginsWithNumber, BeginsWithSize}
+use Rattle.flow_check.specs.internal.TwoEndedLines.{BeginsWithBounds}
 use Rattle.flow_check.specs.declared.bounds.Bounds.{Bounds}
-use Rattle.flow_check.specs.declared.kind.TreeKind.{TreeKind}
-use Rattle.flow_check.specs.declared.kind.TreeKind.TheVariants.{Certificate, OfBounds}
 
 -- the first line ends in its version
-pub title-parts : (kind : TreeKind) (version : ℕ) (rest : List ℕ) →
-    line (title kind version) ++ rest ≡ opening kind ++ (decimal version ++ 10 ∷ rest)
-title-parts kind version rest =
-    append_assoc (title kind version) (10 ∷ []) rest
-    ∙ append_assoc (opening kind) (decimal version) (10 ∷ rest)
+pub title-parts : (version : ℕ) (rest : List ℕ) →
+    line (title version) ++ rest ≡ codes "flowshop certificate " ++ (decimal version ++ 10 ∷ rest)
+title-parts version rest =
+    append_assoc (title version) (10 ∷ []) rest
+    ∙ append_assoc (codes "flowshop certificate ") (decimal version) (10 ∷ rest)
 
 -- its three numbers, each with the byte that ends it
 pub size-parts : (a b d : ℕ) (rest : List ℕ) → line (spaced (a ∷ b ∷ d ∷ [])) ++ rest ≡ decimal a ++ 32
@@ -44,18 +44,9 @@ bounds-parts a b rest =
     ∙ append_assoc (decimal a) (32 ∷ decimal b) (10 ∷ rest)
 
 -- the lower bound comes first, and the upper one after it
-pub first-bound : (text rest : List ℕ) (bounds : Bounds) → BeginsWithStated OfBounds text bounds rest →
+pub first-bound : (text rest : List ℕ) (bounds : Bounds) → BeginsWithBounds text bounds rest →
     BeginsWithNumber text 32 bounds.lower (decimal bounds.upper ++ 10 ∷ rest)
 first-bound text rest bounds h = (h.0.0, h.1 ∙ bounds-parts bounds.lower bounds.upper rest)
-
--- a value alone
-pub value-number : (text rest : List ℕ) (value : ℕ) → BeginsWithStated Certificate text value rest →
-    BeginsWithNumber text 10 value rest
-value-number text rest value h = (h.0, h.1 ∙ append_assoc (decimal value) (10 ∷ []) rest)
-
-pub number-value : (text rest : List ℕ) (value : ℕ) → BeginsWithNumber text 10 value rest →
-    BeginsWithStated Certificate text value rest
-number-value text rest value h = (h.0, h.1 ∙ sym (append_assoc (decimal value) (10 ∷ []) rest))
 
 -- what begins with some bytes
 some-of : {A : Type 0} (P : Type 0) (Q : A → Type 0) (o : Option A) → MatchOption o P Q → IfSome o Q

@@ -1,4 +1,4 @@
--- The bounds of a lawful text hold; the value of a lawful certificate is the least makespan.
+-- The value of a lawful certificate is the least makespan.
 use Rattle.std.proofs.Common.{◌≡◌, ℕ, zero, suc, ◌+◌, ◌-◌, ◌<◌, ◌≤◌, Bool, true, false, cond, ◌||◌, nat_eq, List, []}
 use Rattle.std.proofs.Common.{◌∷◌, ◌++◌, length, refl}
 use Rattle.std.proofs.Common.{ap, sym, subst, ◌∙◌, inl, inr, arith, append_assoc, length-append}
@@ -12,12 +12,7 @@ use Rattle.flow_shop.specs.Sequences.{has, jobs_left, extensions, IsSequence, Ex
 use Rattle.flow_shop.proofs.JobsLeft.{left-has}
 use Rattle.flow_shop.proofs.Admissible.{bound_is_admissible, released_bound_is_admissible}
 use Rattle.flow_shop.specs.Bound.{bound_at, released_bound_at, bound_of}
-use Rattle.flow_check.specs.Certificate.{Covers, Shows, IsLawful, AreBounds, BoundsAreSound}
-use Rattle.flow_check.specs.TextLines.{Stated, stated_bounds}
-use Rattle.flow_check.specs.Certificate.{CertificateIsSound, ValueIsOne}
-use Rattle.flow_check.specs.declared.bounds.Bounds.{Bounds}
-use Rattle.flow_check.specs.declared.kind.TreeKind.{TreeKind}
-use Rattle.flow_check.specs.declared.kind.TreeKind.TheVariants.{Certificate, OfBounds}
+use Rattle.flow_check.specs.Certificate.{Covers, Shows, CertificateIsSound, ValueIsOne}
 
 all-at : (P : ℕ → Type 0) (xs : List ℕ) (x : ℕ) (ys : List ℕ) → AllByRecursion P (xs ++ x ∷ ys) → P x
 all-at P [] x ys h = h.0
@@ -110,48 +105,23 @@ in-cut n (suc depth) R jobs (j ∷ rest) parts z short is =
     ∷ []) rest below.0 below.1 (omega arith) (subst (IsSequence n) (sym same) is) in
     (ih.0, ih.1, ih.2, sym same ∙ ih.3, omega (arith, ih.4, length-append jobs (j ∷ [])), ih.5)
 
--- no sequence is below what the trees of a text cover
-pub shown-low : (shop : Shop) (version lower upper depth : ℕ) (sequence : List ℕ) (parts : List (List ℕ)) →
-    Shows shop version lower upper depth sequence parts → (jobs : List ℕ) → IsSequence shop.jobs jobs →
-    lower ≤ span shop jobs
-shown-low shop version lower upper depth sequence parts shows jobs is =
+-- no sequence is below the value that the trees of a certificate cover
+shown-low : (shop : Shop) (version value depth : ℕ) (sequence : List ℕ) (parts : List (List ℕ)) →
+    Shows shop version value depth sequence parts → (jobs : List ℕ) → IsSequence shop.jobs jobs →
+    value ≤ span shop jobs
+shown-low shop version value depth sequence parts shows jobs is =
     let depth_low : depth ≤ shop.jobs = shows.jobs_enough in
-    let at = in-cut shop.jobs depth (λ prefix part. Covers shop (bound_of version) lower
+    let at = in-cut shop.jobs depth (λ prefix part. Covers shop (bound_of version) value
     (shop.jobs - depth) prefix part) [] jobs parts shows.covered (omega (arith, is.whole)) is in
-    subst (λ s. lower ≤ span shop s) (sym at.3)
-    (covered shop version lower (shop.jobs - depth) at.0 at.2 at.1 (omega (arith, at.4)) at.5 (subst
+    subst (λ s. value ≤ span shop s) (sym at.3)
+    (covered shop version value (shop.jobs - depth) at.0 at.2 at.1 (omega (arith, at.4)) at.5 (subst
     (IsSequence shop.jobs) at.3 is))
 
--- so the lower bound is no greater than the upper one
-pub shown-order : (shop : Shop) (version lower upper depth : ℕ) (sequence : List ℕ) (parts : List (List ℕ)) →
-    Shows shop version lower upper depth sequence parts → lower ≤ upper
-shown-order shop version lower upper depth sequence parts shows =
-    subst (λ n. lower ≤ n) shows.attained
-    (shown-low shop version lower upper depth sequence parts shows sequence shows.whole)
-
--- the bounds that a lawful text states
-pub lawful-bounds : (kind : TreeKind) (shop : Shop) (bytes : List ℕ) (stated : Stated kind) →
-    IsLawful kind shop bytes stated → AreBounds shop (stated_bounds kind stated)
-lawful-bounds kind shop bytes stated (sequence, (version, depth, parts, shows, text)) =
-    let bounds : Bounds = stated_bounds kind stated in
-    let low = shown-low shop version bounds.lower bounds.upper depth sequence parts shows in
-    record {
-      lower = low;
-      upper = (sequence, shows.whole, shows.attained);
-      between = λ least is. (
-        subst (λ n. bounds.lower ≤ n) is.attained.2 (low is.attained.0 is.attained.1),
-        subst (λ n. least ≤ n) shows.attained (is.least sequence shows.whole),
-      );
-    }
-
-pub bounds_are_sound : BoundsAreSound
-bounds_are_sound shop bytes bounds is = lawful-bounds OfBounds shop bytes bounds is
-
--- the value of a certificate is both bounds
 pub certificate_is_sound : CertificateIsSound
-certificate_is_sound shop bytes value is =
-    let bounds = lawful-bounds Certificate shop bytes value is in
-    record { attained = bounds.upper; least = bounds.lower }
+certificate_is_sound shop bytes value (sequence, (version, depth, parts, shows, text)) = record {
+  attained = (sequence, shows.whole, shows.attained);
+  least = shown-low shop version value depth sequence parts shows;
+}
 
 pub value_is_one : ValueIsOne
 value_is_one shop bytes v w a b =

@@ -12,20 +12,20 @@ use Rattle.flow_shop.specs.Paths.{span}
 use Rattle.flow_shop.specs.Sequences.{jobs_left}
 use Rattle.flow_shop.specs.Directions.{first_with, last_with, Proves, ProvesWith}
 use Rattle.flow_shop.proofs.JobsLeft.{none-has}
-use Rattle.flow_check.specs.TextLines.{line, spaced, ending, IsStated, numbers_of}
+use Rattle.flow_check.specs.TextLines.{line, spaced, ending}
 use Rattle.flow_check.specs.CertificateFaults.{HasFaultAmong}
-use Rattle.flow_check.specs.TwoEnded.{title_line, size_lines, bounds_lines, sequence_lines, IsTwoEnded}
+use Rattle.flow_check.specs.TwoEnded.{title_line, size_lines, bounds_lines, sequence_lines, AreInRange, IsTwoEnded}
 use Rattle.flow_check.specs.TwoEndedFaults.{HasDirectionsFault, HasLastFault, HasFourLines, FailsAfterFour}
 use Rattle.flow_check.specs.TwoEndedFaults.{HasTwoEndedFault}
 use Rattle.flow_check.specs.internal.ReadDirections.{Reading, read_node}
 use Rattle.flow_check.specs.declared.bounds.Bounds.{Bounds}
-use Rattle.flow_check.specs.declared.kind.TreeKind.TheVariants.{OfBounds}
 use Rattle.flow_check.specs.declared.fault.CheckFault.{CheckFault}
 use Rattle.flow_check.specs.declared.fault.CheckFault.TheVariants.{Memory, Header, Size, Value, Sequence, NotAttained}
 use Rattle.flow_check.specs.declared.fault.CheckFault.TheVariants.{Tree, Weak, Low, End}
 use Rattle.flow_check.proofs.TextBegins.{inner, outer}
 use Rattle.flow_check.proofs.DirectionsRead.{read-sound}
 use Rattle.flow_check.proofs.DirectionFaults.{directions-have}
+use Rattle.flow_check.proofs.BoundsLine.{numbers_of}
 use Rattle.flow_check.proofs.TwoEndedReading.{Exact, strip, strip-exact, bounds_at, bounds-exact, HasBounds}
 use Rattle.flow_check.proofs.TwoEndedReading.{sequence_at, sequence-exact, StartsSequence, Statement, ended, behind}
 use Rattle.flow_check.proofs.TwoEndedReading.{from_directions, from_makespan, from_sequence, from_bounds, from_size}
@@ -204,7 +204,7 @@ module _ (shop : Shop) (text : List ℕ) (limits : IsWithinLimits shop) where
       (read_node shop bounds.lower shop.jobs [] [] rest) refl
       (directions-have shop bounds.lower shop.jobs [] [] rest))
 
-  sequence-judged : (bounds : Bounds) (rest : List ℕ) → IsStated OfBounds bounds →
+  sequence-judged : (bounds : Bounds) (rest : List ℕ) → AreInRange bounds →
       text ≡ bounds_lines shop bounds ++ rest → MatchResult (from_sequence shop bounds rest) States Fails
   sequence-judged bounds rest fit e =
       let exact = sequence-exact shop rest limits in
@@ -230,12 +230,12 @@ module _ (shop : Shop) (text : List ℕ) (limits : IsWithinLimits shop) where
       (λ none. record {
         size = (rest, e);
         none = λ bounds fit b. missed (HasBounds rest) (bounds_at rest) (bounds-exact rest) none (bounds, b.0)
-            (fit, inner text (size_lines shop) rest (line (spaced (numbers_of OfBounds bounds))) b.0 e b.1);
+            (fit, inner text (size_lines shop) rest (line (spaced (numbers_of bounds))) b.0 e b.1);
       })
       (λ r found.
       let is = (bounds-exact rest).found r found in
       sequence-judged r.0 r.1 is.0
-      (outer text (size_lines shop) rest (line (spaced (numbers_of OfBounds r.0))) r.1 e is.1))
+      (outer text (size_lines shop) rest (line (spaced (numbers_of r.0))) r.1 e is.1))
 
   size-judged : (rest : List ℕ) → text ≡ title_line ++ rest → MatchResult (from_size shop rest) States Fails
   size-judged rest e =

@@ -12,13 +12,12 @@ use Rattle.flow_shop.specs.Sequences.{IsLowerBound}
 use Rattle.flow_shop.specs.Directions.{Proves}
 use Rattle.flow_shop.proofs.DirectionsSound.{proved_is_lower_bound}
 use Rattle.flow_shop.proofs.DirectionsOne.{directions_are_one}
-use Rattle.flow_check.specs.TextLines.{line, spaced, ending, IsStated, numbers_of}
-use Rattle.flow_check.specs.TwoEnded.{title_line, size_lines, bounds_lines, sequence_lines, IsTwoEnded}
+use Rattle.flow_check.specs.TextLines.{line, spaced, ending}
+use Rattle.flow_check.specs.TwoEnded.{title_line, size_lines, bounds_lines, sequence_lines, AreInRange, IsTwoEnded}
 use Rattle.flow_check.specs.TwoEnded.{TwoEndedIsSound, TwoEndedStatesOne}
 use Rattle.flow_check.specs.TwoEndedFaults.{HasLastFault, HasFourLines, FailsAfterFour, HasTwoEndedFault}
 use Rattle.flow_check.specs.TwoEndedFaults.{EachTwoEndedIsJudged}
 use Rattle.flow_check.specs.declared.bounds.Bounds.{Bounds}
-use Rattle.flow_check.specs.declared.kind.TreeKind.TheVariants.{OfBounds}
 use Rattle.flow_check.specs.declared.fault.CheckFault.{CheckFault}
 use Rattle.flow_check.specs.declared.fault.CheckFault.TheVariants.{Memory, Header, Size, Value, Sequence, NotAttained}
 use Rattle.flow_check.specs.declared.fault.CheckFault.TheVariants.{Tree, Weak, Low, End}
@@ -26,6 +25,7 @@ use Rattle.flow_check.proofs.TreeFaults.{off-where}
 use Rattle.flow_check.proofs.TextBegins.{cancel, outer}
 use Rattle.flow_check.proofs.DirectionsRead.{read-complete}
 use Rattle.flow_check.proofs.DirectionFaults.{directions-fault}
+use Rattle.flow_check.proofs.BoundsLine.{numbers_of}
 use Rattle.flow_check.proofs.TwoEndedReading.{nothing, strip, strip-exact, bounds_at, bounds-exact, HasBounds}
 use Rattle.flow_check.proofs.TwoEndedReading.{sequence_at, sequence-exact, StartsSequence, Statement, ended, behind}
 use Rattle.flow_check.proofs.TwoEndedReading.{from_directions, from_makespan, from_sequence, from_bounds, from_size}
@@ -71,10 +71,10 @@ module _ (shop : Shop) (text : List ℕ) (limits : IsWithinLimits shop) where
       upto-title (size ++ rest) (e ∙ append_assoc title_line size rest)
       ∙ ap (λ o. option_map_or (from_bounds shop) o (Err Size)) ((strip-exact size (size ++ rest)).only rest refl)
 
-  upto-bounds : (bounds : Bounds) (rest : List ℕ) → IsStated OfBounds bounds →
+  upto-bounds : (bounds : Bounds) (rest : List ℕ) → AreInRange bounds →
       text ≡ bounds_lines shop bounds ++ rest → statement shop text ≡ from_sequence shop bounds rest
   upto-bounds bounds rest fit e =
-      let third : List ℕ = line (spaced (numbers_of OfBounds bounds)) in
+      let third : List ℕ = line (spaced (numbers_of bounds)) in
       upto-size (third ++ rest) (e ∙ append_assoc (size_lines shop) third rest)
       ∙ ap (λ o. option_map_or (λ r. from_sequence shop r.0 r.1) o (Err Value))
       ((bounds-exact (third ++ rest)).only (bounds, rest) (fit, refl))
@@ -170,7 +170,7 @@ module _ (shop : Shop) (text : List ℕ) (limits : IsWithinLimits shop) where
       upto-size rest h.size.1
       ∙ ap (λ o. option_map_or (λ r. from_sequence shop r.0 r.1) o (Err Value))
       (nothing (HasBounds rest) (bounds_at rest) (bounds-exact rest) (λ r is. h.none r.0 is.0
-      (r.1, outer text (size_lines shop) rest (line (spaced (numbers_of OfBounds r.0))) r.1 h.size.1 is.1)))
+      (r.1, outer text (size_lines shop) rest (line (spaced (numbers_of r.0))) r.1 h.size.1 is.1)))
   fault-read Sequence h =
       let rest : List ℕ = h.begins.0 in
       upto-bounds h.bounds rest h.fit h.begins.1

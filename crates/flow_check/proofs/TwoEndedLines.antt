@@ -2,16 +2,16 @@
 use Rattle.std.proofs.Common.{◌≡◌, ◌≢◌, ℕ, List, [], ◌∷◌, ◌++◌, ap₂, sym, ◌∙◌, subst, inl, inr}
 use Rattle.flow_shop.specs.Shop.{Shop}
 use Rattle.flow_shop.specs.Paths.{span}
-use Rattle.flow_check.specs.TextLines.{line, spaced, IsStated, numbers_of}
-use Rattle.flow_check.specs.TwoEnded.{title_line, size_lines, bounds_lines}
+use Rattle.flow_check.specs.TextLines.{line, spaced}
+use Rattle.flow_check.specs.TwoEnded.{title_line, size_lines, bounds_lines, AreInRange}
 use Rattle.flow_check.specs.TwoEndedFaults.{HasNoSize, HasNoBounds, HasNoSequence, HasFourLines, MissesUpper}
 use Rattle.flow_check.specs.TwoEndedFaults.{IsTwoEndedFault}
-use Rattle.flow_check.specs.internal.Heading.{BeginsWithStated, BeginsWithSequence, IsSequenceFault}
-use Rattle.flow_check.specs.internal.TwoEndedLines.{BeginsWithJobs}
+use Rattle.flow_check.specs.internal.Heading.{BeginsWithSequence, IsSequenceFault}
+use Rattle.flow_check.specs.internal.TwoEndedLines.{BeginsWithJobs, BeginsWithBounds}
 use Rattle.flow_check.specs.declared.bounds.Bounds.{Bounds}
-use Rattle.flow_check.specs.declared.kind.TreeKind.TheVariants.{OfBounds}
 use Rattle.flow_check.specs.declared.fault.CheckFault.{CheckFault}
 use Rattle.flow_check.proofs.TextBegins.{inner, outer}
+use Rattle.flow_check.proofs.BoundsLine.{numbers_of}
 
 -- a text that goes on behind some lines
 
@@ -26,13 +26,13 @@ read-size shop jobs machines text start rest j m e is =
     (is ∙ ap₂ (λ n k. size_of n k ++ rest) j m)
 
 pub read-bounds : (shop : Shop) (text start : List ℕ) (bounds : Bounds) (rest : List ℕ) →
-    text ≡ size_lines shop ++ start → BeginsWithStated OfBounds start bounds rest →
+    text ≡ size_lines shop ++ start → BeginsWithBounds start bounds rest →
     text ≡ bounds_lines shop bounds ++ rest
 read-bounds shop text start bounds rest e is =
-    outer text (size_lines shop) start (line (spaced (numbers_of OfBounds bounds))) rest e is.1
+    outer text (size_lines shop) start (line (spaced (numbers_of bounds))) rest e is.1
 
 pub read-four : (shop : Shop) (text start : List ℕ) (bounds : Bounds) (sequence rest : List ℕ) →
-    IsStated OfBounds bounds → text ≡ bounds_lines shop bounds ++ start →
+    AreInRange bounds → text ≡ bounds_lines shop bounds ++ start →
     BeginsWithSequence shop.jobs start sequence rest → HasFourLines shop text bounds sequence rest
 read-four shop text start bounds sequence rest fit e is = record {
   fit = fit;
@@ -52,15 +52,15 @@ no-size shop jobs machines text start j m e none = record {
 }
 
 pub no-bounds : (shop : Shop) (text start : List ℕ) → text ≡ size_lines shop ++ start →
-    ((bounds : Bounds) (rest : List ℕ) → BeginsWithStated OfBounds start bounds rest → ⊥) → HasNoBounds shop text
+    ((bounds : Bounds) (rest : List ℕ) → BeginsWithBounds start bounds rest → ⊥) → HasNoBounds shop text
 no-bounds shop text start e none = record {
   size = (start, e);
   none = λ bounds fit b. none bounds b.0
-      (fit, inner text (size_lines shop) start (line (spaced (numbers_of OfBounds bounds))) b.0 e b.1);
+      (fit, inner text (size_lines shop) start (line (spaced (numbers_of bounds))) b.0 e b.1);
 }
 
 pub sequence-fault : (shop : Shop) (text start : List ℕ) (bounds : Bounds) (fault : CheckFault) →
-    IsStated OfBounds bounds → text ≡ bounds_lines shop bounds ++ start → IsSequenceFault shop.jobs start fault →
+    AreInRange bounds → text ≡ bounds_lines shop bounds ++ start → IsSequenceFault shop.jobs start fault →
     IsTwoEndedFault shop text fault
 sequence-fault shop text start bounds fault fit e (inl memory) = subst (IsTwoEndedFault shop text) (sym memory) tt
 sequence-fault shop text start bounds fault fit e (inr (is, none)) =

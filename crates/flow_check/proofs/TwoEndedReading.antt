@@ -11,19 +11,20 @@ use Rattle.flow_shop.specs.Paths.{span}
 use Rattle.flow_shop.specs.SequenceFaults.{sequence_fault}
 use Rattle.flow_shop.specs.declared.sequence.SequenceFault.{SequenceFault}
 use Rattle.flow_shop.proofs.SequenceLemmas.{sequence-fault-none-is, is-fault-none}
-use Rattle.flow_check.specs.TextLines.{line, spaced, ending, numbers_of}
+use Rattle.flow_check.specs.TextLines.{line, spaced, ending}
 use Rattle.flow_check.specs.TwoEnded.{title_line}
-use Rattle.flow_check.specs.internal.Reading.{first_line, numbers_in, stated_by}
-use Rattle.flow_check.specs.internal.Heading.{BeginsWithStated, BeginsWithSequence}
+use Rattle.flow_check.specs.internal.Reading.{first_line, numbers_in}
+use Rattle.flow_check.specs.internal.Heading.{BeginsWithSequence}
+use Rattle.flow_check.specs.internal.TwoEndedLines.{BeginsWithBounds}
 use Rattle.flow_check.specs.internal.ReadDirections.{Reading, read_node}
 use Rattle.flow_check.specs.declared.bounds.Bounds.{Bounds}
-use Rattle.flow_check.specs.declared.kind.TreeKind.TheVariants.{OfBounds}
 use Rattle.flow_check.specs.declared.fault.CheckFault.{CheckFault}
 use Rattle.flow_check.specs.declared.fault.CheckFault.TheVariants.{Header, Size, Value, Sequence, NotAttained, Tree}
 use Rattle.flow_check.specs.declared.fault.CheckFault.TheVariants.{End}
 use Rattle.flow_check.proofs.Numbers.{Fit, numbers-sound, spaced-plain}
 use Rattle.flow_check.proofs.Exact.{numbers-whole, sequence-fit}
-use Rattle.flow_check.proofs.ExactLines.{LineOf, first-line-is, stated-plain, stated-known, stated-text}
+use Rattle.flow_check.proofs.ExactLines.{LineOf, first-line-is}
+use Rattle.flow_check.proofs.BoundsLine.{numbers_of, bounds_of, bounds-plain, bounds-known, bounds-text}
 use Rattle.flow_check.proofs.HeadingLines.{as-line}
 use Rattle.flow_check.proofs.TextBegins.{first-is}
 
@@ -70,13 +71,13 @@ strip-exact start text = record {
 
 abbrev bounds_in : Option (List ℕ × List ℕ) → Option (Bounds × List ℕ)
 bounds_in None = None
-bounds_in (Some r) = option_map (λ bounds. (bounds, r.1)) (stated_by OfBounds (numbers_in r.0))
+bounds_in (Some r) = option_map (λ bounds. (bounds, r.1)) (bounds_of (numbers_in r.0))
 
 abbrev pub bounds_at : List ℕ → Option (Bounds × List ℕ)
 bounds_at text = bounds_in (first_line text)
 
 abbrev pub HasBounds : List ℕ → Bounds × List ℕ → Type 0
-HasBounds text r = BeginsWithStated OfBounds text r.0 r.1
+HasBounds text r = BeginsWithBounds text r.0 r.1
 
 none-bounds : (r : Bounds × List ℕ) → None ≡ Some r → ⊥
 none-bounds r e = none-some r e
@@ -84,22 +85,22 @@ none-bounds r e = none-some r e
 bounds-found : (text : List ℕ) (o : Option (List ℕ × List ℕ)) (r : Bounds × List ℕ) → LineOf text o →
     bounds_in o ≡ Some r → HasBounds text r
 bounds-found text None r is e = absurd (none-bounds r e)
-bounds-found text (Some w) r is e = one (stated_by OfBounds (numbers_in w.0)) refl e
+bounds-found text (Some w) r is e = one (bounds_of (numbers_in w.0)) refl e
   where
-    one : (o : Option Bounds) → stated_by OfBounds (numbers_in w.0) ≡ o →
+    one : (o : Option Bounds) → bounds_of (numbers_in w.0) ≡ o →
         option_map (λ bounds. (bounds, w.1)) o ≡ Some r → HasBounds text r
     one None known f = absurd (none-bounds r f)
     one (Some bounds) known f =
-        let third = stated-text OfBounds w.0 bounds known in
+        let third = bounds-text w.0 bounds known in
         subst (HasBounds text) (same_Some (bounds, w.1) r f)
-        (third.0, as-line text w.0 (spaced (numbers_of OfBounds bounds)) w.1 is third.1)
+        (third.0, as-line text w.0 (spaced (numbers_of bounds)) w.1 is third.1)
 
 pub bounds-exact : (text : List ℕ) → Exact (HasBounds text) (bounds_at text)
 bounds-exact text = record {
   found = λ r e. bounds-found text (first_line text) r (first-line-is text) e;
   only = λ r h.
-      ap bounds_in (first-is text (spaced (numbers_of OfBounds r.0)) r.1 (stated-plain OfBounds r.0 h.0) h.1)
-      ∙ ap (option_map (λ bounds. (bounds, r.1))) (stated-known OfBounds r.0 h.0);
+      ap bounds_in (first-is text (spaced (numbers_of r.0)) r.1 (bounds-plain r.0 h.0) h.1)
+      ∙ ap (option_map (λ bounds. (bounds, r.1))) (bounds-known r.0 h.0);
 }
 
 -- the sequence of a line

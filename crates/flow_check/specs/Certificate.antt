@@ -1,6 +1,5 @@
--- Texts that prove what no sequence is below. A certificate proves a least makespan; a text of bounds proves a lower
--- bound, and has a sequence. A bound of a list is a function from an instance, a list of jobs and a machine to a
--- number; each version of these texts has its own.
+-- Certificates: texts that prove a least makespan by trees. A bound of a list is a function from an instance, a list of
+-- jobs and a machine to a number; each version of certificates has its own.
 use Rattle.std.specs.Prelude.{ℕ, zero, suc, ◌≡◌, ◌-◌, ◌^◌, ◌<◌, ◌≤◌, ◌⊎◌, List, [], ◌∷◌, ◌++◌}
 use Rattle.std.specs.List.{AllZip, concat}
 use Rattle.flow_shop.specs.Limits.{greatest_depth}
@@ -8,9 +7,7 @@ use Rattle.flow_shop.specs.Shop.{Shop, IsWithinLimits}
 use Rattle.flow_shop.specs.Paths.{span}
 use Rattle.flow_shop.specs.Sequences.{IsSequence, IsLowerBound, IsLeastMakespan, jobs_left, cut}
 use Rattle.flow_shop.specs.Bound.{bound_of, letter}
-use Rattle.flow_check.specs.TextLines.{IsVersion, Stated, stated_bounds, text_of}
-use Rattle.flow_check.specs.declared.kind.TreeKind.{TreeKind}
-use Rattle.flow_check.specs.declared.kind.TreeKind.TheVariants.{Certificate, OfBounds}
+use Rattle.flow_check.specs.TextLines.{IsVersion, certificate_text}
 use Rattle.flow_check.specs.declared.bounds.Bounds.{Bounds}
 
 -- the byte that is a tree where no job is left: `.`
@@ -31,37 +28,27 @@ Covers shop bound value (suc left) jobs text =
     ⊎ ((parts : List (List ℕ)) × (text ≡ plus ∷ concat parts)
     × AllZip (λ job part. Covers shop bound value left (jobs ++ job ∷ []) part) (jobs_left shop.jobs jobs) parts)
 
--- what a text of a version shows: a sequence whose makespan is the upper bound, and below each prefix a tree that
--- covers the lower bound by the version's bound of lists
-pub record Shows (shop : Shop) (version lower upper depth : ℕ) (sequence : List ℕ)
-    (trees : List (List ℕ)) : Type 0 where
+-- what a certificate of a version shows: a sequence whose makespan is the value, and below each prefix a tree that
+-- covers the value by the version's bound of lists
+pub record Shows (shop : Shop) (version value depth : ℕ) (sequence : List ℕ) (trees : List (List ℕ)) : Type 0 where
   pub known : IsVersion version
   pub jobs_enough : depth ≤ shop.jobs
   pub shallow : depth ≤ greatest_depth
-  pub fits : upper < 2 ^ 64
+  pub fits : value < 2 ^ 64
   pub whole : IsSequence shop.jobs sequence
-  pub attained : span shop sequence ≡ upper
-  pub covered : AllZip (λ prefix tree. Covers shop (bound_of version) lower (shop.jobs - depth) prefix tree)
+  pub attained : span shop sequence ≡ value
+  pub covered : AllZip (λ prefix tree. Covers shop (bound_of version) value (shop.jobs - depth) prefix tree)
       (cut shop.jobs depth) trees
 
--- a text is a lawful one of its kind, in one of the versions, with this sequence
-abbrev pub GivesSequenceAs : (kind : TreeKind) → Shop → List ℕ → Stated kind → List ℕ → Type 0
-GivesSequenceAs kind shop bytes stated sequence =
-    (version depth : ℕ) × (trees : List (List ℕ))
-    × Shows shop version (stated_bounds kind stated).lower (stated_bounds kind stated).upper depth sequence trees
-    × (bytes ≡ text_of kind shop version depth stated sequence trees)
-
--- a text is a lawful one of its kind
-abbrev pub IsLawful : (kind : TreeKind) → Shop → List ℕ → Stated kind → Type 0
-IsLawful kind shop bytes stated = (sequence : List ℕ) × GivesSequenceAs kind shop bytes stated sequence
+-- a text is a lawful certificate of a value, in one of the versions, with this sequence
+abbrev pub IsCertificateWith : Shop → List ℕ → ℕ → List ℕ → Type 0
+IsCertificateWith shop bytes value sequence =
+    (version depth : ℕ) × (trees : List (List ℕ)) × Shows shop version value depth sequence trees
+    × (bytes ≡ certificate_text shop version depth value sequence trees)
 
 -- a text is a lawful certificate of a value
 abbrev pub IsCertificate : Shop → List ℕ → ℕ → Type 0
-IsCertificate shop bytes value = IsLawful Certificate shop bytes value
-
--- a text is a lawful text of bounds
-abbrev pub IsBoundsText : Shop → List ℕ → Bounds → Type 0
-IsBoundsText shop bytes bounds = IsLawful OfBounds shop bytes bounds
+IsCertificate shop bytes value = (sequence : List ℕ) × IsCertificateWith shop bytes value sequence
 
 -- no sequence is below the lower bound, and one has the upper bound as its makespan; so the least makespan is between
 -- them
@@ -80,15 +67,9 @@ abbrev pub ValueIsOne : Type 0
 ValueIsOne =
     (shop : Shop) (bytes : List ℕ) (v w : ℕ) → IsCertificate shop bytes v → IsCertificate shop bytes w → v ≡ w
 
--- the bounds of a lawful text of bounds, whoever made it, hold
-abbrev pub BoundsAreSound : Type 0
-BoundsAreSound =
-    (shop : Shop) (bytes : List ℕ) (bounds : Bounds) → IsBoundsText shop bytes bounds → AreBounds shop bounds
-
--- a text of a kind states one value, or one pair of bounds, and one sequence
+-- a text states one value and one sequence
 abbrev pub StatesOne : Type 0
 StatesOne =
-    (kind : TreeKind) (shop : Shop) (bytes : List ℕ) (stated other : Stated kind) (one another : List ℕ) →
-    IsWithinLimits shop →
-    GivesSequenceAs kind shop bytes stated one → GivesSequenceAs kind shop bytes other another →
-    (stated ≡ other) × (one ≡ another)
+    (shop : Shop) (bytes : List ℕ) (value other : ℕ) (one another : List ℕ) → IsWithinLimits shop →
+    IsCertificateWith shop bytes value one → IsCertificateWith shop bytes other another →
+    (value ≡ other) × (one ≡ another)

@@ -1,17 +1,14 @@
--- The first fault of a text that is not a lawful one of its kind. The text is lawful up to a line, or up to a tree in a
--- line, and does not go on lawfully there; the fault says what is missing or too low.
-use Rattle.std.specs.Prelude.{ℕ, zero, suc, ◌≡◌, ◌≢◌, ◌+◌, ◌-◌, ◌<◌, ◌≤◌, ◌⊎◌, List, [], ◌∷◌, ◌++◌}
+-- The first fault of a text that is no lawful certificate. The text is lawful up to a line, or up to a tree in a line,
+-- and does not go on lawfully there; the fault says what is missing or too low.
+use Rattle.std.specs.Prelude.{ℕ, zero, suc, ◌≡◌, ◌≢◌, ◌+◌, ◌-◌, ◌^◌, ◌<◌, ◌≤◌, ◌⊎◌, List, [], ◌∷◌, ◌++◌}
+use Rattle.flow_shop.specs.Characters.{line_feed}
 use Rattle.flow_shop.specs.Shop.{Shop, IsWithinLimits}
 use Rattle.flow_shop.specs.Paths.{span}
 use Rattle.flow_shop.specs.Sequences.{IsSequence, jobs_left, cut}
 use Rattle.flow_shop.specs.Bound.{bound_of, letter}
-use Rattle.flow_check.specs.Certificate.{Covers, IsLawful, point}
-use Rattle.flow_check.specs.TextLines.{IsVersion, IsDepth, IsStated, Stated, stated_bounds}
-use Rattle.flow_shop.specs.Characters.{line_feed}
-use Rattle.flow_check.specs.Certificate.{plus}
-use Rattle.flow_check.specs.TextLines.{line, ending, upto_title, upto_sizes, upto_stated, heading}
-use Rattle.flow_check.specs.declared.kind.TreeKind.{TreeKind}
-use Rattle.flow_check.specs.declared.kind.TreeKind.TheVariants.{Certificate, OfBounds}
+use Rattle.flow_check.specs.Certificate.{Covers, IsCertificate, point, plus}
+use Rattle.flow_check.specs.TextLines.{IsVersion, IsDepth}
+use Rattle.flow_check.specs.TextLines.{line, ending, upto_title, upto_sizes, upto_value, heading}
 use Rattle.flow_check.specs.declared.fault.CheckFault.{CheckFault}
 use Rattle.flow_check.specs.declared.fault.CheckFault.TheVariants.{Memory, Header, Size, Value, Sequence, NotAttained}
 use Rattle.flow_check.specs.declared.fault.CheckFault.TheVariants.{Tree, Weak, Low, End}
@@ -65,53 +62,37 @@ HasLineFault shop bound value left (prefix ∷ prefixes) place text fault =
     ⊎ ((lines : List ℕ) × (rest ≡ line_feed ∷ lines)
     × HasLineFault shop bound value left prefixes (place + 1) lines fault)))
 
--- the first fault of a text, as one of a kind that is made of trees. The first tree stands in line 5
-abbrev pub HasTreeTextFault : TreeKind → Shop → List ℕ → CheckFault → Type 0
-HasTreeTextFault kind shop text Memory = ⊥
-HasTreeTextFault kind shop text Header = (version : ℕ) → IsVersion version → ¬ BeginsWith text (upto_title kind version)
-HasTreeTextFault kind shop text Size =
-    (version : ℕ) × IsVersion version × BeginsWith text (upto_title kind version)
-    × ((depth : ℕ) → IsDepth shop depth → ¬ BeginsWith text (upto_sizes kind shop version depth))
-HasTreeTextFault kind shop text Value =
-    (version : ℕ) × (depth : ℕ) × IsVersion version × IsDepth shop depth
-    × BeginsWith text (upto_sizes kind shop version depth)
-    × ((stated : Stated kind) → IsStated kind stated →
-    ¬ BeginsWith text (upto_stated kind shop version depth stated))
-HasTreeTextFault kind shop text Sequence =
-    (version : ℕ) × (depth : ℕ) × (stated : Stated kind) × IsVersion version × IsDepth shop depth
-    × IsStated kind stated × BeginsWith text (upto_stated kind shop version depth stated)
-    × ((sequence : List ℕ) → IsSequence shop.jobs sequence →
-    ¬ BeginsWith text (heading kind shop version depth stated sequence))
-HasTreeTextFault kind shop text NotAttained =
-    (version : ℕ) × (depth : ℕ) × (stated : Stated kind) × (sequence : List ℕ) × IsVersion version
-    × IsDepth shop depth × IsStated kind stated × IsSequence shop.jobs sequence
-    × BeginsWith text (heading kind shop version depth stated sequence)
-    × (span shop sequence ≢ (stated_bounds kind stated).upper)
-HasTreeTextFault kind shop text fault =
-    (version : ℕ) × (depth : ℕ) × (stated : Stated kind) × (sequence : List ℕ) × IsVersion version
-    × IsDepth shop depth × IsStated kind stated × IsSequence shop.jobs sequence
-    × (span shop sequence ≡ (stated_bounds kind stated).upper)
-    × (lines : List ℕ) × (text ≡ heading kind shop version depth stated sequence ++ lines)
-    × HasLineFault shop (bound_of version) (stated_bounds kind stated).lower (shop.jobs - depth)
-    (cut shop.jobs depth) 5 lines fault
-
--- the first fault of a text that is no lawful certificate
+-- the first fault of a text that is no lawful certificate. The first tree stands in line 5
 abbrev pub HasFirstFault : Shop → List ℕ → CheckFault → Type 0
-HasFirstFault shop text fault = HasTreeTextFault Certificate shop text fault
+HasFirstFault shop text Memory = ⊥
+HasFirstFault shop text Header = (version : ℕ) → IsVersion version → ¬ BeginsWith text (upto_title version)
+HasFirstFault shop text Size =
+    (version : ℕ) × IsVersion version × BeginsWith text (upto_title version)
+    × ((depth : ℕ) → IsDepth shop depth → ¬ BeginsWith text (upto_sizes shop version depth))
+HasFirstFault shop text Value =
+    (version : ℕ) × (depth : ℕ) × IsVersion version × IsDepth shop depth
+    × BeginsWith text (upto_sizes shop version depth)
+    × ((value : ℕ) → value < 2 ^ 64 → ¬ BeginsWith text (upto_value shop version depth value))
+HasFirstFault shop text Sequence =
+    (version : ℕ) × (depth : ℕ) × (value : ℕ) × IsVersion version × IsDepth shop depth
+    × (value < 2 ^ 64) × BeginsWith text (upto_value shop version depth value)
+    × ((sequence : List ℕ) → IsSequence shop.jobs sequence →
+    ¬ BeginsWith text (heading shop version depth value sequence))
+HasFirstFault shop text NotAttained =
+    (version : ℕ) × (depth : ℕ) × (value : ℕ) × (sequence : List ℕ) × IsVersion version
+    × IsDepth shop depth × (value < 2 ^ 64) × IsSequence shop.jobs sequence
+    × BeginsWith text (heading shop version depth value sequence) × (span shop sequence ≢ value)
+HasFirstFault shop text fault =
+    (version : ℕ) × (depth : ℕ) × (value : ℕ) × (sequence : List ℕ) × IsVersion version
+    × IsDepth shop depth × (value < 2 ^ 64) × IsSequence shop.jobs sequence × (span shop sequence ≡ value)
+    × (lines : List ℕ) × (text ≡ heading shop version depth value sequence ++ lines)
+    × HasLineFault shop (bound_of version) value (shop.jobs - depth) (cut shop.jobs depth) 5 lines fault
 
--- the first fault of a text that is no lawful text of bounds
-abbrev pub HasBoundsFault : Shop → List ℕ → CheckFault → Type 0
-HasBoundsFault shop text fault = HasTreeTextFault OfBounds shop text fault
-
--- each text of an instance is a lawful one of a kind for what it states, or has one first fault, and not both
-pub record IsJudgedAs (kind : TreeKind) (shop : Shop) (text : List ℕ) : Type 0 where
-  pub some : ((stated : Stated kind) × IsLawful kind shop text stated)
-      ⊎ ((fault : CheckFault) × HasTreeTextFault kind shop text fault)
-  pub apart : (stated : Stated kind) (fault : CheckFault) → IsLawful kind shop text stated →
-      ¬ HasTreeTextFault kind shop text fault
-  pub one : (fault other : CheckFault) → HasTreeTextFault kind shop text fault → HasTreeTextFault kind shop text other →
-      fault ≡ other
+-- each text of an instance is a lawful certificate of a value, or has one first fault, and not both
+pub record IsJudged (shop : Shop) (text : List ℕ) : Type 0 where
+  pub some : ((value : ℕ) × IsCertificate shop text value) ⊎ ((fault : CheckFault) × HasFirstFault shop text fault)
+  pub apart : (value : ℕ) (fault : CheckFault) → IsCertificate shop text value → ¬ HasFirstFault shop text fault
+  pub one : (fault other : CheckFault) → HasFirstFault shop text fault → HasFirstFault shop text other → fault ≡ other
 
 abbrev pub EachTextIsJudged : Type 0
-EachTextIsJudged =
-    (kind : TreeKind) (shop : Shop) (text : List ℕ) → IsWithinLimits shop → IsJudgedAs kind shop text
+EachTextIsJudged = (shop : Shop) (text : List ℕ) → IsWithinLimits shop → IsJudged shop text

@@ -34,6 +34,10 @@ abbrev pub two_ended_text : Shop → Bounds → List ℕ → List ℕ → List �
 two_ended_text shop bounds sequence directions =
     sequence_lines shop bounds sequence ++ line directions ++ line ending
 
+-- both bounds are within the greatest number that a text states
+abbrev pub AreInRange : Bounds → Type 0
+AreInRange bounds = (bounds.lower < 2 ^ 64) × (bounds.upper < 2 ^ 64)
+
 -- what a text shows: a sequence whose makespan is the upper bound, and directions that prove the lower bound
 pub record ShowsBounds (shop : Shop) (bounds : Bounds) (sequence directions : List ℕ) : Type 0 where
   pub lower_fits : bounds.lower < 2 ^ 64

@@ -8,11 +8,10 @@ use Rattle.flow_shop.specs.Sequences.{IsSequence, jobs_left}
 use Rattle.flow_shop.specs.Ends.{end_bound}
 use Rattle.flow_shop.specs.Directions.{sign, first_with, last_with, ProvesWith, Proves}
 use Rattle.flow_shop.specs.declared.end.End.{End as SequenceEnd}
-use Rattle.flow_check.specs.TextLines.{line, ending, IsStated}
+use Rattle.flow_check.specs.TextLines.{line, ending}
 use Rattle.flow_check.specs.CertificateFaults.{BeginsWith, UnlessMemory, HasFaultAmong}
-use Rattle.flow_check.specs.TwoEnded.{title_line, size_lines, bounds_lines, sequence_lines, IsTwoEnded}
+use Rattle.flow_check.specs.TwoEnded.{title_line, size_lines, bounds_lines, sequence_lines, AreInRange, IsTwoEnded}
 use Rattle.flow_check.specs.declared.bounds.Bounds.{Bounds}
-use Rattle.flow_check.specs.declared.kind.TreeKind.TheVariants.{OfBounds}
 use Rattle.flow_check.specs.declared.fault.CheckFault.{CheckFault}
 use Rattle.flow_check.specs.declared.fault.CheckFault.TheVariants.{Memory, Header, Size, Value, Sequence, NotAttained}
 use Rattle.flow_check.specs.declared.fault.CheckFault.TheVariants.{Tree, Low, End}
@@ -63,19 +62,19 @@ pub record HasNoSize (shop : Shop) (text : List ℕ) : Type 0 where
 -- two lines are lawful, but no line of two bounds follows
 pub record HasNoBounds (shop : Shop) (text : List ℕ) : Type 0 where
   pub size : BeginsWith text (size_lines shop)
-  pub none : (bounds : Bounds) → IsStated OfBounds bounds → ¬ BeginsWith text (bounds_lines shop bounds)
+  pub none : (bounds : Bounds) → AreInRange bounds → ¬ BeginsWith text (bounds_lines shop bounds)
 
 -- three lines are lawful, but no line of a sequence follows
 pub record HasNoSequence (shop : Shop) (text : List ℕ) : Type 0 where
   pub bounds : Bounds
-  pub fit : IsStated OfBounds bounds
+  pub fit : AreInRange bounds
   pub begins : BeginsWith text (bounds_lines shop bounds)
   pub none : (sequence : List ℕ) → IsSequence shop.jobs sequence →
       ¬ BeginsWith text (sequence_lines shop bounds sequence)
 
 -- four lines are lawful, and a text follows
 pub record HasFourLines (shop : Shop) (text : List ℕ) (bounds : Bounds) (sequence rest : List ℕ) : Type 0 where
-  pub fit : IsStated OfBounds bounds
+  pub fit : AreInRange bounds
   pub whole : IsSequence shop.jobs sequence
   pub lines : text ≡ sequence_lines shop bounds sequence ++ rest
 

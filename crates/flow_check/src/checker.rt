@@ -1,22 +1,20 @@
-//! The checker of certificates and of texts of bounds.
+//! The checker of certificates.
 
 ghost use Rattle.std.specs.Prelude.{◌≡◌, ◌⊎◌, ℕ, List, IfOk, IfErr, IsOkAnd, Ok, Err};
 ghost use Rattle.std.specs.Str.{bytes_eq};
 ghost use Rattle.flow_shop.specs.Paths.{span};
 ghost use Rattle.flow_shop.specs.Sequences.{IsLeastMakespan, IsSequence};
-ghost use Rattle.flow_shop.specs.Shop.{IsWithinLimits};
-ghost use Rattle.flow_check.specs.Certificate.{IsCertificate, IsBoundsText, AreBounds};
+ghost use Rattle.flow_check.specs.Certificate.{IsCertificate};
 ghost use Rattle.flow_check.specs.TextLines.{line, ending};
-ghost use Rattle.flow_check.specs.Check.{IsFirstFault, IsOfNoValue, IsBoundsFault, IsOfNoBounds};
-ghost use Rattle.flow_check.specs.Check.{IsTreeTextFault, IsNotTreeText};
-ghost use Rattle.flow_check.specs.Stated.{GivesSequence, IsTreeText};
+ghost use Rattle.flow_check.specs.Check.{IsFirstFault, IsOfNoValue};
+ghost use Rattle.flow_check.specs.Stated.{GivesAs, GivesSequence};
 ghost use Rattle.flow_check.specs.declared.bounds.Bounds.{Bounds};
 ghost use Rattle.flow_check.specs.declared.fault.CheckFault.TheVariants.{Memory};
+ghost use Rattle.flow_check.specs.declared.kind.TextKind.TheVariants.{Certificate};
 
 use crate::bounds::Bounds;
 use crate::fault::CheckFault;
 use crate::heading::read_heading;
-use crate::kind::TreeKind;
 use crate::shown::Shown;
 use crate::trees::trees_end;
 use flow_shop::{Instance, Sequence};
@@ -32,29 +30,31 @@ pub(crate) fn is_ending(text: &[u8]) -> bool
     text == ENDING
 }
 
-/// What a lawful text of a kind shows, or its first fault. The value of a certificate is both bounds.
-pub(crate) fn check_tree_text(
+/// What a lawful certificate shows, or the first fault of the text. Its value is both bounds.
+pub(crate) fn check_certificate(
     alloc: Global,
-    kind: TreeKind,
     instance: &Instance,
     bytes: &[u8],
 ) -> Result<Shown, CheckFault>
-    ensures limits { IsWithinLimits instance.now }
-    ensures text { IfOk result (λ shown. IsTreeText kind instance.now bytes.now shown.bounds shown.sequence) }
-    ensures each { IfOk result (λ shown. IsSequence instance.now.jobs shown.sequence) }
-    ensures bounds { IfOk result (λ shown. AreBounds instance.now shown.bounds) }
-    ensures lawful { (bounds : Bounds) (sequence : List ℕ) → IsTreeText kind instance.now bytes.now bounds sequence →
+    ensures text { IfOk result (λ shown.
+        GivesAs Certificate instance.now bytes.now shown.bounds shown.sequence) }
+    ensures lawful { (bounds : Bounds) (sequence : List ℕ) →
+        GivesAs Certificate instance.now bytes.now bounds sequence →
         IsOkAnd result (λ shown. (shown.bounds ≡ bounds) × (shown.sequence ≡ sequence)) ⊎ (result ≡ Err Memory) }
-    ensures fault { IfErr result (λ fault. IsTreeTextFault kind instance.now bytes.now fault) }
-    ensures none { IfErr result (λ fault. IsNotTreeText kind instance.now bytes.now fault) }
+    ensures fault { IfErr result (λ fault. IsFirstFault instance.now bytes.now fault) }
+    ensures none { IfErr result (λ fault. IsOfNoValue instance.now bytes.now fault) }
 {
-    let heading = read_heading(alloc, kind, instance, bytes)?;
+    let heading = read_heading(alloc, instance, bytes)?;
     let end = trees_end(alloc, instance, &heading)?;
     if !is_ending(&heading.trees[end..]) {
         return Err(CheckFault::End);
     }
+    let value = heading.value;
     Ok(Shown {
-        bounds: heading.bounds,
+        bounds: Bounds {
+            lower: value,
+            upper: value,
+        },
         sequence: heading.sequence,
     })
 }
@@ -70,23 +70,8 @@ pub fn check(alloc: Global, instance: &Instance, bytes: &[u8]) -> Result<u64, Ch
     ensures fault { IfErr result (λ fault. IsFirstFault instance.now bytes.now fault) }
     ensures none { IfErr result (λ fault. IsOfNoValue instance.now bytes.now fault) }
 {
-    let shown = check_tree_text(alloc, TreeKind::Certificate, instance, bytes)?;
+    let shown = check_certificate(alloc, instance, bytes)?;
     Ok(shown.bounds.lower)
-}
-
-/// The bounds that a lawful text of bounds proves, between which the instance's least makespan lies, or the first fault
-/// of the text. Any lawful text of bounds is accepted, whoever made it; `Memory` only where memory ran out.
-pub fn check_bounds(alloc: Global, instance: &Instance, bytes: &[u8]) -> Result<Bounds, CheckFault>
-    ensures text { IfOk result (λ bounds. IsBoundsText instance.now bytes.now bounds) }
-    ensures bounds { IfOk result (λ bounds. AreBounds instance.now bounds) }
-    ensures sound { (bounds : Bounds) → IsBoundsText instance.now bytes.now bounds → AreBounds instance.now bounds }
-    ensures lawful { (bounds : Bounds) → IsBoundsText instance.now bytes.now bounds →
-        (result ≡ Ok bounds) ⊎ (result ≡ Err Memory) }
-    ensures fault { IfErr result (λ fault. IsBoundsFault instance.now bytes.now fault) }
-    ensures none { IfErr result (λ fault. IsOfNoBounds instance.now bytes.now fault) }
-{
-    let shown = check_tree_text(alloc, TreeKind::OfBounds, instance, bytes)?;
-    Ok(shown.bounds)
 }
 
 /// The sequence of a lawful certificate, whose makespan is the instance's least, or the first fault of the text.
@@ -102,6 +87,6 @@ pub fn check_sequence(
     ensures fault { IfErr result (λ fault. IsFirstFault instance.now bytes.now fault) }
     ensures none { IfErr result (λ fault. IsOfNoValue instance.now bytes.now fault) }
 {
-    let Shown { sequence, .. } = check_tree_text(alloc, TreeKind::Certificate, instance, bytes)?;
+    let Shown { sequence, .. } = check_certificate(alloc, instance, bytes)?;
     Ok(sequence)
 }

@@ -6,8 +6,8 @@ ghost use Rattle.flow_check.specs.declared.fault.CheckFault.TheVariants.{Memory}
 use std::alloc::{AllocError, AllocFailed};
 use thiserror::Error;
 
-/// Why a text is no lawful certificate, no lawful text of bounds or no lawful two-ended certificate: its first fault.
-/// The number is that of the line, counted from 1.
+/// Why a text is no lawful certificate, or no lawful two-ended certificate: its first fault. The number is that of the
+/// line, counted from 1.
 #[derive(Clone, Copy, Debug, PartialEq, Eq, Error)]
 pub enum CheckFault {
     /// Memory ran out.
@@ -20,8 +20,7 @@ pub enum CheckFault {
     /// and machines alone.
     #[error("Size")]
     Size,
-    /// The third line is not one number, of a text of bounds or a two-ended certificate not two, or a number is too
-    /// large.
+    /// The third line is not one number, of a two-ended certificate not two, or a number is too large.
     #[error("Value")]
     Value,
     /// The fourth line is not a sequence.
@@ -33,11 +32,11 @@ pub enum CheckFault {
     /// This line is not one tree; of a two-ended certificate, not one string of directions that prove the lower bound.
     #[error("Tree {0}")]
     Tree(usize),
-    /// In this line a letter's bound, that of the version, is below the value, or below the lower bound.
+    /// In this line a letter's bound, that of the version, is below the value.
     #[error("Weak {0}")]
     Weak(usize),
-    /// In this line a point's makespan is below the value, or below the lower bound; of a two-ended certificate, the
-    /// directions lead to a whole sequence that is below the lower bound.
+    /// In this line a point's makespan is below the value; of a two-ended certificate, the directions lead to a whole
+    /// sequence that is below the lower bound.
     #[error("Low {0}")]
     Low(usize),
     /// The text after the trees, or after the directions, is not the last line alone.

@@ -1,20 +1,16 @@
-//! The lines of a text before its trees.
+//! The lines of a certificate before its trees.
 
 ghost use Rattle.std.specs.Prelude.{◌≡◌, ℕ, ◌+◌, ◌-◌, ◌<◌, ◌≤◌, ◌++◌, List, IfSome, IfOk, IfErr, Ok, Err};
 ghost use Rattle.std.specs.Option.{IsSomeAnd};
 ghost use Rattle.flow_shop.specs.Shop.{IsWithinLimits};
 ghost use Rattle.flow_shop.specs.Paths.{span};
 ghost use Rattle.flow_check.specs.CertificateFaults.{UnlessMemory};
-ghost use Rattle.flow_check.specs.TextLines.{IsVersion, Stated, stated_bounds, line, title, opening};
+ghost use Rattle.flow_check.specs.TextLines.{IsVersion, line, title};
 ghost use Rattle.flow_check.specs.internal.Reading.{text_value};
 ghost use Rattle.flow_check.specs.internal.Heading.{BeginsWithJob, BeginsWithSize, BeginsWithSequence, end_of};
-ghost use Rattle.flow_check.specs.internal.Heading.{BeginsWithHeading, BeginsWithStated, IsHeadingOf, IsSequenceFault};
-ghost use Rattle.flow_check.specs.declared.bounds.Bounds.{Bounds};
-ghost use Rattle.flow_check.specs.declared.kind.TreeKind.TheVariants.{Certificate, OfBounds};
+ghost use Rattle.flow_check.specs.internal.Heading.{BeginsWithHeading, IsHeadingOf, IsSequenceFault};
 
-use crate::bounds::Bounds;
 use crate::fault::CheckFault;
-use crate::kind::TreeKind;
 use crate::number::read_number;
 use flow_limits::{MAX_DEPTH, MAX_VERSION, MIN_VERSION};
 use flow_shop::{Front, Instance, JobSet, Sequence, front_push};
@@ -23,13 +19,13 @@ use std::alloc::Global;
 /// What the four lines before the trees say, where they have no fault.
 #[derive(Drop)]
 pub(crate) struct Heading<'a> {
-    /// The version of the text: 1 or 2. Each has its own bound of lists.
+    /// The version of the certificate: 1 or 2. Each has its own bound of lists.
     pub(crate) version: u32,
     /// The depth of the cut: how many jobs each prefix has. There is one tree for each prefix.
     pub(crate) depth: u16,
-    /// The bounds. In a certificate its value is both.
-    pub(crate) bounds: Bounds,
-    /// The sequence, whose makespan is the upper bound.
+    /// The value.
+    pub(crate) value: u64,
+    /// The sequence, whose makespan is the value.
     pub(crate) sequence: Sequence,
     /// The text that follows, from the first tree on.
     pub(crate) trees: &'a [u8],
@@ -46,24 +42,13 @@ pub(crate) struct SequenceLine<'a> {
     pub(crate) rest: &'a [u8],
 }
 
-/// The text after the words with which a text of a kind begins.
-fn after_opening(kind: TreeKind, text: &[u8]) -> Option<&[u8]>
-    ensures found { IfSome result (λ rest. text.now ≡ opening kind ++ rest.now) }
-    ensures only { (rest : List ℕ) → text.now ≡ opening kind ++ rest → IsSomeAnd result (λ r. r.now ≡ rest) }
-{
-    match kind {
-        TreeKind::Certificate => text.strip_prefix(b"flowshop certificate "),
-        TreeKind::OfBounds => text.strip_prefix(b"flowshop bounds "),
-    }
-}
-
 /// The version that the first line names, where a text begins with that line, and the text after it.
-pub(crate) fn read_title(kind: TreeKind, text: &[u8]) -> Option<(u32, &[u8])>
-    ensures found { IfSome result (λ r. IsVersion r.0 × (text.now ≡ line (title kind r.0) ++ r.1.now)) }
-    ensures only { (version : ℕ) (rest : List ℕ) → IsVersion version → text.now ≡ line (title kind version) ++ rest →
+fn read_title(text: &[u8]) -> Option<(u32, &[u8])>
+    ensures found { IfSome result (λ r. IsVersion r.0 × (text.now ≡ line (title r.0) ++ r.1.now)) }
+    ensures only { (version : ℕ) (rest : List ℕ) → IsVersion version → text.now ≡ line (title version) ++ rest →
         IsSomeAnd result (λ r. (r.0 ≡ version) × (r.1.now ≡ rest)) }
 {
-    let number = after_opening(kind, text)?;
+    let number = text.strip_prefix(b"flowshop certificate ")?;
     let (version, rest) = read_number(number, b'\n')?;
     if version < u64::from(MIN_VERSION) || version > u64::from(MAX_VERSION) {
         return None;
@@ -88,45 +73,6 @@ fn read_size(jobs: u16, machines: u16, text: &[u8]) -> Option<(u16, &[u8])>
         return None;
     }
     Some((depth as u16, rest))
-}
-
-/// The value in the line with which a text begins, as both bounds, and the text after that line.
-fn read_value(text: &[u8]) -> Option<(Bounds, &[u8])>
-    ensures found { IfSome result (λ r. (value : ℕ) × BeginsWithStated Certificate text.now value r.1.now
-        × (r.0 ≡ stated_bounds Certificate value)) }
-    ensures only { (value : ℕ) (rest : List ℕ) → BeginsWithStated Certificate text.now value rest →
-        IsSomeAnd result (λ r. (r.0 ≡ stated_bounds Certificate value) × (r.1.now ≡ rest)) }
-{
-    let (value, rest) = read_number(text, b'\n')?;
-    let bounds = Bounds {
-        lower: value,
-        upper: value,
-    };
-    Some((bounds, rest))
-}
-
-/// The bounds in the line with which a text begins, and the text after that line.
-pub(crate) fn read_bounds(text: &[u8]) -> Option<(Bounds, &[u8])>
-    ensures found { IfSome result (λ r. BeginsWithStated OfBounds text.now r.0 r.1.now) }
-    ensures only { (bounds : Bounds) (rest : List ℕ) → BeginsWithStated OfBounds text.now bounds rest →
-        IsSomeAnd result (λ r. (r.0 ≡ bounds) × (r.1.now ≡ rest)) }
-{
-    let (lower, upper_text) = read_number(text, b' ')?;
-    let (upper, rest) = read_number(upper_text, b'\n')?;
-    Some((Bounds { lower, upper }, rest))
-}
-
-/// The bounds that the third line of a text of a kind states, and the text after that line.
-fn read_stated(kind: TreeKind, text: &[u8]) -> Option<(Bounds, &[u8])>
-    ensures found { IfSome result (λ r. (stated : Stated kind) × BeginsWithStated kind text.now stated r.1.now
-        × (r.0 ≡ stated_bounds kind stated)) }
-    ensures only { (stated : Stated kind) (rest : List ℕ) → BeginsWithStated kind text.now stated rest →
-        IsSomeAnd result (λ r. (r.0 ≡ stated_bounds kind stated) × (r.1.now ≡ rest)) }
-{
-    match kind {
-        TreeKind::Certificate => read_value(text),
-        TreeKind::OfBounds => read_bounds(text),
-    }
 }
 
 /// The job with which a text begins, from 1 to `jobs`, and the text after the byte that ends it.
@@ -188,38 +134,37 @@ pub(crate) fn read_sequence_line<'a>(
     })
 }
 
-/// Reads the lines before the trees of a text of a kind. Returns what they say, or their first fault.
+/// Reads the lines before the trees. Returns what they say, or their first fault.
 pub(crate) fn read_heading<'a>(
     alloc: Global,
-    kind: TreeKind,
     instance: &Instance,
     text: &'a [u8],
 ) -> Result<Heading<'a>, CheckFault>
     ensures limits { IsWithinLimits instance.now }
     ensures depth { IfOk result (λ heading. heading.depth ≤ instance.now.jobs) }
-    ensures found { IfOk result (λ heading. IsHeadingOf kind instance.now text.now heading) }
-    ensures lines { IfOk result (λ heading. BeginsWithHeading kind instance.now text.now heading) }
-    ensures fault { IfErr result (UnlessMemory (λ fault. text_value kind instance.now text.now ≡ Err fault)) }
+    ensures found { IfOk result (λ heading. IsHeadingOf instance.now text.now heading) }
+    ensures lines { IfOk result (λ heading. BeginsWithHeading instance.now text.now heading) }
+    ensures fault { IfErr result (UnlessMemory (λ fault. text_value instance.now text.now ≡ Err fault)) }
 {
     let jobs = instance.jobs();
     let machines = instance.machines();
-    let Some((version, size_text)) = read_title(kind, text) else {
+    let Some((version, size_text)) = read_title(text) else {
         return Err(CheckFault::Header);
     };
-    let Some((depth, stated_text)) = read_size(jobs, machines, size_text) else {
+    let Some((depth, value_text)) = read_size(jobs, machines, size_text) else {
         return Err(CheckFault::Size);
     };
-    let Some((bounds, sequence_text)) = read_stated(kind, stated_text) else {
+    let Some((value, sequence_text)) = read_number(value_text, b'\n') else {
         return Err(CheckFault::Value);
     };
     let line = read_sequence_line(alloc, instance, sequence_text)?;
-    if line.makespan != bounds.upper {
+    if line.makespan != value {
         return Err(CheckFault::NotAttained);
     }
     Ok(Heading {
         version,
         depth,
-        bounds,
+        value,
         sequence: line.sequence,
         trees: line.rest,
     })

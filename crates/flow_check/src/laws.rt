@@ -1,6 +1,6 @@
 //! Laws of the definitions: each contract is a theorem, and no body does anything.
 
-ghost use Rattle.flow_check.specs.Certificate.{BoundsAreSound, CertificateIsSound, StatesOne, ValueIsOne};
+ghost use Rattle.flow_check.specs.Certificate.{CertificateIsSound, StatesOne, ValueIsOne};
 ghost use Rattle.flow_check.specs.CertificateFaults.{EachTextIsJudged};
 ghost use Rattle.flow_check.specs.Kinds.{KindIsOne};
 ghost use Rattle.flow_check.specs.TwoEnded.{TwoEndedIsSound, TwoEndedStatesOne};
@@ -13,24 +13,18 @@ pub fn certificate_is_sound()
     ensures one { ValueIsOne }
 {}
 
-/// The bounds of a lawful text of bounds, whoever made it, hold: no sequence is below the lower one, a sequence has the
-/// upper one as its makespan, and the least makespan is between them.
-pub fn bounds_are_sound()
-    ensures { BoundsAreSound }
-{}
-
-/// A lawful text of a kind states one value, or one pair of bounds, and one sequence.
+/// A lawful certificate states one value and one sequence.
 pub fn text_states_one()
     ensures { StatesOne }
 {}
 
-/// A text is read as what it states exactly where it is a lawful one of its kind.
+/// A text is read as a value exactly where it is a lawful certificate of it.
 pub fn value_is_exact()
     ensures { ValueIsExact }
 {}
 
-/// A text of a kind is lawful for what it states, or has one first fault, and not both. The definition of that fault is
-/// the one by which a text is read.
+/// A text is a lawful certificate of a value, or has one first fault, and not both. The definition of that fault is the
+/// one by which a text is read.
 pub fn fault_is_exact()
     ensures judged { EachTextIsJudged }
     ensures exact { FaultIsExact }

@@ -1,7 +1,6 @@
-//! The checker: reads a certificate, and returns the value that it proves least; reads a text of bounds, and returns
-//! the bounds that it proves; or returns the sequence of either text beside. Reads a two-ended certificate, and returns
-//! its bounds and its sequence. It uses nothing of a solver, and computes its bounds of lists by code of its own; those
-//! of the nodes of a two-ended certificate are flow_nodes'.
+//! The checker: reads a certificate, and returns the value that it proves least, or the sequence. Reads a two-ended
+//! certificate, and returns its bounds and its sequence. It uses nothing of a solver, and computes its bounds of lists
+//! by code of its own; those of the nodes of a two-ended certificate are flow_nodes'.
 #![tactic(auto)]
 
 mod bounds;
@@ -24,12 +23,12 @@ mod trees_text;
 mod two_ended;
 
 pub use bounds::Bounds;
-pub use checker::{check, check_bounds, check_sequence};
+pub use checker::{check, check_sequence};
 pub use fault::CheckFault;
-pub use kind::{TextKind, TreeKind, kind_of};
+pub use kind::{TextKind, kind_of};
 pub use laws::{
-    bounds_are_sound, certificate_is_sound, fault_is_exact, kind_is_one, text_states_one,
-    two_ended_fault_is_exact, two_ended_is_sound, two_ended_states_one, value_is_exact,
+    certificate_is_sound, fault_is_exact, kind_is_one, text_states_one, two_ended_fault_is_exact,
+    two_ended_is_sound, two_ended_states_one, value_is_exact,
 };
 pub use shown::Shown;
 pub use text::check_text;

@@ -1,4 +1,4 @@
-//! The checker of texts of all kinds.
+//! The checker of texts of both kinds.
 
 ghost use Rattle.std.specs.Prelude.{◌≡◌, ◌⊎◌, ℕ, List, IfOk, IfErr, IsOkAnd, Err};
 ghost use Rattle.flow_shop.specs.Sequences.{IsLeastMakespan, IsSequence};
@@ -8,9 +8,9 @@ ghost use Rattle.flow_check.specs.Stated.{GivesAs};
 ghost use Rattle.flow_check.specs.declared.bounds.Bounds.{Bounds};
 ghost use Rattle.flow_check.specs.declared.fault.CheckFault.TheVariants.{Memory};
 
-use crate::checker::check_tree_text;
+use crate::checker::check_certificate;
 use crate::fault::CheckFault;
-use crate::kind::{TextKind, TreeKind};
+use crate::kind::TextKind;
 use crate::shown::Shown;
 use crate::two_ended::check_two_ended;
 use flow_shop::Instance;
@@ -36,8 +36,7 @@ pub fn check_text(
     ensures none { IfErr result (λ fault. IsUnlawfulAs kind instance.now bytes.now fault) }
 {
     match kind {
-        TextKind::Certificate => check_tree_text(alloc, TreeKind::Certificate, instance, bytes),
-        TextKind::OfBounds => check_tree_text(alloc, TreeKind::OfBounds, instance, bytes),
+        TextKind::Certificate => check_certificate(alloc, instance, bytes),
         TextKind::TwoEnded => check_two_ended(alloc, instance, bytes),
     }
 }

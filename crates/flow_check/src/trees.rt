@@ -1,4 +1,4 @@
-//! Reading the trees of a text.
+//! Reading the trees of a certificate.
 
 ghost use Rattle.std.specs.Prelude.{◌≤◌};
 ghost use Rattle.flow_check.specs.internal.Trees.{TreesGive};
@@ -20,7 +20,7 @@ pub(crate) fn trees_end(
     heading: &Heading,
 ) -> Result<usize, CheckFault>
     requires { heading.now.depth ≤ instance.now.jobs }
-    ensures { TreesGive instance.now heading.now.version heading.now.depth heading.now.bounds.lower
+    ensures { TreesGive instance.now heading.now.version heading.now.depth heading.now.value
         heading.now.trees.now result }
 {
     let rows = rows(alloc, instance)?;
@@ -29,7 +29,7 @@ pub(crate) fn trees_end(
         shop: instance,
         rows: rows.as_slice(),
         version: heading.version,
-        value: heading.bounds.lower,
+        value: heading.value,
         bytes: heading.trees,
     };
     let first = Spot {

@@ -1,4 +1,4 @@
-//! What stays the same while the trees of a text are read.
+//! What stays the same while the trees of a certificate are read.
 
 ghost use Rattle.std.proofs.Props.{props};
 ghost use Rattle.flow_shop.specs.Rows.{AreRows};
@@ -12,9 +12,9 @@ pub(crate) struct TreesText<'a> {
     pub(crate) shop: &'a Instance,
     /// The times of the instance, a row for each job from 1 on.
     pub(crate) rows: &'a [Row],
-    /// The version of the text: 1 or 2. Each has its own bound.
+    /// The version of the certificate: 1 or 2. Each has its own bound.
     pub(crate) version: u32,
-    /// The value of a certificate, or the lower bound. A bound or a makespan in the trees that is below it is a fault.
+    /// The value. A bound or a makespan in the trees that is below it is a fault.
     pub(crate) value: u64,
     /// The text, from the first tree to its end.
     pub(crate) bytes: &'a [u8],

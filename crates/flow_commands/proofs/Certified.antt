@@ -1,198 +1,114 @@
--- What is written is a lawful certificate or a lawful text of bounds.
-use Rattle.std.proofs.Common.{◌≡◌, ◌⊎◌, ◌<◌, refl, sym, inl, inr, ap, subst, List, length, ℕ, min, Bool, true, false}
-use Rattle.std.proofs.Common.{arith}
-use Rattle.std.proofs.Common.{Option, None, Some, unwrap_or, Ok, Err}
-use Rattle.flow_core.specs.Shop.{Shop}
-use Rattle.flow_core.specs.Mirror.{mirrored}
-use Rattle.flow_core.proofs.MirrorLemmas.{mirror-keeps-least}
-use Rattle.flow_search.specs.Plans.{Planned, IsPlan, prefixes_of}
-use Rattle.flow_search.specs.Verdicts.{IsVerdict}
-use Rattle.flow_search.specs.Targets.{Targeted, target_of}
-use Rattle.flow_search.specs.Findings.{IsFinding}
-use Rattle.flow_search.specs.declared.finding.Finding.{Finding}
-use Rattle.flow_search.specs.declared.finding.Finding.TheVariants.{Least, Bound}
-use Rattle.flow_check.proofs.Sound.{bounds_are_sound, certificate_is_sound}
-use Rattle.flow_cert.specs.FindingCertificates.{bounds_at, finding_text}
-use Rattle.flow_cert.proofs.LawfulFindings.{finding_is_lawful}
-use Rattle.flow_search.specs.declared.verdict.Verdict.{Verdict}
-use Rattle.flow_cert.specs.PlanCertificates.{certificate_of, text_with}
-use Rattle.flow_cert.proofs.Lawful.{text-of-plan, verdict_is_certified}
-use Rattle.flow_certify.specs.Certified.{FindsCertificate}
-use Rattle.flow_certify.specs.Raised.{IsFrom, IsProved}
-use Rattle.flow_certify.specs.declared.search.Searched.TheVariants.{Found, Over}
+-- What `certify` answers: a lawful text that is short enough for `check`.
+use Rattle.std.proofs.Common.{◌≡◌, ◌≤◌, ◌<◌, ◌+◌, ◌*◌, ◌^◌, refl, ℕ, List, [], ◌∷◌, ◌++◌, length, min, arith}
+use Rattle.std.proofs.Common.{Option, None, Ok, decimal, length-append}
+use Rattle.std.specs.List.{AllByRecursion}
+use Rattle.std.proofs.lemmas.Fmt.{length-decimal-le}
+use Rattle.std.proofs.lemmas.List.Elements.{recursion_from_All}
+use Rattle.std.proofs.Math.Nat.{min-le_left, min-le_right}
+use Rattle.flow_core.specs.Limits.{most_certificate, most_jobs, most_machines}
+use Rattle.flow_core.specs.Paths.{span}
+use Rattle.flow_core.specs.Sequences.{IsSequence}
+use Rattle.flow_core.specs.Shop.{Shop, IsWithinLimits}
+use Rattle.flow_core.specs.Directions.{Proves}
+use Rattle.flow_certify.specs.Signs.{most_signs}
+use Rattle.flow_check.specs.TextLines.{ending, line, spaced}
+use Rattle.flow_check.specs.TwoEnded.{IsTwoEnded, ShowsBounds, title_line, two_ended_text}
+use Rattle.flow_check.specs.declared.bounds.Bounds.{Bounds}
+use Rattle.flow_check.proofs.TwoEndedLaws.{two_ended_is_sound}
 use Rattle.flow_requests.specs.declared.CertifyRequest.{CertifyRequest}
-use Rattle.flow_commands.specs.Answer.{Answer}
-use Rattle.flow_commands.specs.Certify.{AnswersBounds, AnswersCertify, AnswersFrom, AnswersOver}
-use Rattle.flow_commands.specs.Certify.{WroteCertified, WroteEither, certify_fault}
+use Rattle.flow_commands.specs.Certify.{AnswersCertify, Certifies, WroteTwoEnded, certify_fault}
 use Rattle.flow_commands.specs.Improve.{IsImproved}
-use Rattle.flow_commands.specs.declared.fault.CommandFault.{CommandFault}
-use Rattle.flow_commands.specs.declared.fault.CommandFault.TheVariants.{Run}
-use Rattle.flow_pool.specs.declared.run.solve.SolveFault.TheVariants.{OverBudget}
-use Rattle.flow_core.specs.Limits.{least_version}
 use Rattle.flow_commands.specs.Runs.{SinkRun, Took}
-use Rattle.flow_commands.specs.Solve.{WroteBounds, WroteCertificate}
 use Rattle.flow_commands.specs.Start.{StartsFrom}
-use Rattle.flow_commands.proofs.Solved.{Weaker, is-target}
-use Rattle.flow_commands.proofs.Turned.{bounds-turned}
 
-pub wrote-certificate : {K : Type 0} (shop : Shop) (plan : Planned) (verdict : Verdict) (sink : SinkRun K) →
-    plan.shop ≡ shop → IsPlan plan → IsVerdict plan verdict →
-    Took (text_with plan verdict) sink → WroteCertificate shop sink
-wrote-certificate shop plan verdict sink of is_plan is_verdict adds =
-    let is = verdict_is_certified plan verdict is_plan is_verdict in
-    subst (λ s. WroteCertificate s sink) of (
-      certificate_of plan,
-      verdict.value,
-      subst (λ text. Took text sink) is.text adds,
-      is.lawful,
-      is.least,
+-- two numbers and a space
+pair-short : (digits n m : ℕ) → 0 < digits → n < 10 ^ digits → m < 10 ^ digits → n < 2 ^ 64 → m < 2 ^ 64 →
+    length (spaced (n ∷ m ∷ [])) ≤ digits + digits + 1
+pair-short digits n m some few_n few_m fits_n fits_m =
+    omega (arith, length-append (decimal n) (32 ∷ decimal m), length-decimal-le digits n some few_n fits_n,
+    length-decimal-le digits m some few_m fits_m)
+
+-- jobs of at most three digits, and the spaces
+jobs-short : (n : ℕ) → n ≤ most_jobs → (jobs : List ℕ) → AllByRecursion (λ job. (1 ≤ job) × (job ≤ n)) jobs →
+    length (spaced jobs) ≤ 4 * length jobs
+jobs-short n limit [] each = omega arith
+jobs-short n limit (job ∷ []) each =
+    omega (arith, length-decimal-le 3 job (omega arith) (omega (arith, each.0.1, limit))
+    (omega (arith, each.0.1, limit)))
+jobs-short n limit (job ∷ other ∷ jobs) each =
+    let one : length (decimal job) ≤ 3 =
+    length-decimal-le 3 job (omega arith) (omega (arith, each.0.1, limit)) (omega (arith, each.0.1, limit)) in
+    omega (arith, length-append (decimal job) (32 ∷ spaced (other ∷ jobs)), one,
+    jobs-short n limit (other ∷ jobs) each.1)
+
+-- a line is one byte longer than what stands in it
+line-length : (text : List ℕ) → length (line text) ≡ length text + 1
+line-length text = length-append text (10 ∷ [])
+
+-- the length of six lists, one after another
+six-length : (a b c d e f : List ℕ) →
+    length (a ++ b ++ c ++ d ++ e ++ f) ≡ length a + length b + length c + length d + length e + length f
+six-length a b c d e f =
+    omega (arith, length-append (a ++ b ++ c ++ d ++ e) f, length-append (a ++ b ++ c ++ d) e,
+    length-append (a ++ b ++ c) d, length-append (a ++ b) c, length-append a b)
+
+-- a text with so many directions is within the bytes that `check` reads
+text-short : (shop : Shop) (bounds : Bounds) (jobs directions : List ℕ) → IsWithinLimits shop →
+    ShowsBounds shop bounds jobs directions → length directions ≤ most_signs →
+    length (two_ended_text shop bounds jobs directions) ≤ most_certificate
+text-short shop bounds jobs directions limits shows few =
+    let few_jobs : shop.jobs ≤ most_jobs = limits.jobs in
+    let few_machines : shop.machines ≤ most_machines = limits.machines in
+    let of_size =
+    pair-short 3 shop.jobs shop.machines (omega arith) (omega (arith, few_jobs)) (omega (arith, few_machines))
+    (omega (arith, few_jobs)) (omega (arith, few_machines)) in
+    let of_bounds =
+    pair-short 20 bounds.lower bounds.upper (omega arith) (omega (arith, shows.lower_fits))
+    (omega (arith, shows.upper_fits)) shows.lower_fits shows.upper_fits in
+    let of_jobs = jobs-short shop.jobs limits.jobs jobs (recursion_from_All (λ job. (1 ≤ job) × (job ≤ shop.jobs)) jobs
+    shows.whole.each.range) in
+    let size : List ℕ = spaced (shop.jobs ∷ shop.machines ∷ []) in
+    let numbers : List ℕ = spaced (bounds.lower ∷ bounds.upper ∷ []) in
+    omega (arith, six-length title_line (line size) (line numbers) (line (spaced jobs)) (line directions) (line ending),
+    line-length size, line-length numbers, line-length (spaced jobs), line-length directions, of_size, of_bounds,
+    of_jobs, shows.whole.whole, few_jobs, few)
+
+-- what a search finds from the sequence to start from is certified by its text
+pub certifies : (shop : Shop) (given : Option (List ℕ)) (start jobs directions : List ℕ) (bounds : Bounds)
+    (most : ℕ) → IsWithinLimits shop → StartsFrom shop given start → IsSequence shop.jobs jobs →
+    span shop jobs ≡ bounds.upper → bounds.upper ≤ span shop start → Proves shop bounds.lower directions →
+    length directions ≤ min most most_signs →
+    (IsSequence shop.jobs jobs → span shop jobs ≡ bounds.upper → Proves shop bounds.lower directions →
+    IsTwoEnded shop (two_ended_text shop bounds jobs directions) bounds jobs) →
+    Certifies shop given most (two_ended_text shop bounds jobs directions)
+certifies shop given start jobs directions bounds most limits starts whole attained better proved few lawful =
+    let shown = (lawful whole attained proved).shows in
+    let shows : ShowsBounds shop bounds jobs directions = record {
+      lower_fits = shown.lower_fits;
+      upper_fits = shown.upper_fits;
+      whole = whole;
+      attained = attained;
+      proved = proved;
+    } in
+    let of_start : span shop jobs ≤ span shop start = omega (arith, attained, better) in
+    let within : length directions ≤ most = omega (arith, few, min-le_left most most_signs) in
+    let short : length directions ≤ most_signs = omega (arith, few, min-le_right most most_signs) in (
+      bounds,
+      jobs,
+      record { directions = directions; shows = shows; text = refl },
+      (start, starts, whole, of_start),
+      within,
+      text-short shop bounds jobs directions limits shows short,
     )
-
--- a target that is below the makespan of the start is its number
-below-is : (number start : ℕ) → min number start < start → min number start ≡ number
-below-is number start low = omega (arith, low)
-
--- a finding that is written is a lawful certificate, or a lawful text of bounds whose lower one is the number
-pub wrote-finding : {K : Type 0} (plan : Planned) (number : ℕ) (finding : Finding) (sink : SinkRun K) →
-    IsPlan plan → IsFinding (target_of plan number) finding →
-    Took (finding_text (target_of plan number) finding) sink →
-    WroteCertificate plan.shop sink ⊎ WroteBounds number plan.shop sink
-wrote-finding plan number (Least verdict) sink is_plan is adds =
-    let target : Targeted = target_of plan number in
-    let lawful = finding_is_lawful target (Least verdict) (is-target plan number is_plan) is in
-    inl (
-      finding_text target (Least verdict),
-      verdict.value,
-      adds,
-      lawful,
-      certificate_is_sound plan.shop (finding_text target (Least verdict)) verdict.value lawful,
-    )
-wrote-finding plan number (Bound trees) sink is_plan is adds =
-    let target : Targeted = target_of plan number in
-    let lawful = finding_is_lawful target (Bound trees) (is-target plan number is_plan) is in
-    inr (
-      finding_text target (Bound trees),
-      bounds_at target,
-      below-is number plan.start.value is.1,
-      adds,
-      lawful,
-      bounds_are_sound plan.shop (finding_text target (Bound trees)) (bounds_at target) lawful,
-    )
-
--- what is written for the shop, and for the mirrored one
-wrote-own : {K : Type 0} (number : ℕ) (shop : Shop) (sink : SinkRun K) →
-    WroteCertificate shop sink ⊎ WroteBounds number shop sink → WroteCertified true shop sink
-wrote-own number shop sink (inl w) = inl (w.0, w.1, w.2, inl w.3, w.4)
-wrote-own number shop sink (inr w) = inr (w.0, w.1, w.3, inl w.4, w.5)
-
-wrote-mirrored : {K : Type 0} (number : ℕ) (shop : Shop) (sink : SinkRun K) →
-    WroteCertificate (mirrored shop) sink ⊎ WroteBounds number (mirrored shop) sink → WroteCertified true shop sink
-wrote-mirrored number shop sink (inl w) =
-    inl (w.0, w.1, w.2, inr w.3, (mirror-keeps-least shop w.1).0 w.4)
-wrote-mirrored number shop sink (inr w) = inr (w.0, w.1, w.3, inr w.4, bounds-turned shop w.1 w.5)
-
-wrote-from : {K : Type 0} (version : ℕ) (shop : Shop) (jobs : List ℕ) (plan : Planned) (number : ℕ)
-    (sink : SinkRun K) → IsFrom version shop jobs plan →
-    WroteCertificate plan.shop sink ⊎ WroteBounds number plan.shop sink → WroteCertified true shop sink
-wrote-from version shop jobs plan number sink (inl own) wrote =
-    wrote-own number shop sink
-    (subst (λ s. WroteCertificate s sink ⊎ WroteBounds number s sink) (ap (λ (p : Planned). p.shop) own) wrote)
-wrote-from version shop jobs plan number sink (inr back) wrote =
-    wrote-mirrored number shop sink
-    (subst (λ s. WroteCertificate s sink ⊎ WroteBounds number s sink) (ap (λ (p : Planned). p.shop) back) wrote)
-
--- so is what searches below targets proved
-pub wrote-proved : {K : Type 0} (version : ℕ) (shop : Shop) (jobs : List ℕ) (plan : Planned) (number : ℕ)
-    (finding : Finding) (sink : SinkRun K) → IsProved version shop jobs plan number finding →
-    Took (finding_text (target_of plan number) finding) sink → WroteCertified true shop sink
-wrote-proved version shop jobs plan number finding sink is adds =
-    wrote-from version shop jobs plan number sink is.is_from
-    (wrote-finding plan number finding sink is.is_plan is.is_finding adds)
-
--- a lawful certificate of the shop or of the mirrored one is written
-wrote-of : {K : Type 0} (shop : Shop) (plan : Planned) (verdict : Verdict) (sink : SinkRun K) →
-    (plan.shop ≡ shop) ⊎ (plan.shop ≡ mirrored shop) → IsPlan plan → IsVerdict plan verdict →
-    Took (text_with plan verdict) sink → WroteEither shop sink
-wrote-of shop plan verdict sink (inl of) is_plan is_verdict adds =
-    let w = wrote-certificate shop plan verdict sink of is_plan is_verdict adds in
-    (w.0, w.1, w.2, inl w.3, w.4)
-wrote-of shop plan verdict sink (inr of) is_plan is_verdict adds =
-    let w = wrote-certificate (mirrored shop) plan verdict sink of is_plan is_verdict adds in
-    (w.0, w.1, w.2, inr w.3, (mirror-keeps-least shop w.1).0 w.4)
-
-certified-of : {K : Type 0} (bounds : Bool) (shop : Shop) (sink : SinkRun K) → WroteEither shop sink →
-    WroteCertified bounds shop sink
-certified-of true shop sink wrote = inl wrote
-certified-of false shop sink wrote = wrote
-
-pub wrote-either : {K : Type 0} (bounds : Bool) (given : Option ℕ) (shop : Shop) (start : List ℕ) (plan : Planned)
-    (verdict : Verdict) (sink : SinkRun K) → FindsCertificate given shop start (Found plan verdict) →
-    Took (text_with plan verdict) sink → WroteCertified bounds shop sink
-wrote-either bounds given shop start plan verdict sink (jobs, worse, is, (of, is_plan, is_verdict, within)) adds =
-    certified-of bounds shop sink (wrote-of shop plan verdict sink of is_plan is_verdict adds)
-
--- a text that is written where bounds are asked for
-pub wrote-asked : {K : Type 0} (bounds : Bool) (shop : Shop) (sink : SinkRun K) → bounds ≡ true →
-    WroteCertified true shop sink → WroteCertified bounds shop sink
-wrote-asked bounds shop sink asked wrote = subst (λ b. WroteCertified b shop sink) (sym asked) wrote
-
--- its verdict has a tree for each prefix
-pub tree-for-each : (given : Option ℕ) (shop : Shop) (start : List ℕ) (plan : Planned) (verdict : Verdict) →
-    FindsCertificate given shop start (Found plan verdict) →
-    length verdict.trees.items ≡ length (prefixes_of plan)
-tree-for-each given shop start plan verdict (jobs, worse, is, (of, is_plan, is_verdict, within)) =
-    (verdict_is_certified plan verdict is_plan is_verdict).each
-
--- the text that is written is the certificate of the plan
-pub text-of-found : (given : Option ℕ) (shop : Shop) (start : List ℕ) (plan : Planned) (verdict : Verdict) →
-    FindsCertificate given shop start (Found plan verdict) → text_with plan verdict ≡ certificate_of plan
-text-of-found given shop start plan verdict (jobs, worse, is, (of, is_plan, is_verdict, within)) =
-    text-of-plan plan verdict is_verdict
 
 -- what is answered where the numbers are accepted
-accepted-answers : (request : CertifyRequest) (shop : Shop) (given : Option (List ℕ)) (answer : Answer) →
-    certify_fault request ≡ None →
-    (jobs : List ℕ) × IsImproved shop given jobs × AnswersFrom request shop jobs answer →
-    AnswersCertify request shop given answer
-accepted-answers request shop given answer accepted is = rw (AnswersCertify, accepted) is
+pub certified-answers : (request : CertifyRequest) (shop : Shop) (given : Option (List ℕ)) (text : List ℕ) →
+    certify_fault request ≡ None → Certifies shop given request.directions text →
+    AnswersCertify request shop given (Ok text)
+certified-answers request shop given text accepted is = rw (AnswersCertify, accepted) (text, is, refl)
 
--- what is answered for what was found
-pub found-answers : (request : CertifyRequest) (shop : Shop) (given : Option (List ℕ)) (start : List ℕ)
-    (plan : Planned) (verdict : Verdict) → certify_fault request ≡ None → StartsFrom shop given start →
-    FindsCertificate request.version shop start (Found plan verdict) →
-    AnswersCertify request shop given (Ok (certificate_of plan))
-found-answers request shop given start plan verdict accepted starts (jobs, worse, is, of) =
-    accepted-answers request shop given _ accepted (jobs, (start, starts, worse), rw (AnswersFrom, is) refl)
-
--- what is answered where all trees are over
-pub over-answers : (request : CertifyRequest) (shop : Shop) (given : Option (List ℕ)) (start jobs : List ℕ) →
-    certify_fault request ≡ None → StartsFrom shop given start →
-    FindsCertificate request.version shop start (Over jobs) →
-    Weaker (AnswersOver request.bounds request.version shop jobs) (AnswersCertify request shop given)
-over-answers request shop given start jobs accepted starts (worse, is) answer answers =
-    accepted-answers request shop given answer accepted (jobs, (start, starts, worse), rw (AnswersFrom, is) answers)
-
--- the text of what searches below targets proved, where bounds are asked for
-pub bounds-answers : (request : CertifyRequest) (shop : Shop) (given : Option (List ℕ)) (start jobs : List ℕ)
-    (version : ℕ) → certify_fault request ≡ None → StartsFrom shop given start →
-    FindsCertificate request.version shop start (Over jobs) → request.bounds ≡ true →
-    version ≡ unwrap_or request.version least_version →
-    Weaker (AnswersBounds version shop jobs) (AnswersCertify request shop given)
-bounds-answers request shop given start jobs version accepted starts over asked is answer answers =
-    over-answers request shop given start jobs accepted starts over answer
-    (subst (λ b. AnswersOver b request.version shop jobs answer) (sym asked)
-    (subst (λ v. AnswersBounds v shop jobs answer) is answers))
-
--- the refusal, where they are not
-pub none-answers : (request : CertifyRequest) (shop : Shop) (given : Option (List ℕ)) (start jobs : List ℕ) →
-    certify_fault request ≡ None → StartsFrom shop given start →
-    FindsCertificate request.version shop start (Over jobs) → request.bounds ≡ false →
-    AnswersCertify request shop given (Err (Run (OverBudget 0)))
-none-answers request shop given start jobs accepted starts over denied =
-    over-answers request shop given start jobs accepted starts over (Err (Run (OverBudget 0)))
-    (subst (λ b. AnswersOver b request.version shop jobs (Err (Run (OverBudget 0)))) (sym denied) refl)
-
--- what is answered where they are refused
-pub refused-answers : (request : CertifyRequest) (shop : Shop) (given : Option (List ℕ)) (fault : CommandFault) →
-    certify_fault request ≡ Some fault → AnswersCertify request shop given (Err fault)
-refused-answers request shop given fault refused = rw (AnswersCertify, refused) refl
+-- the bounds of a text that is written are proved
+pub wrote-two-ended : {K : Type 0} (shop : Shop) (given : Option (List ℕ)) (most : ℕ) (text : List ℕ)
+    (sink : SinkRun K) → Certifies shop given most text → Took text sink → WroteTwoEnded shop sink
+wrote-two-ended shop given most text sink is took =
+    (text, is.0, is.1, took, is.2, two_ended_is_sound shop text is.0 is.1 is.2)

@@ -8,4 +8,3 @@ mod Refused
 mod Scheduled
 mod Small
 mod Solved
-mod Turned

@@ -1,11 +1,12 @@
 -- What `improve` answers.
-use Rattle.std.specs.Prelude.{◌≡◌, ℕ, ◌-◌, nat_le, List, [], ◌∷◌, Option, Some, None, Ok, Err}
+use Rattle.std.specs.Prelude.{◌≡◌, ℕ, ◌-◌, ◌≤◌, nat_le, List, [], ◌∷◌, Option, Some, None, Ok, Err}
 use Rattle.std.specs.Int.{is_in_range}
 use Rattle.flow_core.specs.Shop.{Shop}
 use Rattle.flow_core.specs.Generator.{modulus}
 use Rattle.flow_core.specs.Limits.{most_rounds, most_width, most_work}
+use Rattle.flow_core.specs.Paths.{span}
 use Rattle.flow_core.specs.Refusals.{fault_unless, first_fault}
-use Rattle.flow_certify.specs.Tries.{IsNoWorse}
+use Rattle.flow_core.specs.Sequences.{IsSequence}
 use Rattle.flow_requests.specs.declared.ImproveRequest.{ImproveRequest}
 use Rattle.flow_commands.specs.Answer.{Answer}
 use Rattle.flow_commands.specs.Printed.{sequence_lines}
@@ -23,9 +24,10 @@ improve_fault request = first_fault (
     ∷ fault_unless (nat_le request.work most_work) (Improve Work)
     ∷ [])
 
--- a sequence that is no worse than the one to start from
+-- a sequence whose makespan is at most that of the one to start from
 abbrev pub IsImproved : Shop → Option (List ℕ) → List ℕ → Type 0
-IsImproved shop given jobs = (start : List ℕ) × StartsFrom shop given start × IsNoWorse shop start jobs
+IsImproved shop given jobs =
+    (start : List ℕ) × StartsFrom shop given start × IsSequence shop.jobs jobs × (span shop jobs ≤ span shop start)
 
 -- what `improve` answers for a shop and a given sequence: the lines of a sequence that is no worse than the one to
 -- start from, or why its numbers are refused

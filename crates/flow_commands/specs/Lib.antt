@@ -4,7 +4,6 @@ pub mod Certify
 pub mod Check
 pub mod Generate
 pub mod Improve
-pub mod Mirror
 pub mod Neh
 pub mod Printed
 pub mod Runs

@@ -5,84 +5,32 @@ ghost use Rattle.std.specs.Prelude.{IfOk, OnOk, IfErr, IsErrOf};
 ghost use Rattle.flow_core.specs.Bytes.{Grows};
 ghost use Rattle.flow_core.specs.Paths.{span};
 ghost use Rattle.flow_core.specs.Shop.{Shop};
-ghost use Rattle.flow_core.specs.Sequences.{IsSequence};
 ghost use Rattle.flow_core.specs.declared.bytes.fault.ReadFault.TheVariants as read;
 ghost use Rattle.flow_core.specs.declared.bytes.fault.WriteFault.TheVariants as write;
-ghost use Rattle.flow_commands.specs.Check.{AnswersCheck, FallsShortOf, GivesEither, IsTakenAs, Proves, SaysProved};
+ghost use Rattle.flow_commands.specs.Check.{AnswersCheck, FallsShortOf, IsTakenAs, SaysProved};
 ghost use Rattle.flow_commands.specs.Check.{SufficesFor, WroteLeast, WroteOptimum, checked_text, proved_line};
 ghost use Rattle.flow_commands.specs.Runs.{CameFor, Ends, EndsBoth, WroteBoth, WroteFor, sink_run, source_run};
 ghost use Rattle.flow_core.specs.Limits.{most_certificate};
-ghost use Rattle.flow_commands.specs.internal.Checked.{IsRefusedAs, ran_out};
 
 use crate::block::read_block;
 use crate::fault::CommandFault;
 use crate::printed::{bounds_line, optimal_line, sequence_lines};
-use flow_check::{Bounds, CheckFault, Shown, TextKind, check_text, kind_of};
+use flow_check::{Bounds, Shown, TextKind, check_text, kind_of};
 use flow_core::{Instance, MAX_CERTIFICATE, Sink, Source, put_all, read_all};
 use flow_requests::CheckRequest;
 use std::alloc::{AllocError, Global};
 
-/// Whether a check ended because memory ran out.
-fn ran_out(fault: CheckFault) -> bool
-    ensures { result ≡ ran_out fault }
+/// The line of the bounds that a text proves.
+fn proved_line(alloc: Global, bounds: Bounds) -> Result<Vec<u8>, AllocError>
+    ensures { IfOk result (λ line. line.items ≡ proved_line bounds) }
 {
-    matches!(fault, CheckFault::Memory)
+    if bounds.lower == bounds.upper {
+        return optimal_line(alloc, bounds.lower);
+    }
+    bounds_line(alloc, bounds.lower, bounds.upper)
 }
 
-/// What a text of a kind shows of an instance; or, where either is asked for, what one of the mirrored instance does,
-/// its sequence turned round. A fault is that of the bytes as a text of the instance.
-fn checked(
-    alloc: Global,
-    kind: TextKind,
-    instance: &Instance,
-    bytes: &[u8],
-    request: CheckRequest,
-) -> Result<Shown, CheckFault>
-    ensures gives { IfOk result (λ shown.
-        GivesEither kind request.either instance.now bytes.now shown.bounds shown.sequence) }
-    ensures each { IfOk result (λ shown. IsSequence instance.now.jobs shown.sequence) }
-    ensures upper { IfOk result (λ shown. span instance.now shown.sequence ≡ shown.bounds.upper) }
-    ensures proved { IfOk result (λ shown. Proves kind instance.now shown.bounds) }
-    ensures refused { IfErr result (λ fault. IsRefusedAs kind request.either instance.now bytes.now fault) }
-{
-    let own = match check_text(alloc, kind, instance, bytes) {
-        Ok(shown) => return Ok(shown),
-        Err(fault) => fault,
-    };
-    if ran_out(own) {
-        return Err(CheckFault::Memory);
-    }
-    if !request.either {
-        return Err(own);
-    }
-    let mirror = instance.mirrored(alloc)?;
-    let other = match check_text(alloc, kind, &mirror, bytes) {
-        Ok(Shown { bounds, sequence }) => {
-            return Ok(Shown {
-                bounds,
-                sequence: sequence.reversed(),
-            });
-        }
-        Err(other) => other,
-    };
-    if ran_out(other) {
-        return Err(CheckFault::Memory);
-    }
-    Err(own)
-}
-
-/// The line of the bounds that a text of a kind proves.
-fn proved_line(alloc: Global, kind: TextKind, bounds: Bounds) -> Result<Vec<u8>, AllocError>
-    ensures { IfOk result (λ line. line.items ≡ proved_line kind bounds) }
-{
-    match kind {
-        TextKind::Certificate => optimal_line(alloc, bounds.lower),
-        TextKind::TwoEnded if bounds.lower == bounds.upper => optimal_line(alloc, bounds.lower),
-        TextKind::OfBounds | TextKind::TwoEnded => bounds_line(alloc, bounds.lower, bounds.upper),
-    }
-}
-
-/// The kind as which bytes are read: a certificate, where texts of other kinds are not accepted.
+/// The kind as which bytes are read: a certificate, where two-ended certificates are not accepted.
 fn kind_among(bytes: &[u8], bounds: bool) -> TextKind
     ensures { IsTakenAs bounds bytes.now result }
 {
@@ -93,20 +41,15 @@ fn kind_among(bytes: &[u8], bounds: bool) -> TextKind
     }
 }
 
-/// The text that is printed of what a text of a kind shows.
-fn printed_text(
-    alloc: Global,
-    kind: TextKind,
-    shown: &Shown,
-    sequence: bool,
-) -> Result<Vec<u8>, AllocError>
+/// The text that is printed of what a text shows.
+fn printed_text(alloc: Global, shown: &Shown, sequence: bool) -> Result<Vec<u8>, AllocError>
     ensures { (shop : Shop) → span shop shown.now.sequence ≡ shown.now.bounds.upper →
-        IfOk result (λ text. text.items ≡ checked_text kind sequence shop shown.now.bounds shown.now.sequence) }
+        IfOk result (λ text. text.items ≡ checked_text sequence shop shown.now.bounds shown.now.sequence) }
 {
     if sequence {
         return sequence_lines(alloc, shown.sequence.jobs(), shown.bounds.upper);
     }
-    proved_line(alloc, kind, shown.bounds)
+    proved_line(alloc, shown.bounds)
 }
 
 /// Whether bounds fall short of a request.
@@ -117,8 +60,7 @@ fn falls_short(request: CheckRequest, bounds: Bounds) -> bool
     request.optimal && bounds.lower != bounds.upper
 }
 
-/// Reads a text of an instance, or, where either is asked for, one of the mirrored instance, and writes what it proves,
-/// or its sequence; or refuses its bounds.
+/// Reads a certificate of an instance, and writes what it proves, or its sequence; or refuses its bounds.
 fn check_certificate<C: Source, K: Sink>(
     alloc: Global,
     instance: &Instance,
@@ -130,8 +72,6 @@ fn check_certificate<C: Source, K: Sink>(
     requires out_works { K.has_failed out.old ≡ false }
     ensures written { OnOk result (WroteFor most_certificate (AnswersCheck request instance.now)
         (source_run C.given C.has_ended cert.old cert.new) (sink_run K.taken out.old out.new)) }
-    ensures proved { OnOk result (WroteFor most_certificate (SaysProved request instance.now)
-        (source_run C.given C.has_ended cert.old cert.new) (sink_run K.taken out.old out.new)) }
     ensures ended { IfErr result (Ends most_certificate (AnswersCheck request instance.now)
         (source_run C.given C.has_ended cert.old cert.new) (sink_run K.taken out.old out.new)) }
     ensures read_device { IsErrOf result (CommandFault.Read read.Device) ↔ (C.has_failed cert.new ≡ true) }
@@ -141,12 +81,12 @@ fn check_certificate<C: Source, K: Sink>(
     let given = read_all(alloc, cert, MAX_CERTIFICATE)?;
     let bytes = given.as_slice();
     let kind = kind_among(bytes, request.bounds);
-    let shown = checked(alloc, kind, instance, bytes, request)?;
+    let shown = check_text(alloc, kind, instance, bytes)?;
     if falls_short(request, shown.bounds) {
         let Bounds { lower, upper } = shown.bounds;
         return Err(CommandFault::Bounds { lower, upper });
     }
-    let text = printed_text(alloc, kind, &shown, request.sequence)?;
+    let text = printed_text(alloc, &shown, request.sequence)?;
     put_all(out, text.as_slice())?;
     Ok(())
 }
@@ -163,13 +103,13 @@ pub fn run_check<S: Source, C: Source, K: Sink>(
     requires cert_works { C.has_failed cert.old ≡ false }
     requires out_works { K.has_failed out.old ≡ false }
     ensures written { OnOk result (WroteBoth most_certificate
-        (AnswersCheck (record { either = false; bounds = false; sequence = false; optimal = false })) index
+        (AnswersCheck (record { bounds = false; sequence = false; optimal = false })) index
         (source_run S.given S.has_ended file.old file.new) (source_run C.given C.has_ended cert.old cert.new)
         (sink_run K.taken out.old out.new)) }
     ensures least { OnOk result (CameFor index (λ shop. WroteLeast shop (sink_run K.taken out.old out.new))
         (source_run S.given S.has_ended file.old file.new)) }
     ensures ended { IfErr result (EndsBoth most_certificate
-        (AnswersCheck (record { either = false; bounds = false; sequence = false; optimal = false })) index
+        (AnswersCheck (record { bounds = false; sequence = false; optimal = false })) index
         (source_run S.given S.has_ended file.old file.new) (source_run C.given C.has_ended cert.old cert.new)
         (sink_run K.taken out.old out.new)) }
     ensures read_device { IsErrOf result (CommandFault.Read read.Device)
@@ -184,7 +124,6 @@ pub fn run_check<S: Source, C: Source, K: Sink>(
         index,
         cert,
         CheckRequest {
-            either: false,
             bounds: false,
             sequence: false,
             optimal: false,
@@ -193,8 +132,8 @@ pub fn run_check<S: Source, C: Source, K: Sink>(
     )
 }
 
-/// Writes what a text proves of the block that an index names, or its sequence and the makespan of that, where a
-/// request says which texts are accepted, what is written, and whether it has to be the least makespan.
+/// Writes what a certificate, two-ended or not, proves of the block that an index names, or its sequence and the
+/// makespan of that. The request says which are accepted, what is written, and whether the bounds have to be one number.
 pub fn run_check_as<S: Source, C: Source, K: Sink>(
     alloc: Global,
     file: &mut S,

@@ -64,6 +64,9 @@ pub enum CommandFault {
     /// The numbers of an improvement are refused.
     #[error("refused option {0}")]
     Improve(ImproveFault),
+    /// The directions of a proof are not from 1 to 1,000,000,000.
+    #[error("refused option Directions")]
+    Directions,
     /// The numbers are no options.
     #[error("refused option {0}")]
     Choice(OptionFault),

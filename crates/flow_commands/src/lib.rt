@@ -12,7 +12,6 @@ mod fault;
 mod generate;
 mod improve;
 mod laws;
-mod mirror;
 mod neh;
 mod printed;
 mod schedule;
@@ -27,7 +26,6 @@ pub use flow_requests::{CertifyRequest, CheckRequest, ImproveRequest, ScheduleFo
 pub use generate::run_gen;
 pub use improve::run_improve;
 pub use laws::each_start_gives_one;
-pub use mirror::run_mirror;
 pub use neh::run_neh;
 pub use schedule::run_schedule;
 pub use solve::{run_solve, run_solve_as};

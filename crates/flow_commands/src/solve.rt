@@ -7,75 +7,24 @@ ghost use Rattle.flow_core.specs.Sequences.{IsSequence};
 ghost use Rattle.flow_core.specs.declared.bytes.fault.ReadFault.TheVariants as read;
 ghost use Rattle.flow_core.specs.declared.bytes.fault.WriteFault.TheVariants as write;
 ghost use Rattle.flow_search.specs.Plans.{IsPlan, but_memory, plan_fault};
-ghost use Rattle.flow_search.specs.Targets.{target_of};
 ghost use Rattle.flow_commands.specs.Block.{AnswersFor};
 ghost use Rattle.flow_commands.specs.Runs.{CameFor, Ends, EndsAlone, EndsFrom, HasFailed, Stands, Wrote, WroteFor};
 ghost use Rattle.flow_commands.specs.Runs.{WroteFrom, sink_run, source_run, start_run};
-ghost use Rattle.flow_commands.specs.Solve.{AnswersBelow, AnswersFound, AnswersOptions, AnswersPlan, AnswersRun};
-ghost use Rattle.flow_commands.specs.Solve.{AnswersSolve, WroteBounds, WroteCertificate, WroteFound, asked_options};
-ghost use Rattle.flow_commands.specs.Solve.{mirrored_if, reversed_if};
+ghost use Rattle.flow_commands.specs.Solve.{AnswersOptions, AnswersPlan, AnswersRun, AnswersSolve};
+ghost use Rattle.flow_commands.specs.Solve.{WroteCertificate, asked_options};
 ghost use Rattle.flow_commands.specs.Start.{StartsFrom};
 ghost use Rattle.flow_core.specs.Limits.{most_text};
 
 use crate::fault::CommandFault;
 use crate::start::read_inputs;
-use flow_cert::{write_certificate, write_finding};
+use flow_cert::write_certificate;
 use flow_core::{Instance, MemorySource, Sequence, Sink, Source};
-use flow_pool::{Gate, solve, solve_below};
+use flow_pool::{Gate, solve};
 use flow_requests::SolveRequest;
-use flow_search::{OptionFault, Options, Plan, PlanFault, Target, prepare, prepare_from};
-use std::alloc::{AllocError, Global};
+use flow_search::{OptionFault, Options, Plan, PlanFault, prepare, prepare_from};
+use std::alloc::Global;
 use std::sync::Wait;
 use std::thread::Threads;
-
-/// Searches below the target of a number, and writes the certificate or the text of bounds of what it finds.
-fn solve_target<R: Threads + Wait + Sync, G: Gate + Sync, K: Sink>(
-    rt: &R,
-    alloc: Global,
-    plan: &Plan,
-    number: u64,
-    gate: &G,
-    out: &mut K,
-) -> Result<(), CommandFault>
-    requires out_works { K.has_failed out.old ≡ false }
-    requires is_plan { IsPlan plan.now }
-    ensures written { OnOk result (Wrote (AnswersBelow (target_of plan.now number))
-        (sink_run K.taken out.old out.new)) }
-    ensures lawful { OnOk result (WroteCertificate plan.now.shop (sink_run K.taken out.old out.new)
-        ⊎ WroteBounds number plan.now.shop (sink_run K.taken out.old out.new)) }
-    ensures ended { IfErr result (EndsAlone (AnswersBelow (target_of plan.now number))
-        (sink_run K.taken out.old out.new)) }
-    ensures write_device { IsErrOf result (CommandFault.Write write.Device) ↔ (K.has_failed out.new ≡ true) }
-    ensures reads_nothing { IsErrOf result (CommandFault.Read read.Device) → ⊥ }
-{
-    let target = Target::new(plan, number);
-    let report = solve_below(rt, alloc, &target, gate)?;
-    write_finding(&target, &report.finding, out)?;
-    Ok(())
-}
-
-/// Solves a plan, or searches below the target of a number, and writes what it finds.
-fn solve_or_search<R: Threads + Wait + Sync, G: Gate + Sync, K: Sink>(
-    rt: &R,
-    alloc: Global,
-    plan: &Plan,
-    number: Option<u64>,
-    gate: &G,
-    out: &mut K,
-) -> Result<(), CommandFault>
-    requires out_works { K.has_failed out.old ≡ false }
-    requires is_plan { IsPlan plan.now }
-    ensures written { OnOk result (Wrote (AnswersFound number plan.now) (sink_run K.taken out.old out.new)) }
-    ensures lawful { OnOk result (WroteFound number plan.now.shop (sink_run K.taken out.old out.new)) }
-    ensures ended { IfErr result (EndsAlone (AnswersFound number plan.now) (sink_run K.taken out.old out.new)) }
-    ensures write_device { IsErrOf result (CommandFault.Write write.Device) ↔ (K.has_failed out.new ≡ true) }
-    ensures reads_nothing { IsErrOf result (CommandFault.Read read.Device) → ⊥ }
-{
-    match number {
-        Some(number) => solve_target(rt, alloc, plan, number, gate, out),
-        None => solve_plan(rt, alloc, plan, gate, out),
-    }
-}
 
 /// Solves a plan, and writes its certificate.
 fn solve_plan<R: Threads + Wait + Sync, G: Gate + Sync, K: Sink>(
@@ -120,33 +69,31 @@ fn plan_of<'a>(
     }
 }
 
-/// Solves an instance, or searches below the target of a number, and writes what it finds.
+/// Solves an instance, and writes the certificate of its plan.
 fn solve_instance<R: Threads + Wait + Sync, G: Gate + Sync, K: Sink>(
     rt: &R,
     alloc: Global,
     instance: &Instance,
     given: Option<Sequence>,
     options: Options,
-    target: Option<u64>,
     gate: &G,
     out: &mut K,
 ) -> Result<(), CommandFault>
     requires out_works { K.has_failed out.old ≡ false }
     requires given { IfSome given (IsSequence instance.now.jobs) }
-    ensures written { OnOk result (Wrote (AnswersPlan target instance.now given options)
-        (sink_run K.taken out.old out.new)) }
-    ensures lawful { OnOk result (WroteFound target instance.now (sink_run K.taken out.old out.new)) }
-    ensures ended { IfErr result (EndsAlone (AnswersPlan target instance.now given options)
+    ensures written { OnOk result (Wrote (AnswersPlan instance.now given options) (sink_run K.taken out.old out.new)) }
+    ensures lawful { OnOk result (WroteCertificate instance.now (sink_run K.taken out.old out.new)) }
+    ensures ended { IfErr result (EndsAlone (AnswersPlan instance.now given options)
         (sink_run K.taken out.old out.new)) }
     ensures write_device { IsErrOf result (CommandFault.Write write.Device) ↔ (K.has_failed out.new ≡ true) }
     ensures reads_nothing { IsErrOf result (CommandFault.Read read.Device) → ⊥ }
 {
     let plan = plan_of(alloc, instance, given, options)?;
-    solve_or_search(rt, alloc, &plan, target, gate, out)
+    solve_plan(rt, alloc, &plan, gate, out)
 }
 
 /// The options of four numbers; or the first fault, that of the version last.
-pub(crate) fn options_of(
+fn options_of(
     workers: u32,
     depth: u32,
     budget: u32,
@@ -158,45 +105,22 @@ pub(crate) fn options_of(
     options.with_version(version)
 }
 
-/// The instance, or the mirrored one where that is asked for.
-fn mirrored_if(alloc: Global, instance: Instance, mirrored: bool) -> Result<Instance, AllocError>
-    ensures { IfOk result (λ mirror. mirror ≡ mirrored_if mirrored instance) }
-{
-    if mirrored {
-        return instance.mirrored(alloc);
-    }
-    Ok(instance)
-}
-
-/// The given sequence, or the reversed one where the mirrored instance is asked for.
-fn reversed_if(given: Option<Sequence>, mirrored: bool) -> Option<Sequence>
-    ensures { result ≡ reversed_if mirrored given }
-{
-    let Some(sequence) = given else {
-        return None;
-    };
-    if mirrored {
-        return Some(sequence.reversed());
-    }
-    Some(sequence)
-}
-
-/// Solves a block as a request says, from a given sequence if there is one, and writes what it finds.
+/// Solves an instance as a request says, from a given sequence if there is one, and writes the certificate of its plan.
 fn solve_block<R: Threads + Wait + Sync, G: Gate + Sync, K: Sink>(
     rt: &R,
     alloc: Global,
-    instance: Instance,
+    instance: &Instance,
     given: Option<Sequence>,
     request: SolveRequest,
     gate: &G,
     out: &mut K,
 ) -> Result<(), CommandFault>
     requires out_works { K.has_failed out.old ≡ false }
-    requires given { IfSome given (IsSequence instance.jobs) }
-    ensures written { OnOk result (Wrote (AnswersSolve request instance given) (sink_run K.taken out.old out.new)) }
-    ensures lawful { OnOk result (WroteFound request.target (mirrored_if request.mirrored instance)
+    requires given { IfSome given (IsSequence instance.now.jobs) }
+    ensures written { OnOk result (Wrote (AnswersSolve request instance.now given) (sink_run K.taken out.old out.new)) }
+    ensures lawful { OnOk result (WroteCertificate instance.now (sink_run K.taken out.old out.new)) }
+    ensures ended { IfErr result (EndsAlone (AnswersSolve request instance.now given)
         (sink_run K.taken out.old out.new)) }
-    ensures ended { IfErr result (EndsAlone (AnswersSolve request instance given) (sink_run K.taken out.old out.new)) }
     ensures write_device { IsErrOf result (CommandFault.Write write.Device) ↔ (K.has_failed out.new ≡ true) }
     ensures reads_nothing { IsErrOf result (CommandFault.Read read.Device) → ⊥ }
 {
@@ -206,18 +130,7 @@ fn solve_block<R: Threads + Wait + Sync, G: Gate + Sync, K: Sink>(
         request.budget,
         request.version,
     )?;
-    let given = reversed_if(given, request.mirrored);
-    let instance = mirrored_if(alloc, instance, request.mirrored)?;
-    solve_instance(
-        rt,
-        alloc,
-        &instance,
-        given,
-        options,
-        request.target,
-        gate,
-        out,
-    )
+    solve_instance(rt, alloc, instance, given, options, gate, out)
 }
 
 /// Solves the block that an index names, from the starting sequence of Nawaz, Enscore and Ham, and writes the
@@ -237,12 +150,12 @@ pub fn run_solve<R: Threads + Wait + Sync, S: Source, G: Gate + Sync, K: Sink>(
     requires file_works { S.has_failed file.old ≡ false }
     requires out_works { K.has_failed out.old ≡ false }
     ensures written { OnOk result (WroteFor most_text (AnswersFor index
-        (λ block. AnswersOptions None block.instance None (asked_options workers depth budget version)))
+        (λ block. AnswersOptions block.instance None (asked_options workers depth budget version)))
         (source_run S.given S.has_ended file.old file.new) (sink_run K.taken out.old out.new)) }
     ensures lawful { OnOk result (CameFor index (λ shop. WroteCertificate shop (sink_run K.taken out.old out.new))
         (source_run S.given S.has_ended file.old file.new)) }
     ensures ended { IfErr result (Ends most_text (AnswersFor index
-        (λ block. AnswersOptions None block.instance None (asked_options workers depth budget version)))
+        (λ block. AnswersOptions block.instance None (asked_options workers depth budget version)))
         (source_run S.given S.has_ended file.old file.new) (sink_run K.taken out.old out.new)) }
     ensures read_device { IsErrOf result (CommandFault.Read read.Device) ↔ (S.has_failed file.new ≡ true) }
     ensures write_device { IsErrOf result (CommandFault.Write write.Device) ↔ (K.has_failed out.new ≡ true) }
@@ -253,8 +166,6 @@ pub fn run_solve<R: Threads + Wait + Sync, S: Source, G: Gate + Sync, K: Sink>(
         depth,
         budget,
         version,
-        mirrored: false,
-        target: None,
     };
     run_solve_as(
         rt,
@@ -269,10 +180,7 @@ pub fn run_solve<R: Threads + Wait + Sync, S: Source, G: Gate + Sync, K: Sink>(
 }
 
 /// Solves the block that an index names as a request says, and writes the certificate of its plan. It starts from the
-/// sequence that a start text gives, or, where there is no such text, from that of Nawaz, Enscore and Ham. Where the
-/// mirrored instance is asked for, it is solved in place of the block, from the reversed sequence of the text. With a
-/// target, only sequences below it are searched for; where there are none, and the target is below the makespan of the
-/// start, a text of bounds is written.
+/// sequence that a start text gives, or, where there is no such text, from that of Nawaz, Enscore and Ham.
 pub fn run_solve_as<R: Threads + Wait + Sync, S: Source, T: Source, G: Gate + Sync, K: Sink>(
     rt: &R,
     alloc: Global,
@@ -289,8 +197,7 @@ pub fn run_solve_as<R: Threads + Wait + Sync, S: Source, T: Source, G: Gate + Sy
     ensures written { OnOk result (WroteFrom (AnswersSolve request) index
         (source_run S.given S.has_ended file.old file.new)
         (start_run T.given T.has_ended start.old start.new) (sink_run K.taken out.old out.new)) }
-    ensures lawful { OnOk result (CameFor index
-        (λ shop. WroteFound request.target (mirrored_if request.mirrored shop) (sink_run K.taken out.old out.new))
+    ensures lawful { OnOk result (CameFor index (λ shop. WroteCertificate shop (sink_run K.taken out.old out.new))
         (source_run S.given S.has_ended file.old file.new)) }
     ensures ended { IfErr result (EndsFrom (AnswersSolve request) index
         (source_run S.given S.has_ended file.old file.new)
@@ -303,5 +210,5 @@ pub fn run_solve_as<R: Threads + Wait + Sync, S: Source, T: Source, G: Gate + Sy
     ensures start_stays { is_some start.new ≡ is_some start.old }
 {
     let (block, given) = read_inputs(alloc, file, index, start)?;
-    solve_block(rt, alloc, block.instance, given, request, gate, out)
+    solve_block(rt, alloc, &block.instance, given, request, gate, out)
 }

@@ -10,9 +10,6 @@ pub use Rattle.flow_shop.proofs.Transposes
 pub use Rattle.flow_shop.proofs.Taken
 pub use Rattle.flow_shop.proofs.TwoLeast
 pub use Rattle.flow_shop.proofs.RowSteps
-pub use Rattle.flow_shop.proofs.Mirrors
-pub use Rattle.flow_shop.proofs.ReversedSequence
-pub use Rattle.flow_shop.proofs.MirrorLemmas
 pub use Rattle.flow_shop.proofs.Lists
 pub use Rattle.flow_text.proofs.GeneratorLemmas
 pub use Rattle.flow_text.proofs.BytesLemmas

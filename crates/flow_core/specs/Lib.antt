@@ -9,7 +9,6 @@ pub use Rattle.flow_shop.specs.Directions
 pub use Rattle.flow_shop.specs.Front
 pub use Rattle.flow_shop.specs.Rows
 pub use Rattle.flow_shop.specs.TwoLeast
-pub use Rattle.flow_shop.specs.Mirror
 pub use Rattle.flow_shop.specs.JobSet
 pub use Rattle.flow_shop.specs.Refusals
 pub use Rattle.flow_shop.specs.InstanceFaults

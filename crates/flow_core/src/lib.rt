@@ -9,7 +9,7 @@ pub mod sequence;
 pub mod text;
 
 pub use flow_limits::{
-    BUDGETS, MAX_BUDGET, MAX_CERTIFICATE, MAX_DEPTH, MAX_JOBS, MAX_MACHINES, MAX_NUMBER,
+    MAX_BUDGET, MAX_CERTIFICATE, MAX_DEPTH, MAX_DIRECTIONS, MAX_JOBS, MAX_MACHINES, MAX_NUMBER,
     MAX_PREFIXES, MAX_ROUNDS, MAX_SEED, MAX_TEXT, MAX_TIME, MAX_VERSION, MAX_WIDTH, MAX_WORK,
     MAX_WORKERS, MIN_VERSION, limits_are_those_stated,
 };
@@ -17,8 +17,8 @@ pub use flow_shop::{
     End, Front, Instance, InstanceFault, JobSet, Row, Sequence, SequenceFault, bound_is_admissible,
     completion_by_recurrence, completion_is_greatest, directions_are_one, directions_are_sound,
     end_bound_is_admissible, end_bound_is_exact, ends_by_recurrence, front_push,
-    instances_have_no_fault, least_makespan_is_one, makespan, mirror_keeps_makespans,
-    mirror_turns_back, released_bound_is_admissible, released_bound_is_stronger, rows,
+    instances_have_no_fault, least_makespan_is_one, makespan,
+    released_bound_is_admissible, released_bound_is_stronger, rows,
     sequences_have_no_fault,
 };
 pub use flow_text::{

@@ -2,6 +2,7 @@
 use Rattle.std.proofs.Common.{◌≡◌, ℕ, zero, suc, ◌+◌, ◌-◌, ◌≤◌, Bool, true, false, cond, not, ◌||◌, nat_eq, List, []}
 use Rattle.std.proofs.Common.{◌∷◌, ◌++◌, length, ap, sym, ◌∙◌, subst, arith, append_assoc}
 use Rattle.std.specs.List.{AllByRecursion}
+use Rattle.std.proofs.lemmas.Bool.Decides.{nat_tests}
 use Rattle.std.proofs.lemmas.List.Elements.{recursion_from_All, All-from_recursion}
 use Rattle.flow_shop.specs.Sequences.{has, jobs_left, AreDistinct, AreJobs, IsSequence}
 use Rattle.flow_shop.specs.declared.end.End.{End}
@@ -9,7 +10,9 @@ use Rattle.flow_shop.specs.declared.end.End.TheVariants.{Front, Back}
 use Rattle.flow_shop.specs.Directions.{first_with, last_with}
 use Rattle.flow_shop.proofs.JobsLeft.{InRange, kept, kept-more, kept-has, sum_by-ones, or_false, each-left}
 use Rattle.flow_shop.proofs.EndSteps.{count-child}
-use Rattle.flow_shop.proofs.ReversedSequence.{not_eq-sym}
+
+not_eq-sym : (a b : ℕ) → nat_eq a b ≡ false → nat_eq b a ≡ false
+not_eq-sym a b h = grind (arith, nat_tests)
 
 has-insert : (first last : List ℕ) (job k : ℕ) → nat_eq k job ≡ false → has (first ++ last) k ≡ false →
     has (first ++ job ∷ last) k ≡ false

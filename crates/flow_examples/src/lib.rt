@@ -6,8 +6,6 @@
 #[cfg(test)]
 mod bounds;
 #[cfg(test)]
-mod bounds_text;
-#[cfg(test)]
 mod bytes;
 #[cfg(test)]
 mod changed_certificate;
@@ -20,6 +18,8 @@ mod checker;
 #[cfg(test)]
 mod drawn_searches;
 mod instances;
+#[cfg(test)]
+mod kinds;
 mod outcomes;
 #[cfg(test)]
 mod parts;

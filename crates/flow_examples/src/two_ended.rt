@@ -3,7 +3,7 @@
 use crate::changes::{Change, close_texts, replaced};
 use crate::instances::three_machines;
 use crate::shops::{Shop, made};
-use flow_check::{CheckFault, check, check_bounds, check_two_ended};
+use flow_check::{CheckFault, check, check_two_ended};
 use flow_core::Instance;
 use std::alloc::{AllocError, Global};
 
@@ -423,7 +423,6 @@ fn is_read_by_its_checker(alloc: Global) -> bool {
         Ok(instance) => {
             is_shown(alloc, &instance)
                 && check(alloc, &instance, CERTIFICATE) == Err(CheckFault::Header)
-                && check_bounds(alloc, &instance, CERTIFICATE) == Err(CheckFault::Header)
         }
         Err(_) => false,
     }

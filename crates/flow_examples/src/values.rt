@@ -76,25 +76,6 @@ fn rows_have_times_and_tails(rt: HostRuntime) {
     assert!(rt; has_rows(rt.alloc()));
 }
 
-/// Whether the mirrored instance with two machines is that of the table.
-fn is_mirrored(alloc: Global) -> bool {
-    let Ok(two) = two_machines(alloc) else {
-        return false;
-    };
-    let Ok(wanted) = made(alloc, MIRRORED) else {
-        return false;
-    };
-    match two.mirrored(alloc) {
-        Ok(mirrored) => mirrored == wanted,
-        Err(_) => false,
-    }
-}
-
-#[test]
-fn mirrored_instance_has_its_machines_in_reverse_order(rt: HostRuntime) {
-    assert!(rt; is_mirrored(rt.alloc()));
-}
-
 /// Jobs of the instance with two machines, and the first fault.
 static SEQUENCE_FAULTS: [(&[u16], SequenceFault); 3] = [
     (&[2, 2, 1], SequenceFault::Twice(2)),
@@ -117,8 +98,8 @@ fn sequence_names_first_fault(rt: HostRuntime) {
     }
 }
 
-/// The instance with two machines, mirrored. On it a sequence takes as long as the reversed one on the instance itself.
-const MIRRORED: Shop = Shop::Times(3, 2, &[2, 4, 2, 3, 1, 2]);
+/// The instance with two machines, in the other order. On it a sequence takes as long as the reversed one on the first.
+const TURNED: Shop = Shop::Times(3, 2, &[2, 4, 2, 3, 1, 2]);
 
 /// Sequences and their makespans.
 static MAKESPANS: [(Shop, &[u16], u64); 15] = [
@@ -131,9 +112,9 @@ static MAKESPANS: [(Shop, &[u16], u64); 15] = [
     (Shop::Two, &[3, 2, 1], 10),
     (Shop::Two, &[2, 3, 1], 9),
     (Shop::Two, &[2, 1, 3], 9),
-    (MIRRORED, &[1, 2, 3], 10),
-    (MIRRORED, &[1, 3, 2], 9),
-    (MIRRORED, &[3, 1, 2], 9),
+    (TURNED, &[1, 2, 3], 10),
+    (TURNED, &[1, 3, 2], 9),
+    (TURNED, &[3, 1, 2], 9),
     (Shop::Seed(2, 2, 1), &[1, 2], 122),
     (Shop::Seed(2, 2, 1), &[2, 1], 135),
     (Shop::Times(1, 1, &[999_999]), &[1], 999_999),
@@ -158,22 +139,6 @@ fn makespans_are_those_of_the_worked_sequences(rt: HostRuntime) {
     for (number, row) in MAKESPANS.iter().enumerate() {
         assert!(rt; has_makespan(rt.alloc(), row), "row {number}");
     }
-}
-
-/// Whether a sequence of four jobs has its jobs backwards once it is reversed.
-fn is_reversed(alloc: Global) -> bool {
-    let Ok(instance) = Instance::new(alloc, 4, 1, &[1, 2, 3, 4]) else {
-        return false;
-    };
-    match Sequence::new(alloc, &instance, &[2, 4, 1, 3]) {
-        Ok(sequence) => sequence.reversed().jobs() == [3, 1, 4, 2].as_slice(),
-        Err(_) => false,
-    }
-}
-
-#[test]
-fn a_reversed_sequence_has_its_jobs_backwards(rt: HostRuntime) {
-    assert!(rt; is_reversed(rt.alloc()));
 }
 
 /// Whether a set of three jobs loses one of them, and no other.

@@ -83,22 +83,22 @@ fn put(times: &mut [u32], place: u32, time: u32) {
 }
 
 /// Jobs on 26 machines: job `j` takes `j - 1` units on the first one, `j` on the last and 0 on the others, and the last
-/// job so much more on the first. Or the mirrored jobs, in the reversed order.
+/// job so much more on the first. Or, for the back, machines and jobs in the other order.
 ///
 /// In the order of their numbers, the last machine always has a job, up to the last one, which comes so much later: the
 /// makespan is the sum of the last machine's times, and so much more. Every job in another place lets that machine
-/// wait. So for that makespan each node has one child below it at the front, or at the back if mirrored, and as many
+/// wait. So for that makespan each node has one child below it at the front, or at the back, and as many
 /// signs as jobs prove it.
-fn stairs(alloc: Global, jobs: u32, unit: u32, more: u32, is_mirrored: bool) -> Option<Instance> {
+fn stairs(alloc: Global, jobs: u32, unit: u32, more: u32, for_back: bool) -> Option<Instance> {
     let Ok(mut times) = vec![in alloc; 0u32; jobs.saturating_mul(26) as usize] else {
         return None;
     };
     for place in 0..jobs {
-        let step = if is_mirrored { jobs - 1 - place } else { place };
+        let step = if for_back { jobs - 1 - place } else { place };
         let extra = if step == jobs - 1 { more } else { 0 };
         let early = step.saturating_mul(unit).saturating_add(extra);
         let late = step.saturating_add(1).saturating_mul(unit);
-        let (first, last) = if is_mirrored {
+        let (first, last) = if for_back {
             (late, early)
         } else {
             (early, late)
@@ -116,15 +116,15 @@ fn stairs(alloc: Global, jobs: u32, unit: u32, more: u32, is_mirrored: bool) -> 
 /// Jobs, units and what the last one takes more, the bounds, how many signs, and the fault, if there is one.
 type Stairs = (u32, u32, u32, (u64, u64), usize, Option<CheckFault>);
 
-/// Whether the checker answers so, for signs of the front, or of the back for the mirrored jobs.
-fn is_answered(alloc: Global, row: &Stairs, is_mirrored: bool) -> bool {
+/// Whether the checker answers so, for signs of the front, or of the back.
+fn is_answered(alloc: Global, row: &Stairs, for_back: bool) -> bool {
     let (jobs, unit, more, bounds, count, fault) = *row;
     let answer = match fault {
         None => Ok(bounds),
         Some(fault) => Err(fault),
     };
-    let pattern = if is_mirrored { BACK } else { FRONT };
-    match stairs(alloc, jobs, unit, more, is_mirrored) {
+    let pattern = if for_back { BACK } else { FRONT };
+    match stairs(alloc, jobs, unit, more, for_back) {
         Some(instance) => answers(alloc, &instance, bounds, pattern, count, answer),
         None => false,
     }

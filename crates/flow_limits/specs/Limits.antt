@@ -1,5 +1,5 @@
 -- The limits. Contracts name these numbers, and never the code's constants.
-use Rattle.std.specs.Prelude.{ℕ, List, [], ◌∷◌}
+use Rattle.std.specs.Prelude.{ℕ}
 
 -- the most jobs of an instance
 abbrev pub most_jobs : ℕ
@@ -70,6 +70,6 @@ most_width = 65536
 abbrev pub most_work : ℕ
 most_work = 1000000
 
--- the budgets of `certify`, in the order in which they are tried
-abbrev pub budgets : List ℕ
-budgets = 10000 ∷ 100000 ∷ 1000000 ∷ 10000000 ∷ 100000000 ∷ []
+-- the most directions of a proof
+abbrev pub most_directions : ℕ
+most_directions = 1000000000

@@ -7,7 +7,8 @@ ghost use Rattle.flow_limits.specs.Limits.{most_jobs, most_machines, greatest_ti
 ghost use Rattle.flow_limits.specs.Limits.{greatest_number, greatest_seed};
 ghost use Rattle.flow_limits.specs.Limits.{greatest_depth, least_version, greatest_version};
 ghost use Rattle.flow_limits.specs.Limits.{most_workers, most_prefixes, greatest_budget};
-ghost use Rattle.flow_limits.specs.Limits.{most_text, most_certificate, most_rounds, most_width, most_work, budgets};
+ghost use Rattle.flow_limits.specs.Limits.{most_text, most_certificate, most_rounds, most_width, most_work};
+ghost use Rattle.flow_limits.specs.Limits.{most_directions};
 
 /// The most jobs of an instance.
 pub const MAX_JOBS: usize = 800;
@@ -57,8 +58,8 @@ pub const MAX_WIDTH: u32 = 65_536;
 /// The most steps of an improvement, in millions.
 pub const MAX_WORK: u32 = 1_000_000;
 
-/// The budgets of `certify`, in the order in which they are tried.
-pub const BUDGETS: [u32; 5] = [10_000, 100_000, 1_000_000, 10_000_000, 100_000_000];
+/// The most directions of a proof.
+pub const MAX_DIRECTIONS: u32 = 1_000_000_000;
 
 /// The constants of the code are the limits that the contracts name.
 pub fn limits_are_those_stated()
@@ -78,5 +79,5 @@ pub fn limits_are_those_stated()
     ensures rounds { MAX_ROUNDS ≡ most_rounds }
     ensures width { MAX_WIDTH ≡ most_width }
     ensures work { MAX_WORK ≡ most_work }
-    ensures budgets { BUDGETS ≡ budgets }
+    ensures directions { MAX_DIRECTIONS ≡ most_directions }
 {}

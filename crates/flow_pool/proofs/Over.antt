@@ -1,6 +1,6 @@
 -- Answers that are over the budget, and what the first refusal says.
 use Rattle.std.proofs.Common.{◌≡◌, ℕ, zero, suc, ◌+◌, ◌<◌, ◌≤◌, Bool, true, false, ◌||◌, List, [], ◌∷◌, ◌++◌, length}
-use Rattle.std.proofs.Common.{map, Some, None, refl, sym, ap, subst, ◌∙◌, arith}
+use Rattle.std.proofs.Common.{map, Some, None, refl, sym, ap, ◌∙◌, arith}
 use Rattle.std.specs.Prelude.{slice_index_or}
 use Rattle.std.proofs.lemmas.List.Folds.{list_any-append}
 use Rattle.flow_search.specs.declared.outcome.Outcome.{Outcome}
@@ -8,9 +8,9 @@ use Rattle.flow_search.specs.declared.outcome.Outcome.TheVariants as outcome
 use Rattle.flow_search.specs.declared.verdict.RunFault.{RunFault}
 use Rattle.flow_search.specs.declared.verdict.RunFault.TheVariants.{OverBudget, Memory}
 use Rattle.flow_search.specs.Plans.{Planned, prefixes_of}
-use Rattle.flow_search.specs.Outcomes.{IsLawful, AreLawful, first_over_budget}
+use Rattle.flow_search.specs.Outcomes.{AreLawful}
 use Rattle.flow_search.specs.Verdicts.{first_refusal}
-use Rattle.flow_search.proofs.Tallies.{AreWithin, first-over, within-more}
+use Rattle.flow_search.proofs.Tallies.{refusals}
 use Rattle.flow_pool.specs.declared.ends.Answer.{Answer}
 use Rattle.flow_pool.specs.internal.HubSteps.{is_over_budget, any_over_budget}
 use Rattle.flow_pool.specs.internal.Runs.{IsRunFault}
@@ -55,42 +55,9 @@ none-over_budget number (a ∷ answers) none = go a.outcome (none-over_budget (n
     go outcome.NoMemory rest e = absurd (cc)
     go outcome.NoPrefix rest e = absurd (cc)
 
-abbrev LawfulFrom : Planned → ℕ → List Outcome → Type 0
-LawfulFrom plan number outcomes =
-    (i : ℕ) (other : Outcome) → i < length outcomes → IsLawful plan (number + i) (slice_index_or outcomes i other)
-
--- the first refusal among lawful outcomes of the prefixes from a number on, where the trees before them are within the
--- budget
-refused-from : (plan : Planned) (number : ℕ) (outcomes : List Outcome) →
-    number + length outcomes ≤ length (prefixes_of plan) → LawfulFrom plan number outcomes → AreWithin plan number →
-    (k : ℕ) → first_refusal number outcomes ≡ Some (OverBudget k) → first_over_budget plan ≡ Some k
-refused-from plan number [] size lawful w k e = absurd (cc)
-refused-from plan number (o ∷ os) size lawful w k e =
-    let low : number < length (prefixes_of plan) = omega arith in
-    let here : IsLawful plan (number + 0) o = lawful 0 o (omega arith) in
-    let same : number + 0 ≡ number = omega arith in
-    let rest : LawfulFrom plan (number + 1) os = λ i other h.
-    let place : number + suc i ≡ number + 1 + i = omega arith in
-    subst (λ n. IsLawful plan n (slice_index_or os i other)) place (lawful (suc i) other (omega arith)) in
-    go o (subst (λ n. IsLawful plan n o) same here) low
-    (λ more found. refused-from plan (number + 1) os (omega arith) rest more k found) e
-  where
-    go : (o : Outcome) → IsLawful plan number o → number < length (prefixes_of plan) →
-        (AreWithin plan (number + 1) → first_refusal (number + 1) os ≡ Some (OverBudget k) →
-        first_over_budget plan ≡ Some k) →
-        first_refusal number (o ∷ os) ≡ Some (OverBudget k) → first_over_budget plan ≡ Some k
-    go (outcome.Done best text) here low rest e =
-        rest (within-more plan number low (subst (λ t. length t ≤ plan.options.budget) here.1 here.2) w) e
-    go outcome.OverBudget here low rest e =
-        let same : number ≡ k = cc in first-over plan number low w here ∙ ap (λ n. Some n) same
-    go outcome.NoMemory here low rest e = absurd (cc)
-    go outcome.NoPrefix here low rest e = absurd here
-
 -- the fault of the first outcome that is not done is that of a run
 pub IsRunFault-first : (plan : Planned) (outcomes : List Outcome) (fault : RunFault) →
     length outcomes ≤ length (prefixes_of plan) → AreLawful plan outcomes →
     first_refusal 0 outcomes ≡ Some fault → IsRunFault plan fault
-IsRunFault-first plan outcomes Memory size lawful e = tt
-IsRunFault-first plan outcomes (OverBudget k) size lawful e =
-    refused-from plan 0 outcomes (omega arith) (λ i other h. let same : i ≡ 0 + i = omega arith in
-    subst (λ n. IsLawful plan n (slice_index_or outcomes i other)) same (lawful i other h)) tt k e
+IsRunFault-first plan outcomes Memory few lawful e = tt
+IsRunFault-first plan outcomes (OverBudget k) few lawful e = (refusals plan outcomes few lawful).over k e

@@ -1,17 +1,15 @@
 -- What the settled lanes of a run have carried, and why a run has no report.
-use Rattle.std.specs.Prelude.{◌≡◌, ℕ, ◌<◌, List, None, Some, length, All, HoldsAt}
-use Rattle.flow_search.specs.Plans.{Planned}
+use Rattle.std.specs.Prelude.{◌≡◌, ℕ, ◌<◌, List, None, Some, length, map, All, HoldsAt}
+use Rattle.flow_search.specs.Plans.{Planned, IsPlan}
 use Rattle.flow_search.specs.Outcomes.{IsLawful, IsDone, first_over_budget}
-use Rattle.flow_search.specs.Verdicts.{IsVerdict}
-use Rattle.flow_search.specs.Targets.{Targeted, IsTarget, AreAlike, plan_below}
-use Rattle.flow_search.specs.Findings.{IsFinding, IsLeast, HasLeast, AreOne}
+use Rattle.flow_search.specs.Verdicts.{IsVerdict, IsLeast}
+use Rattle.flow_search.specs.declared.verdict.Verdict.{Verdict}
 use Rattle.flow_search.specs.declared.verdict.RunFault.{RunFault}
 use Rattle.flow_search.specs.declared.verdict.RunFault.TheVariants as run_fault
 use Rattle.flow_lanes.specs.declared.settled.Settled.{Settled}
 use Rattle.flow_pool.specs.declared.ends.Task.{Task}
 use Rattle.flow_pool.specs.declared.ends.Answer.{Answer}
 use Rattle.flow_pool.specs.declared.run.solve.Report.{Report}
-use Rattle.flow_pool.specs.declared.run.solve.FindingReport.{FindingReport}
 use Rattle.flow_pool.specs.declared.run.solve.SolveFault.{SolveFault}
 use Rattle.flow_pool.specs.declared.run.solve.SolveFault.TheVariants.{Memory, Threads, OverBudget}
 use Rattle.flow_pool.specs.Work.{prefix_count, share, tasks_of, answered}
@@ -47,20 +45,24 @@ pub record IsReport (plan : Planned) (report : Report) : Type 0 where
   pub verdict : IsVerdict plan report.verdict
   pub least : IsLeast plan.shop report.verdict
 
--- the report of a whole run below a target: its lanes carried the whole work; no tree is longer than the budget; the
--- finding is that of the target, and where it has a verdict, the verdict has a sequence of least makespan
-pub record IsFindingReport (target : Targeted) (report : FindingReport) : Type 0 where
-  pub lanes : AreWholeWork (plan_below target) report.lanes.items
-  pub within : first_over_budget (plan_below target) ≡ None
-  pub finding : IsFinding target report.finding
-  pub least : HasLeast target.plan.shop report.finding
+-- two plans are of one instance, one starting sequence, one depth and one version
+pub record AreAlike (plan other : Planned) : Type 0 where
+  pub shop : plan.shop ≡ other.shop
+  pub sequence : plan.start.sequence ≡ other.start.sequence
+  pub depth : plan.options.depth ≡ other.options.depth
+  pub version : plan.options.version ≡ other.options.version
 
--- reports of targets that are alike have one finding, whatever the workers and budgets
+-- two verdicts have the same value, sequence and trees
+pub record AreOne (verdict other : Verdict) : Type 0 where
+  pub value : verdict.value ≡ other.value
+  pub sequence : verdict.sequence ≡ other.sequence
+  pub trees : map (λ tree. tree.items) verdict.trees.items ≡ map (λ tree. tree.items) other.trees.items
+
+-- reports of plans that are alike have one verdict, whatever the workers and budgets
 abbrev pub ReportsAgree : Type 0
 ReportsAgree =
-    (target other : Targeted) (one another : FindingReport) → IsTarget target → IsTarget other →
-    AreAlike target other → IsFindingReport target one → IsFindingReport other another →
-    AreOne one.finding another.finding
+    (plan other : Planned) (one another : Report) → IsPlan plan → IsPlan other → AreAlike plan other →
+    IsReport plan one → IsReport other another → AreOne one.verdict another.verdict
 
 -- `OverBudget` names the first prefix whose tree is longer than the budget; nothing is said of `Memory` and `Threads`
 abbrev pub IsSolveFault : Planned → SolveFault → Type 0

@@ -1,14 +1,12 @@
 //! What a worker does in its thread.
 
 ghost use Rattle.std.specs.Prelude.{◌≡◌, ◌++◌, [], ◌∷◌};
-ghost use Rattle.flow_search.specs.Targets.{plan_below};
 ghost use Rattle.flow_pool.specs.Work.{IsFresh, IsLawfulAnswer, Fit, worker_lanes};
 
-use crate::at_start::target_at_start;
 use crate::{Answer, Gate, Task, WorkerEnds};
 use crossbeam_utils::Backoff;
 use flow_lanes::{Receiver, Sender};
-use flow_search::{Outcome, Plan, Target, answer_below};
+use flow_search::{Outcome, Plan, answer};
 use std::alloc::Global;
 use std::sync::Wait;
 
@@ -44,13 +42,13 @@ fn send<T>(rt: &impl Wait, lane: &mut Sender<T>, item: T)
     unreachable!()
 }
 
-/// The answer below a target to the prefix of a number; `NoPrefix` where the plan has none of this number.
-fn answer_to(alloc: Global, target: &Target, number: u32) -> Answer
+/// The answer to the prefix of a number; `NoPrefix` where the plan has none of this number.
+fn answer_to(alloc: Global, plan: &Plan, number: u32) -> Answer
     ensures number { result.number ≡ number }
-    ensures lawful { IsLawfulAnswer (plan_below target.now) result }
+    ensures lawful { IsLawfulAnswer plan.now result }
 {
-    let outcome = if number < target.plan().prefixes() {
-        answer_below(alloc, target, number)
+    let outcome = if number < plan.prefixes() {
+        answer(alloc, plan, number)
     } else {
         Outcome::NoPrefix
     };
@@ -71,30 +69,13 @@ pub fn serve<R: Wait, G: Gate>(
     ensures same_lanes { worker_lanes result ≡ worker_lanes ends }
     ensures fit { Fit plan.now result.tasks.received result.answers.sent }
 {
-    let target = target_at_start(plan);
-    serve_below(rt, alloc, &target, lane, ends, gate)
-}
-
-/// Serves as `serve` does, and answers each prefix below the target.
-pub fn serve_below<R: Wait, G: Gate>(
-    rt: &R,
-    alloc: Global,
-    target: &Target,
-    lane: u32,
-    ends: WorkerEnds,
-    gate: &G,
-) -> WorkerEnds
-    requires fresh { IsFresh ends }
-    ensures same_lanes { worker_lanes result ≡ worker_lanes ends }
-    ensures fit { Fit (plan_below target.now) result.tasks.received result.answers.sent }
-{
     let mut ends = ends;
     for _ in rt.forever() {
         let Task::Prefix(number) = receive(rt, &mut ends.tasks) else {
             break;
         };
         gate.reached(lane, number);
-        send(rt, &mut ends.answers, answer_to(alloc, target, number));
+        send(rt, &mut ends.answers, answer_to(alloc, plan, number));
     }
     ends
 }

@@ -13,10 +13,6 @@ pub struct SolveRequest {
     pub budget: u32,
     /// The version of the certificate.
     pub version: u32,
-    /// Whether the mirrored instance is solved.
-    pub mirrored: bool,
-    /// The number below which sequences are searched for; none for the makespan of the starting sequence.
-    pub target: Option<u64>,
 }
 
 /// How long a starting sequence is improved, and by which choices.
@@ -37,18 +33,14 @@ pub struct ImproveRequest {
 pub struct CertifyRequest {
     /// How the starting sequence is improved.
     pub improve: ImproveRequest,
-    /// The version of the certificate; where it is left out, that may be either.
-    pub version: Option<u32>,
-    /// Whether a text of bounds is written where all trees are over their budgets.
-    pub bounds: bool,
+    /// The most directions of a proof.
+    pub directions: u32,
 }
 
 /// Which texts are accepted, and what is printed.
 #[derive(Clone, Copy, Debug, PartialEq)]
 pub struct CheckRequest {
-    /// Whether a text of the mirrored instance is accepted too.
-    pub either: bool,
-    /// Whether a text of bounds or a two-ended certificate is accepted too, by its first line.
+    /// Whether a two-ended certificate is accepted too, by its first line.
     pub bounds: bool,
     /// Whether the sequence is printed, in the place of the value or the bounds.
     pub sequence: bool,

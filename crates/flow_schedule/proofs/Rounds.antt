@@ -56,10 +56,6 @@ pub record IsUnit (makespan unit : ℕ) : Type 0 where
   pub power : unit ≡ 10 ^ exponent
   pub below : (unit ≡ 1) ⊎ (12 * unit < makespan)
 
--- the first unit
-pub unit-first : (makespan : ℕ) → IsUnit makespan 1
-unit-first makespan = record { exponent = 0; power = refl; below = inl refl }
-
 -- the next unit
 pub unit-more : (makespan unit : ℕ) → IsUnit makespan unit → 120 * unit < makespan → IsUnit makespan (unit * 10)
 unit-more makespan unit is low = record {

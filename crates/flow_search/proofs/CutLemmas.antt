@@ -9,7 +9,7 @@ use Rattle.flow_shop.specs.Shop.{numbers}
 use Rattle.flow_shop.specs.Sequences.{has, jobs_left, extensions, cut}
 use Rattle.flow_shop.proofs.JobsLeft.{kept, kept-has, sum_by-ones}
 use Rattle.flow_search.proofs.Walk.{Fresh, IsLeft, jobs_left-are, fresh-push}
-use Rattle.flow_search.proofs.Nodes.{filter-here, filter-skip, numbers-none, kept-both}
+use Rattle.flow_search.proofs.Nodes.{filter-here, filter-skip, kept-both}
 
 -- the product of so many numbers, from one down
 abbrev pub falling : ℕ → ℕ → ℕ
@@ -79,10 +79,6 @@ at-least count m k h = times-some count (falling m k) (falling-some m k h)
 abbrev pub added : ℕ → ℕ → List ℕ → ℕ → List (List ℕ)
 added n below list job =
     flat_map (λ k. extensions n below (list ++ k ∷ [])) (filter (λ k. not (has list k)) (numbers job n))
-
-pub added-none : (n below : ℕ) (list : List ℕ) → added n below list (n + 1) ≡ []
-added-none n below list =
-    ap (λ xs. flat_map (λ k. extensions n below (list ++ k ∷ [])) (filter (λ k. not (has list k)) xs)) (numbers-none n)
 
 pub added-skip : (n below : ℕ) (list : List ℕ) (job : ℕ) → job ≤ n → has list job ≡ true →
     added n below list (job + 1) ≡ added n below list job

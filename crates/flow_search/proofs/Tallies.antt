@@ -1,5 +1,5 @@
 -- What the first prefixes come to, one by one.
-use Rattle.std.proofs.Common.{◌≡◌, ℕ, zero, suc, ◌+◌, ◌<◌, ◌≤◌, Bool, true, false, cond, not, ◌&&◌, nat_lt, nat_le}
+use Rattle.std.proofs.Common.{◌≡◌, ℕ, zero, suc, ◌+◌, ◌-◌, ◌<◌, ◌≤◌, Bool, true, false, cond, not, ◌&&◌, nat_lt, nat_le}
 use Rattle.std.proofs.Common.{List, [], ◌∷◌, ◌++◌, Option, Some, None, length, map, take, slice_index_or, Vec, Global}
 use Rattle.std.proofs.Common.{refl, ap, sym, subst, ◌∙◌, inl, inr, arith, unwrap_or}
 use Rattle.std.specs.List.{flat_map, list_all, prefix_len, AllByRecursion}
@@ -11,21 +11,23 @@ use Rattle.std.proofs.lemmas.Bool.{cond-true, cond-false, cases_Bool, cases_lt, 
 use Rattle.std.proofs.lemmas.Bool.{lt-ltb, le-ltb}
 use Rattle.flow_shop.specs.Least.{first_least}
 use Rattle.flow_shop.specs.Bound.{bound_of}
-use Rattle.flow_shop.specs.Sequences.{IsLowerBound}
+use Rattle.flow_shop.specs.Paths.{span}
+use Rattle.flow_shop.specs.Sequences.{IsSequence, IsLeastMakespan}
 use Rattle.flow_search.specs.Search.{Found, tree, best}
-use Rattle.flow_search.specs.Plans.{Planned, prefixes_of, prefix_of, tree_of, best_of, trees_of, verdict_of}
+use Rattle.flow_search.specs.Plans.{Planned, IsPlan, prefixes_of, prefix_of, tree_of, best_of, trees_of, verdict_of}
 use Rattle.flow_search.specs.Outcomes.{IsLawful, AreLawful, IsDone, found_of, first_over_budget}
-use Rattle.flow_search.specs.Verdicts.{first_refusal}
+use Rattle.flow_search.specs.Verdicts.{IsVerdict, IsLeast, first_refusal}
 use Rattle.flow_search.specs.internal.Tally.{IsTally, undercuts}
 use Rattle.flow_search.specs.declared.outcome.Best.{Best}
 use Rattle.flow_search.specs.declared.outcome.Outcome.{Outcome}
 use Rattle.flow_search.specs.declared.outcome.Outcome.TheVariants.{Done, NoMemory, NoPrefix}
 use Rattle.flow_search.specs.declared.outcome.Outcome.TheVariants as outcome
 use Rattle.flow_search.specs.declared.tally.Tally.{Tally}
+use Rattle.flow_search.specs.declared.verdict.Verdict.{Verdict}
 use Rattle.flow_search.specs.declared.verdict.RunFault.{RunFault}
 use Rattle.flow_search.specs.declared.verdict.RunFault.TheVariants.{OverBudget}
 use Rattle.flow_search.proofs.Lists.{all-append}
-use Rattle.flow_search.proofs.LeastVerdict.{IsLeastFound, none-below, least-below}
+use Rattle.flow_search.proofs.LeastVerdict.{verdict_is_least}
 
 abbrev first : List Found → Option Found
 first = first_least (λ f. f.value)
@@ -240,53 +242,53 @@ tally-more plan number old new best text h is lawful best_is trees_are = record 
       ∙ sym (bests-more plan number h);
 }
 
--- a refusal among lawful outcomes
-pub record Refuses (plan : Planned) (refused : Option RunFault) : Type 0 where
+-- the first refusal among lawful outcomes of the first prefixes, of which so many more follow
+pub record Refuses (plan : Planned) (more : ℕ) (refused : Option RunFault) : Type 0 where
   pub over : (number : ℕ) → refused ≡ Some (OverBudget number) → first_over_budget plan ≡ Some number
-  pub none : refused ≡ None → first_over_budget plan ≡ None
+  pub none : more ≡ 0 → refused ≡ None → first_over_budget plan ≡ None
 
 abbrev LawfulFrom : Planned → ℕ → List Outcome → Type 0
 LawfulFrom plan number outcomes = (i : ℕ) (other : Outcome) → i < length outcomes →
     IsLawful plan (number + i) (slice_index_or outcomes i other)
 
-refusal-from : (plan : Planned) (number : ℕ) (outcomes : List Outcome) →
-    number + length outcomes ≡ length (prefixes_of plan) → LawfulFrom plan number outcomes →
-    AreWithin plan number → Refuses plan (first_refusal number outcomes)
-refusal-from plan number [] size lawful w =
-    let all : number ≡ length (prefixes_of plan) = omega arith in
+refusal-from : (plan : Planned) (number more : ℕ) (outcomes : List Outcome) →
+    number + length outcomes + more ≡ length (prefixes_of plan) → LawfulFrom plan number outcomes →
+    AreWithin plan number → Refuses plan more (first_refusal number outcomes)
+refusal-from plan number more [] size lawful w =
     record {
       over = λ k e. absurd (cc);
-      none = λ e. no-over plan (subst (AreWithin plan) all w);
+      none = λ zero e. let all : number ≡ length (prefixes_of plan) = omega (arith, size, zero) in
+          no-over plan (subst (AreWithin plan) all w);
     }
-refusal-from plan number (o ∷ os) size lawful w =
+refusal-from plan number more (o ∷ os) size lawful w =
     let low : number < length (prefixes_of plan) = omega arith in
     let here : IsLawful plan (number + 0) o = lawful 0 o (omega arith) in
     let zero_is : number + 0 ≡ number = omega arith in
     let rest : LawfulFrom plan (number + 1) os = λ i other h.
     let place : number + suc i ≡ number + 1 + i = omega arith in
     subst (λ k. IsLawful plan k (slice_index_or os i other)) place (lawful (suc i) other (omega arith)) in
-    go o (subst (λ k. IsLawful plan k o) zero_is here) low (λ more. refusal-from plan (number
-    + 1) os (omega arith) rest more)
+    go o (subst (λ k. IsLawful plan k o) zero_is here) low
+    (λ within. refusal-from plan (number + 1) more os (omega arith) rest within)
   where
     go : (o : Outcome) → IsLawful plan number o → number < length (prefixes_of plan) →
-        (AreWithin plan (number + 1) → Refuses plan (first_refusal (number + 1) os)) →
-        Refuses plan (first_refusal number (o ∷ os))
+        (AreWithin plan (number + 1) → Refuses plan more (first_refusal (number + 1) os)) →
+        Refuses plan more (first_refusal number (o ∷ os))
     go (Done best text) here low rest =
         rest (within-more plan number low (subst (λ t. length t ≤ plan.options.budget) here.1 here.2) w)
     go outcome.OverBudget here low rest =
         record {
           over = λ k e. let same : number ≡ k = cc in first-over plan number low w here
               ∙ ap (λ k. Some k) same;
-          none = λ e. absurd (cc);
+          none = λ zero e. absurd (cc);
         }
-    go NoMemory here low rest = record { over = λ k e. absurd (cc); none = λ e. absurd (cc) }
+    go NoMemory here low rest = record { over = λ k e. absurd (cc); none = λ zero e. absurd (cc) }
     go NoPrefix here low rest = absurd here
 
-pub refusals : (plan : Planned) (outcomes : List Outcome) → length outcomes ≡ length (prefixes_of plan) →
-    AreLawful plan outcomes → Refuses plan (first_refusal 0 outcomes)
-refusals plan outcomes size lawful =
-    let whole : 0 + length outcomes ≡ length (prefixes_of plan) = omega (arith, size) in
-    refusal-from plan 0 outcomes whole (λ i other h. let same : i ≡ 0 + i = omega arith in
+pub refusals : (plan : Planned) (outcomes : List Outcome) → length outcomes ≤ length (prefixes_of plan) →
+    AreLawful plan outcomes → Refuses plan (length (prefixes_of plan) - length outcomes) (first_refusal 0 outcomes)
+refusals plan outcomes few lawful =
+    refusal-from plan 0 (length (prefixes_of plan) - length outcomes) outcomes (omega (arith, few)) (λ i other h.
+    let same : i ≡ 0 + i = omega arith in
     subst (λ k. IsLawful plan k (slice_index_or outcomes i other)) same (lawful i other h)) tt
 
 -- outcomes that refuse nothing are all done
@@ -308,41 +310,28 @@ done-at number (o ∷ os) (suc i) other e h = done-at (number + 1) os i other (g
     go NoMemory e = absurd (cc)
     go NoPrefix e = absurd (cc)
 
--- the trees of a tally of all prefixes
-pub all-trees : (plan : Planned) (tally : Tally) → IsTally plan (length (prefixes_of plan)) tally →
-    map (λ tree. tree.items) tally.trees.items ≡ trees_of plan
-all-trees plan tally is =
-    is.trees ∙ ap (λ count. take count (trees_of plan)) (sym (trees-count plan)) ∙ take-all (trees_of plan)
+-- A tally of all prefixes has the verdict: the least of the bests, and the start where there is none.
+pub tally-verdict : (plan : Planned) (tally : Tally) (f : Found) → IsTally plan (length (prefixes_of plan)) tally →
+    f ≡ unwrap_or (option_map found_of tally.best) plan.start →
+    IsVerdict plan (record { value = f.value; sequence = f.sequence; trees = tally.trees })
+tally-verdict plan tally f is e =
+    let same : f ≡ verdict_of plan = e ∙ ap (λ o. unwrap_or o plan.start) (is.best ∙ ap first (bests-all plan)) in
+    record {
+      value = ap (λ f. f.value) same;
+      sequence = ap (λ f. f.sequence) same;
+      trees =
+          is.trees ∙ ap (λ count. take count (trees_of plan)) (sym (trees-count plan)) ∙ take-all (trees_of plan);
+    }
 
--- the verdict of a tally of all prefixes
-pub best-verdict : (plan : Planned) (tally : Tally) (b : Best) → IsTally plan (length (prefixes_of plan)) tally →
-    tally.best ≡ Some b → found_of b ≡ verdict_of plan
-best-verdict plan tally b is e =
-    let some : Some (found_of b) ≡ first (bests plan (length (prefixes_of plan))) = sym (ap (option_map found_of) e)
-    ∙ is.best in
-    ap (λ o. unwrap_or o plan.start) (some ∙ ap first (bests-all plan))
-
-pub start-verdict : (plan : Planned) (tally : Tally) → IsTally plan (length (prefixes_of plan)) tally →
-    tally.best ≡ None → plan.start ≡ verdict_of plan
-start-verdict plan tally is e =
-    let none : None ≡ first (bests plan (length (prefixes_of plan))) = sym (ap (option_map found_of) e) ∙ is.best in
-    ap (λ o. unwrap_or o plan.start) (none ∙ ap first (bests-all plan))
-
--- the best of a tally of all prefixes is a sequence of least makespan, below the makespan of the start
-pub best-least : (plan : Planned) (tally : Tally) (b : Best) → plan.options.depth ≤ plan.shop.jobs →
-    IsTally plan (length (prefixes_of plan)) tally → tally.best ≡ Some b →
-    IsLeastFound plan.shop (found_of b) × (b.value < plan.start.value)
-best-least plan tally b deep is e =
-    let some : Some (found_of b) ≡ first (bests plan (length (prefixes_of plan))) = sym (ap (option_map found_of) e)
-    ∙ is.best in
-    least-below plan.shop plan.start.value plan.options.depth (found_of b) deep (sym (some ∙ ap first (bests-all plan)))
-
--- where a tally of all prefixes has no best, no sequence is below the makespan of the start
-pub start-bound : (plan : Planned) (tally : Tally) → plan.options.depth ≤ plan.shop.jobs →
-    IsTally plan (length (prefixes_of plan)) tally → tally.best ≡ None → IsLowerBound plan.shop plan.start.value
-start-bound plan tally deep is e =
-    let none : None ≡ first (bests plan (length (prefixes_of plan))) = sym (ap (option_map found_of) e) ∙ is.best in
-    none-below plan.shop plan.start.value plan.options.depth deep (sym (none ∙ ap first (bests-all plan)))
+pub verdict-least : (plan : Planned) (verdict : Verdict) → IsPlan plan → IsVerdict plan verdict →
+    IsLeast plan.shop verdict
+verdict-least plan verdict is of =
+    let law = verdict_is_least plan.shop plan.start plan.options.depth is.deep (is.is_sequence, sym is.is_span) in
+    record {
+      least = subst (IsLeastMakespan plan.shop) (sym of.value) law.1;
+      attained = ap (span plan.shop) of.sequence ∙ law.0.1 ∙ sym of.value;
+      sequence = subst (IsSequence plan.shop.jobs) (sym of.sequence) law.0.0;
+    }
 
 -- an outcome that is done
 pub done-is : (o : Outcome) → IsDone o → (best : Option Best) × (text : Vec ℕ Global) × (o ≡ Done best text)

@@ -3,8 +3,6 @@ pub mod Search
 pub mod Plans
 pub mod Outcomes
 pub mod Verdicts
-pub mod Targets
-pub mod Findings
 pub mod Versions
 pub mod Cuts
 pub mod internal

@@ -1,6 +1,9 @@
 -- The verdict of a run, and why there is none.
 use Rattle.std.specs.Prelude.{ℕ, ◌≡◌, ◌+◌, List, [], ◌∷◌, map, Option, Some, None}
 use Rattle.std.specs.Option.{option_or}
+use Rattle.flow_shop.specs.Shop.{Shop}
+use Rattle.flow_shop.specs.Paths.{span}
+use Rattle.flow_shop.specs.Sequences.{IsSequence, IsLeastMakespan}
 use Rattle.flow_search.specs.Search.{best}
 use Rattle.flow_search.specs.Plans.{Planned, trees_of, verdict_of}
 use Rattle.flow_search.specs.declared.outcome.Outcome.{Outcome}
@@ -14,6 +17,12 @@ pub record IsVerdict (plan : Planned) (verdict : Verdict) : Type 0 where
   pub value : verdict.value ≡ (verdict_of plan).value
   pub sequence : verdict.sequence ≡ (verdict_of plan).sequence
   pub trees : map (λ tree. tree.items) verdict.trees.items ≡ trees_of plan
+
+-- a verdict has a sequence of least makespan, with that makespan
+pub record IsLeast (shop : Shop) (verdict : Verdict) : Type 0 where
+  pub least : IsLeastMakespan shop verdict.value
+  pub attained : span shop verdict.sequence ≡ verdict.value
+  pub sequence : IsSequence shop.jobs verdict.sequence
 
 -- the fault of the outcome of this number; none where it is done
 abbrev pub refusal : ℕ → Outcome → Option RunFault

@@ -6,7 +6,6 @@ ghost use Rattle.flow_shop.specs.Sequences.{IsSequence};
 ghost use Rattle.flow_search.specs.Plans.{prefixes_of, tree_of, best_of};
 ghost use Rattle.flow_search.specs.internal.Nodes.{found_if};
 ghost use Rattle.flow_search.specs.Outcomes.{IsLawful, found_of};
-ghost use Rattle.flow_search.specs.Targets.{at_value, plan_below};
 
 use crate::budget::SearchFault;
 use crate::eight::ColumnMemory;
@@ -14,11 +13,10 @@ use crate::plan::Plan;
 use crate::setting::Setting;
 use crate::state::SearchState;
 use crate::subtree::explore;
-use crate::target::Target;
 use flow_shop::{Front, Instance, Sequence, front_push};
 use std::alloc::{AllocError, Global};
 
-/// The best sequence that extends a prefix. Its makespan is below the target.
+/// The best sequence that extends a prefix. Its makespan is below that of the start.
 #[derive(Debug, PartialEq, Eq, Drop)]
 pub struct Best {
     /// The makespan of the sequence.
@@ -32,7 +30,7 @@ pub struct Best {
 pub enum Outcome {
     /// The whole subtree was searched.
     Done {
-        /// The best of the prefix; `None` where no sequence has a makespan below the target.
+        /// The best of the prefix; `None` where no sequence has a smaller makespan than the start.
         best: Option<Best>,
         /// The tree of the prefix.
         tree: Vec<u8>,
@@ -45,26 +43,20 @@ pub enum Outcome {
     NoPrefix,
 }
 
-/// Searches the subtree of a prefix for sequences below a value.
-fn search_below(
-    alloc: Global,
-    plan: &Plan,
-    value: u64,
-    number: u32,
-) -> Result<SearchState, SearchFault>
+/// Searches the subtree of a prefix.
+fn search_prefix(alloc: Global, plan: &Plan, number: u32) -> Result<SearchState, SearchFault>
     requires { number < length (prefixes_of plan.now) }
-    ensures best { IfOk result (λ search. found_if search ≡ best_of (plan_below (at_value plan.now value)) number) }
-    ensures tree { IfOk result (λ search. search.tree.items ≡ tree_of (plan_below (at_value plan.now value)) number) }
+    ensures best { IfOk result (λ search. found_if search ≡ best_of plan.now number) }
+    ensures tree { IfOk result (λ search. search.tree.items ≡ tree_of plan.now number) }
     ensures within { IfOk result (λ search. length search.tree.items ≤ plan.now.options.budget) }
     ensures sequence { IfOk result (λ search. search.improved ≡ true →
         IsSequence plan.now.shop.jobs search.best.items) }
-    ensures over { result ≡ Err SearchFault.OverBudget →
-        plan.now.options.budget < length (tree_of (plan_below (at_value plan.now value)) number) }
+    ensures over { result ≡ Err SearchFault.OverBudget → plan.now.options.budget < length (tree_of plan.now number) }
 {
     let instance = plan.instance();
     let prefix = plan.prefix(number);
     let jobs = instance.jobs();
-    let mut search = SearchState::new(alloc, instance, value)?;
+    let mut search = SearchState::new(alloc, instance, plan.start_value())?;
     let mut front = Front::empty();
     for job in prefix {
         front_push(instance, &mut front, *job);
@@ -117,12 +109,12 @@ fn best_found(
     }))
 }
 
-/// The outcome of the prefix of a number, counted from 0, for sequences below a value.
-pub fn outcome_below(alloc: Global, plan: &Plan, value: u64, number: u32) -> Outcome
+/// The outcome of the prefix of a number, counted from 0.
+pub fn answer(alloc: Global, plan: &Plan, number: u32) -> Outcome
     requires { number < length (prefixes_of plan.now) }
-    ensures { IsLawful (plan_below (at_value plan.now value)) number result }
+    ensures { IsLawful plan.now number result }
 {
-    let search = match search_below(alloc, plan, value, number) {
+    let search = match search_prefix(alloc, plan, number) {
         Ok(search) => search,
         Err(SearchFault::OverBudget) => return Outcome::OverBudget,
         Err(SearchFault::Memory) => return Outcome::NoMemory,
@@ -134,20 +126,4 @@ pub fn outcome_below(alloc: Global, plan: &Plan, value: u64, number: u32) -> Out
         },
         Err(_) => Outcome::NoMemory,
     }
-}
-
-/// The outcome of the prefix of a number, counted from 0, below a target.
-pub fn answer_below(alloc: Global, target: &Target, number: u32) -> Outcome
-    requires { number < length (prefixes_of target.now.plan) }
-    ensures { IsLawful (plan_below target.now) number result }
-{
-    outcome_below(alloc, target.plan(), target.value(), number)
-}
-
-/// The outcome of the prefix of a number, counted from 0.
-pub fn answer(alloc: Global, plan: &Plan, number: u32) -> Outcome
-    requires { number < length (prefixes_of plan.now) }
-    ensures { IsLawful plan.now number result }
-{
-    outcome_below(alloc, plan, plan.start_value(), number)
 }

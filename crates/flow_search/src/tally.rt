@@ -1,14 +1,12 @@
 //! The results of the first prefixes of a plan, put together prefix by prefix.
 
-ghost use Rattle.std.specs.Prelude.{◌≡◌, ℕ, ◌+◌, ◌<◌, ◌≤◌, length, IfOk, OnOk};
+ghost use Rattle.std.specs.Prelude.{◌≡◌, ℕ, ◌+◌, ◌<◌, length, IfOk, OnOk};
 ghost use Rattle.flow_search.specs.Plans.{Planned, prefixes_of};
 ghost use Rattle.flow_search.specs.Outcomes.{IsLawful};
-ghost use Rattle.flow_search.specs.Targets.{at_value, plan_below};
-ghost use Rattle.flow_search.specs.Findings.{IsFinding};
+ghost use Rattle.flow_search.specs.Verdicts.{IsVerdict, IsLeast};
 ghost use Rattle.flow_search.specs.internal.Tally.{IsTally, undercuts};
 ghost use Rattle.flow_search.specs.declared.outcome.Outcome.TheVariants.{Done};
 
-use crate::finding::Finding;
 use crate::outcome::{Best, sequence_of};
 use crate::plan::Plan;
 use crate::verdict::Verdict;
@@ -57,29 +55,25 @@ impl Tally {
         Ok(())
     }
 
-    /// The finding of a target, from a tally of all prefixes.
-    pub fn finding(self, alloc: Global, plan: &Plan, target: u64) -> Result<Finding, AllocError>
-        requires low { target ≤ plan.now.start.value }
-        requires tally { IsTally (plan_below (at_value plan.now target)) (length (prefixes_of plan.now)) self }
-        ensures finding { IfOk result (λ finding. IsFinding (at_value plan.now target) finding) }
+    /// The verdict, from a tally of all prefixes.
+    pub fn verdict(self, alloc: Global, plan: &Plan) -> Result<Verdict, AllocError>
+        requires { IsTally plan.now (length (prefixes_of plan.now)) self }
+        ensures verdict { IfOk result (λ verdict. IsVerdict plan.now verdict) }
+        ensures least { IfOk result (λ verdict. IsLeast plan.now.shop verdict) }
     {
-        let start = plan.start_value();
+        let start = plan.start();
         let Tally { trees, best } = self;
         if let Some(Best { value, sequence }) = best {
-            return Ok(Finding::Least(Verdict {
+            return Ok(Verdict {
                 value,
                 sequence,
                 trees,
-            }));
+            });
         }
-        if target < start {
-            return Ok(Finding::Bound { trees });
-        }
-        let sequence = sequence_of(alloc, plan.instance(), plan.start().jobs())?;
-        Ok(Finding::Least(Verdict {
-            value: target,
-            sequence,
+        Ok(Verdict {
+            value: plan.start_value(),
+            sequence: sequence_of(alloc, plan.instance(), start.jobs())?,
             trees,
-        }))
+        })
     }
 }

@@ -1,6 +1,7 @@
 //! The verdict of a plan, from the outcomes of its prefixes.
 
-ghost use Rattle.std.specs.Prelude.{◌≡◌, ℕ, ◌⊎◌, length, vec_len, None, Some, IfOk, OnOk, IfErr, All};
+ghost use Rattle.std.specs.Prelude.{◌≡◌, ℕ, ◌≤◌, ◌⊎◌, length, vec_len, None, Some, IfOk, OnOk, IfErr, All};
+ghost use Rattle.flow_limits.specs.Limits.{most_prefixes};
 ghost use Rattle.flow_shop.specs.Paths.{span};
 ghost use Rattle.flow_shop.specs.Sequences.{IsSequence, IsLeastMakespan};
 ghost use Rattle.flow_search.specs.Plans.{prefixes_of};
@@ -8,9 +9,9 @@ ghost use Rattle.flow_search.specs.Outcomes.{AreLawful, IsDone, first_over_budge
 ghost use Rattle.flow_search.specs.Verdicts.{IsVerdict, first_refusal};
 ghost use Rattle.flow_search.specs.declared.verdict.RunFault.TheVariants.{Memory};
 
-use crate::finding::{Finding, conclude_from, solve_from};
-use crate::outcome::Outcome;
+use crate::outcome::{Outcome, answer};
 use crate::plan::Plan;
+use crate::tally::Tally;
 use flow_shop::Sequence;
 use std::alloc::{AllocError, Global};
 use thiserror::Error;
@@ -60,11 +61,18 @@ pub fn conclude(alloc: Global, plan: &Plan, outcomes: Vec<Outcome>) -> Result<Ve
     ensures refused { IfErr result (λ fault. (first_refusal 0 outcomes.items ≡ Some fault)
         ⊎ ((first_refusal 0 outcomes.items ≡ None) × (fault ≡ Memory))) }
 {
-    match conclude_from(alloc, plan, plan.start_value(), outcomes)? {
-        Finding::Least(verdict) => Ok(verdict),
-        // The target is the makespan of the start.
-        Finding::Bound { .. } => unreachable!(),
+    let count = plan.prefixes();
+    if let Some(fault) = first_refusal(&outcomes) {
+        return Err(fault);
     }
+    let mut tally = Tally::new(alloc, count as usize)?;
+    for outcome in outcomes {
+        if let Outcome::Done { best, tree } = outcome {
+            tally.add(best, tree)?;
+        }
+    }
+    let verdict = tally.verdict(alloc, plan)?;
+    Ok(verdict)
 }
 
 /// Solves a plan on one thread, prefix by prefix. It ends at the first outcome that is not `Done`.
@@ -76,9 +84,30 @@ pub fn solve_plain(alloc: Global, plan: &Plan) -> Result<Verdict, RunFault>
     ensures within { OnOk result (first_over_budget plan.now ≡ None) }
     ensures over { (number : ℕ) → result ≡ Err (RunFault.OverBudget number) → first_over_budget plan.now ≡ Some number }
 {
-    match solve_from(alloc, plan, plan.start_value())? {
-        Finding::Least(verdict) => Ok(verdict),
-        // The target is the makespan of the start.
-        Finding::Bound { .. } => unreachable!(),
+    let count = plan.prefixes();
+    let mut tally = Tally::new(alloc, count as usize)?;
+    for number in 0..count {
+        match answer(alloc, plan, number) {
+            Outcome::Done { best, tree } => tally.add(best, tree)?,
+            Outcome::OverBudget => return Err(RunFault::OverBudget(number)),
+            Outcome::NoMemory | Outcome::NoPrefix => return Err(RunFault::Memory),
+        }
     }
+    let verdict = tally.verdict(alloc, plan)?;
+    Ok(verdict)
+}
+
+/// The fault of the first outcome that is not `Done`.
+pub fn first_refusal(outcomes: &[Outcome]) -> Option<RunFault>
+    requires { length outcomes.now ≤ most_prefixes }
+    ensures { result ≡ first_refusal 0 outcomes.now }
+{
+    for (number, outcome) in outcomes.iter().enumerate() {
+        match outcome {
+            Outcome::Done { .. } => {}
+            Outcome::OverBudget => return Some(RunFault::OverBudget(number as u32)),
+            Outcome::NoMemory | Outcome::NoPrefix => return Some(RunFault::Memory),
+        }
+    }
+    None
 }

@@ -10,9 +10,6 @@ pub mod Transposes
 pub mod Taken
 pub mod TwoLeast
 pub mod RowSteps
-pub mod Mirrors
-pub mod ReversedSequence
-pub mod MirrorLemmas
 pub mod Lists
 pub mod LeastFound
 pub mod NodeJobs

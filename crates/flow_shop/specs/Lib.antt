@@ -9,7 +9,6 @@ pub mod Directions
 pub mod Front
 pub mod Rows
 pub mod TwoLeast
-pub mod Mirror
 pub mod JobSet
 pub mod Refusals
 pub mod InstanceFaults

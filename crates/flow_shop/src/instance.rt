@@ -1,6 +1,6 @@
 //! An instance: the times of jobs on machines.
 
-ghost use Rattle.std.specs.Prelude.{◌≡◌, ◌*◌, ◌%◌, ◌<◌, ◌≤◌, nat_lt, length, position, All, None};
+ghost use Rattle.std.specs.Prelude.{◌≡◌, ◌*◌, ◌<◌, ◌≤◌, nat_lt, length, position, All, None};
 ghost use Rattle.std.specs.Prelude.{IfSome, IfNone, IfOk, OnOk, IfErr};
 ghost use Rattle.std.specs.Cmp.{partial_equiv_from_equiv};
 ghost use Rattle.flow_shop.specs.Shop.{IsWithinLimits, time, is_same_shop};
@@ -8,8 +8,7 @@ ghost use Rattle.flow_shop.specs.internal.Same.{is_same_shop-equiv};
 ghost use Rattle.flow_shop.specs.InstanceFaults.{instance_fault, but_memory};
 ghost use Rattle.flow_shop.specs.declared.instance.InstanceFault.TheVariants.{Memory};
 ghost use Rattle.flow_limits.specs.Limits.{greatest_time};
-ghost use Rattle.flow_shop.specs.internal.Transposed.{transposed, each_reversed};
-ghost use Rattle.flow_shop.specs.Mirror.{mirrored};
+ghost use Rattle.flow_shop.specs.internal.Transposed.{transposed};
 
 use flow_limits::{MAX_JOBS, MAX_MACHINES, MAX_TIME};
 use std::alloc::{AllocError, Global};
@@ -90,21 +89,6 @@ fn by_columns(
     Ok(taken)
 }
 
-/// The numbers of a table, row by row, each row in reverse order. The rows have `each` numbers.
-fn rows_reversed(alloc: Global, each: usize, numbers: &[u32]) -> Result<Vec<u32>, AllocError>
-    requires some { 0 < each }
-    requires whole { length numbers.now % each ≡ 0 }
-    ensures { IfOk result (λ taken. taken.items ≡ each_reversed each numbers.now) }
-{
-    let count = numbers.len();
-    let mut taken = Vec::with_capacity(alloc, count)?;
-    for place in 0..count {
-        let row = place / each * each;
-        taken.push_reserved(numbers[row + (each - 1 - place % each)]);
-    }
-    Ok(taken)
-}
-
 impl PartialEq for Instance {
     ghost eq = { is_same_shop };
 
@@ -172,17 +156,6 @@ impl Instance {
             jobs,
             machines,
             rows: by_columns(alloc, machines as usize, jobs as usize, times)?,
-        })
-    }
-
-    /// The instance with its machines in reverse order: machine `k` has the times of machine `m + 1 - k`.
-    pub fn mirrored(&self, alloc: Global) -> Result<Instance, AllocError>
-        ensures { IfOk result (λ instance. instance ≡ mirrored self.now) }
-    {
-        Ok(Instance {
-            jobs: self.jobs,
-            machines: self.machines,
-            rows: rows_reversed(alloc, self.machines as usize, self.rows.as_slice())?,
         })
     }
 

@@ -6,7 +6,6 @@ mod front;
 mod instance;
 mod job_set;
 mod laws;
-mod mirror;
 mod row;
 mod sequence;
 
@@ -20,6 +19,5 @@ pub use laws::{
     instances_have_no_fault, least_makespan_is_one, released_bound_is_admissible,
     released_bound_is_stronger, sequences_have_no_fault,
 };
-pub use mirror::{mirror_keeps_makespans, mirror_turns_back};
 pub use row::{Row, rows};
 pub use sequence::{Sequence, SequenceFault};

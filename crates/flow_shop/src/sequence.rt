@@ -1,6 +1,6 @@
 //! A sequence: the jobs of an instance in some order.
 
-ghost use Rattle.std.specs.Prelude.{◌≡◌, ℕ, ◌≤◌, nat_eq, [], None, length, reverse, IfOk, OnOk, IfErr};
+ghost use Rattle.std.specs.Prelude.{◌≡◌, ℕ, ◌≤◌, nat_eq, [], None, length, IfOk, OnOk, IfErr};
 ghost use Rattle.std.specs.Cmp.{partial_equiv_from_equiv};
 ghost use Rattle.std.specs.Cmp.Lexicographic.{pointwise, nat_list_eq_equiv};
 ghost use Rattle.flow_shop.specs.Sequences.{IsSequence};
@@ -115,15 +115,6 @@ impl Sequence {
     {
         let jobs = Vec::from_slice(alloc, jobs)?;
         Ok(Sequence { jobs })
-    }
-
-    /// The jobs in reverse order.
-    pub fn reversed(mut self) -> Sequence
-        ensures value { result ≡ reverse self }
-        ensures each { IsSequence (length self) result }
-    {
-        self.jobs.reverse();
-        self
     }
 
     /// The jobs in order.

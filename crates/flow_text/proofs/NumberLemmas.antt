@@ -143,11 +143,3 @@ pub plain-more : (line : List ℕ) (i : ℕ) → i < length line →
 plain-more line i h ok e =
     let step = at_drop_more is_plain line i 0 h in
     grind (arith, step, ok, e)
-
--- a line with another byte
-pub other-byte : (l : List ℕ) (i : ℕ) → i < length l →
-    (is_digit (get_or l i 0) || is_blank (get_or l i 0)) ≡ false → is_plain l ≡ is_plain (drop i l) →
-    line_numbers l ≡ Err line.Byte
-other-byte l i h bad e =
-    let step = at_drop_more is_plain l i 0 h in
-    line_numbers-other l (grind (arith, step, bad, e))

@@ -379,8 +379,3 @@ Reads-walk text all e =
       some =
           walk-some (lines_of text) start 0 all e;
     }
-
-pub found-gives : {X : Type 0} (view : X → List Block) (r : Result X TextFault) (b : List ℕ) →
-    TextGives view r (walk start 0 (lines_of b)) → IfOk r (λ v. Reads b (view v))
-found-gives view (Ok v) b h = Reads-walk b (view v) h
-found-gives view (Err e) b h = tt

@@ -1,10 +1,8 @@
 //! Whole runs, in threads.
 
 use crate::gates::{Calls, Hold, Holding};
-use flow_pool::{Gate, Open, Report, SolveFault, solve, solve_below, solve_limited};
-use flow_search::{
-    Finding, Options, Plan, Target, Verdict, prepare, solve_plain, solve_plain_below,
-};
+use flow_pool::{Gate, Open, Report, SolveFault, solve, solve_limited};
+use flow_search::{Options, Plan, Verdict, prepare, solve_plain};
 use flow_shop::Instance;
 use std::alloc::Global;
 use std::sync::Wait;
@@ -39,8 +37,6 @@ enum How {
     Limited(u32),
     /// By `solve_plain`, on one thread.
     Plain,
-    /// By `solve_below` this number, and by `solve_plain_below`.
-    Below(u64),
 }
 
 /// What is to come of a run.
@@ -50,8 +46,6 @@ enum Wanted {
     Worked(&'static [&'static [u8]]),
     /// The least makespan, and so many trees.
     Found(u64, usize),
-    /// Below a target, whether no sequence is below it; with the lanes of all workers.
-    Bound(bool),
     /// A fault.
     Fault(SolveFault),
 }
@@ -69,6 +63,9 @@ struct Run {
 
 /// The verdict of the three machines at depth 1.
 const WORKED: Wanted = Wanted::Worked(&[b"B", b"C", b"++.B"]);
+
+/// The verdict of the three machines at depth 0.
+const ROOT: Wanted = Wanted::Worked(&[b"+BC++.B"]);
 
 /// The verdict of the three machines at depth 3.
 const LEAVES: Wanted = Wanted::Worked(&[b".", b".", b".", b".", b".", b"."]);
@@ -119,31 +116,6 @@ fn is_plain(alloc: Global, plan: &Plan, run: &Run) -> bool {
     }
 }
 
-/// Whether workers find below this number what one thread finds there, and what they should.
-fn is_below<R: Threads + Wait + Sync>(
-    rt: &R,
-    alloc: Global,
-    plan: &Plan,
-    number: u64,
-    run: &Run,
-) -> bool {
-    let Wanted::Bound(bound) = run.wanted else {
-        return false;
-    };
-    let target = Target::new(plan, number);
-    let Ok(report) = solve_below(rt, alloc, &target, &Open) else {
-        return false;
-    };
-    match solve_plain_below(alloc, &target) {
-        Ok(plain) => {
-            report.finding == plain
-                && matches!(plain, Finding::Bound { .. }) == bound
-                && report.lanes.len() == run.workers as usize
-        }
-        Err(_) => false,
-    }
-}
-
 /// A plan with the workers, the depth and the budget of these options.
 pub(crate) fn planned<'a>(
     alloc: Global,
@@ -169,7 +141,6 @@ fn comes_right<R: Threads + Wait + Sync, G: Gate + Sync>(
         How::Solve => came(&solve(rt, alloc, plan, gate), run),
         How::Limited(starts) => came(&solve_limited(rt, alloc, plan, gate, starts), run),
         How::Plain => is_plain(alloc, plan, run),
-        How::Below(number) => is_below(rt, alloc, plan, number, run),
     }
 }
 
@@ -310,7 +281,16 @@ fn solve_runs_workers_side_by_side(rt: HostRuntime) {
 }
 
 /// Runs whose calls of the gate are noted, and how many prefixes they have.
-static TOLD: [(Run, u32); 3] = [
+static TOLD: [(Run, u32); 4] = [
+    (
+        Run {
+            workers: 2,
+            depth: 0,
+            wanted: ROOT,
+            ..RUN
+        },
+        1,
+    ),
     (
         Run {
             depth: 3,
@@ -424,37 +404,6 @@ fn is_limited<R: Threads + Wait + Sync>(rt: &R, alloc: Global, row: &Limited) ->
 fn no_prefix_is_reached_where_a_start_fails(rt: HostRuntime) {
     for (number, row) in LIMITED.iter().enumerate() {
         assert!(rt; is_limited(&rt, rt.alloc(), row), "row {number}");
-    }
-}
-
-/// Workers and depths.
-static SEARCHES: [(u32, u32); 6] = [(1, 0), (2, 0), (4, 0), (1, 1), (2, 1), (4, 1)];
-
-/// Whether workers find at a depth below a number what they should: the starting sequence has the makespan 13, and no
-/// sequence is below 12.
-fn find_below<R: Threads + Wait + Sync>(
-    rt: &R,
-    alloc: Global,
-    row: &(u32, u32),
-    number: u64,
-) -> bool {
-    let (workers, depth) = *row;
-    let run = Run {
-        workers,
-        depth,
-        how: How::Below(number),
-        wanted: Wanted::Bound(number <= 12),
-        ..RUN
-    };
-    is_right(rt, alloc, &run, &Open)
-}
-
-#[test]
-fn workers_find_below_a_target_what_one_thread_finds(rt: HostRuntime) {
-    for row in &SEARCHES {
-        for number in 10..15u64 {
-            assert!(rt; find_below(&rt, rt.alloc(), row, number), "below {number}");
-        }
     }
 }
 

@@ -4,14 +4,13 @@ use Rattle.std.specs.Borrow.{Bor}
 use Rattle.flow_core.specs.Limits.{most_certificate, most_text}
 use Rattle.flow_core.specs.Shop.{Shop}
 use Rattle.flow_words.specs.declared.order.Order.{Order}
-use Rattle.flow_words.specs.declared.order.Order.TheVariants.{Gen, Span, Neh, Mirror, Solve, Improve, Certify}
+use Rattle.flow_words.specs.declared.order.Order.TheVariants.{Gen, Span, Neh, Solve, Improve, Certify}
 use Rattle.flow_words.specs.declared.order.Order.TheVariants.{Check, Schedule}
 use Rattle.flow_commands.specs.Answer.{Answer}
 use Rattle.flow_commands.specs.Certify.{AnswersCertify}
 use Rattle.flow_commands.specs.Check.{AnswersCheck}
 use Rattle.flow_commands.specs.Generate.{AnswersGen}
 use Rattle.flow_commands.specs.Improve.{AnswersImprove}
-use Rattle.flow_commands.specs.Mirror.{AnswersMirror}
 use Rattle.flow_commands.specs.Neh.{AnswersNeh}
 use Rattle.flow_commands.specs.Runs.{Ends, EndsAlone, EndsBoth, EndsFrom, IsUnread, IsUnwritten, SinkRun, SourceRun}
 use Rattle.flow_commands.specs.Runs.{Wrote, WroteBoth, WroteFor, WroteFrom}
@@ -37,7 +36,6 @@ abbrev pub asked : Order → Asked
 asked (Gen jobs machines seed) = alone (AnswersGen jobs machines seed)
 asked (Span file index jobs) = of_text file.now (AnswersSpan index jobs.items)
 asked (Neh file index) = of_text file.now (AnswersNeh index)
-asked (Mirror file index) = of_text file.now (AnswersMirror index)
 asked (Solve file index start request) = from_start file.now index start (AnswersSolve request)
 asked (Improve file index start request) = from_start file.now index start (AnswersImprove request)
 asked (Certify file index start request) = from_start file.now index start (AnswersCertify request)

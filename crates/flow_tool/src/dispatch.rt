@@ -7,8 +7,8 @@ ghost use Rattle.flow_tool.specs.Failed.{FailedAsked, IsReadFault, IsWriteFault}
 
 use crate::inputs::Inputs;
 use crate::orders::{
-    obey_certify, obey_check, obey_gen, obey_improve, obey_mirror, obey_neh, obey_schedule,
-    obey_solve, obey_span,
+    obey_certify, obey_check, obey_gen, obey_improve, obey_neh, obey_schedule, obey_solve,
+    obey_span,
 };
 use crate::stop::Stop;
 use clap::Error;
@@ -86,7 +86,6 @@ fn obey<R: Threads + Wait + Sync, I: Inputs, K: Sink>(
             out,
         ),
         Order::Neh { file, index } => obey_neh(alloc, inputs, *file, *index, out),
-        Order::Mirror { file, index } => obey_mirror(alloc, inputs, *file, *index, out),
         Order::Solve {
             file,
             index,

@@ -10,7 +10,6 @@ ghost use Rattle.flow_commands.specs.Certify.{AnswersCertify};
 ghost use Rattle.flow_commands.specs.Check.{AnswersCheck};
 ghost use Rattle.flow_commands.specs.Generate.{AnswersGen};
 ghost use Rattle.flow_commands.specs.Improve.{AnswersImprove};
-ghost use Rattle.flow_commands.specs.Mirror.{AnswersMirror};
 ghost use Rattle.flow_commands.specs.Neh.{AnswersNeh};
 ghost use Rattle.flow_commands.specs.Runs.{EndsAlone, Wrote, sink_run};
 ghost use Rattle.flow_commands.specs.Schedule.{AnswersSchedule};
@@ -23,8 +22,8 @@ ghost use Rattle.flow_tool.specs.Inputs.{IsStartFile, RefusedStart};
 use crate::inputs::{Inputs, open_text};
 use crate::stop::Stop;
 use flow_commands::{
-    CommandFault, run_certify, run_check_as, run_gen, run_improve, run_mirror, run_neh,
-    run_schedule, run_solve_as, run_span,
+    CommandFault, run_certify, run_check_as, run_gen, run_improve, run_neh, run_schedule,
+    run_solve_as, run_span,
 };
 use flow_core::Sink;
 use flow_pool::Open;
@@ -108,28 +107,6 @@ pub(crate) fn obey_neh<I: Inputs, K: Sink>(
     Ok(run_neh(alloc, &mut text, index, out)?)
 }
 
-/// Writes a block with its machines in reverse order.
-#[inline(never)]
-pub(crate) fn obey_mirror<I: Inputs, K: Sink>(
-    alloc: Global,
-    inputs: &I,
-    file: &str,
-    index: u32,
-    out: &mut K,
-) -> Result<(), Stop>
-    requires { K.has_failed out.old ≡ false }
-    ensures written { OnOk result (WroteAsked (I.names inputs.now)
-        (of_text file.now (AnswersMirror index)) (sink_run K.taken out.old out.new)) }
-    ensures ended { IfErr result (EndsAsked (I.names inputs.now)
-        (of_text file.now (AnswersMirror index)) (sink_run K.taken out.old out.new)) }
-    ensures read_device { IsReadFault result → FailedAsked (I.names inputs.now)
-        (of_text file.now (AnswersMirror index)) }
-    ensures write_device { IsWriteFault result ↔ (K.has_failed out.new ≡ true) }
-{
-    let mut text = open_text(inputs, file)?;
-    Ok(run_mirror(alloc, &mut text, index, out)?)
-}
-
 /// Writes a certificate of the least makespan.
 #[inline(never)]
 pub(crate) fn obey_solve<R: Threads + Wait + Sync, I: Inputs, K: Sink>(
@@ -181,7 +158,7 @@ pub(crate) fn obey_improve<I: Inputs, K: Sink>(
     Ok(run_improve(alloc, &mut text, index, &mut start, request, out)?)
 }
 
-/// Searches from better and better sequences, and writes a certificate of the least makespan.
+/// Writes a two-ended certificate of the least makespan, or of bounds of it.
 #[inline(never)]
 pub(crate) fn obey_certify<I: Inputs, K: Sink>(
     alloc: Global,
@@ -206,7 +183,7 @@ pub(crate) fn obey_certify<I: Inputs, K: Sink>(
     Ok(run_certify(alloc, &mut text, index, &mut start, request, out)?)
 }
 
-/// Prints the value that a certificate proves least, or a sequence that has it.
+/// Prints the bounds that a certificate proves, or its sequence.
 #[inline(never)]
 pub(crate) fn obey_check<I: Inputs, K: Sink>(
     alloc: Global,

@@ -3,8 +3,8 @@
 use clap::{Arg, ArgAction, Command, value_parser};
 use std::alloc::{AllocError, Global};
 
-/// The version of the program, and those of the certificates that it writes and reads.
-const VERSION: &str = "1.0, certificate versions 1 and 2";
+/// The version of the program, and those of the texts that it writes and reads.
+const VERSION: &str = "1.0, certificates of versions 1 and 2, two-ended certificates of version 1";
 
 /// A word of a command: its name, how it is read, and what the help says of it.
 struct Word {
@@ -25,10 +25,6 @@ enum Kind {
     Option {
         value: &'static str,
         default: &'static str,
-    },
-    /// A number after a long name, which may be left out.
-    Choice {
-        value: &'static str,
     },
     /// The name of a file after a long name, which may be left out.
     File {
@@ -97,26 +93,24 @@ const WORK: Word = Word {
     help: "How many millions of steps of improvement there are at most, 0 to 1000000",
 };
 
-static BLOCK: [Word; 2] = [FILE, INDEX];
+static NEH: [Word; 2] = [FILE, INDEX];
 
-static CERTIFY: [Word; 9] = [
+static CERTIFY: [Word; 8] = [
     FILE,
     INDEX,
     WIDTH,
     ROUNDS,
     SEED,
     WORK,
+    Word {
+        name: "directions",
+        kind: Kind::Option {
+            value: "N",
+            default: "100000000",
+        },
+        help: "How many directions a proof has at most, 1 to 1000000000; fewer where the shop is large",
+    },
     START,
-    Word {
-        name: "certificate",
-        kind: Kind::Choice { value: "V" },
-        help: "The version of the text, 1 or 2; left out, a certificate is tried in 1 and then in 2, bounds are in 1",
-    },
-    Word {
-        name: "bounds",
-        kind: Kind::Flag,
-        help: "Where all trees are too long, writes a text of bounds on the least makespan in the place of refusing",
-    },
 ];
 
 static IMPROVE: [Word; 7] = [FILE, INDEX, WIDTH, ROUNDS, SEED, WORK, START];
@@ -149,7 +143,7 @@ static GEN: [Word; 3] = [
     },
 ];
 
-static SOLVE: [Word; 9] = [
+static SOLVE: [Word; 7] = [
     FILE,
     INDEX,
     Word {
@@ -185,35 +179,20 @@ static SOLVE: [Word; 9] = [
         help: "The version of the certificate, 1 or 2",
     },
     START,
-    Word {
-        name: "mirrored",
-        kind: Kind::Flag,
-        help: "Solves the instance with its machines in reverse order, from the reversed start if one is given",
-    },
-    Word {
-        name: "target",
-        kind: Kind::Choice { value: "T" },
-        help: "Takes this number for the makespan of the start, if it is smaller; a text of bounds may be written",
-    },
 ];
 
-static CHECK: [Word; 6] = [
+static CHECK: [Word; 5] = [
     FILE,
     INDEX,
     Word {
         name: "CERT",
         kind: Kind::Word,
-        help: "The file of the certificate, two-ended or not, or of the text of bounds",
-    },
-    Word {
-        name: "either",
-        kind: Kind::Flag,
-        help: "Accepts a text of the mirrored instance too",
+        help: "The file of the certificate, two-ended or not",
     },
     Word {
         name: "sequence",
         kind: Kind::Flag,
-        help: "Prints the sequence of the text for the instance, and its makespan, in the form that neh prints",
+        help: "Prints the sequence of the text, and its makespan, in the form that neh prints",
     },
     Word {
         name: "optimal",
@@ -252,7 +231,6 @@ pub fn make_command<'a>(alloc: Global) -> Result<Command<'a>, AllocError> {
     let command = with(command, span_command(alloc));
     let command = with(command, gen_command(alloc));
     let command = with(command, neh_command(alloc));
-    let command = with(command, mirror_command(alloc));
     let command = with(command, improve_command(alloc));
     let command = with(command, solve_command(alloc));
     let command = with(command, check_command(alloc));
@@ -269,11 +247,9 @@ fn with<'a>(
 
 fn certify_command<'a>(alloc: Global) -> Result<Command<'a>, AllocError> {
     let about =
-        "Searches from a starting sequence and from better ones, and writes a certificate of the least makespan \
-of the instance or of the mirrored one, or with --bounds a text of bounds";
-    let example =
-        "The text may be one of the mirrored instance: check it with --either.\nExample: ./flowshop \
-certify examples/three_machines.txt 1 >certificate";
+        "Writes a two-ended certificate: a sequence, and bounds of the least makespan, which are one number where \
+that is proved";
+    let example = "Example: ./flowshop certify examples/three_machines.txt 1 >certificate";
     command_of(alloc, "certify", about, example, &CERTIFY)
 }
 
@@ -297,13 +273,7 @@ fn gen_command<'a>(alloc: Global) -> Result<Command<'a>, AllocError> {
 fn neh_command<'a>(alloc: Global) -> Result<Command<'a>, AllocError> {
     let about = "Prints the starting sequence and its makespan";
     let example = "Example: ./flowshop neh examples/three_machines.txt 1";
-    command_of(alloc, "neh", about, example, &BLOCK)
-}
-
-fn mirror_command<'a>(alloc: Global) -> Result<Command<'a>, AllocError> {
-    let about = "Writes a block with its machines in reverse order";
-    let example = "Example: ./flowshop mirror examples/two_machines.txt 1";
-    command_of(alloc, "mirror", about, example, &BLOCK)
+    command_of(alloc, "neh", about, example, &NEH)
 }
 
 fn improve_command<'a>(alloc: Global) -> Result<Command<'a>, AllocError> {
@@ -319,9 +289,8 @@ fn solve_command<'a>(alloc: Global) -> Result<Command<'a>, AllocError> {
 }
 
 fn check_command<'a>(alloc: Global) -> Result<Command<'a>, AllocError> {
-    let about =
-        "Checks a certificate, two-ended or not, or a text of bounds, and prints what it proves";
-    let example = "Example: ./flowshop check examples/three_machines.txt 1 certificate --either";
+    let about = "Checks a certificate, two-ended or not, and prints what it proves";
+    let example = "Example: ./flowshop check examples/three_machines.txt 1 certificate --optimal";
     command_of(alloc, "check", about, example, &CHECK)
 }
 
@@ -365,11 +334,6 @@ fn argument_of<'a>(alloc: Global, word: &Word) -> Arg<'a> {
             .long(word.name)
             .value_name(value)
             .default_value(default)
-            .value_parser(value_parser!(u32)),
-        Kind::Choice { value } => argument
-            .long(word.name)
-            .value_name(value)
-            .action(ArgAction::Set)
             .value_parser(value_parser!(u32)),
         Kind::File { value } => argument
             .long(word.name)

@@ -33,13 +33,6 @@ pub enum Order<'a> {
         /// The block's number in the text.
         index: u32,
     },
-    /// The block with its machines in reverse order.
-    Mirror {
-        /// The name of the text's file.
-        file: &'a str,
-        /// The block's number in the text.
-        index: u32,
-    },
     /// A certificate of the least makespan.
     Solve {
         /// The name of the text's file.
@@ -62,7 +55,7 @@ pub enum Order<'a> {
         /// How the sequence is improved.
         request: ImproveRequest,
     },
-    /// A certificate of the least makespan, searched from better and better sequences; or a text of bounds.
+    /// A two-ended certificate of the least makespan, or of bounds of it.
     Certify {
         /// The name of the text's file.
         file: &'a str,
@@ -73,13 +66,13 @@ pub enum Order<'a> {
         /// How the block is certified.
         request: CertifyRequest,
     },
-    /// What a certificate, two-ended or not, or a text of bounds proves, or its sequence.
+    /// What a certificate, two-ended or not, proves, or its sequence.
     Check {
         /// The name of the text's file.
         file: &'a str,
         /// The block's number in the text.
         index: u32,
-        /// The name of the file of that text.
+        /// The name of the certificate's file.
         cert: &'a str,
         /// Which texts are accepted, and what is printed.
         request: CheckRequest,
@@ -110,9 +103,6 @@ pub fn order_of<'a>(
     }
     if let Some(given) = matches.subcommand_matches("neh") {
         return Ok(neh_order(given));
-    }
-    if let Some(given) = matches.subcommand_matches("mirror") {
-        return Ok(mirror_order(given));
     }
     if let Some(given) = matches.subcommand_matches("solve") {
         return Ok(solve_order(given));
@@ -157,13 +147,6 @@ fn neh_order<'a>(given: &ArgMatches<'a>) -> Option<Order<'a>> {
     })
 }
 
-fn mirror_order<'a>(given: &ArgMatches<'a>) -> Option<Order<'a>> {
-    Some(Order::Mirror {
-        file: given.get_str("FILE")?,
-        index: given.get_one::<u32>("INDEX")?,
-    })
-}
-
 fn solve_order<'a>(given: &ArgMatches<'a>) -> Option<Order<'a>> {
     Some(Order::Solve {
         file: given.get_str("FILE")?,
@@ -174,8 +157,6 @@ fn solve_order<'a>(given: &ArgMatches<'a>) -> Option<Order<'a>> {
             depth: given.get_one::<u32>("depth")?,
             budget: given.get_one::<u32>("budget")?,
             version: given.get_one::<u32>("certificate")?,
-            mirrored: given.get_flag("mirrored"),
-            target: given.get_one::<u32>("target").map(u64::from),
         },
     })
 }
@@ -196,8 +177,7 @@ fn certify_order<'a>(given: &ArgMatches<'a>) -> Option<Order<'a>> {
         start: given.get_str("start"),
         request: CertifyRequest {
             improve: improvement_of(given)?,
-            version: given.get_one::<u32>("certificate"),
-            bounds: given.get_flag("bounds"),
+            directions: given.get_one::<u32>("directions")?,
         },
     })
 }
@@ -208,7 +188,6 @@ fn check_order<'a>(given: &ArgMatches<'a>) -> Option<Order<'a>> {
         index: given.get_one::<u32>("INDEX")?,
         cert: given.get_str("CERT")?,
         request: CheckRequest {
-            either: given.get_flag("either"),
             bounds: true,
             sequence: given.get_flag("sequence"),
             optimal: given.get_flag("optimal"),

@@ -7,14 +7,13 @@ use Rattle.flow_shop.specs.Digits.{is_digit}
 use Rattle.flow_shop.specs.Sequences.{IsSequence}
 use Rattle.flow_shop.specs.Shop.{Shop}
 use Rattle.flow_shop.specs.Characters.{line_feed, space}
-use Rattle.flow_check.specs.TextLines.{line, spaced, IsVersion, IsDepth, Stated, IsStated, stated_bounds, numbers_of}
+use Rattle.flow_check.specs.TextLines.{line, spaced, IsVersion, IsDepth}
 use Rattle.flow_check.specs.TextLines.{heading as lines_before}
-use Rattle.flow_check.specs.internal.Reading.{text_value, stated_once}
+use Rattle.flow_check.specs.internal.Reading.{text_value}
 use Rattle.flow_check.specs.internal.ReadTrees.{cut_value}
 use Rattle.flow_check.specs.declared.fault.CheckFault.{CheckFault}
 use Rattle.flow_check.specs.declared.fault.CheckFault.TheVariants.{Memory, Sequence}
 use Rattle.flow_check.specs.declared.heading.Heading.{Heading}
-use Rattle.flow_check.specs.declared.kind.TreeKind.{TreeKind}
 
 -- a text begins with a number below 2^64 in decimal, and a byte that ends it
 abbrev pub BeginsWithNumber : List ℕ → ℕ → ℕ → List ℕ → Type 0
@@ -49,21 +48,15 @@ IsSequenceFault jobs text fault =
 abbrev pub end_of : ℕ → ℕ
 end_of left = cond (nat_eq left 1) line_feed space
 
--- a text begins with the third line of a kind
-abbrev pub BeginsWithStated : (kind : TreeKind) → List ℕ → Stated kind → List ℕ → Type 0
-BeginsWithStated kind text stated rest =
-    IsStated kind stated × (text ≡ line (spaced (numbers_of kind stated)) ++ rest)
-
 -- the lines before the trees have no fault, and the trees decide what is read of the text
-abbrev pub IsHeadingOf : TreeKind → Shop → List ℕ → Heading → Type 0
-IsHeadingOf kind shop text heading =
-    (stated : Stated kind) × (heading.bounds ≡ stated_bounds kind stated)
-    × (text_value kind shop text
-    ≡ stated_once stated (cut_value shop heading.version heading.depth heading.bounds.lower heading.trees.now))
+abbrev pub IsHeadingOf : Shop → List ℕ → Heading → Type 0
+IsHeadingOf shop text heading =
+    text_value shop text ≡ cut_value shop heading.version heading.depth heading.value heading.trees.now
 
 -- a text begins with the lines before the trees that say this
-abbrev pub BeginsWithHeading : TreeKind → Shop → List ℕ → Heading → Type 0
-BeginsWithHeading kind shop text heading =
-    (stated : Stated kind) × IsVersion heading.version × IsDepth shop heading.depth × IsStated kind stated
-    × IsSequence shop.jobs heading.sequence
-    × (text ≡ lines_before kind shop heading.version heading.depth stated heading.sequence ++ heading.trees.now)
+pub record BeginsWithHeading (shop : Shop) (text : List ℕ) (heading : Heading) : Type 0 where
+  pub known : IsVersion heading.version
+  pub deep : IsDepth shop heading.depth
+  pub fits : heading.value < 2 ^ 64
+  pub whole : IsSequence shop.jobs heading.sequence
+  pub lines : text ≡ lines_before shop heading.version heading.depth heading.value heading.sequence ++ heading.trees.now

@@ -6,11 +6,12 @@ ghost use Rattle.flow_shop.specs.Shop.{IsWithinLimits};
 ghost use Rattle.flow_shop.specs.Paths.{span};
 ghost use Rattle.flow_check.specs.TwoEnded.{title_line};
 ghost use Rattle.flow_check.specs.TwoEndedFaults.{HasFourLines, IsTwoEndedFault};
-ghost use Rattle.flow_check.specs.internal.TwoEndedLines.{BeginsWithJobs};
+ghost use Rattle.flow_check.specs.internal.TwoEndedLines.{BeginsWithJobs, BeginsWithBounds};
+ghost use Rattle.flow_check.specs.declared.bounds.Bounds.{Bounds};
 
 use crate::bounds::Bounds;
 use crate::fault::CheckFault;
-use crate::heading::{read_bounds, read_sequence_line};
+use crate::heading::read_sequence_line;
 use crate::number::read_number;
 use flow_shop::{Instance, Sequence};
 use std::alloc::Global;
@@ -46,6 +47,17 @@ fn after_size(jobs: u16, machines: u16, text: &[u8]) -> Option<&[u8]>
         return None;
     }
     Some(rest)
+}
+
+/// The bounds in the line with which a text begins, and the text after that line.
+fn read_bounds(text: &[u8]) -> Option<(Bounds, &[u8])>
+    ensures found { IfSome result (λ r. BeginsWithBounds text.now r.0 r.1.now) }
+    ensures only { (bounds : Bounds) (rest : List ℕ) → BeginsWithBounds text.now bounds rest →
+        IsSomeAnd result (λ r. (r.0 ≡ bounds) × (r.1.now ≡ rest)) }
+{
+    let (lower, upper_text) = read_number(text, b' ')?;
+    let (upper, rest) = read_number(upper_text, b'\n')?;
+    Some((Bounds { lower, upper }, rest))
 }
 
 /// Reads the lines before the directions. Returns what they say, or their first fault.

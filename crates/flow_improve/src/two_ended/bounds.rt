@@ -109,27 +109,17 @@ impl Bounds {
         child.bound(instance)
     }
 
-    /// The sum of the bounds of the children at an end.
-    fn sum(&self, instance: &Instance, entry: &Entry, end: End) -> u64
-        requires entry { IsEntry instance.now entry.now }
-        requires bounds { HasBounds instance.now entry.now self.now }
-    {
-        let mut sum: u64 = 0;
-        for place in entry.first..entry.before {
-            sum = sum.wrapping_add(u64::from(self.at(instance, entry, end, place)));
-        }
-        sum
-    }
-
     /// The end at which the bounds of all children sum to more, and the front where both sums are equal.
     pub(crate) fn end_taken(&self, instance: &Instance, entry: &Entry) -> End
         requires entry { IsEntry instance.now entry.now }
         requires bounds { HasBounds instance.now entry.now self.now }
     {
-        if self.sum(instance, entry, End::Back) > self.sum(instance, entry, End::Front) {
-            End::Back
-        } else {
-            End::Front
+        let mut front: u64 = 0;
+        let mut back: u64 = 0;
+        for place in entry.first..entry.before {
+            front = front.wrapping_add(u64::from(self.at(instance, entry, End::Front, place)));
+            back = back.wrapping_add(u64::from(self.at(instance, entry, End::Back, place)));
         }
+        if back > front { End::Back } else { End::Front }
     }
 }

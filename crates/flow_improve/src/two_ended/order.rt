@@ -164,6 +164,16 @@ impl Order {
         }
     }
 
+    /// The greatest deficit with which the key of a bound is not above a key.
+    pub(crate) fn most_deficit(&self, key: &Key, bound: u32) -> u64 {
+        let bound = u64::from(bound);
+        match self.mode {
+            Mode::Bound if bound < key.first => u64::MAX,
+            Mode::Bound => key.second,
+            Mode::Sum => key.first.saturating_sub(self.weight().wrapping_mul(bound)),
+        }
+    }
+
     /// The deficit of the end of a node at which no job is put.
     pub(crate) fn kept_deficit(&self, times: &EndTimes, end: End, machines: usize) -> u64
         requires { machines ≤ most_machines }
@@ -174,13 +184,14 @@ impl Order {
         }
     }
 
-    /// The deficit of the end of a node at which a job is put.
+    /// The deficit of the end of a node at which a job is put; or a part of it that is above the most.
     pub(crate) fn changed_deficit(
         &self,
         times: &EndTimes,
         end: End,
         job: &MachineTimes,
         machines: usize,
+        most: u64,
     ) -> u64
         requires { machines ≤ most_machines }
     {
@@ -194,6 +205,9 @@ impl Order {
                     if place > 0 {
                         deficit = deficit.wrapping_add(lack(cap, free, earlier));
                     }
+                    if deficit > most {
+                        break;
+                    }
                     earlier = free;
                 }
             }
@@ -202,6 +216,9 @@ impl Order {
                     let free = times.back[place].max(earlier).wrapping_add(job[place]);
                     if place + 1 < machines {
                         deficit = deficit.wrapping_add(lack(cap, free, earlier));
+                    }
+                    if deficit > most {
+                        break;
                     }
                     earlier = free;
                 }

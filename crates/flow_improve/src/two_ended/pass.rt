@@ -103,9 +103,10 @@ impl Offers {
             }
             let job = entry.jobs[place];
             let times = &rows[usize::from(job) - 1].times;
+            let most = kept.most_deficit(&self.order, bound).saturating_sub(same);
             let changed = self
                 .order
-                .changed_deficit(&entry.ends, self.end, times, machines);
+                .changed_deficit(&entry.ends, self.end, times, machines, most);
             kept.offer(Child {
                 key: self.order.key(bound, same.wrapping_add(changed)),
                 parent: self.parent,

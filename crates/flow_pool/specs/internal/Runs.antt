@@ -3,9 +3,6 @@ use Rattle.std.specs.Prelude.{◌≡◌, ℕ, ◌<◌, ◌≤◌, Some, [], map,
 use Rattle.flow_limits.specs.Limits.{most_prefixes}
 use Rattle.flow_search.specs.Plans.{Planned}
 use Rattle.flow_search.specs.Outcomes.{first_over_budget}
-use Rattle.flow_search.specs.Targets.{Targeted, plan_below}
-use Rattle.flow_search.specs.declared.finding.Finding.{Finding}
-use Rattle.flow_search.specs.declared.finding.Finding.TheVariants.{Least, Bound}
 use Rattle.flow_search.specs.declared.verdict.RunFault.{RunFault}
 use Rattle.flow_search.specs.declared.verdict.RunFault.TheVariants.{OverBudget, Memory}
 use Rattle.flow_pool.specs.declared.run.solve.Run.{Run}
@@ -14,7 +11,7 @@ use Rattle.flow_pool.specs.declared.run.make.Made.{Made}
 use Rattle.flow_pool.specs.Deal.{by_worker}
 use Rattle.flow_pool.specs.Work.{prefix_count}
 use Rattle.flow_pool.specs.Hub.{CanCollect}
-use Rattle.flow_pool.specs.Report.{IsFindingReport, run_slots}
+use Rattle.flow_pool.specs.Report.{IsReport, run_slots}
 use Rattle.flow_pool.specs.internal.HubSteps.{hub_slots}
 use Rattle.flow_pool.specs.internal.Start.{CanStart}
 
@@ -25,16 +22,11 @@ IsRunFault plan Memory = Unit {0}
 
 -- a run of so many starts has a report or a fault only where they are enough, and has used them up only where they are
 -- not
-abbrev pub IsRun : Targeted → ℕ → Run → Type 0
-IsRun target starts (Whole report) = IsFindingReport target report × (target.plan.options.workers ≤ starts)
-IsRun target starts (Fault fault) = IsRunFault (plan_below target) fault × (target.plan.options.workers ≤ starts)
-IsRun target starts UsedUp = starts < target.plan.options.workers
-IsRun target starts (Refused refusal) = 0 < starts
-
--- a finding has a verdict
-abbrev pub HasVerdict : Finding → Type 0
-HasVerdict (Least verdict) = Unit {0}
-HasVerdict (Bound trees) = ⊥
+abbrev pub IsRun : Planned → ℕ → Run → Type 0
+IsRun plan starts (Whole report) = IsReport plan report × (plan.options.workers ≤ starts)
+IsRun plan starts (Fault fault) = IsRunFault plan fault × (plan.options.workers ≤ starts)
+IsRun plan starts UsedUp = starts < plan.options.workers
+IsRun plan starts (Refused refusal) = 0 < starts
 
 -- the plan has a worker, and no more prefixes than a plan may have; all lanes are new, of run_slots slots; the workers
 -- and the hub can start; there is room for all outcomes and lanes

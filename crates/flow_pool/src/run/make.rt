@@ -1,7 +1,6 @@
 //! What is made for a run before a worker is started: its lanes and lists.
 
 ghost use Rattle.std.specs.Prelude.{◌≡◌, All, IfOk, map, vec_len};
-ghost use Rattle.flow_search.specs.Targets.{plan_below};
 ghost use Rattle.flow_pool.specs.Deal.{by_worker};
 ghost use Rattle.flow_pool.specs.Work.{IsFresh, worker_lanes};
 ghost use Rattle.flow_pool.specs.Hub.{hub_lanes};
@@ -15,7 +14,7 @@ use crate::settling::LanePair;
 use crate::{HubEnds, WorkerEnds};
 use crossbeam_utils::sync::Parker;
 use flow_lanes::lane;
-use flow_search::{Outcome, Target};
+use flow_search::{Outcome, Plan};
 use std::alloc::{AllocError, Global};
 
 /// How many slots each lane of a run has.
@@ -69,10 +68,9 @@ fn make_lanes(alloc: Global, workers: u32) -> Result<(Vec<HubEnds>, Vec<WorkerEn
 }
 
 /// Makes all lanes and lists of a run.
-pub(crate) fn make_run(alloc: Global, target: &Target) -> Result<Made, AllocError>
-    ensures { IfOk result (λ made. IsMade (plan_below target.now) made) }
+pub(crate) fn make_run(alloc: Global, plan: &Plan) -> Result<Made, AllocError>
+    ensures { IfOk result (λ made. IsMade plan.now made) }
 {
-    let plan = target.plan();
     let count = plan.prefixes() as usize;
     let workers = plan.options().workers();
     let (hubs, ends) = make_lanes(alloc, workers)?;

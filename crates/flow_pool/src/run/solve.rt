@@ -1,14 +1,10 @@
-//! The whole run of a plan or of a target: workers, hub, settled lanes, and verdict or finding.
+//! The whole run of a plan: workers, hub, settled lanes and verdict.
 
-ghost use Rattle.std.specs.Prelude.{◌≡◌, ◌<◌, ◌≤◌, ◌⊎◌, [], Err, IfOk, IfErr, length, map, vec_len, vec_capacity};
-ghost use Rattle.flow_limits.specs.Limits.{most_prefixes};
-ghost use Rattle.flow_search.specs.Verdicts.{first_refusal};
-ghost use Rattle.flow_search.specs.Targets.{plan_below};
+ghost use Rattle.std.specs.Prelude.{◌≡◌, ◌<◌, ◌≤◌, ◌⊎◌, [], Err, IfOk, IfErr, map, vec_len, vec_capacity};
 ghost use Rattle.flow_pool.specs.declared.run.solve.SolveFault.TheVariants.{Memory, Threads};
-ghost use Rattle.flow_pool.specs.Report.{IsReport, IsFindingReport, IsSolveFault, solve_fault};
+ghost use Rattle.flow_pool.specs.Report.{IsReport, IsSolveFault, solve_fault};
 ghost use Rattle.flow_pool.specs.internal.Runs.{IsMade, IsRun};
 
-use crate::at_start::{report_with_verdict, target_at_start};
 use crate::ends::HubState;
 use crate::gate::HubGate;
 use crate::refusal::Refusal;
@@ -16,7 +12,7 @@ use crate::run::make::{Made, make_run};
 use crate::settling::{LanePair, settle_all};
 use crate::threads::{Ended, Start, run_workers};
 use crate::{Answer, Gate};
-use flow_search::{Finding, Outcome, Plan, RunFault, Target, Verdict, conclude_below};
+use flow_search::{Outcome, Plan, RunFault, Verdict, conclude, first_refusal};
 use std::alloc::{AllocError, Global};
 use std::sync::Wait;
 use std::thread::Threads;
@@ -31,21 +27,12 @@ pub struct Report {
     pub lanes: Vec<LanePair>,
 }
 
-/// The finding of a run below a target, and the settled lanes of its workers.
-#[derive(Drop)]
-pub struct FindingReport {
-    /// The least makespan, or that no sequence is below the target.
-    pub finding: Finding,
-    /// The settled lanes of each worker, in the order of the workers.
-    pub lanes: Vec<LanePair>,
-}
-
 /// What comes of a run that may start only some of its workers.
 #[derive(Drop)]
 enum Run {
     /// The report of all workers.
-    Whole(FindingReport),
-    /// All workers were started, and there is no finding.
+    Whole(Report),
+    /// All workers were started, and there is no verdict.
     Fault(RunFault),
     /// As many workers were started as may be, and the plan has more.
     UsedUp,
@@ -99,33 +86,18 @@ fn outcomes_of(answers: Vec<Answer>, room: Vec<Outcome>) -> Vec<Outcome>
     outcomes
 }
 
-/// The fault of the first outcome that is not `Done`.
-fn refusal_among(outcomes: &[Outcome]) -> Option<RunFault>
-    requires { length outcomes.now ≤ most_prefixes }
-    ensures { result ≡ first_refusal 0 outcomes.now }
-{
-    for (number, outcome) in outcomes.iter().enumerate() {
-        match outcome {
-            Outcome::Done { .. } => {}
-            Outcome::OverBudget => return Some(RunFault::OverBudget(number as u32)),
-            Outcome::NoMemory | Outcome::NoPrefix => return Some(RunFault::Memory),
-        }
-    }
-    None
-}
-
 /// Runs as `run_limited` does, from the start of the first worker on. Where the starts are used up it says so, whether
 /// or not there is memory.
 fn run_made<R: Threads + Wait + Sync, G: Gate + Sync>(
     rt: &R,
     alloc: Global,
-    target: &Target,
+    plan: &Plan,
     gate: &HubGate<G>,
     starts: u32,
     made: Made,
 ) -> Run
-    requires { IsMade (plan_below target.now) made }
-    ensures { IsRun target.now starts result }
+    requires { IsMade plan.now made }
+    ensures { IsRun plan.now starts result }
 {
     let Made {
         ends,
@@ -133,7 +105,7 @@ fn run_made<R: Threads + Wait + Sync, G: Gate + Sync>(
         room,
         mut lanes,
     } = made;
-    let ended = run_workers(rt, alloc, target, gate, starts, ends, hub);
+    let ended = run_workers(rt, alloc, plan, gate, starts, ends, hub);
     let Ended {
         start,
         workers,
@@ -147,29 +119,29 @@ fn run_made<R: Threads + Wait + Sync, G: Gate + Sync>(
         Start::Refused(refusal) => return Run::Refused(refusal),
     }
     let outcomes = outcomes_of(answers, room);
-    if let Some(fault) = refusal_among(outcomes.as_slice()) {
+    if let Some(fault) = first_refusal(&outcomes) {
         return Run::Fault(fault);
     }
-    match conclude_below(alloc, target, outcomes) {
-        Ok(finding) => Run::Whole(FindingReport { finding, lanes }),
+    match conclude(alloc, plan, outcomes) {
+        Ok(verdict) => Run::Whole(Report { verdict, lanes }),
         Err(fault) => Run::Fault(fault),
     }
 }
 
-/// Runs the target as `solve_below` does, but starts at most `starts` workers, and tells apart why not all workers were
-/// started. `AllocError` where memory ran out before a worker was started.
+/// Runs the plan as `solve_limited` does, and tells apart why not all workers were started. `AllocError` where memory
+/// ran out before a worker was started.
 fn run_limited<R: Threads + Wait + Sync, G: Gate + Sync>(
     rt: &R,
     alloc: Global,
-    target: &Target,
+    plan: &Plan,
     gate: &G,
     starts: u32,
 ) -> Result<Run, AllocError>
-    ensures { IfOk result (λ run. IsRun target.now starts run) }
+    ensures { IfOk result (λ run. IsRun plan.now starts run) }
 {
-    let made = make_run(alloc, target)?;
+    let made = make_run(alloc, plan)?;
     let gate = HubGate::new(gate, &made.hub.parker)?;
-    Ok(run_made(rt, alloc, target, &gate, starts, made))
+    Ok(run_made(rt, alloc, plan, &gate, starts, made))
 }
 
 /// Solves the plan as `solve` does, but starts at most `starts` workers: the next start counts as one that failed.
@@ -186,9 +158,8 @@ pub fn solve_limited<R: Threads + Wait + Sync, G: Gate + Sync>(
     ensures fault { IfErr result (λ fault. IsSolveFault plan.now fault) }
     ensures limited { starts < plan.now.options.workers → (result ≡ Err Memory) ⊎ (result ≡ Err Threads) }
 {
-    let target = target_at_start(plan);
-    match run_limited(rt, alloc, &target, gate, starts)? {
-        Run::Whole(report) => Ok(report_with_verdict(report)),
+    match run_limited(rt, alloc, plan, gate, starts)? {
+        Run::Whole(report) => Ok(report),
         Run::Fault(fault) => Err(SolveFault::from(fault)),
         Run::UsedUp | Run::Refused(_) => Err(SolveFault::Threads),
     }
@@ -207,24 +178,7 @@ pub fn solve<R: Threads + Wait + Sync, G: Gate + Sync>(
     ensures report { IfOk result (λ report. IsReport plan.now report) }
     ensures fault { IfErr result (λ fault. IsSolveFault plan.now fault) }
 {
-    let target = target_at_start(plan);
-    let report = solve_below(rt, alloc, &target, gate)?;
-    Ok(report_with_verdict(report))
-}
-
-/// Searches below the target. It runs, refuses and ends early as `solve` does, which is the run of the target that is
-/// the makespan of the starting sequence.
-pub fn solve_below<R: Threads + Wait + Sync, G: Gate + Sync>(
-    rt: &R,
-    alloc: Global,
-    target: &Target,
-    gate: &G,
-) -> Result<FindingReport, SolveFault>
-    ensures report { IfOk result (λ report. IsFindingReport target.now report) }
-    ensures fault { IfErr result (λ fault. IsSolveFault (plan_below target.now) fault) }
-{
-    let workers = target.plan().options().workers();
-    match run_limited(rt, alloc, target, gate, workers)? {
+    match run_limited(rt, alloc, plan, gate, plan.options().workers())? {
         Run::Whole(report) => Ok(report),
         Run::Fault(fault) => Err(SolveFault::from(fault)),
         Run::UsedUp => unreachable!(),

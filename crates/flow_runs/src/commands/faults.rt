@@ -8,7 +8,7 @@ use flow_search::{OptionFault, PlanFault};
 use std::alloc::Global;
 
 /// The line on standard error for each fault.
-static FAULT_LINES: [(CommandFault, &str); 39] = [
+static FAULT_LINES: [(CommandFault, &str); 41] = [
     (CommandFault::Memory, "refused memory"),
     (CommandFault::Read(ReadFault::Device), "failed read Device"),
     (
@@ -85,6 +85,7 @@ static FAULT_LINES: [(CommandFault, &str); 39] = [
         CommandFault::Improve(ImproveFault::Seed),
         "refused option Seed",
     ),
+    (CommandFault::Directions, "refused option Directions"),
     (
         CommandFault::Choice(OptionFault::Workers),
         "refused option Workers",
@@ -145,6 +146,13 @@ static FAULT_LINES: [(CommandFault, &str); 39] = [
     (
         CommandFault::Certificate(CheckFault::End),
         "refused certificate End",
+    ),
+    (
+        CommandFault::Bounds {
+            lower: 11,
+            upper: 13,
+        },
+        "refused bounds 11 13",
     ),
     (
         CommandFault::Write(WriteFault::Device),

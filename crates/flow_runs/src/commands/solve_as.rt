@@ -1,9 +1,9 @@
-//! What `solve` as a request says writes and refuses: from starts, of the mirrored instance, and below targets.
+//! What `solve` as a request says writes and refuses, from starts.
 
 use super::endless::Endless;
 use super::texts::{
-    BEST, BOUNDS_OF_10, BOUNDS_OF_11, BOUNDS_OF_12, DEPTH_0, FROM_BEST, FROM_LAST, FROM_START,
-    LAST, LONG_TREES, LONG_TREES_START, NEH, ONE_JOB, OTHER_STARTS, START, THREE_MACHINES,
+    BEST, DEPTH_0, FROM_BEST, FROM_LAST, FROM_START, LAST, LONG_TREES, LONG_TREES_START, NEH,
+    ONE_JOB, OTHER_STARTS, START, THREE_MACHINES,
 };
 use super::{AMPLE, Given, OF_THREE, ROOM, Wanted, all_of, comes_to};
 use flow_commands::{CommandFault, SolveRequest, run_solve_as};
@@ -20,14 +20,6 @@ const PLAIN: SolveRequest = SolveRequest {
     depth: 0,
     budget: AMPLE,
     version: 1,
-    mirrored: false,
-    target: None,
-};
-
-/// The same of the mirrored instance.
-const MIRRORED: SolveRequest = SolveRequest {
-    mirrored: true,
-    ..PLAIN
 };
 
 /// More workers than there may be.
@@ -37,50 +29,20 @@ const CROWDED: SolveRequest = SolveRequest {
     ..PLAIN
 };
 
-/// A search below 11.
-const BELOW_11: SolveRequest = SolveRequest {
-    target: Some(11),
-    ..PLAIN
-};
-
-/// The same at depth 1.
-const PARTS: SolveRequest = SolveRequest {
-    depth: 1,
-    ..BELOW_11
-};
-
 /// A text, a start text and a request; and what is written, or the fault.
 type Row = (&'static [u8], Option<&'static [u8]>, SolveRequest, Wanted);
 
-static ROWS: [Row; 29] = [
-    // From starts. The certificates, and those of the mirrored instance from the reversed starts, were computed apart
-    // from the program, by the definitions.
+static ROWS: [Row; 12] = [
+    // The certificates were computed apart from the program, by the definitions.
     (THREE_MACHINES, Some(START), PLAIN, Ok(FROM_START)),
-    (
-        THREE_MACHINES,
-        Some(START),
-        MIRRORED,
-        Ok(b"flowshop certificate 1\n3 3 0\n12\n2 1 3\n+++.B++.B+AB\nend\n"),
-    ),
     (THREE_MACHINES, Some(LAST), PLAIN, Ok(FROM_LAST)),
-    (
-        THREE_MACHINES,
-        Some(LAST),
-        MIRRORED,
-        Ok(b"flowshop certificate 1\n3 3 0\n12\n2 1 3\n+B++.B+AB\nend\n"),
-    ),
     (THREE_MACHINES, Some(BEST), PLAIN, Ok(FROM_BEST)),
-    (
-        THREE_MACHINES,
-        Some(BEST),
-        MIRRORED,
-        Ok(b"flowshop certificate 1\n3 3 0\n12\n2 1 3\n+BC+AB\nend\n"),
-    ),
     (THREE_MACHINES, Some(NEH), PLAIN, Ok(DEPTH_0)),
+    (THREE_MACHINES, None, PLAIN, Ok(DEPTH_0)),
     (
         ONE_JOB,
         Some(b"sequence 1\nmakespan 0\n"),
-        MIRRORED,
+        PLAIN,
         Ok(b"flowshop certificate 1\n1 1 0\n0\n1\nA\nend\n"),
     ),
     (
@@ -117,141 +79,14 @@ static ROWS: [Row; 29] = [
         },
         Ok(DEPTH_0),
     ),
-    // Both trees are longer.
     (
         LONG_TREES,
         Some(LONG_TREES_START),
         SolveRequest {
-            budget: 10_000,
+            budget: 16_330,
             ..PLAIN
         },
         Err(CommandFault::Run(SolveFault::OverBudget(0))),
-    ),
-    (
-        LONG_TREES,
-        Some(LONG_TREES_START),
-        SolveRequest {
-            budget: 10_000,
-            ..MIRRORED
-        },
-        Err(CommandFault::Run(SolveFault::OverBudget(0))),
-    ),
-    // Below targets. The starting sequence has the makespan 13, and the start 15.
-    (
-        THREE_MACHINES,
-        None,
-        SolveRequest {
-            target: Some(12),
-            ..PLAIN
-        },
-        Ok(BOUNDS_OF_12),
-    ),
-    (THREE_MACHINES, None, BELOW_11, Ok(BOUNDS_OF_11)),
-    // Version 2 cuts the empty list at 10 by the same machine as version 1.
-    (
-        THREE_MACHINES,
-        None,
-        SolveRequest {
-            target: Some(10),
-            version: 2,
-            ..PLAIN
-        },
-        Ok(BOUNDS_OF_10),
-    ),
-    (
-        THREE_MACHINES,
-        None,
-        SolveRequest {
-            target: Some(0),
-            ..PLAIN
-        },
-        Ok(b"flowshop bounds 1\n3 3 0\n0 13\n2 1 3\nA\nend\n"),
-    ),
-    (
-        THREE_MACHINES,
-        None,
-        SolveRequest {
-            target: Some(13),
-            ..PLAIN
-        },
-        Ok(DEPTH_0),
-    ),
-    (
-        THREE_MACHINES,
-        None,
-        SolveRequest {
-            target: Some(14),
-            ..PLAIN
-        },
-        Ok(DEPTH_0),
-    ),
-    (
-        THREE_MACHINES,
-        None,
-        SolveRequest {
-            target: Some(u64::MAX),
-            ..PLAIN
-        },
-        Ok(DEPTH_0),
-    ),
-    // The text of 11 has a tree of 6 bytes. At depth 1 its trees are those of the lists 1, 2 and 3.
-    (
-        THREE_MACHINES,
-        None,
-        SolveRequest {
-            budget: 6,
-            ..BELOW_11
-        },
-        Ok(BOUNDS_OF_11),
-    ),
-    (
-        THREE_MACHINES,
-        None,
-        SolveRequest {
-            budget: 5,
-            ..BELOW_11
-        },
-        Err(CommandFault::Run(SolveFault::OverBudget(0))),
-    ),
-    (
-        THREE_MACHINES,
-        None,
-        SolveRequest { budget: 3, ..PARTS },
-        Ok(b"flowshop bounds 1\n3 3 1\n11 13\n2 1 3\nB\nB\n+AB\nend\n"),
-    ),
-    (
-        THREE_MACHINES,
-        None,
-        SolveRequest { budget: 2, ..PARTS },
-        Err(CommandFault::Run(SolveFault::OverBudget(2))),
-    ),
-    (
-        THREE_MACHINES,
-        Some(START),
-        SolveRequest {
-            target: Some(12),
-            ..PLAIN
-        },
-        Ok(b"flowshop bounds 1\n3 3 0\n12 15\n1 2 3\n+BC+AB\nend\n"),
-    ),
-    // Below 14 the list 1 is cut at once by machine 2, whose bound is 14.
-    (
-        THREE_MACHINES,
-        Some(START),
-        SolveRequest {
-            target: Some(14),
-            ..PLAIN
-        },
-        Ok(b"flowshop certificate 1\n3 3 0\n12\n3 1 2\n+B++.B++.B\nend\n"),
-    ),
-    (
-        THREE_MACHINES,
-        Some(START),
-        SolveRequest {
-            target: Some(15),
-            ..PLAIN
-        },
-        Ok(FROM_START),
     ),
 ];
 
@@ -297,7 +132,7 @@ fn solve_searches_as_a_request_says(rt: HostRuntime) {
     }
 }
 
-/// Whether `solve` names the fault of a start, also of the mirrored instance.
+/// Whether `solve` names the fault of a start.
 fn names<R: Threads + Wait + Sync>(
     rt: &R,
     alloc: Global,
@@ -307,8 +142,7 @@ fn names<R: Threads + Wait + Sync>(
         beside: Some(row.0),
         ..OF_THREE
     };
-    let wanted = Err(row.1);
-    solves(rt, alloc, &texts, PLAIN, wanted) && solves(rt, alloc, &texts, MIRRORED, wanted)
+    solves(rt, alloc, &texts, PLAIN, Err(row.1))
 }
 
 #[test]

@@ -1,4 +1,4 @@
-//! Texts of instances, of starts, of certificates and of bounds.
+//! Texts of instances, of starts and of certificates.
 
 use flow_commands::CommandFault;
 use flow_core::{SequenceFault, StartFault};
@@ -16,13 +16,19 @@ pub(super) const LONG_TREES: &[u8] =
     b"a\n9 4 0 0 0\nb\n1 37 32 68 83 26 63 2 5\n34 48 9 53 93 99 66 58 43\n\
 47 74 38 46 98 11 39 51 15\n62 30 27 97 68 70 66 22 38\n";
 
-/// Its starting sequence. From it the tree of the instance has 16,331 bytes, and that of the mirrored one 20,437.
+/// Its starting sequence. From it the tree has 16,331 bytes.
 pub(super) const LONG_TREES_START: &[u8] = b"sequence 1 6 3 7 4 5 9 2 8\nmakespan 626\n";
 
 /// Nine jobs on four machines, with the times of `gen 9 4 50`.
 pub(super) const FOUR_MACHINES: &[u8] =
     b"a\n9 4 0 0 0\nb\n1 58 78 93 64 94 35 94 96\n73 18 97 55 73 67 49 56 39\n\
 17 34 87 34 45 52 31 35 60\n69 80 6 52 11 13 37 80 41\n";
+
+/// Fourteen jobs on two machines: thirteen with times 1 and 1, and one with 10 and 10. All sequences have makespan 33.
+/// The bound with no job put is 24. Below 33 no list is cut before the long job has its place, so each order of the
+/// thirteen is tried.
+pub(super) const ONE_LONG_JOB: &[u8] =
+    b"a\n14 2 0 0 0\nb\n1 1 1 1 1 1 1 1 1 1 1 1 1 10\n1 1 1 1 1 1 1 1 1 1 1 1 1 10\n";
 
 /// The certificate of the first text at depth 0.
 pub(super) const DEPTH_0: &[u8] = b"flowshop certificate 1\n3 3 0\n12\n3 1 2\n+BC++.B\nend\n";
@@ -58,50 +64,14 @@ pub(super) const FROM_LAST: &[u8] = b"flowshop certificate 1\n3 3 0\n12\n3 1 2\n
 
 pub(super) const FROM_BEST: &[u8] = b"flowshop certificate 1\n3 3 0\n12\n3 1 2\n+BC+AB\nend\n";
 
-/// The certificate that `certify` writes of four machines: one of the mirrored instance, since the tree of the instance
-/// has more than 10,000 bytes. The tree was worked out apart from the program, by the definitions.
-pub(super) const OF_FOUR_MACHINES: &[u8] =
-    b"flowshop certificate 1\n9 4 0\n742\n5 2 4 6 1 7 9 3 8\n\
-+DDDD+D++DDDDDDD++DDDDDD++D+DD++.DDDDDDDDDDDDDDDDDDDDD+DDDDDDDDDD\nend\n";
-
-/// Fourteen jobs on two machines: thirteen with times 1 and 1, and one with 10 and 10. The mirrored instance has the
-/// same times.
-pub(super) const ONE_LONG_JOB: &[u8] =
-    b"a\n14 2 0 0 0\nb\n1 1 1 1 1 1 1 1 1 1 1 1 1 10\n1 1 1 1 1 1 1 1 1 1 1 1 1 10\n";
-
-/// Its text of bounds. All sequences have makespan 33, so the starting sequence takes each job at the first place. At
-/// the empty list machine 1 has the bound 24 and machine 2 has 23 in version 1; in version 2 both have 24. Below 25 no
-/// list is cut before the long job has its place, so each order of the thirteen is tried, and the trees are over their
-/// budgets.
-pub(super) const OF_ONE_LONG_JOB: &[u8] =
-    b"flowshop bounds 1\n14 2 0\n24 33\n13 12 11 10 9 8 7 6 5 4 3 2 1 14\nA\nend\n";
-
-/// Fourteen jobs on two machines: thirteen with times 1 and 1, and one with 10 and 11.
-pub(super) const ONE_LONGER_JOB: &[u8] =
-    b"a\n14 2 0 0 0\nb\n1 1 1 1 1 1 1 1 1 1 1 1 1 10\n1 1 1 1 1 1 1 1 1 1 1 1 1 11\n";
-
-/// Its text of bounds. All sequences have makespan 34. In the mirrored instance machine 1 has the bound 25 at the empty
-/// list. In the instance it has 24, and the tree below 25 has more than one byte.
-pub(super) const OF_ONE_LONGER_JOB: &[u8] =
-    b"flowshop bounds 1\n14 2 0\n25 34\n14 1 2 3 4 5 6 7 8 9 10 11 12 13\nA\nend\n";
-
 /// What `gen` writes for two jobs, two machines and seed 1.
 pub(super) const GENERATED: &[u8] =
     b"number of jobs, number of machines, initial seed, upper bound and lower bound :\n\
 2 2 1 122 122\nprocessing times :\n1 14\n75 46\n";
 
-/// Texts of bounds of the text with three machines. The least makespan is 12. At the empty list the bounds are 7, 10
-/// and 5. At 1, 2 and 3 they are 7, 14 and 9; 7, 11 and 13; 8, 10 and 7. At 3 1 machine 1 has the bound 12, and at 3 2
-/// machine 1 has 8 and machine 2 has 14.
-pub(super) const BOUNDS_OF_12: &[u8] = b"flowshop bounds 1\n3 3 0\n12 13\n2 1 3\n+BC+AB\nend\n";
-
-pub(super) const BOUNDS_OF_11: &[u8] = b"flowshop bounds 1\n3 3 0\n11 13\n2 1 3\n+BB+AB\nend\n";
-
-pub(super) const BOUNDS_OF_10: &[u8] = b"flowshop bounds 2\n3 3 0\n10 13\n2 1 3\nB\nend\n";
-
-/// Two-ended certificates of it. The heads of its machines are 0, 0 and 2, their tails 3, 0 and 0, and the bound with
-/// no job put is 10. With 1, 2 and 3 at the back the bounds are 14, 12 and 11, and with them at the front 14, 13 and
-/// 10; with 3 1 and 3 2 at the front they are 12 and 14.
+/// Two-ended certificates of the text with three machines. The heads of its machines are 0, 0 and 2, their tails 3, 0
+/// and 0, and the bound with no job put is 10. With 1, 2 and 3 at the back the bounds are 14, 12 and 11, and with them
+/// at the front 14, 13 and 10; with 3 1 and 3 2 at the front they are 12 and 14.
 pub(super) const TWO_ENDED_12: &[u8] = b"flowshop two-ended 1\n3 3\n12 12\n3 1 2\n++\nend\n";
 
 pub(super) const TWO_ENDED_11: &[u8] = b"flowshop two-ended 1\n3 3\n11 13\n2 1 3\n-\nend\n";

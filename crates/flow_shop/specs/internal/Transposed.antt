@@ -1,13 +1,7 @@
--- How an instance keeps its times, job by job, where the definitions have them machine by machine; and how these are
--- mirrored.
-use Rattle.std.specs.Prelude.{ℕ, ◌+◌, ◌-◌, ◌*◌, ◌/◌, ◌%◌, List, length, map, slice_index}
+-- How an instance keeps its times, job by job, where the definitions have them machine by machine.
+use Rattle.std.specs.Prelude.{ℕ, ◌+◌, ◌*◌, ◌/◌, ◌%◌, List, map, slice_index}
 use Rattle.std.specs.List.{range_with_len}
 
 -- the numbers of n lists of m each, one list after another, with rows and columns exchanged: taken column by column
 abbrev pub transposed : ℕ → ℕ → List ℕ → List ℕ
 transposed n m numbers = map (λ place. slice_index numbers (place % n * m + place / n)) (range_with_len 0 (n * m))
-
--- the numbers of lists of m each, one list after another, each list reversed
-abbrev pub each_reversed : ℕ → List ℕ → List ℕ
-each_reversed m numbers =
-    map (λ place. slice_index numbers (place / m * m + (m - 1 - place % m))) (range_with_len 0 (length numbers))

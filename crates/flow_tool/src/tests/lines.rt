@@ -1,8 +1,6 @@
 //! Command lines, and what each comes to.
 
-use crate::tests::files::{
-    BOUNDS, DEPTH_0, DEPTH_1, DEPTH_2, GENERATED, OF_MIRROR, OF_TWO_MACHINES,
-};
+use crate::tests::files::{DEPTH_0, DEPTH_1, DEPTH_2, GENERATED, OF_TWO_MACHINES, TWO_ENDED};
 
 /// How a command line goes on behind its first words, the bytes that it writes, and its line on standard error.
 pub(crate) type Row = (&'static str, &'static [u8], &'static str);
@@ -20,12 +18,8 @@ const DEPTH_1_2: &[u8] = b"flowshop certificate 2\n3 3 1\n12\n3 1 2\nB\nC\n++.B\
 /// program, by the definitions.
 const FROM_START: &[u8] = b"flowshop certificate 1\n3 3 0\n12\n3 1 2\n++B+.++.B++.B\nend\n";
 
-/// The same of the mirrored instance, from the reversed start.
-const MIRRORED_FROM_START: &[u8] = b"flowshop certificate 1\n3 3 0\n12\n2 1 3\n+++.B++.B+AB\nend\n";
-
-/// The certificate of the instance of three machines at depth 0 from its best sequence; it was computed apart from the
-/// program, by the definitions.
-const FROM_BEST: &[u8] = b"flowshop certificate 1\n3 3 0\n12\n3 1 2\n+BC+AB\nend\n";
+/// A two-ended certificate of the instance with two machines, whose bound is its least makespan.
+const TWO_ENDED_OF_TWO: &[u8] = b"flowshop two-ended 1\n3 2\n9 9\n2 3 1\n\nend\n";
 
 /// The best sequence of the instance of three machines.
 const BEST: &[u8] = b"sequence 3 1 2\nmakespan 12\n";
@@ -39,7 +33,7 @@ const TIMES: &[u8] =
 3,1,4,4\n3,2,12,14\n3,3,14,15\n";
 
 /// Commands on files and on standard input, the version of the program, and refusals.
-pub(crate) static ANSWERS: [Row; 22] = [
+pub(crate) static ANSWERS: [Row; 20] = [
     ("span stdin 1 2 3 1", b"makespan 9\n", ""),
     ("span stdin 2 2 1 3", b"makespan 13\n", ""),
     ("span ./stdin 1 2 1 3", b"makespan 13\n", ""),
@@ -50,24 +44,6 @@ pub(crate) static ANSWERS: [Row; 22] = [
     ("neh stdin 2", b"sequence 2 1 3\nmakespan 13\n", ""),
     ("neh text_both 1", b"sequence 2 3 1\nmakespan 9\n", ""),
     ("neh text_both 2", b"sequence 2 1 3\nmakespan 13\n", ""),
-    (
-        "mirror stdin 1",
-        b"number of jobs, number of machines, initial seed, upper bound and lower bound :\n\
-3 2 0 0 0\nprocessing times :\n2 4 2\n3 1 2\n",
-        "",
-    ),
-    (
-        "mirror text_both 2",
-        b"number of jobs, number of machines, initial seed, upper bound and lower bound :\n\
-3 3 0 0 0\nprocessing times :\n4 0 1\n0 8 2\n4 0 0\n",
-        "",
-    ),
-    (
-        "mirror generated 1",
-        b"number of jobs, number of machines, initial seed, upper bound and lower bound :\n\
-2 2 1 122 122\nprocessing times :\n75 46\n1 14\n",
-        "",
-    ),
     ("solve text_three 1", DEPTH_1, ""),
     ("solve text_both 2", DEPTH_1, ""),
     ("solve stdin 2", DEPTH_1, ""),
@@ -84,27 +60,17 @@ pub(crate) static ANSWERS: [Row; 22] = [
     ),
     (
         "--version",
-        b"flowshop 1.0, certificate versions 1 and 2\n",
+        b"flowshop 1.0, certificates of versions 1 and 2, two-ended certificates of version 1\n",
         "",
     ),
     ("span missing 1 1", b"", "failed open"),
     ("gen 801 1 1", b"", "refused instance Jobs"),
     ("sort text_three", b"", "refused command line"),
+    ("mirror text_three 1", b"", "refused command line"),
 ];
 
 /// The options of `solve text_three 1`.
-pub(crate) static OPTIONS: [Row; 21] = [
-    ("--depth 0 --mirrored", OF_MIRROR, ""),
-    ("--target 11 --depth 0", BOUNDS, ""),
-    ("--depth 0 --target 13", DEPTH_0, ""),
-    ("--depth 0 --target 4294967295", DEPTH_0, ""),
-    ("--depth 0 --target 11 --budget 6", BOUNDS, ""),
-    (
-        "--depth 0 --target 11 --budget 5",
-        b"",
-        "refused run OverBudget 0",
-    ),
-    ("--target -1", b"", "refused command line"),
+pub(crate) static OPTIONS: [Row; 14] = [
     ("--workers 64", DEPTH_1, ""),
     ("--workers 65", b"", "refused option Workers"),
     ("--workers 0", b"", "refused option Workers"),
@@ -152,22 +118,11 @@ pub(crate) static VERSIONS: [Row; 15] = [
     ("3 --certificate 3", b"", "refused index"),
 ];
 
-/// Starts of `solve`; and the mirrored instance.
-pub(crate) static STARTS: [Row; 15] = [
-    ("text_both 2 --mirrored --depth 0", OF_MIRROR, ""),
+/// Starts of `solve`.
+pub(crate) static STARTS: [Row; 12] = [
     ("text_three 1 --depth 0 --start start", FROM_START, ""),
     ("text_both 2 --start start --depth 0", FROM_START, ""),
     ("stdin 2 --start start --depth 0", FROM_START, ""),
-    (
-        "text_three 1 --depth 0 --start start --mirrored",
-        MIRRORED_FROM_START,
-        "",
-    ),
-    (
-        "stdin 2 --depth 0 --mirrored --start start --workers 2",
-        MIRRORED_FROM_START,
-        "",
-    ),
     ("stdin 2 --start other_start", b"", "refused start 2"),
     ("stdin 2 --start generated", b"", "refused start 1"),
     ("stdin 2 --depth 0 --start stdin", FROM_START, ""),
@@ -230,36 +185,35 @@ pub(crate) static IMPROVE: [Row; 21] = [
     ("text_three 1 --start broken", b"", "failed read Device"),
 ];
 
-/// The numbers and the starts of `certify`.
-pub(crate) static CERTIFY: [Row; 19] = [
-    ("stdin 2", DEPTH_0, ""),
-    ("stdin 2 --start best_start", FROM_BEST, ""),
-    ("stdin 1", OF_TWO_MACHINES, ""),
-    ("text_both 2 --certificate 2", DEPTH_0_2, ""),
-    ("stdin 1 --certificate 2", OF_TWO_2, ""),
-    ("text_three 1 --rounds 0", DEPTH_0, ""),
-    ("text_three 1 --start start --rounds 0", FROM_START, ""),
-    ("stdin 2 --start start --seed 2147483646", FROM_START, ""),
-    ("stdin 2 --seed 2147483646 --certificate 2", DEPTH_0_2, ""),
+/// The numbers and the starts of `certify`. The instance of three machines has one best sequence. Its directions were
+/// computed apart from the program, by the definitions.
+pub(crate) static CERTIFY: [Row; 17] = [
+    ("stdin 2", TWO_ENDED, ""),
+    ("stdin 2 --start best_start", TWO_ENDED, ""),
+    ("stdin 1", TWO_ENDED_OF_TWO, ""),
+    ("text_both 2 --directions 100", TWO_ENDED, ""),
+    ("text_three 1 --rounds 0", TWO_ENDED, ""),
+    ("text_three 1 --start start --width 0", TWO_ENDED, ""),
+    ("stdin 2 --start start --seed 2147483646", TWO_ENDED, ""),
+    ("stdin 2 --directions 1000000000", TWO_ENDED, ""),
     ("stdin 2 --rounds 100000001", b"", "refused option Rounds"),
     (
-        "stdin 2 --start start --rounds 100000001",
-        b"",
-        "refused option Rounds",
-    ),
-    (
-        "stdin 2 --seed 0 --certificate 3",
+        "stdin 2 --seed 0 --directions 0",
         b"",
         "refused option Seed",
     ),
-    ("stdin 2 --start start --seed 0", b"", "refused option Seed"),
-    ("stdin 2 --certificate 3", b"", "refused option Version"),
+    ("stdin 2 --directions 0", b"", "refused option Directions"),
     (
-        "stdin 2 --start start --certificate 0",
+        "stdin 2 --start start --directions 1000000001",
         b"",
-        "refused option Version",
+        "refused option Directions",
     ),
-    ("stdin 3 --certificate 3", b"", "refused index"),
+    ("stdin 3 --directions 0", b"", "refused index"),
+    (
+        "stdin 2 --start other_start --directions 0",
+        b"",
+        "refused start 2",
+    ),
     ("stdin 2 --start missing", b"", "failed open"),
     ("missing 2", b"", "failed open"),
     ("text_three 1 --start broken", b"", "failed read Device"),
@@ -280,21 +234,21 @@ pub(crate) static SCHEDULE: [Row; 11] = [
     ("text_three 1 start --form", b"", "refused command line"),
 ];
 
-/// The files of `check`, texts of bounds, sequences, and certificates of the mirrored instance.
-pub(crate) static CHECK: [Row; 37] = [
+/// The files of `check`: certificates, two-ended ones, and sequences.
+pub(crate) static CHECK: [Row; 32] = [
     ("text_three 1 of_three", b"optimal 12\n", ""),
-    ("text_three 1 bounds", b"bounds 11 13\n", ""),
+    ("text_three 1 bounds", b"bounds 10 13\n", ""),
     (
         "text_three 1 bounds --sequence",
         b"sequence 2 1 3\nmakespan 13\n",
         "",
     ),
     ("text_three 1 of_three --optimal", b"optimal 12\n", ""),
-    ("text_three 1 bounds --optimal", b"", "refused bounds 11 13"),
+    ("text_three 1 bounds --optimal", b"", "refused bounds 10 13"),
     (
         "text_three 1 bounds --optimal --sequence",
         b"",
-        "refused bounds 11 13",
+        "refused bounds 10 13",
     ),
     ("text_three 1 two_ended", b"optimal 12\n", ""),
     (
@@ -329,26 +283,5 @@ pub(crate) static CHECK: [Row; 37] = [
         b"sequence 3 1 2\nmakespan 12\n",
         "",
     ),
-    (
-        "text_three 1 of_mirror --either --sequence",
-        b"sequence 3 1 2\nmakespan 12\n",
-        "",
-    ),
-    (
-        "text_three 1 of_mirror",
-        b"",
-        "refused certificate NotAttained",
-    ),
-    ("text_three 1 of_mirror --either", b"optimal 12\n", ""),
-    ("text_three 1 of_three --either", b"optimal 12\n", ""),
-    (
-        "text_both 1 of_mirror --either",
-        b"",
-        "refused certificate Size",
-    ),
-    (
-        "text_three 1 generated --either",
-        b"",
-        "refused certificate Header",
-    ),
+    ("text_three 1 generated", b"", "refused certificate Header"),
 ];

@@ -27,8 +27,6 @@ const SOLVE: SolveRequest = SolveRequest {
     depth: 1,
     budget: 1_000_000,
     version: 1,
-    mirrored: false,
-    target: None,
 };
 
 /// The request of `improve` where no option is given.
@@ -50,13 +48,12 @@ const OTHER: ImproveRequest = ImproveRequest {
 /// Command lines, and the orders that they are read as.
 const ORDERS: [(&str, Order); 8] = [
     (
-        "check FILE 1 CERT --either",
+        "check FILE 1 CERT",
         Order::Check {
             file: "FILE",
             index: 1,
             cert: "CERT",
             request: CheckRequest {
-                either: true,
                 bounds: true,
                 sequence: false,
                 optimal: false,
@@ -70,7 +67,6 @@ const ORDERS: [(&str, Order); 8] = [
             index: 1,
             cert: "CERT",
             request: CheckRequest {
-                either: false,
                 bounds: true,
                 sequence: true,
                 optimal: true,
@@ -87,15 +83,14 @@ const ORDERS: [(&str, Order); 8] = [
         },
     ),
     (
-        "solve FILE 1 --mirrored --start SEQUENCE --workers 3 --target 4294967295",
+        "solve FILE 1 --certificate 2 --start SEQUENCE --workers 3",
         Order::Solve {
             file: "FILE",
             index: 1,
             start: Some("SEQUENCE"),
             request: SolveRequest {
                 workers: 3,
-                mirrored: true,
-                target: Some(4_294_967_295),
+                version: 2,
                 ..SOLVE
             },
         },
@@ -126,13 +121,12 @@ const ORDERS: [(&str, Order); 8] = [
             start: None,
             request: CertifyRequest {
                 improve: USUAL,
-                version: None,
-                bounds: false,
+                directions: 100_000_000,
             },
         },
     ),
     (
-        "certify FILE 1 --bounds --certificate 7 --work 7 --width 65537 --seed 0 --rounds 4294967295 \
+        "certify FILE 1 --directions 4294967295 --work 7 --width 65537 --seed 0 --rounds 4294967295 \
 --start SEQUENCE",
         Order::Certify {
             file: "FILE",
@@ -140,8 +134,7 @@ const ORDERS: [(&str, Order); 8] = [
             start: Some("SEQUENCE"),
             request: CertifyRequest {
                 improve: OTHER,
-                version: Some(7),
-                bounds: true,
+                directions: 4_294_967_295,
             },
         },
     ),
@@ -185,7 +178,7 @@ fn words_are_read_as_orders(rt: HostRuntime) {
 }
 
 /// Command lines that are refused.
-static REFUSED: [&str; 17] = [
+static REFUSED: [&str; 23] = [
     "",
     "sort",
     "span FILE 1",
@@ -203,6 +196,12 @@ static REFUSED: [&str; 17] = [
     "improve FILE 1 --certificate 1",
     "certify FILE 1 --seed 4294967296",
     "certify FILE 1 --workers 1",
+    "certify FILE 1 --directions 4294967296",
+    "certify FILE 1 --certificate 1",
+    "certify FILE 1 --bounds",
+    "solve FILE 1 --mirrored",
+    "solve FILE 1 --target 1",
+    "check FILE 1 CERT --either",
 ];
 
 /// Whether a command line is refused, and neither for help nor for memory.

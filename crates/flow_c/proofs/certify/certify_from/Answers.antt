@@ -1,27 +1,32 @@
+use Rattle.std.proofs.Common.{arith}
 use Rattle.std.proofs.lemmas.Result.{err_from_is_err_and}
-use Rattle.flow_c.proofs.Found.{is-target, text-found, too-long}
+use Rattle.flow_c.proofs.TextSize.{text-found, too-long}
 use Rattle.flow_c.proofs.certify.certify_from.Goals as goal
+use Rattle.flow_c.proofs.certify.certify_from.Goals.{In_ok-frame}
+use Rattle.flow_c.specs.Certify.{IsTextFrom}
+use Rattle.flow_c.specs.internal.Frames.{with_directions}
 
-pub write-requires-clause-target : goal.write-requires-clause-target
-write-requires-clause-target c =
-    let proved = c.in_ok-plan.field-0 in
-    rw c.new-target.ensures (is-target proved.plan proved.number c.in_ok-plan.ensures.found.is_plan)
+-- the text of what was found
+found : (c : In_ok-frame) →
+    IsTextFrom c.args.instance.now c.args.start.now c.args.directions
+    (with_directions c.in_ok-frame.frame.bytes c.in_ok-found.found.directions.items)
+    (record { lower = c.in_ok-found.found.lower; upper = c.in_ok-found.found.upper }) c.in_ok-found.found.sequence
+found c =
+    text-found c.args.instance.now c.args.start.now c.args.directions
+    (record { lower = c.in_ok-found.found.lower; upper = c.in_ok-found.found.upper }) c.in_ok-found.found.sequence
+    c.in_ok-found.found.directions.items c.in_ok-frame.frame.bytes c.requires.limits c.in_ok-found.ensures.each
+    c.in_ok-found.ensures.attained c.in_ok-found.ensures.no_worse c.in_ok-found.ensures.proved
+    (omega (arith, c.in_ok-found.ensures.few)) c.in_ok-frame.ensures.text
+
+pub returns-clause-text : goal.returns-clause-text
+returns-clause-text c = found (goal.at.returns-clause-text c).In_ok-frame
 
 pub returns-in_err-need-clause-refused : goal.returns-in_err-need-clause-refused
 returns-in_err-need-clause-refused c =
-    let proved = c.in_ok-plan.field-0 in
     let p = err_from_is_err_and c.from_residual-in_err-need.result c.from_residual-in_err-need.ensures.1 in
     rw (p.1, p.2)
-    (too-long c.args.bounds c.args.version c.args.instance.now c.args.start.now c.in_ok-written.written.text.bytes
-    c.args.room c.in_err-need.field-0.0
-    (text-found c.args.bounds c.args.version c.args.instance.now c.args.start.now proved.plan proved.number
-    proved.finding c.in_ok-written.written.text.bytes c.in_ok-plan.ensures.found
-    (rw c.new-target.ensures at c.in_ok-written.ensures.text))
-    (rw c.bytes.ensures.value at c.in_err-need.ensures.short))
-
-pub returns-clause-text : goal.returns-clause-text
-returns-clause-text c =
-    let proved = c.in_ok-plan.field-0 in
-    text-found c.args.bounds c.args.version c.args.instance.now c.args.start.now proved.plan proved.number
-    proved.finding c.in_ok-written.written.text.bytes c.in_ok-plan.ensures.found
-    (rw c.new-target.ensures at c.in_ok-written.ensures.text)
+    (too-long c.args.instance.now c.args.start.now c.args.directions c.args.room
+    (record { lower = c.in_ok-found.found.lower; upper = c.in_ok-found.found.upper }) c.in_ok-found.found.sequence
+    c.in_ok-found.found.directions.items c.in_ok-frame.frame.bytes c.in_err-need.field-0.0
+    (found (goal.at.returns-in_err-need-clause-refused c).In_ok-frame) c.in_ok-frame.ensures.text
+    (rw (c.bytes.ensures.value, c.len.ensures, c.in_ok-found.found.directions.ok.0) at c.in_err-need.ensures.short))

@@ -1,7 +1,6 @@
 use Rattle.std.proofs.Common.{ℕ, Ok, inl, ap, subst, sym, ◌∙◌}
 use Rattle.flow_check.specs.Certificate.{IsCertificate}
 use Rattle.flow_check.specs.declared.bounds.Bounds.{Bounds}
-use Rattle.flow_check.specs.declared.kind.TreeKind.TheVariants.{Certificate}
 use Rattle.flow_check.proofs.Exits.{exit}
 use Rattle.flow_check.proofs.Checked.{only-memory, fault-at, none-at}
 use Rattle.flow_check.proofs.Sound.{certificate_is_sound, value_is_one}
@@ -12,18 +11,18 @@ returns-in_err-shown-clause-sound c = certificate_is_sound c.args.instance.now c
 
 pub returns-in_err-shown-clause-lawful : goal.returns-in_err-shown-clause-lawful
 returns-in_err-shown-clause-lawful c value is =
-    only-memory Certificate c.args.instance.now c.args.bytes.now c.from_residual.result c.in_err-shown.field-0.0 value
+    only-memory c.args.instance.now c.args.bytes.now c.from_residual.result c.in_err-shown.field-0.0 value
     _ (exit c.from_residual.result c.in_err-shown.field-0.0 c.from_residual.ensures.1)
     c.in_err-shown.ensures.none is
 
 pub returns-in_err-shown-clause-fault : goal.returns-in_err-shown-clause-fault
 returns-in_err-shown-clause-fault c =
-    fault-at Certificate c.args.instance.now c.args.bytes.now c.from_residual.result c.in_err-shown.field-0.0
+    fault-at c.args.instance.now c.args.bytes.now c.from_residual.result c.in_err-shown.field-0.0
     (exit c.from_residual.result c.in_err-shown.field-0.0 c.from_residual.ensures.1) c.in_err-shown.ensures.fault
 
 pub returns-in_err-shown-clause-none : goal.returns-in_err-shown-clause-none
 returns-in_err-shown-clause-none c =
-    none-at Certificate c.args.instance.now c.args.bytes.now c.from_residual.result c.in_err-shown.field-0.0
+    none-at c.args.instance.now c.args.bytes.now c.from_residual.result c.in_err-shown.field-0.0
     (exit c.from_residual.result c.in_err-shown.field-0.0 c.from_residual.ensures.1) c.in_err-shown.ensures.none
 
 pub returns-clause-value : goal.returns-clause-value

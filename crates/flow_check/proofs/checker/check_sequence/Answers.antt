@@ -1,4 +1,4 @@
-use Rattle.flow_check.proofs.StatedLines.{value-gives}
+use Rattle.flow_check.proofs.CertificateLines.{value-gives}
 use Rattle.flow_check.proofs.checker.check_sequence.Goals as goal
 
 pub returns-clause-sequence : goal.returns-clause-sequence

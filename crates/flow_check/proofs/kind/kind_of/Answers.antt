@@ -1,7 +1,4 @@
 use Rattle.flow_check.proofs.kind.kind_of.Goals as goal
 
 pub returns-in-None : goal.returns-in-None
-returns-in-None c = (
-  λ opens. absurd (c.in-None.ensures.only opens.0 opens.2.0 opens.1 opens.2.1),
-  λ opens. absurd (c.in_default.ensures.only opens.0 opens.1),
-)
+returns-in-None c = λ opens. absurd (c.in-None.ensures.only opens.0 opens.1)

@@ -1,20 +1,27 @@
 use Rattle.std.proofs.Common.{IfErr, subst, sym}
-use Rattle.std.proofs.lemmas.Result.{IfErr-weaker}
+use Rattle.std.proofs.lemmas.Result.{IfOk-weaker, IfErr-weaker}
 use Rattle.flow_check.specs.Check.{IsUnlawfulAs}
-use Rattle.flow_check.specs.declared.kind.TreeKind.TheVariants.{Certificate, OfBounds}
-use Rattle.flow_check.proofs.TextGiven.{gives-nothing}
+use Rattle.flow_check.specs.declared.kind.TextKind.TheVariants.{Certificate}
+use Rattle.flow_check.specs.declared.shown.Shown.{Shown}
+use Rattle.flow_check.proofs.TextGiven.{given-bounds, least-of, gives-nothing}
 use Rattle.flow_check.proofs.text.check_text.Goals as goal
+
+pub returns-in-Certificate-clause-bounds : goal.returns-in-Certificate-clause-bounds
+returns-in-Certificate-clause-bounds c =
+    IfOk-weaker c.check_certificate.result _ _ (λ (shown : Shown) gives.
+    given-bounds Certificate c.args.instance.now c.args.bytes.now shown.bounds shown.sequence gives)
+    c.check_certificate.ensures.text
+
+pub returns-in-Certificate-clause-least : goal.returns-in-Certificate-clause-least
+returns-in-Certificate-clause-least c =
+    IfOk-weaker c.check_certificate.result _ _ (λ (shown : Shown) gives.
+    least-of c.args.instance.now shown.bounds
+    (given-bounds Certificate c.args.instance.now c.args.bytes.now shown.bounds shown.sequence gives))
+    c.check_certificate.ensures.text
 
 pub returns-in-Certificate-clause-none : goal.returns-in-Certificate-clause-none
 returns-in-Certificate-clause-none c =
-    subst (λ kind. IfErr c.check_tree_text.result (λ fault.
+    subst (λ kind. IfErr c.check_certificate.result (λ fault.
     IsUnlawfulAs kind c.args.instance.now c.args.bytes.now fault)) (sym c.in-Certificate.is)
-    (IfErr-weaker c.check_tree_text.result _ _
-    (gives-nothing Certificate c.args.instance.now c.args.bytes.now) c.check_tree_text.ensures.none)
-
-pub returns-in-OfBounds-clause-none : goal.returns-in-OfBounds-clause-none
-returns-in-OfBounds-clause-none c =
-    subst (λ kind. IfErr c.check_tree_text-in-OfBounds.result (λ fault.
-    IsUnlawfulAs kind c.args.instance.now c.args.bytes.now fault)) (sym c.in-OfBounds.is)
-    (IfErr-weaker c.check_tree_text-in-OfBounds.result _ _
-    (gives-nothing OfBounds c.args.instance.now c.args.bytes.now) c.check_tree_text-in-OfBounds.ensures.none)
+    (IfErr-weaker c.check_certificate.result _ _
+    (gives-nothing c.args.instance.now c.args.bytes.now) c.check_certificate.ensures.none)

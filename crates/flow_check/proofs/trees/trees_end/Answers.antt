@@ -10,11 +10,11 @@ returns-in_err-end c =
       arith,
       stands.at.is_node.count,
     ) in
-    trees-fail c.args.instance.now c.args.heading.now.version c.args.heading.now.depth c.args.heading.now.bounds.lower
+    trees-fail c.args.instance.now c.args.heading.now.version c.args.heading.now.depth c.args.heading.now.value
     c.args.heading.now.trees.now
     c.from_residual-in_err-end.result c.in_err-end.field-0.0
     (exit c.from_residual-in_err-end.result c.in_err-end.field-0.0 c.from_residual-in_err-end.ensures.1)
-    (cut-line c.args.instance.now c.args.heading.now.version c.args.heading.now.depth c.args.heading.now.bounds.lower
+    (cut-line c.args.instance.now c.args.heading.now.version c.args.heading.now.depth c.args.heading.now.value
     (suc c.in_ok-reader.reader.child_left) c.args.heading.now.trees.now
     (Err c.in_err-end.field-0.0) all c.if-heading-eq0.true (c.in_err-end.ensures.lines [] stands))
 
@@ -25,10 +25,10 @@ returns-then-heading-eq0 c =
       arith,
       stands.at.is_node.count,
     ) in
-    trees-ok c.args.instance.now c.args.heading.now.version c.args.heading.now.depth c.args.heading.now.bounds.lower
+    trees-ok c.args.instance.now c.args.heading.now.version c.args.heading.now.depth c.args.heading.now.value
     c.args.heading.now.trees.now
     c.in_ok-end.end c.in_ok-end.ensures.within.0
-    (cut-line c.args.instance.now c.args.heading.now.version c.args.heading.now.depth c.args.heading.now.bounds.lower
+    (cut-line c.args.instance.now c.args.heading.now.version c.args.heading.now.depth c.args.heading.now.value
     (suc c.in_ok-reader.reader.child_left) c.args.heading.now.trees.now (Ok c.in_ok-end.end) all c.if-heading-eq0.true
     (c.in_ok-end.ensures.lines [] stands))
 
@@ -39,11 +39,11 @@ returns-in_err-end-2 c =
       arith,
       stands.at.is_node.count,
     ) in
-    trees-fail c.args.instance.now c.args.heading.now.version c.args.heading.now.depth c.args.heading.now.bounds.lower
+    trees-fail c.args.instance.now c.args.heading.now.version c.args.heading.now.depth c.args.heading.now.value
     c.args.heading.now.trees.now
     c.from_residual-in_err-end-2.result c.in_err-end-2.field-0.0
     (exit c.from_residual-in_err-end-2.result c.in_err-end-2.field-0.0 c.from_residual-in_err-end-2.ensures.1)
-    (cut-lines c.args.instance.now c.args.heading.now.version c.args.heading.now.depth c.args.heading.now.bounds.lower
+    (cut-lines c.args.instance.now c.args.heading.now.version c.args.heading.now.depth c.args.heading.now.value
     (suc c.in_ok-reader.reader.child_left) c.args.heading.now.trees.now (Err c.in_err-end-2.field-0.0) all
     (c.in_err-end-2.ensures.lines [] stands))
 
@@ -54,9 +54,9 @@ returns c =
       arith,
       stands.at.is_node.count,
     ) in
-    trees-ok c.args.instance.now c.args.heading.now.version c.args.heading.now.depth c.args.heading.now.bounds.lower
+    trees-ok c.args.instance.now c.args.heading.now.version c.args.heading.now.depth c.args.heading.now.value
     c.args.heading.now.trees.now
     c.in_ok-end-2.end c.in_ok-end-2.ensures.within.0
-    (cut-lines c.args.instance.now c.args.heading.now.version c.args.heading.now.depth c.args.heading.now.bounds.lower
+    (cut-lines c.args.instance.now c.args.heading.now.version c.args.heading.now.depth c.args.heading.now.value
     (suc c.in_ok-reader.reader.child_left) c.args.heading.now.trees.now (Ok c.in_ok-end-2.end) all
     (c.in_ok-end-2.ensures.lines [] stands))

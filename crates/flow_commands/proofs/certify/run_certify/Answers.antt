@@ -1,6 +1,6 @@
 use Rattle.std.proofs.Common.{refl}
 use Rattle.std.proofs.lemmas.Result.{IfErr-weaker, err_from_is_err_and, on_ok_weaker}
-use Rattle.flow_commands.specs.Certify.{AnswersCertify, WroteCertified}
+use Rattle.flow_commands.specs.Certify.{AnswersCertify, WroteTwoEnded}
 use Rattle.flow_commands.specs.Runs.{sink_run, source_run, start_run}
 use Rattle.flow_commands.proofs.Given.{came-for, ended-from, stopped-from, wrote-from}
 use Rattle.flow_commands.proofs.certify.run_certify.Goals as goal
@@ -39,7 +39,7 @@ pub returns-clause-lawful : goal.returns-clause-lawful
 returns-clause-lawful g c =
     on_ok_weaker c.certify_block.result
     (came-for c.args.index
-    (λ shop. WroteCertified c.args.request.bounds shop (sink_run g.K.Sink.taken c.args.out.now c.certify_block.new.out))
+    (λ shop. WroteTwoEnded shop (sink_run g.K.Sink.taken c.args.out.now c.certify_block.new.out))
     c.in_ok-block.block
     (source_run g.S.Source.given g.S.Source.has_ended c.args.file.now c.read_inputs.new.file)
     c.in_ok-block.ensures.picked)

@@ -3,6 +3,7 @@ use Rattle.std.proofs.lemmas.Result.{err_from_is_err_and}
 use Rattle.flow_commands.specs.Check.{AnswersCheck}
 use Rattle.flow_commands.specs.Runs.{sink_run, source_run}
 use Rattle.flow_core.specs.Limits.{most_certificate}
+use Rattle.flow_check.proofs.TextGiven.{given-upper}
 use Rattle.flow_commands.proofs.Endings.{ends-in-writing-for}
 use Rattle.flow_commands.proofs.Refused.{ends-in-check, ends-in-fault}
 use Rattle.flow_commands.proofs.check.check_certificate.Goals as goal
@@ -23,35 +24,10 @@ returns-clause-written g c =
           (
             c.in_ok-shown.shown.bounds,
             c.in_ok-shown.shown.sequence,
-            rw c.as_slice-bytes.ensures.value at c.in_ok-shown.ensures.gives,
+            rw c.as_slice-bytes.ensures.value at c.in_ok-shown.ensures.text,
             c.falls_short.ensures.no c.if-falls_short.false,
-            c.in_ok-text.ensures c.args.instance.now c.in_ok-shown.ensures.upper,
+            c.in_ok-text.ensures c.args.instance.now (given-upper _ _ _ _ _ c.in_ok-shown.ensures.text),
           ),
-        ),
-        rw c.as_slice.ensures.value at c.in_ok-put_all.ensures.ok,
-      ),
-    )
-
-pub returns-clause-proved : goal.returns-clause-proved
-returns-clause-proved g c =
-    let within : length c.in_ok-given.given.items ≤ most_certificate =
-    omega (arith, c.in_ok-given.ensures.within, c.in_ok-given.given.ok.0) in (
-      c.in_ok-given.given.items,
-      within,
-      c.in_ok-given.ensures.bytes,
-      c.in_ok-given.ensures.ended,
-      (
-        c.in_ok-text.text.items,
-        (
-          c.kind_among-kind.result,
-          rw c.as_slice-bytes.ensures.value at c.kind_among-kind.ensures,
-          c.in_ok-shown.shown.bounds,
-          c.in_ok-shown.ensures.proved,
-          c.falls_short.ensures.no c.if-falls_short.false,
-          c.in_ok-shown.shown.sequence,
-          c.in_ok-shown.ensures.each,
-          c.in_ok-shown.ensures.upper,
-          c.in_ok-text.ensures c.args.instance.now c.in_ok-shown.ensures.upper,
         ),
         rw c.as_slice.ensures.value at c.in_ok-put_all.ensures.ok,
       ),
@@ -69,7 +45,7 @@ returns-then-falls_short-clause-ended g c =
     (inr (
       c.in_ok-shown.shown.bounds,
       c.in_ok-shown.shown.sequence,
-      rw c.as_slice-bytes.ensures.value at c.in_ok-shown.ensures.gives,
+      rw c.as_slice-bytes.ensures.value at c.in_ok-shown.ensures.text,
       c.falls_short.ensures.yes c.if-falls_short.true,
       refl,
     ))
@@ -85,7 +61,8 @@ returns-in_err-shown-clause-ended g c =
     (sink_run g.K.Sink.taken c.args.out.now c.args.out.now) c.in_ok-given.given.items c.in_err-shown.field-0.0
     c.kind_among-kind.result within c.in_ok-given.ensures.bytes c.in_ok-given.ensures.ended refl
     (rw c.as_slice-bytes.ensures.value at c.kind_among-kind.ensures)
-    (rw c.as_slice-bytes.ensures.value at c.in_err-shown.ensures.refused))
+    (rw c.as_slice-bytes.ensures.value at c.in_err-shown.ensures.fault)
+    (rw c.as_slice-bytes.ensures.value at c.in_err-shown.ensures.none))
 
 pub returns-in_err-put_all-clause-ended : goal.returns-in_err-put_all-clause-ended
 returns-in_err-put_all-clause-ended g c =
@@ -102,9 +79,9 @@ returns-in_err-put_all-clause-ended g c =
       (
         c.in_ok-shown.shown.bounds,
         c.in_ok-shown.shown.sequence,
-        rw c.as_slice-bytes.ensures.value at c.in_ok-shown.ensures.gives,
+        rw c.as_slice-bytes.ensures.value at c.in_ok-shown.ensures.text,
         c.falls_short.ensures.no c.if-falls_short.false,
-        c.in_ok-text.ensures c.args.instance.now c.in_ok-shown.ensures.upper,
+        c.in_ok-text.ensures c.args.instance.now (given-upper _ _ _ _ _ c.in_ok-shown.ensures.text),
       ),
     )
     (rw c.as_slice.ensures.value at c.in_err-put_all.ensures.err))

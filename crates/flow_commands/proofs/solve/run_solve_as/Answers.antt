@@ -1,6 +1,6 @@
 use Rattle.std.proofs.Common.{refl}
 use Rattle.std.proofs.lemmas.Result.{IfErr-weaker, err_from_is_err_and, on_ok_weaker}
-use Rattle.flow_commands.specs.Solve.{AnswersSolve, WroteFound, mirrored_if}
+use Rattle.flow_commands.specs.Solve.{AnswersSolve, WroteCertificate}
 use Rattle.flow_commands.specs.Runs.{sink_run, source_run, start_run}
 use Rattle.flow_commands.proofs.Given.{came-for, ended-from, stopped-from, wrote-from}
 use Rattle.flow_commands.proofs.solve.run_solve_as.Goals as goal
@@ -38,8 +38,8 @@ returns-clause-ended g c =
 pub returns-clause-lawful : goal.returns-clause-lawful
 returns-clause-lawful g c =
     on_ok_weaker c.solve_block.result
-    (came-for c.args.index (λ shop. WroteFound c.args.request.target (mirrored_if c.args.request.mirrored shop)
-    (sink_run g.K.Sink.taken c.args.out.now c.solve_block.new.out))
+    (came-for c.args.index
+    (λ shop. WroteCertificate shop (sink_run g.K.Sink.taken c.args.out.now c.solve_block.new.out))
     c.in_ok-block.block
     (source_run g.S.Source.given g.S.Source.has_ended c.args.file.now c.read_inputs.new.file)
     c.in_ok-block.ensures.picked)

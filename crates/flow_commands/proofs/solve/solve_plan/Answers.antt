@@ -4,15 +4,14 @@ use Rattle.flow_cert.specs.PlanCertificates.{certificate_of}
 use Rattle.flow_cert.proofs.Lawful.{text-of-plan}
 use Rattle.flow_commands.specs.Runs.{sink_run}
 use Rattle.flow_commands.specs.Solve.{AnswersRun}
-use Rattle.flow_commands.proofs.Certified.{wrote-certificate}
 use Rattle.flow_commands.proofs.Endings.{ends-alone-in-writing}
-use Rattle.flow_commands.proofs.Solved.{run-ended}
+use Rattle.flow_commands.proofs.Solved.{run-ended, wrote-certificate}
 use Rattle.flow_commands.proofs.solve.solve_plan.Goals as goal
 
 pub returns-clause-lawful : goal.returns-clause-lawful
 returns-clause-lawful g c =
-    wrote-certificate _ c.args.plan.now c.in_ok-report.report.verdict
-    (sink_run g.K.Sink.taken c.args.out.now c.write_certificate.new.out) refl
+    wrote-certificate c.args.plan.now c.in_ok-report.report.verdict
+    (sink_run g.K.Sink.taken c.args.out.now c.write_certificate.new.out)
     c.requires.is_plan c.in_ok-report.ensures.report.verdict c.in_ok-write_certificate.ensures.ok
 
 pub returns-clause-written : goal.returns-clause-written

@@ -27,15 +27,6 @@ returns-in-Neh-clause-ended g c = rw c.in-Neh.is c.obey_neh.ensures.ended
 pub returns-in-Neh-clause-read_device : goal.returns-in-Neh-clause-read_device
 returns-in-Neh-clause-read_device g c = rw c.in-Neh.is c.obey_neh.ensures.read_device
 
-pub returns-in-Mirror-clause-written : goal.returns-in-Mirror-clause-written
-returns-in-Mirror-clause-written g c = rw c.in-Mirror.is c.obey_mirror.ensures.written
-
-pub returns-in-Mirror-clause-ended : goal.returns-in-Mirror-clause-ended
-returns-in-Mirror-clause-ended g c = rw c.in-Mirror.is c.obey_mirror.ensures.ended
-
-pub returns-in-Mirror-clause-read_device : goal.returns-in-Mirror-clause-read_device
-returns-in-Mirror-clause-read_device g c = rw c.in-Mirror.is c.obey_mirror.ensures.read_device
-
 pub returns-in-Solve-clause-written : goal.returns-in-Solve-clause-written
 returns-in-Solve-clause-written g c = rw c.in-Solve.is c.obey_solve.ensures.written
 

@@ -6,7 +6,8 @@ use Rattle.flow_nodes.specs.Nodes.{IsNode}
 use Rattle.flow_check.specs.internal.Frames.{AreGroups, AreLeft, first_of, last_of, frame_at, here, above, with_job}
 use Rattle.flow_check.specs.internal.ReadDirections.{first_end, read_node}
 use Rattle.flow_check.proofs.WalkSteps.{Stands, count-above, last-above, above-back, left-root, left-without}
-use Rattle.flow_check.proofs.WalkSteps.{left-child, stands-root, stands-done, stands-back, parent-back, left-back, stands-child}
+use Rattle.flow_check.proofs.WalkSteps.{left-child, stands-root, stands-done, stands-back, parent-back, left-back}
+use Rattle.flow_check.proofs.WalkSteps.{stands-child}
 use Rattle.flow_check.proofs.WalkSteps.{fails-low, fails-sign, opened}
 use Rattle.flow_check.proofs.two_ended.walk.walk.Goals as goal
 

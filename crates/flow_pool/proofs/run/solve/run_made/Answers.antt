@@ -1,59 +1,58 @@
 use Rattle.std.proofs.Common.{◌≡◌, ◌∙◌, None, Some, length, map, sym, ap, rules, arith}
 use Rattle.flow_search.specs.Verdicts.{first_refusal}
-use Rattle.flow_search.specs.Targets.{plan_below}
 use Rattle.flow_pool.specs.declared.ends.Answer.{Answer}
 use Rattle.flow_pool.proofs.Over.{IsRunFault-first, none-over_budget}
 use Rattle.flow_pool.proofs.Whole.{answers-of-run, lawful-outcomes, All-IsDoneAnswer, AreWholeWork-from_parts}
 use Rattle.flow_pool.proofs.Whole.{HasCollected-dealt}
 use Rattle.flow_pool.proofs.run.solve.run_made.Goals as goal
 
-pub refusal_among-requires : goal.refusal_among-requires
-refusal_among-requires g c =
+pub first_refusal-requires : goal.first_refusal-requires
+first_refusal-requires g c =
     let directed = c.run_workers-ended.ensures.directed c.in-Complete.is in
     let settled = c.settle_all.ensures in
-    let lawful = lawful-outcomes (plan_below c.args.target.now) _ _ _ _ _ _ directed
+    let lawful = lawful-outcomes c.args.plan.now _ _ _ _ _ _ directed
     c.run_workers-ended.ensures.ended.served
     settled.tasks settled.answers c.requires.some c.outcomes_of-outcomes.ensures in
-    omega (arith, directed.few, c.requires.few, lawful.1, ap length c.as_slice.ensures.value)
+    omega (arith, directed.few, c.requires.few, lawful.1, ap length c.deref.ensures.value)
 
 pub returns-in-Some : goal.returns-in-Some
 returns-in-Some g c =
     let directed = c.run_workers-ended.ensures.directed c.in-Complete.is in
     let settled = c.settle_all.ensures in
     let outcomes = c.outcomes_of-outcomes.result.items in
-    let lawful = lawful-outcomes (plan_below c.args.target.now) _ _ _ _ _ _ directed
+    let lawful = lawful-outcomes c.args.plan.now _ _ _ _ _ _ directed
     c.run_workers-ended.ensures.ended.served
     settled.tasks settled.answers c.requires.some c.outcomes_of-outcomes.ensures in
     let first : first_refusal 0 outcomes ≡ Some c.in-Some.fault =
-    ap (first_refusal 0) (sym c.as_slice.ensures.value) ∙ (sym c.refusal_among.ensures ∙ c.in-Some.is) in (
-      IsRunFault-first (plan_below c.args.target.now) outcomes c.in-Some.fault (omega (arith, lawful.1, directed.few))
+    ap (first_refusal 0) (sym c.deref.ensures.value) ∙ (sym c.first_refusal.ensures ∙ c.in-Some.is) in (
+      IsRunFault-first c.args.plan.now outcomes c.in-Some.fault (omega (arith, lawful.1, directed.few))
           lawful.0 first,
       search rules,
     )
 
-pub conclude_below-requires-clause-count : goal.conclude_below-requires-clause-count
-conclude_below-requires-clause-count g c =
+pub conclude-requires-clause-count : goal.conclude-requires-clause-count
+conclude-requires-clause-count g c =
     let directed = c.run_workers-ended.ensures.directed c.in-Complete.is in
     let settled = c.settle_all.ensures in
     let answers = c.run_workers-ended.result.hub.answers.items in
-    let lawful = lawful-outcomes (plan_below c.args.target.now) _ _ _ _ _ _ directed
+    let lawful = lawful-outcomes c.args.plan.now _ _ _ _ _ _ directed
     c.run_workers-ended.ensures.ended.served
     settled.tasks settled.answers c.requires.some c.outcomes_of-outcomes.ensures in
     let none : first_refusal 0 (map (λ (a : Answer). a.outcome) answers) ≡ None =
-    ap (first_refusal 0) (sym (c.as_slice.ensures.value ∙ c.outcomes_of-outcomes.ensures))
-    ∙ (sym c.refusal_among.ensures ∙ c.in_default.is) in
+    ap (first_refusal 0) (sym (c.deref.ensures.value ∙ c.outcomes_of-outcomes.ensures))
+    ∙ (sym c.first_refusal.ensures ∙ c.in_default.is) in
     c.outcomes_of-outcomes.result.ok.0 ∙ (lawful.1 ∙ directed.whole (none-over_budget 0 answers none))
 
-pub conclude_below-requires-clause-lawful : goal.conclude_below-requires-clause-lawful
-conclude_below-requires-clause-lawful g c =
+pub conclude-requires-clause-lawful : goal.conclude-requires-clause-lawful
+conclude-requires-clause-lawful g c =
     let directed = c.run_workers-ended.ensures.directed c.in-Complete.is in
     let settled = c.settle_all.ensures in
-    (lawful-outcomes (plan_below c.args.target.now) _ _ _ _ _ _ directed c.run_workers-ended.ensures.ended.served
+    (lawful-outcomes c.args.plan.now _ _ _ _ _ _ directed c.run_workers-ended.ensures.ended.served
     settled.tasks settled.answers c.requires.some c.outcomes_of-outcomes.ensures).0
 
 pub returns-in-Ok : goal.returns-in-Ok
 returns-in-Ok g c =
-    let p = plan_below c.args.target.now in
+    let p = c.args.plan.now in
     let directed = c.run_workers-ended.ensures.directed c.in-Complete.is in
     let served = c.run_workers-ended.ensures.ended.served in
     let settled = c.settle_all.ensures in
@@ -61,8 +60,8 @@ returns-in-Ok g c =
     let a = settled.answers in
     let answers = c.run_workers-ended.result.hub.answers.items in
     let none : first_refusal 0 (map (λ (a : Answer). a.outcome) answers) ≡ None =
-    ap (first_refusal 0) (sym (c.as_slice.ensures.value ∙ c.outcomes_of-outcomes.ensures))
-    ∙ (sym c.refusal_among.ensures ∙ c.in_default.is) in
+    ap (first_refusal 0) (sym (c.deref.ensures.value ∙ c.outcomes_of-outcomes.ensures))
+    ∙ (sym c.first_refusal.ensures ∙ c.in_default.is) in
     let all = directed.whole (none-over_budget 0 answers none) in
     let collected = HasCollected-dealt p _ _ answers directed.dealt all in
     let run = answers-of-run p _ _ _ answers _ directed.dealt served t a c.requires.some in
@@ -72,8 +71,8 @@ returns-in-Ok g c =
         lanes = AreWholeWork-from_parts p _ _ _ answers _ collected served done t.0 t.1 a.0 a.1 settled.received
             settled.lanes c.requires.slots;
         within = search rules;
-        finding = found.finding;
-        least = found.least;
+        verdict = found.verdict;
+        least = record { least = found.least; attained = found.attained; sequence = found.sequence };
       },
       search rules,
     )

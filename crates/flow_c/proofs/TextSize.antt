@@ -1,0 +1,203 @@
+-- How long a two-ended certificate is, and how it is put together from one with no directions.
+use Rattle.std.proofs.Common.{◌≡◌, ◌⊎◌, inr, ◌∙◌, refl, ap, sym, ℕ, ◌+◌, ◌-◌, ◌*◌, ◌^◌, ◌<◌, ◌≤◌, List, [], ◌∷◌, ◌++◌}
+use Rattle.std.proofs.Common.{length, take, drop, arith, append_assoc, length-append, length-drop}
+use Rattle.std.proofs.Math.Seq.{take-append_seam, drop-append_seam}
+use Rattle.std.proofs.lemmas.Fmt.{length-decimal-le}
+use Rattle.std.specs.Fmt.{decimal}
+use Rattle.std.specs.List.{AllByRecursion}
+use Rattle.std.proofs.lemmas.List.Elements.{recursion_from_All}
+use Rattle.std.proofs.lemmas.List.{length-take-le}
+use Rattle.flow_shop.specs.Shop.{Shop, IsWithinLimits}
+use Rattle.flow_shop.specs.Sequences.{IsSequence}
+use Rattle.flow_shop.specs.Paths.{span}
+use Rattle.flow_shop.specs.Directions.{Proves}
+use Rattle.flow_shop.proofs.DirectionsSound.{proved_is_lower_bound}
+use Rattle.flow_check.specs.TextLines.{line, spaced, ending}
+use Rattle.flow_check.specs.TwoEnded.{title_line, size_lines, bounds_lines, sequence_lines, two_ended_text}
+use Rattle.flow_check.specs.declared.bounds.Bounds.{Bounds}
+use Rattle.flow_cert.proofs.Lawful.{span-fits}
+use Rattle.flow_c.specs.Statuses.{number, memory}
+use Rattle.flow_c.specs.Certify.{IsTextFrom, IsTextTooLong}
+use Rattle.flow_c.specs.declared.fault.Fault.{Fault}
+use Rattle.flow_c.specs.declared.fault.Fault.TheVariants.{Room}
+use Rattle.flow_c.specs.internal.Frames.{with_directions}
+
+-- a number of at most so many digits
+abbrev IsShort : ℕ → ℕ → Type 0
+IsShort k n = (n < 10 ^ k) × (n < 2 ^ 64)
+
+-- numbers of at most so many digits, with one space between each two
+spaced-short : (k : ℕ) (ns : List ℕ) → 0 < k → AllByRecursion (IsShort k) ns →
+    length (spaced ns) ≤ (k + 1) * length ns
+spaced-short k [] some all = omega arith
+spaced-short k (n ∷ []) some all =
+    let own : length (decimal n) ≤ k = length-decimal-le k n some all.0.0 all.0.1 in
+    omega (arith, own)
+spaced-short k (n ∷ m ∷ ns) some all =
+    let own : length (decimal n) ≤ k = length-decimal-le k n some all.0.0 all.0.1 in
+    let rest : length (spaced (m ∷ ns)) ≤ (k + 1) * length (m ∷ ns) = spaced-short k (m ∷ ns) some all.1 in
+    let whole : length (spaced (n ∷ m ∷ ns)) ≡ length (decimal n) + length (32 ∷ spaced (m ∷ ns)) =
+    length-append (decimal n) (32 ∷ spaced (m ∷ ns)) in
+    omega (arith, own, rest, whole)
+
+-- a line of them
+line-short : (k : ℕ) (ns : List ℕ) → 0 < k → AllByRecursion (IsShort k) ns →
+    length (line (spaced ns)) ≤ (k + 1) * length ns + 1
+line-short k ns some all =
+    let short : length (spaced ns) ≤ (k + 1) * length ns = spaced-short k ns some all in
+    omega (arith, short, length-append (spaced ns) (10 ∷ []))
+
+-- jobs have at most three digits
+jobs-short : (n : ℕ) (jobs : List ℕ) → n ≤ 800 → AllByRecursion (λ job. (1 ≤ job) × (job ≤ n)) jobs →
+    AllByRecursion (IsShort 3) jobs
+jobs-short n [] few all = tt
+jobs-short n (job ∷ jobs) few all =
+    ((omega (arith, few, all.0.1), omega (arith, few, all.0.1)), jobs-short n jobs few all.1)
+
+-- the lines before the directions
+lines-short : (shop : Shop) (bounds : Bounds) (sequence : List ℕ) → IsWithinLimits shop → bounds.lower < 2 ^ 64 →
+    bounds.upper < 2 ^ 64 → IsSequence shop.jobs sequence → length (sequence_lines shop bounds sequence) ≤ 3290
+lines-short shop bounds sequence limits low high is =
+    let sizes : length (line (spaced (shop.jobs ∷ shop.machines ∷ []))) ≤ 9 =
+    line-short 3 (shop.jobs ∷ shop.machines ∷ []) (omega arith) (
+      (omega (arith, limits.jobs), omega (arith, limits.jobs)),
+      ((omega (arith, limits.machines), omega (arith, limits.machines)), tt),
+    ) in
+    let both : length (line (spaced (bounds.lower ∷ bounds.upper ∷ []))) ≤ 43 =
+    line-short 20 (bounds.lower ∷ bounds.upper ∷ []) (omega arith)
+    ((omega (arith, low), low), ((omega (arith, high), high), tt)) in
+    let all : length (line (spaced sequence)) ≤ 4 * length sequence + 1 =
+    line-short 3 sequence (omega arith)
+    (jobs-short shop.jobs sequence (omega (arith, limits.jobs)) (recursion_from_All _ sequence is.each.range)) in
+    let title : length title_line ≡ 21 = refl in
+    omega (
+      arith,
+      sizes,
+      both,
+      all,
+      title,
+      is.whole,
+      limits.jobs,
+      length-append title_line (line (spaced (shop.jobs ∷ shop.machines ∷ []))),
+      length-append (size_lines shop) (line (spaced (bounds.lower ∷ bounds.upper ∷ []))),
+      length-append (bounds_lines shop bounds) (line (spaced sequence)),
+    )
+
+-- what stands behind the directions
+abbrev tail : List ℕ
+tail = line [] ++ line ending
+
+-- the text with no directions
+frame-length : (shop : Shop) (bounds : Bounds) (sequence : List ℕ) →
+    length (two_ended_text shop bounds sequence []) ≡ length (sequence_lines shop bounds sequence) + 5
+frame-length shop bounds sequence =
+    let first : length (line []) ≡ 1 = refl in
+    let last : length (line ending) ≡ 4 = refl in
+    let lines = sequence_lines shop bounds sequence in
+    omega (arith, first, last, length-append (lines ++ line []) (line ending), length-append lines (line []))
+
+-- it has at least the bytes behind the directions
+pub framed : (shop : Shop) (bounds : Bounds) (sequence : List ℕ) →
+    5 ≤ length (two_ended_text shop bounds sequence [])
+framed shop bounds sequence = omega (arith, frame-length shop bounds sequence)
+
+-- it is short
+frame-short : (shop : Shop) (bounds : Bounds) (sequence : List ℕ) → IsWithinLimits shop → bounds.lower < 2 ^ 64 →
+    bounds.upper < 2 ^ 64 → IsSequence shop.jobs sequence → length (two_ended_text shop bounds sequence []) ≤ 3300
+frame-short shop bounds sequence limits low high is =
+    omega (arith, frame-length shop bounds sequence, lines-short shop bounds sequence limits low high is)
+
+-- lines, and what stands behind the directions, once these are put in
+put-in : (lines directions : List ℕ) →
+    with_directions (lines ++ tail) directions ≡ lines ++ line directions ++ line ending
+put-in lines directions =
+    let five : length tail ≡ 5 = refl in
+    let size : length (lines ++ tail) - 5 ≡ length lines = omega (arith, five, length-append lines tail) in
+    ap (λ n. take n (lines ++ tail) ++ directions ++ drop n (lines ++ tail)) size
+    ∙ ap (λ t. t ++ directions ++ drop (length lines) (lines ++ tail)) (take-append_seam lines tail)
+    ∙ ap (λ t. lines ++ directions ++ t) (drop-append_seam lines tail)
+    ∙ sym (append_assoc (lines ++ directions) (10 ∷ []) (line ending))
+    ∙ ap (λ t. t ++ line ending) (append_assoc lines directions (10 ∷ []))
+
+-- the text once directions are put in
+text-with : (shop : Shop) (bounds : Bounds) (sequence directions : List ℕ) →
+    with_directions (two_ended_text shop bounds sequence []) directions
+    ≡ two_ended_text shop bounds sequence directions
+text-with shop bounds sequence directions =
+    let lines = sequence_lines shop bounds sequence in
+    ap (λ frame. with_directions frame directions) (append_assoc lines (line []) (line ending))
+    ∙ put-in lines directions
+
+-- how long a text is once directions are put in
+pub length-with : (frame directions : List ℕ) → 5 ≤ length frame →
+    length (with_directions frame directions) ≡ length frame + length directions
+length-with frame directions enough =
+    let end : ℕ = length frame - 5 in
+    omega (
+      arith,
+      enough,
+      length-append (take end frame ++ directions) (drop end frame),
+      length-append (take end frame) directions,
+      length-take-le end frame (omega arith),
+      length-drop end frame,
+    )
+
+-- a number that directions prove is at most the makespan of each sequence
+lower-low : (shop : Shop) (number : ℕ) (sequence directions : List ℕ) → Proves shop number directions →
+    IsSequence shop.jobs sequence → number ≤ span shop sequence
+lower-low shop number sequence directions proves is = proved_is_lower_bound shop number directions proves sequence is
+
+-- the text of what was found, once the directions are put in
+pub text-found : (shop : Shop) (start : List ℕ) (most : ℕ) (bounds : Bounds) (sequence directions frame : List ℕ) →
+    IsWithinLimits shop → IsSequence shop.jobs sequence → span shop sequence ≡ bounds.upper →
+    bounds.upper ≤ span shop start → Proves shop bounds.lower directions → length directions ≤ most →
+    frame ≡ two_ended_text shop bounds sequence [] →
+    IsTextFrom shop start most (with_directions frame directions) bounds sequence
+text-found shop start most bounds sequence directions frame limits is attained no_worse proves few text =
+    let fits : span shop sequence < 2 ^ 64 = span-fits shop sequence limits is in
+    let low : bounds.lower ≤ span shop sequence = lower-low shop bounds.lower sequence directions proves is in
+    let high : bounds.upper < 2 ^ 64 = omega (arith, fits, attained) in
+    let lower : bounds.lower < 2 ^ 64 = omega (arith, fits, low) in
+    let enough : 5 ≤ length frame = omega (arith, ap length text, framed shop bounds sequence) in
+    record {
+      lawful = record {
+        directions = directions;
+        shows = record {
+          lower_fits = lower;
+          upper_fits = high;
+          whole = is;
+          attained = attained;
+          proved = proves;
+        };
+        text = ap (λ t. with_directions t directions) text ∙ text-with shop bounds sequence directions;
+      };
+      no_worse = no_worse;
+      few = few;
+      short =
+          omega (
+            arith,
+            few,
+            length-with frame directions enough,
+            ap length text,
+            frame-short shop bounds sequence limits lower high is,
+          );
+    }
+
+-- a text that has no room
+pub too-long : (shop : Shop) (start : List ℕ) (most entries : ℕ) (bounds : Bounds)
+    (sequence directions frame : List ℕ) (fault : Fault) →
+    IsTextFrom shop start most (with_directions frame directions) bounds sequence →
+    frame ≡ two_ended_text shop bounds sequence [] →
+    (fault ≡ Room (length frame + length directions)) × (entries < length frame + length directions) →
+    (number fault ≡ memory) ⊎ IsTextTooLong shop start most entries fault
+too-long shop start most entries bounds sequence directions frame fault is text (refused, short) =
+    let enough : 5 ≤ length frame = omega (arith, ap length text, framed shop bounds sequence) in
+    let same = length-with frame directions enough in
+    inr (
+      with_directions frame directions,
+      bounds,
+      sequence,
+      is,
+      refused ∙ ap (λ n. Room n) (sym same),
+      omega (arith, same, short),
+    )

@@ -1,6 +1,0 @@
-use Rattle.std.proofs.Common.{◌≡◌, drop}
-use Rattle.flow_search.specs.Verdicts.{first_refusal}
-use Rattle.flow_search.proofs.finding.refusal_among.Given as goal
-
-abbrev pub invariant-loop-number : goal.invariant-loop-number
-invariant-loop-number l = first_refusal l.number (drop l.number l.outcomes) ≡ first_refusal 0 l.outcomes
