@@ -2,6 +2,7 @@
 #![tactic(auto)]
 
 mod certified;
+mod fund;
 mod run;
 mod search;
 

@@ -9,40 +9,11 @@ ghost use Rattle.flow_certify.specs.Signs.{most_signs};
 ghost use Rattle.flow_certify.specs.internal.Runs.{IsLater, IsRun, IsSearched};
 
 use crate::certified::Certified;
+use crate::fund::Fund;
 use flow_directions::{Found, prove};
 use flow_improve::Reached;
 use flow_shop::{Instance, Sequence, makespan};
 use std::alloc::{AllocError, Global};
-
-/// The most directions of a two-ended certificate: with its other lines it is then within the bytes that `check` reads.
-const MOST_SIGNS: u64 = 999_990_000;
-
-/// The greatest makespan whose search has lanes of 16 bits. Beyond it a direction costs about twice as much.
-const NARROW: u64 = 65_535;
-
-/// How many directions all searches of a run may write, for each one that is given, at a cost of 1.
-const SHARE: u64 = 700;
-
-/// The part of a direction's cost that does not depend on the shop; each job adds 1 for each machine.
-const FIXED: u64 = 100;
-
-/// How many directions all searches of a run may write: they are fewer where each of them costs more.
-fn fund_of(instance: &Instance, makespan: u64, directions: u32) -> u64 {
-    let narrow = u64::from(instance.jobs()) * u64::from(instance.machines()) + FIXED;
-    let cost = if makespan > NARROW {
-        narrow * 2
-    } else {
-        narrow
-    };
-    u64::from(directions) * SHARE / cost
-}
-
-/// The most directions of one search: as many as are given, but no more than two thirds of those of all searches.
-fn whole_of(fund: u64, directions: u32) -> u64
-    ensures { result ≤ min directions most_signs }
-{
-    u64::from(directions).min(MOST_SIGNS).min(fund / 3 * 2)
-}
 
 /// Searches for directions, and what they found.
 #[derive(Drop)]
@@ -50,8 +21,7 @@ pub(crate) struct Run {
     pub(crate) known: Certified,
     /// The most directions of one search.
     pub(crate) whole: u64,
-    /// How many directions the searches that are still to come may write.
-    left: u64,
+    pub(crate) fund: Fund,
     /// The greatest budget with which the search below the makespan of the sequence was over.
     over: Option<u64>,
 }
@@ -70,7 +40,7 @@ impl Run {
         ensures whole { IfOk result (λ run. run.whole ≤ min directions most_signs) }
     {
         let upper = makespan(instance, start);
-        let fund = fund_of(instance, upper, directions);
+        let fund = Fund::new(instance, upper, directions);
         Ok(Run {
             known: Certified {
                 lower: 0,
@@ -78,8 +48,8 @@ impl Run {
                 sequence: Sequence::of_known(alloc, start.jobs())?,
                 directions: Vec::new(alloc),
             },
-            whole: whole_of(fund, directions),
-            left: fund,
+            whole: fund.whole(directions),
+            fund,
             over: None,
         })
     }
@@ -136,7 +106,7 @@ impl Run {
         ensures lower { self.new.known.lower ≡ number }
         ensures upper { self.new.known.upper ≡ self.old.known.upper }
     {
-        self.left = self.left.saturating_sub(directions.len() as u64);
+        self.fund.spend(directions.len() as u64);
         self.known.lower = number;
         self.known.directions = directions;
     }
@@ -146,7 +116,7 @@ impl Run {
         ensures known { self.new.known ≡ self.old.known }
         ensures whole { self.new.whole ≡ self.old.whole }
     {
-        self.left = self.left.saturating_sub(budget);
+        self.fund.spend(budget);
         if number == self.known.upper {
             self.over = Some(budget);
         }
@@ -170,7 +140,7 @@ impl Run {
         ensures later { IsLater instance.now self.old self.new }
         ensures searched { IfOk result (IsSearched number self.old self.new) }
     {
-        let budget = budget.min(self.whole).min(self.left);
+        let budget = budget.min(self.whole).min(self.fund.left);
         if self.is_over(number, budget) {
             return Ok(true);
         }
@@ -186,7 +156,7 @@ impl Run {
                     directions,
                 },
             ) => {
-                self.left = self.left.saturating_sub(directions);
+                self.fund.spend(directions);
                 self.become_better(sequence, makespan);
                 Ok(false)
             }

@@ -44,6 +44,7 @@ fn prove_best(
 {
     let whole = run.whole;
     if run.known.upper == taillard_bound(instance) {
+        run.fund.release();
         return run.prove_upper(alloc, instance, whole);
     }
     run.prove_with(alloc, instance, &SMALL)?;
@@ -54,6 +55,7 @@ fn prove_best(
     let narrow = beam(alloc, instance, start, width, effort.beam_work())?;
     run.take(alloc, &narrow)?;
     if narrow.whole {
+        run.fund.release();
         return run.prove_upper(alloc, instance, whole);
     }
     run.prove_with(alloc, instance, &SMALL)?;
@@ -84,6 +86,7 @@ fn prove_on(
     let whole = run.whole;
     run.take(alloc, beamed)?;
     if beamed.whole {
+        run.fund.release();
         return run.prove_upper(alloc, instance, whole);
     }
     run.prove_with(alloc, instance, &MIDDLE)?;
@@ -144,16 +147,18 @@ fn prove_more(
     ensures { IsLater instance.now run.old run.new }
 {
     let whole = run.whole;
+    run.fund.release();
     run.raise(alloc, instance, SMALL[0].min(whole / 10))?;
     run.raise(alloc, instance, whole / 30)?;
     aim(alloc, instance, effort, run)?;
     run.prove_upper(alloc, instance, whole)?;
     let proved = run.known.lower;
     run.raise(alloc, instance, whole / 10)?;
-    if run.known.lower > proved {
-        aim(alloc, instance, effort, run)?;
+    if run.known.lower == proved {
+        return Ok(());
     }
-    Ok(())
+    aim(alloc, instance, effort, run)?;
+    run.prove_upper(alloc, instance, whole)
 }
 
 /// Bounds of the least makespan, a sequence that has the upper one, and directions that prove the lower one.
