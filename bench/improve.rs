@@ -1,8 +1,9 @@
 //! The improvement of sequences in plain safe Rust, with no proofs and no other crates: a program to measure beside.
 //!
-//! It is written apart from the proved crates. It improves the starting sequence of a generated instance: by a two-ended
-//! beam search (`beam.rs`), by rounds from the start, and by rounds from the best of the beam. It prints the sequence and
-//! its makespan; and on standard error what each of the three came to, in how many steps, and how long it took.
+//! It is written apart from the proved crates. It improves the starting sequence of a generated instance: by a
+//! two-ended beam search (`beam.rs`), by rounds from the start, and by rounds from the best of the beam. It prints the
+//! sequence and its makespan; and on standard error what each of the three came to, in how many steps, and how long it
+//! took.
 //!
 //! Build it with `rustc --edition 2024 -O bench/improve.rs`, and run it with jobs, machines, the instance's seed, the
 //! greatest width of the beam, rounds, the seed of the rounds, and the steps of the whole in millions. With a number

@@ -17,7 +17,6 @@ use Rattle.flow_check.specs.declared.bounds.Bounds.{Bounds}
 use Rattle.flow_check.proofs.TwoEndedLaws.{two_ended_is_sound}
 use Rattle.flow_requests.specs.declared.CertifyRequest.{CertifyRequest}
 use Rattle.flow_commands.specs.Certify.{AnswersCertify, Certifies, WroteTwoEnded, certify_fault}
-use Rattle.flow_commands.specs.Improve.{IsImproved}
 use Rattle.flow_commands.specs.Runs.{SinkRun, Took}
 use Rattle.flow_commands.specs.Start.{StartsFrom}
 
@@ -25,21 +24,32 @@ use Rattle.flow_commands.specs.Start.{StartsFrom}
 pair-short : (digits n m : ℕ) → 0 < digits → n < 10 ^ digits → m < 10 ^ digits → n < 2 ^ 64 → m < 2 ^ 64 →
     length (spaced (n ∷ m ∷ [])) ≤ digits + digits + 1
 pair-short digits n m some few_n few_m fits_n fits_m =
-    omega (arith, length-append (decimal n) (32 ∷ decimal m), length-decimal-le digits n some few_n fits_n,
-    length-decimal-le digits m some few_m fits_m)
+    omega (
+      arith,
+      length-append (decimal n) (32 ∷ decimal m),
+      length-decimal-le digits n some few_n fits_n,
+      length-decimal-le digits m some few_m fits_m,
+    )
 
 -- jobs of at most three digits, and the spaces
 jobs-short : (n : ℕ) → n ≤ most_jobs → (jobs : List ℕ) → AllByRecursion (λ job. (1 ≤ job) × (job ≤ n)) jobs →
     length (spaced jobs) ≤ 4 * length jobs
 jobs-short n limit [] each = omega arith
 jobs-short n limit (job ∷ []) each =
-    omega (arith, length-decimal-le 3 job (omega arith) (omega (arith, each.0.1, limit))
-    (omega (arith, each.0.1, limit)))
+    omega (
+      arith,
+      length-decimal-le 3 job (omega arith) (omega (arith, each.0.1, limit))
+          (omega (arith, each.0.1, limit)),
+    )
 jobs-short n limit (job ∷ other ∷ jobs) each =
     let one : length (decimal job) ≤ 3 =
     length-decimal-le 3 job (omega arith) (omega (arith, each.0.1, limit)) (omega (arith, each.0.1, limit)) in
-    omega (arith, length-append (decimal job) (32 ∷ spaced (other ∷ jobs)), one,
-    jobs-short n limit (other ∷ jobs) each.1)
+    omega (
+      arith,
+      length-append (decimal job) (32 ∷ spaced (other ∷ jobs)),
+      one,
+      jobs-short n limit (other ∷ jobs) each.1,
+    )
 
 -- a line is one byte longer than what stands in it
 line-length : (text : List ℕ) → length (line text) ≡ length text + 1
@@ -49,8 +59,14 @@ line-length text = length-append text (10 ∷ [])
 six-length : (a b c d e f : List ℕ) →
     length (a ++ b ++ c ++ d ++ e ++ f) ≡ length a + length b + length c + length d + length e + length f
 six-length a b c d e f =
-    omega (arith, length-append (a ++ b ++ c ++ d ++ e) f, length-append (a ++ b ++ c ++ d) e,
-    length-append (a ++ b ++ c) d, length-append (a ++ b) c, length-append a b)
+    omega (
+      arith,
+      length-append (a ++ b ++ c ++ d ++ e) f,
+      length-append (a ++ b ++ c ++ d) e,
+      length-append (a ++ b ++ c) d,
+      length-append (a ++ b) c,
+      length-append a b,
+    )
 
 -- a text with so many directions is within the bytes that `check` reads
 text-short : (shop : Shop) (bounds : Bounds) (jobs directions : List ℕ) → IsWithinLimits shop →
@@ -69,9 +85,20 @@ text-short shop bounds jobs directions limits shows few =
     shows.whole.each.range) in
     let size : List ℕ = spaced (shop.jobs ∷ shop.machines ∷ []) in
     let numbers : List ℕ = spaced (bounds.lower ∷ bounds.upper ∷ []) in
-    omega (arith, six-length title_line (line size) (line numbers) (line (spaced jobs)) (line directions) (line ending),
-    line-length size, line-length numbers, line-length (spaced jobs), line-length directions, of_size, of_bounds,
-    of_jobs, shows.whole.whole, few_jobs, few)
+    omega (
+      arith,
+      six-length title_line (line size) (line numbers) (line (spaced jobs)) (line directions) (line ending),
+      line-length size,
+      line-length numbers,
+      line-length (spaced jobs),
+      line-length directions,
+      of_size,
+      of_bounds,
+      of_jobs,
+      shows.whole.whole,
+      few_jobs,
+      few,
+    )
 
 -- what a search finds from the sequence to start from is certified by its text
 pub certifies : (shop : Shop) (given : Option (List ℕ)) (start jobs directions : List ℕ) (bounds : Bounds)

@@ -1,5 +1,5 @@
 -- What is written of a certificate is true, and where its bounds are one number, it is the least makespan.
-use Rattle.std.proofs.Common.{◌≡◌, ◌∙◌, refl, sym, ap, subst, ℕ, nat_eq, List, Bool, true, false, cond, Ok}
+use Rattle.std.proofs.Common.{◌≡◌, ◌∙◌, sym, ap, subst, ℕ, List, Bool, true, false, cond, Ok}
 use Rattle.std.proofs.lemmas.Bool.{eq-eqb}
 use Rattle.flow_core.specs.Limits.{most_certificate}
 use Rattle.flow_core.specs.Paths.{span}

@@ -93,12 +93,7 @@ fn solve_instance<R: Threads + Wait + Sync, G: Gate + Sync, K: Sink>(
 }
 
 /// The options of four numbers; or the first fault, that of the version last.
-fn options_of(
-    workers: u32,
-    depth: u32,
-    budget: u32,
-    version: u32,
-) -> Result<Options, OptionFault>
+fn options_of(workers: u32, depth: u32, budget: u32, version: u32) -> Result<Options, OptionFault>
     ensures { result ≡ asked_options workers depth budget version }
 {
     let options = Options::new(workers, depth, budget)?;

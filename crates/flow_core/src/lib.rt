@@ -17,9 +17,8 @@ pub use flow_shop::{
     End, Front, Instance, InstanceFault, JobSet, Row, Sequence, SequenceFault, bound_is_admissible,
     completion_by_recurrence, completion_is_greatest, directions_are_one, directions_are_sound,
     end_bound_is_admissible, end_bound_is_exact, ends_by_recurrence, front_push,
-    instances_have_no_fault, least_makespan_is_one, makespan,
-    released_bound_is_admissible, released_bound_is_stronger, rows,
-    sequences_have_no_fault,
+    instances_have_no_fault, least_makespan_is_one, makespan, released_bound_is_admissible,
+    released_bound_is_stronger, rows, sequences_have_no_fault,
 };
 pub use flow_text::{
     Block, Claim, MemorySink, MemorySource, ReadFault, Refused, Sink, Source, Start, StartFault,

@@ -1,5 +1,5 @@
 -- Entries once a job is put at an end.
-use Rattle.std.proofs.Common.{◌≡◌, ℕ, zero, suc, ◌+◌, ◌-◌, ◌<◌, ◌≤◌, Bool, true, false, ◌||◌, nat_eq, List, [], ◌∷◌, ◌++◌}
+use Rattle.std.proofs.Common.{◌≡◌, ℕ, zero, suc, ◌+◌, ◌-◌, ◌<◌, ◌≤◌, true, false, ◌||◌, nat_eq, List, [], ◌∷◌, ◌++◌}
 use Rattle.std.proofs.Common.{length, slice_index, take, drop, set, refl, ap, sym, ◌∙◌, subst, inl, inr, arith}
 use Rattle.std.specs.List.{swap}
 use Rattle.std.specs.List.Sorted.{IsPermutation}
@@ -9,7 +9,7 @@ use Rattle.std.proofs.lemmas.List.{get_or-take, get_or-drop, length-set, length-
 use Rattle.std.proofs.lemmas.List.Edits.{swap_is}
 use Rattle.std.proofs.lemmas.List.Folds.{list_any-append}
 use Rattle.flow_shop.specs.Shop.{Shop}
-use Rattle.flow_shop.specs.Sequences.{has, AreDistinct, IsSequence}
+use Rattle.flow_shop.specs.Sequences.{has, AreDistinct}
 use Rattle.flow_nodes.specs.Nodes.{IsNode}
 use Rattle.flow_shop.proofs.JobsLeft.{apart, bool_cases}
 use Rattle.flow_bound.proofs.ByTotal.{sequence-moved}

@@ -1,8 +1,7 @@
 use Rattle.std.proofs.lemmas.Result.{err_from_is_err_and}
-use Rattle.flow_core.specs.Shop.{IsWithinLimits}
 use Rattle.flow_check.specs.TwoEnded.{two_ended_text}
 use Rattle.flow_check.specs.declared.bounds.Bounds.{Bounds}
-use Rattle.flow_commands.specs.Certify.{AnswersCertify, Certifies}
+use Rattle.flow_commands.specs.Certify.{AnswersCertify}
 use Rattle.flow_commands.specs.Runs.{sink_run}
 use Rattle.flow_commands.proofs.Certified.{certified-answers, certifies, wrote-two-ended}
 use Rattle.flow_commands.proofs.Endings.{ends-alone-in-writing}
