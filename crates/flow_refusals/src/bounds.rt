@@ -5,7 +5,7 @@ ghost use Rattle.std.specs.Prelude.{◌≡◌, length};
 use flow_bound::{insertion_spans, neh};
 use flow_commands::CommandFault;
 use flow_core::{Instance, Sequence};
-use flow_improve::{Effort, Reached, beam, improve, rounds_of_both};
+use flow_improve::{Effort, Reached, beam, beam_below, improve, rounds_of_both};
 use std::alloc::Global;
 
 /// `neh` of the instance with three machines.
@@ -49,6 +49,19 @@ pub(crate) fn beam_is_searched(
 {
     let best = beam(alloc, instance, start, 4, 1_000)?;
     Ok(is_best(&best) && best.whole)
+}
+
+/// `beam_below` from the starting sequence: below 273 it comes to the best sequence, and below 272 there is none.
+pub(crate) fn aimed_beam_is_searched(
+    alloc: Global,
+    instance: &Instance,
+    start: &Sequence,
+) -> Result<bool, CommandFault>
+    requires { length start.now ≡ instance.now.jobs }
+{
+    let best = beam_below(alloc, instance, start, 273, 4, 1_000)?;
+    let none = beam_below(alloc, instance, start, 272, 4, 1_000)?;
+    Ok(is_best(&best) && none.value == 288 && none.sequence == *start)
 }
 
 /// `rounds_of_both` from the starting sequence.

@@ -8,8 +8,8 @@ use crate::schedules::{TABLE, is_picture};
 use flow_check::CheckFault;
 use flow_commands::{
     CertifyRequest, CheckRequest, CommandFault, ImproveRequest, ScheduleForm, SolveRequest,
-    run_certify, run_check, run_check_as, run_gen, run_improve, run_mirror, run_neh, run_schedule,
-    run_solve, run_solve_as, run_span,
+    run_certify, run_check, run_check_as, run_gen, run_improve, run_neh, run_schedule, run_solve,
+    run_solve_as, run_span,
 };
 use flow_core::{MemorySink, MemorySource, StartFault};
 use flow_examples::{
@@ -21,41 +21,34 @@ use std::alloc::Global;
 use std::sync::Wait;
 use std::thread::Threads;
 
-/// What `mirror` writes for the instance with two machines.
-const MIRRORED_TEXT: &[u8] =
-    b"number of jobs, number of machines, initial seed, upper bound and lower bound :\n\
-3 2 0 0 0\nprocessing times :\n2 4 2\n3 1 2\n";
-
 /// A start of the instance with three machines.
 const START: &[u8] = b"sequence 1 2 3\nmakespan 15\n";
 
-/// The certificate of the mirrored instance of three machines at depth 0, in version 2. It was computed apart from the
+/// The certificate of the instance with three machines at depth 0 from this start. It was computed apart from the
 /// program, by the definitions.
-const MIRRORED_CERTIFICATE: &[u8] = b"flowshop certificate 2\n3 3 0\n12\n2 1 3\n+BC+AB\nend\n";
+const STARTED_CERTIFICATE: &[u8] =
+    b"flowshop certificate 1\n3 3 0\n12\n3 1 2\n++B+.++.B++.B\nend\n";
 
-/// An instance with nine jobs on four machines, which `gen` makes of seed 50.
-const FOUR_MACHINES_TEXT: &[u8] =
-    b"a\n9 4 50 745 730\nb\n1 58 78 93 64 94 35 94 96\n73 18 97 55 73 67 49 56 39\n\
-17 34 87 34 45 52 31 35 60\n69 80 6 52 11 13 37 80 41\n";
+/// The certificate of that instance at depth 0, in version 2. It was computed apart from the program, by the
+/// definitions.
+const CERTIFICATE_2: &[u8] = b"flowshop certificate 2\n3 3 0\n12\n3 1 2\n+BC++.B\nend\n";
 
-/// A start of the instance with four machines.
-const FOUR_MACHINES_START: &[u8] = b"sequence 7 1 2 5 8 3 4 9 6\nmakespan 745\n";
-
-/// The certificate of the mirrored instance of four machines at depth 0 from the reversed start. It was computed apart
-/// from the program, by the definitions, and `check` accepts it. The tree of the instance itself has 47,472 bytes, more
-/// than 10,000, the first budget of `certify`.
-const FOUR_MACHINES_CERTIFICATE: &[u8] = b"flowshop certificate 1\n9 4 0\n742\n5 2 4 6 1 7 9 3 8\n\
-+DDDD+D++DDDDDDD++DDDDDD++D+DD++.DDDDDDDDDDDDDDDDDDDDD+DDDDDDDDDD\nend\n";
-
-/// The certificate of the mirrored instance of three machines at depth 0 from the reversed start `1 2 3`. It was
-/// computed apart from the program, by the definitions.
-const STARTED_CERTIFICATE: &[u8] = b"flowshop certificate 1\n3 3 0\n12\n2 1 3\n+++.B++.B+AB\nend\n";
-
-/// A text of bounds of the text with three machines.
-const BOUNDS_OF_11: &[u8] = b"flowshop bounds 1\n3 3 0\n11 13\n2 1 3\n+BB+AB\nend\n";
-
-/// A two-ended certificate of the text with three machines.
+/// Two-ended certificates of that instance. The bound with no job put is 10. With 1, 2 and 3 at the back the bounds are
+/// 14, 12 and 11, and with them at the front 14, 13 and 10; with 3 1 and 3 2 at the front they are 12 and 14.
 const TWO_ENDED: &[u8] = b"flowshop two-ended 1\n3 3\n12 12\n3 1 2\n++\nend\n";
+
+const BOUNDS_OF_11: &[u8] = b"flowshop two-ended 1\n3 3\n11 13\n2 1 3\n-\nend\n";
+
+/// An instance with ten jobs on six machines, which `gen` makes of seed 42.
+const TEN_JOBS_TEXT: &[u8] = b"a\n10 6 42 0 0\nb\n1 52 73 27 38 20 97 51 53 26\n\
+11 81 90 45 25 25 19 33 11 80\n53 84 73 8 54 13 86 46 47 45\n24 2 3 99 91 78 57 77 62 35\n\
+38 27 35 64 37 6 53 16 45 33\n20 7 98 55 9 99 43 70 19 54\n";
+
+/// What `certify` writes for it with the numbers below. Bounds and directions are those of a slow search in Python,
+/// written apart; beams and rounds those of the plain program bench/improve.rs. Better sequences come by directions, by
+/// the beam and by the rounds; then the lower bound is raised, and a beam is aimed at 652.
+const BOUNDS_OF_TEN_JOBS: &[u8] =
+    b"flowshop two-ended 1\n10 6\n651 677\n6 1 5 10 8 3 4 7 9 2\n---+\nend\n";
 
 /// What is printed for a certificate whose sequence is asked for.
 const CHECKED_LINES: &[u8] = b"sequence 3 1 2\nmakespan 12\n";
@@ -68,26 +61,36 @@ const NO_ROUND: ImproveRequest = ImproveRequest {
     work: 0,
 };
 
-/// A certificate from the starting sequence.
-const CERTIFY: CertifyRequest = CertifyRequest {
-    improve: NO_ROUND,
-    version: None,
-    bounds: false,
+/// A little of a beam, and a few rounds.
+const SOME_ROUNDS: ImproveRequest = ImproveRequest {
+    width: 4,
+    rounds: 2,
+    seed: 1,
+    work: 1,
 };
 
-/// `solve` of the mirrored instance with two workers at depth 0.
-const MIRRORED: SolveRequest = SolveRequest {
+/// A proof by a thousand directions, with no beam and no round.
+const PROVED: CertifyRequest = CertifyRequest {
+    improve: NO_ROUND,
+    directions: 1_000,
+};
+
+/// Bounds by fifty directions, with a little of a beam and a few rounds.
+const BOUNDED: CertifyRequest = CertifyRequest {
+    improve: SOME_ROUNDS,
+    directions: 50,
+};
+
+/// `solve` with two workers at depth 0.
+const SOLVE: SolveRequest = SolveRequest {
     workers: 2,
     depth: 0,
     budget: AMPLE,
     version: 1,
-    mirrored: true,
-    target: None,
 };
 
-/// `check` of all kinds of texts, of either instance.
+/// `check` of certificates of all kinds.
 const CHECK: CheckRequest = CheckRequest {
-    either: true,
     bounds: true,
     sequence: false,
     optimal: false,
@@ -119,7 +122,6 @@ enum OfText {
     Gen,
     Span,
     Neh,
-    Mirror,
     /// By `run_solve`, at a depth, within a budget.
     Solve(u32, u32),
 }
@@ -128,7 +130,7 @@ enum OfText {
 #[derive(Drop)]
 enum OfStart {
     Improve,
-    Certify,
+    Certify(CertifyRequest),
     SolveAs(SolveRequest),
 }
 
@@ -161,7 +163,7 @@ pub(crate) struct Run {
 }
 
 /// All runs.
-pub(crate) static RUNS: [Run; 24] = [
+pub(crate) static RUNS: [Run; 22] = [
     Run {
         name: "run_span",
         text: TWO_MACHINES_TEXT,
@@ -198,25 +200,18 @@ pub(crate) static RUNS: [Run; 24] = [
         wanted: Wanted::Text(START),
     },
     Run {
-        name: "run_certify",
-        text: THREE_MACHINES_TEXT,
-        beside: None,
-        command: Command::OfStart(OfStart::Certify),
-        wanted: Wanted::Text(&CERTIFICATE_AT_DEPTH_0),
-    },
-    Run {
         name: "run_certify from a start",
-        text: FOUR_MACHINES_TEXT,
-        beside: Some(FOUR_MACHINES_START),
-        command: Command::OfStart(OfStart::Certify),
-        wanted: Wanted::Text(FOUR_MACHINES_CERTIFICATE),
+        text: THREE_MACHINES_TEXT,
+        beside: Some(START),
+        command: Command::OfStart(OfStart::Certify(PROVED)),
+        wanted: Wanted::Text(TWO_ENDED),
     },
     Run {
-        name: "run_mirror",
-        text: TWO_MACHINES_TEXT,
+        name: "run_certify with a few directions",
+        text: TEN_JOBS_TEXT,
         beside: None,
-        command: Command::OfText(OfText::Mirror),
-        wanted: Wanted::Text(MIRRORED_TEXT),
+        command: Command::OfStart(OfStart::Certify(BOUNDED)),
+        wanted: Wanted::Text(BOUNDS_OF_TEN_JOBS),
     },
     Run {
         name: "run_solve",
@@ -233,38 +228,27 @@ pub(crate) static RUNS: [Run; 24] = [
         wanted: Wanted::Fault(CommandFault::Run(SolveFault::OverBudget(2))),
     },
     Run {
-        name: "run_solve_as of the mirrored instance",
+        name: "run_solve_as in version 2",
         text: THREE_MACHINES_TEXT,
         beside: None,
         command: Command::OfStart(OfStart::SolveAs(SolveRequest {
             version: 2,
-            ..MIRRORED
+            ..SOLVE
         })),
-        wanted: Wanted::Text(MIRRORED_CERTIFICATE),
-    },
-    Run {
-        name: "run_solve_as below a target",
-        text: THREE_MACHINES_TEXT,
-        beside: None,
-        command: Command::OfStart(OfStart::SolveAs(SolveRequest {
-            mirrored: false,
-            target: Some(11),
-            ..MIRRORED
-        })),
-        wanted: Wanted::Text(BOUNDS_OF_11),
+        wanted: Wanted::Text(CERTIFICATE_2),
     },
     Run {
         name: "run_solve_as from a start",
         text: THREE_MACHINES_TEXT,
         beside: Some(START),
-        command: Command::OfStart(OfStart::SolveAs(MIRRORED)),
+        command: Command::OfStart(OfStart::SolveAs(SOLVE)),
         wanted: Wanted::Text(STARTED_CERTIFICATE),
     },
     Run {
         name: "run_solve_as from a start with another makespan",
         text: THREE_MACHINES_TEXT,
         beside: Some(b"sequence 1 2 3\nmakespan 14\n"),
-        command: Command::OfStart(OfStart::SolveAs(MIRRORED)),
+        command: Command::OfStart(OfStart::SolveAs(SOLVE)),
         wanted: Wanted::Fault(CommandFault::Start(StartFault::Line(2))),
     },
     Run {
@@ -282,9 +266,9 @@ pub(crate) static RUNS: [Run; 24] = [
         wanted: Wanted::Fault(CommandFault::Certificate(CheckFault::Weak(7))),
     },
     Run {
-        name: "run_check_as of either",
+        name: "run_check_as of version 2",
         text: THREE_MACHINES_TEXT,
-        beside: Some(MIRRORED_CERTIFICATE),
+        beside: Some(CERTIFICATE_2),
         command: Command::OfTexts(OfTexts::CheckAs(CHECK)),
         wanted: Wanted::Text(b"optimal 12\n"),
     },
@@ -296,9 +280,9 @@ pub(crate) static RUNS: [Run; 24] = [
         wanted: Wanted::Text(CHECKED_LINES),
     },
     Run {
-        name: "run_check_as of a mirrored sequence",
+        name: "run_check_as of a two-ended sequence",
         text: THREE_MACHINES_TEXT,
-        beside: Some(MIRRORED_CERTIFICATE),
+        beside: Some(TWO_ENDED),
         command: Command::OfTexts(OfTexts::CheckAs(CHECK_SEQUENCE)),
         wanted: Wanted::Text(CHECKED_LINES),
     },
@@ -374,7 +358,6 @@ fn ran_of_text<T: Threads + Wait + Sync>(
         OfText::Gen => run_gen(alloc, 2, 2, 1, out),
         OfText::Span => run_span(alloc, &mut file, 1, &[2, 3, 1], out),
         OfText::Neh => run_neh(alloc, &mut file, 1, out),
-        OfText::Mirror => run_mirror(alloc, &mut file, 1, out),
         OfText::Solve(depth, budget) => run_solve(
             threads, alloc, &mut file, 1, 2, *depth, *budget, 1, &Open, out,
         ),
@@ -395,7 +378,7 @@ fn ran_of_start<T: Threads + Wait + Sync>(
     let mut start = all_of_any(run.beside);
     match command {
         OfStart::Improve => run_improve(alloc, &mut file, 1, &mut start, NO_ROUND, out),
-        OfStart::Certify => run_certify(alloc, &mut file, 1, &mut start, CERTIFY, out),
+        OfStart::Certify(request) => { run_certify(alloc, &mut file, 1, &mut start, *request, out) }
         OfStart::SolveAs(request) => run_solve_as(
             threads, alloc, &mut file, 1, &mut start, *request, &Open, out,
         ),

@@ -1,21 +1,19 @@
 //! The groups of library calls, and what each is made on.
 
 use crate::bounds::{
-    beam_is_searched, insertions_are_tried, rounds_of_both_are_made, start_is_improved,
-    starting_sequence_is_found,
+    aimed_beam_is_searched, beam_is_searched, insertions_are_tried, rounds_of_both_are_made,
+    start_is_improved, starting_sequence_is_found,
 };
 use crate::certificates::{
     certificate_is_written, certificates_are_checked, certified_sequence_is_given,
     two_ended_text_is_checked, two_ended_text_is_written,
 };
-use crate::instances::{
-    instance_is_generated, instance_is_mirrored, instances_are_made, rows_are_made,
-};
+use crate::instances::{instance_is_generated, instances_are_made, rows_are_made};
 use crate::lanes::lane_is_used;
 use crate::schedules::{picture_is_made, table_is_made};
 use crate::search::{
-    bound_is_raised, certificate_is_found, directions_are_found, outcomes_are_concluded,
-    plan_is_solved, plan_starts_as_given, prefixes_are_answered,
+    bounds_are_found, directions_are_found, outcomes_are_concluded, plan_is_solved,
+    plan_starts_as_given, prefixes_are_answered,
 };
 use crate::texts::{sink_takes_all, source_is_read, start_is_read, text_is_read};
 use flow_bound::neh;
@@ -69,7 +67,6 @@ pub(crate) enum Alone {
 /// Calls on the instance with two machines.
 #[derive(Drop)]
 pub(crate) enum Two {
-    Mirrored,
     Rows,
     Text,
     Table,
@@ -84,8 +81,7 @@ pub(crate) enum Three {
     GivenStart,
     Outcomes,
     Plain,
-    Certificate,
-    Bound,
+    Bounds,
     Picture,
     Written,
     WrittenTwoEnded,
@@ -99,18 +95,18 @@ pub(crate) enum Three {
 #[derive(Drop)]
 pub(crate) enum Start {
     Beam,
+    AimedBeam,
     Rounds,
     Improved,
 }
 
 /// All groups of library calls, but for those of workers, each with its name.
-pub(crate) static GROUPS: [(&str, Group); 28] = [
+pub(crate) static GROUPS: [(&str, Group); 27] = [
     (
         "Instance::new, Sequence::new",
         Group::Alone(Alone::Instances),
     ),
     ("generate", Group::Alone(Alone::Generated)),
-    ("Instance::mirrored", Group::Two(Two::Mirrored)),
     ("rows", Group::Two(Two::Rows)),
     ("read_blocks, block_text", Group::Two(Two::Text)),
     ("read_start", Group::Alone(Alone::StartText)),
@@ -119,14 +115,14 @@ pub(crate) static GROUPS: [(&str, Group); 28] = [
     ("neh", Group::Three(Three::Starting)),
     ("insertion_spans", Group::Three(Three::Insertions)),
     ("beam", Group::Start(Start::Beam)),
+    ("beam_below", Group::Start(Start::AimedBeam)),
     ("rounds_of_both", Group::Start(Start::Rounds)),
     ("improve", Group::Start(Start::Improved)),
     ("prepare, answer", Group::Three(Three::Prefixes)),
     ("prepare_from", Group::Three(Three::GivenStart)),
     ("conclude", Group::Three(Three::Outcomes)),
     ("solve_plain", Group::Three(Three::Plain)),
-    ("find_certificate", Group::Three(Three::Certificate)),
-    ("raise_bound", Group::Three(Three::Bound)),
+    ("certify", Group::Three(Three::Bounds)),
     ("timetable, timetable_csv", Group::Two(Two::Table)),
     ("timetable_picture", Group::Three(Three::Picture)),
     ("write_certificate", Group::Three(Three::Written)),
@@ -172,7 +168,6 @@ impl Two {
     fn made(&self, alloc: Global) -> Result<bool, CommandFault> {
         let two = two_machines(alloc)?;
         match self {
-            Two::Mirrored => instance_is_mirrored(alloc, &two),
             Two::Rows => rows_are_made(alloc, &two),
             Two::Text => text_is_read(alloc, &two),
             Two::Table => table_is_made(alloc, &two),
@@ -191,8 +186,7 @@ impl Three {
             Three::GivenStart => plan_starts_as_given(alloc, &three),
             Three::Outcomes => outcomes_are_concluded(alloc, &three),
             Three::Plain => plan_is_solved(alloc, &three),
-            Three::Certificate => certificate_is_found(alloc, &three),
-            Three::Bound => bound_is_raised(alloc, &three),
+            Three::Bounds => bounds_are_found(alloc, &three),
             Three::Picture => picture_is_made(alloc, &three),
             Three::Written => certificate_is_written(alloc, &three),
             Three::WrittenTwoEnded => two_ended_text_is_written(alloc, &three),
@@ -211,6 +205,7 @@ impl Start {
         let (start, _) = neh(alloc, &instance)?;
         match self {
             Start::Beam => beam_is_searched(alloc, &instance, &start),
+            Start::AimedBeam => aimed_beam_is_searched(alloc, &instance, &start),
             Start::Rounds => rounds_of_both_are_made(alloc, &instance, &start),
             Start::Improved => start_is_improved(alloc, &instance, &start),
         }

@@ -29,12 +29,6 @@ pub(crate) fn instance_is_generated(alloc: Global) -> Result<bool, CommandFault>
     Ok(instance == Instance::new(alloc, 2, 2, &[1, 14, 75, 46])?)
 }
 
-/// `Instance::mirrored` of the instance with two machines.
-pub(crate) fn instance_is_mirrored(alloc: Global, two: &Instance) -> Result<bool, CommandFault> {
-    let mirrored = two.mirrored(alloc)?;
-    Ok(mirrored == Instance::new(alloc, 3, 2, &[2, 4, 2, 3, 1, 2])?)
-}
-
 /// `rows` of the instance with two machines.
 pub(crate) fn rows_are_made(alloc: Global, two: &Instance) -> Result<bool, CommandFault> {
     let made = rows(alloc, two)?;

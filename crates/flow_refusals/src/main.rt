@@ -68,7 +68,7 @@ fn main(rt: HostRuntime) -> ExitCode {
         tally.add(&rt, name, group.made(alloc));
     }
     let workers = workers_solve(&rt, alloc);
-    tally.add(&rt, "serve, solve, solve_below, solve_limited", workers);
+    tally.add(&rt, "serve, solve, solve_limited", workers);
     for run in &RUNS {
         tally.add(&rt, run.name, run_is_right(&rt, alloc, run));
     }

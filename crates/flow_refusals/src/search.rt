@@ -1,6 +1,6 @@
-//! Plans, outcomes, verdicts and directions.
+//! Plans, outcomes, verdicts, directions and bounds.
 
-use flow_certify::{Searched, find_certificate, raise_bound};
+use flow_certify::{Certified, certify};
 use flow_commands::CommandFault;
 use flow_core::{Instance, Sequence};
 use flow_directions::{Found, ProveFault, prove};
@@ -8,8 +8,7 @@ use flow_examples::{AMPLE, TIGHT, TREES_AT_DEPTH_1, all_outcomes, is_verdict};
 use flow_improve::Effort;
 use flow_pool::SolveFault;
 use flow_search::{
-    Finding, Options, Outcome, Plan, RunFault, Verdict, answer, conclude, prepare, prepare_from,
-    solve_plain,
+    Options, Outcome, Plan, RunFault, Verdict, answer, conclude, prepare, prepare_from, solve_plain,
 };
 use std::alloc::Global;
 
@@ -105,25 +104,21 @@ const NO_EFFORT: Effort = Effort {
     work: 0,
 };
 
-/// `find_certificate` of the instance with three machines from its start.
-pub(crate) fn certificate_is_found(alloc: Global, three: &Instance) -> Result<bool, CommandFault> {
-    let mirror = three.mirrored(alloc)?;
-    let start = Sequence::new(alloc, three, &[2, 1, 3])?;
-    match find_certificate(alloc, three, &mirror, &start, &NO_EFFORT, None)? {
-        Searched::Found(_plan, verdict) => Ok(verdict.value == 12),
-        Searched::Over(_) => Ok(false),
-    }
+/// Whether a search ended with this lower bound, by these directions, and with the best sequence of the instance with
+/// three machines.
+fn is_certified(found: &Certified, lower: u64, directions: &[u8]) -> bool {
+    let is_best = found.upper == 12 && found.sequence.jobs() == [3, 1, 2].as_slice();
+    is_best && found.lower == lower && found.directions.as_slice() == directions
 }
 
-/// `raise_bound` of the instance with three machines from its start.
-pub(crate) fn bound_is_raised(alloc: Global, three: &Instance) -> Result<bool, CommandFault> {
-    let mirror = three.mirrored(alloc)?;
+/// `certify` of the instance with three machines. The least makespan is proved from a sequence of makespan 13; with one
+/// direction the bounds are 10, by no direction, and 12, by a sequence with that makespan.
+pub(crate) fn bounds_are_found(alloc: Global, three: &Instance) -> Result<bool, CommandFault> {
     let start = Sequence::new(alloc, three, &[2, 1, 3])?;
-    let proved = raise_bound(alloc, three, &mirror, &start, 1)?;
-    match &proved.finding {
-        Finding::Least(verdict) => Ok(verdict.value == 12),
-        Finding::Bound { .. } => Ok(false),
-    }
+    let least = certify(alloc, three, &start, &NO_EFFORT, 100)?;
+    let start = Sequence::new(alloc, three, &[3, 1, 2])?;
+    let bounds = certify(alloc, three, &start, &NO_EFFORT, 1)?;
+    Ok(is_certified(&least, 12, b"++") && is_certified(&bounds, 10, b""))
 }
 
 /// What `prove` finds for a number, of the instance with three machines.

@@ -9,10 +9,9 @@ use flow_core::Instance;
 use flow_examples::{AMPLE, TIGHT, three_machines};
 use flow_lanes::{Sender, lane, settle};
 use flow_pool::{
-    Answer, Gate, Open, Report, SolveFault, Task, WorkerEnds, serve, solve, solve_below,
-    solve_limited,
+    Answer, Gate, Open, Report, SolveFault, Task, WorkerEnds, serve, solve, solve_limited,
 };
-use flow_search::{Finding, Outcome, Plan, Target};
+use flow_search::{Outcome, Plan};
 use std::alloc::Global;
 use std::sync::Wait;
 use std::sync::atomic::{AtomicU32, Ordering};
@@ -139,18 +138,7 @@ fn plan_is_solved<T: Threads + Wait + Sync>(
     is_right(&solved, &counts, wanted)
 }
 
-/// `solve_below` by two workers, where no sequence is below the target.
-fn target_is_solved<T: Threads + Wait + Sync>(
-    rt: &T,
-    alloc: Global,
-    instance: &Instance,
-) -> Result<bool, CommandFault> {
-    let plan = planned(alloc, instance, 2, 1, AMPLE)?;
-    let report = solve_below(rt, alloc, &Target::new(&plan, 12), &Open)?;
-    Ok(matches!(&report.finding, Finding::Bound { trees } if trees.len() == 3))
-}
-
-/// `serve`, `solve`, `solve_below` and `solve_limited`.
+/// `serve`, `solve` and `solve_limited`.
 pub(crate) fn workers_solve<T: Threads + Wait + Sync>(
     threads: &T,
     alloc: Global,
@@ -160,5 +148,5 @@ pub(crate) fn workers_solve<T: Threads + Wait + Sync>(
     for limited in &SOLVES {
         right = plan_is_solved(threads, alloc, &instance, limited)? && right;
     }
-    Ok(target_is_solved(threads, alloc, &instance)? && right)
+    Ok(right)
 }
