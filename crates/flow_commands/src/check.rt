@@ -133,7 +133,7 @@ pub fn run_check<S: Source, C: Source, K: Sink>(
 }
 
 /// Writes what a certificate, two-ended or not, proves of the block that an index names, or its sequence and the
-/// makespan of that. The request says which are accepted, what is written, and whether the bounds have to be one number.
+/// makespan of that. The request says which are accepted, what is written, and whether bounds have to be one number.
 pub fn run_check_as<S: Source, C: Source, K: Sink>(
     alloc: Global,
     file: &mut S,
