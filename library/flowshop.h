@@ -93,7 +93,7 @@ enum flowshop_status {
     FLOWSHOP_SEQUENCE = 63, /* line 4 is no sequence of the shop */
     FLOWSHOP_NOT_ATTAINED = 64, /* the makespan of the sequence is not the value, or not the upper bound */
     FLOWSHOP_TREE = 65, /* a line is not one tree, or no directions that prove the bound; place: the line */
-    FLOWSHOP_WEAK = 66, /* a bound is below the value, or below the lower bound; place: the line */
+    FLOWSHOP_WEAK = 66, /* of a certificate of version 1 or 2: a bound is below the value; place: the line */
     FLOWSHOP_LOW = 67, /* a makespan is below the value, or below the lower bound; place: the line */
     FLOWSHOP_END = 68, /* what follows the trees or the directions is not the last line alone */
 

@@ -23,24 +23,29 @@ proved-of kind shop bytes jobs bounds gives =
     let are = given-bounds kind shop bytes bounds jobs gives in
     record { hold = are; least = least-of shop bounds are }
 
+-- the bounds of a certificate that is no two-ended one are one number
+one-number : (shop : Shop) (bytes jobs : List ℕ) (bounds : Bounds) → GivesAs Certificate shop bytes bounds jobs →
+    bounds.lower ≡ bounds.upper
+one-number shop bytes jobs bounds gives =
+    ap (λ (b : Bounds). b.lower) gives.1 ∙ sym (ap (λ (b : Bounds). b.upper) gives.1)
+
 -- what is answered is true
 says-proved : (request : CheckRequest) (shop : Shop) (bytes text : List ℕ) →
     AnswersCheck request shop bytes (Ok text) → SaysProved request shop bytes (Ok text)
 says-proved request shop bytes text (kind, taken, (bounds, jobs, gives, suffices, is)) = (
+  kind,
+  taken,
   bounds,
-  proved-of kind shop bytes jobs bounds gives,
+  (
+    proved-of kind shop bytes jobs bounds gives,
+    λ same. one-number shop bytes jobs bounds (subst (λ k. GivesAs k shop bytes bounds jobs) same gives),
+  ),
   suffices,
   jobs,
   given-sequence kind shop bytes bounds jobs gives,
   given-upper kind shop bytes bounds jobs gives,
   is,
 )
-
--- the bounds of a certificate that is no two-ended one are one number
-one-number : (shop : Shop) (bytes jobs : List ℕ) (bounds : Bounds) → GivesAs Certificate shop bytes bounds jobs →
-    bounds.lower ≡ bounds.upper
-one-number shop bytes jobs bounds gives =
-    ap (λ (b : Bounds). b.lower) gives.1 ∙ sym (ap (λ (b : Bounds). b.upper) gives.1)
 
 -- they are printed as the optimum
 line-of-one : (bounds : Bounds) → bounds.lower ≡ bounds.upper → proved_line bounds ≡ optimal_line bounds.lower
@@ -75,7 +80,7 @@ pub wrote-optimum : {T : Type 0} {K : Type 0} (request : CheckRequest) (shop : S
     WroteOptimum request.sequence shop sink
 wrote-optimum request shop cert sink asked (bytes, within, came, whole, (text, answers, took)) =
     let says = says-proved request shop bytes text answers in
-    optimum-of request.sequence shop sink text says.3 says.0 says.1 says.4 says.5 (says.2 asked) says.6 took
+    optimum-of request.sequence shop sink text says.5 says.2 says.3.0 says.6 says.7 (says.4 asked) says.8 took
 
 -- the request of certificates that are no two-ended ones
 abbrev alone : CheckRequest

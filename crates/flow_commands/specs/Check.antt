@@ -67,11 +67,16 @@ abbrev pub AnswersCheck : CheckRequest → Shop → List ℕ → Answer → Type
 AnswersCheck request shop bytes answer =
     (kind : TextKind) × IsTakenAs request.bounds bytes kind × AnswersAs kind request shop bytes answer
 
--- what is answered is true of the shop: the bounds that are printed are proved, and suffice; or the sequence has the
--- upper one
+-- what a text of a kind proves of the shop: its bounds are proved, and those of a certificate are one number
+abbrev pub ProvesAs : TextKind → Shop → Bounds → Type 0
+ProvesAs kind shop bounds = AreProved shop bounds × (kind ≡ Certificate → bounds.lower ≡ bounds.upper)
+
+-- what is answered is true of the shop: the bounds that are printed are proved by a text of the kind of the bytes, and
+-- suffice; or the sequence has the upper one
 abbrev pub SaysProved : CheckRequest → Shop → List ℕ → Answer → Type 0
 SaysProved request shop bytes (Ok text) =
-    (bounds : Bounds) × AreProved shop bounds × SufficesFor request bounds
+    (kind : TextKind) × IsTakenAs request.bounds bytes kind
+    × (bounds : Bounds) × ProvesAs kind shop bounds × SufficesFor request bounds
     × (jobs : List ℕ) × IsSequence shop.jobs jobs × (span shop jobs ≡ bounds.upper)
     × (text ≡ checked_text request.sequence shop bounds jobs)
 SaysProved request shop bytes (Err fault) = ⊥
