@@ -27,6 +27,8 @@ _LIBRARY = _library.load()
 _BESIDE = 3300
 # The most bytes that a text is given room for at first. No memory is used for what is not written.
 _MOST_ROOM = 1 << 30
+# Memory of which no page is reserved before it is written. Older versions of Python have no name for it.
+_NO_RESERVE = getattr(mmap, "MAP_NORESERVE", 0x4000)
 _MOST = 0xFFFFFFFF
 _Buffer = Tuple[Any, int]
 
@@ -135,7 +137,7 @@ def _text(room: int, call: Callable[..., None]) -> bytes:
     room = min(room, _MOST_ROOM)
     while True:
         try:
-            memory = mmap.mmap(-1, room, flags=mmap.MAP_PRIVATE | mmap.MAP_ANONYMOUS)
+            memory = mmap.mmap(-1, room, flags=mmap.MAP_PRIVATE | mmap.MAP_ANONYMOUS | _NO_RESERVE)
         except OSError as error:
             raise MemoryError("flowshop: memory ran out") from error
         length = _library.size(0)
@@ -295,8 +297,9 @@ class Shop:
         sequence, or from that of `neh`, and from better ones. The least makespan is proved where `optimal` is true; the
         upper bound is at most the makespan of the start. The text has at most `directions` directions, 1 to
         1,000,000,000: the more it may have, the longer the searches take where they do not find the least makespan. The
-        other numbers are those of `improve`. FlowshopError LENGTH, JOB or TWICE where the start is no sequence, WIDTH,
-        ROUNDS, SEED, WORK or DIRECTIONS where the numbers are not as said here. No time limit ends the searches."""
+        other numbers are those of `improve`. With the numbers left out a call may take a minute and a half.
+        FlowshopError LENGTH, JOB or TWICE where the start is no sequence, WIDTH, ROUNDS, SEED, WORK or DIRECTIONS where the numbers
+        are not as said here. No time limit ends the searches."""
         choice = [_option(number) for number in (width, rounds, seed, work, directions)]
         lower, upper = _library.u64(0), _library.u64(0)
         bounds = [ctypes.byref(lower), ctypes.byref(upper)]
