@@ -298,8 +298,8 @@ class Shop:
         upper bound is at most the makespan of the start. The text has at most `directions` directions, 1 to
         1,000,000,000: the more it may have, the longer the searches take where they do not find the least makespan. The
         other numbers are those of `improve`. With the numbers left out a call may take a minute and a half.
-        FlowshopError LENGTH, JOB or TWICE where the start is no sequence, WIDTH, ROUNDS, SEED, WORK or DIRECTIONS where the numbers
-        are not as said here. No time limit ends the searches."""
+        FlowshopError LENGTH, JOB or TWICE where the start is no sequence, WIDTH, ROUNDS, SEED, WORK or DIRECTIONS where
+        the numbers are not as said here. No time limit ends the searches."""
         choice = [_option(number) for number in (width, rounds, seed, work, directions)]
         lower, upper = _library.u64(0), _library.u64(0)
         bounds = [ctypes.byref(lower), ctypes.byref(upper)]
