@@ -43,6 +43,10 @@ class FlowshopError(ValueError):
         self.name = name
         self.place = place
 
+    def __reduce__(self) -> Tuple[type, Tuple[str, int]]:
+        """What pickle keeps, so that a refusal comes back from another process."""
+        return type(self), (self.name, self.place)
+
 
 class Start(NamedTuple):
     """A sequence of a shop, as job numbers from 1, and its makespan in the unit of the times."""
@@ -320,7 +324,7 @@ class Shop:
     def check(self, text: bytes) -> Certificate:
         """What a text proves, with the sequence that it states: a certificate of version 1 or 2, or a two-ended one;
         line 1 tells which it is. The least makespan is proved where `optimal` is true. FlowshopError with the first
-        fault of the text and its line where it is not lawful."""
+        fault of the text where it is not lawful, and with the line of a fault TREE, WEAK or LOW."""
         data = bytes(text)
         sequence = (_library.u16 * self.jobs)()
         lower, upper = _library.u64(0), _library.u64(0)
