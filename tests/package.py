@@ -2,6 +2,7 @@
 
 import doctest
 import os
+import pickle
 import random
 import re
 import sys
@@ -41,6 +42,10 @@ with open(os.path.join(TOP, "library", "flowshop.h"), encoding="ascii") as heade
     text = header.read()
 for number, name in _library.STATUSES.items():
     equal("a status of the header", f"FLOWSHOP_{name} = {number}" in text, True)
+
+for error in [FlowshopError("JOB", 2), FlowshopError("MEMORY", 0)]:
+    kept = pickle.loads(pickle.dumps(error))
+    equal("a refusal from another process", (str(kept), kept.name, kept.place), (str(error), error.name, error.place))
 
 rows = [[4, 0, 4], [0, 8, 0], [0, 2, 1]]
 shop = Shop.from_rows(rows)
