@@ -139,7 +139,7 @@ fn beam_ends_at_its_widths_and_steps(rt: HostRuntime) {
 
 /// A number, and what a search below it comes to with passes up to the width 32, of twenty jobs on ten machines: the
 /// makespan, the jobs, and whether the search was whole. The start has the makespan 1680, and the bound is 1448.
-static BELOW: [(u64, u64, &[u16], bool); 5] = [
+static BELOW: [(u64, u64, &[u16], bool); 6] = [
     (0, 1680, OF_TWENTY, true),
     // A pass of width 1 keeps few children, and drops none.
     (1449, 1680, OF_TWENTY, true),
@@ -150,6 +150,15 @@ static BELOW: [(u64, u64, &[u16], bool); 5] = [
         1636,
         &[
             18, 9, 3, 17, 5, 19, 12, 4, 2, 20, 8, 13, 10, 6, 11, 14, 15, 7, 16, 1,
+        ],
+        false,
+    ),
+    // The makespan of the start is not below itself.
+    (
+        1680,
+        1670,
+        &[
+            18, 2, 9, 17, 19, 3, 4, 14, 13, 15, 12, 5, 8, 10, 6, 11, 1, 20, 7, 16,
         ],
         false,
     ),

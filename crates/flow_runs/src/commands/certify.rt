@@ -2,8 +2,9 @@
 
 use super::endless::Endless;
 use super::texts::{
-    BEST, FOUR_MACHINES, GENERATED, LAST, LONG_TREES, ONE_JOB, ONE_LONG_JOB, START, THREE_MACHINES,
-    TWO_ENDED_12, TWO_MACHINES,
+    ABOVE_16_BITS, AIMED, BEST, EIGHT_JOBS, FOUR_MACHINES, GENERATED, LAST, LONG_JOBS, LONG_TOTAL,
+    LONG_TREES, NINE_JOBS, ON_THREE, ONE_JOB, ONE_LONG_JOB, START, THREE_MACHINES, TOTAL_IN_NARROW,
+    TOTAL_IN_WIDE, TWO_ENDED_12, TWO_MACHINES, UP_TO_16_BITS,
 };
 use super::{
     End, Given, OF_THREE, ROOM, STARTED, UNREAD, Wanted, all_of, comes_to, end_of, ends, filled,
@@ -41,7 +42,7 @@ type Row = (
 
 /// The text with three machines has one best sequence. The directions were computed apart from the program, by the
 /// definitions.
-static ROWS: [Row; 18] = [
+static ROWS: [Row; 20] = [
     (THREE_MACHINES, 1, None, NONE, 1_000, Ok(TWO_ENDED_12)),
     (
         THREE_MACHINES,
@@ -68,6 +69,23 @@ static ROWS: [Row; 18] = [
         NONE,
         1,
         Ok(b"flowshop two-ended 1\n1 1\n0 0\n1\n\nend\n"),
+    ),
+    // One round with each of two seeds, by the plain program bench/improve.rs, and the bound with no job put.
+    (
+        LONG_TREES,
+        1,
+        None,
+        [0, 1, 1, 1],
+        1,
+        Ok(b"flowshop two-ended 1\n9 4\n557 616\n1 6 4 3 9 5 7 2 8\n\nend\n"),
+    ),
+    (
+        LONG_TREES,
+        1,
+        None,
+        [0, 1, 2, 1],
+        1,
+        Ok(b"flowshop two-ended 1\n9 4\n557 616\n1 6 3 9 4 5 7 2 8\n\nend\n"),
     ),
     (THREE_MACHINES, 1, None, [0, 100_000_001, 0, 0], 0, ROUNDS),
     (THREE_MACHINES, 1, None, [0, 0, 1, 1_000_001], 0, WORK),
@@ -153,9 +171,13 @@ fn certify_writes_a_text_or_refuses(rt: HostRuntime) {
 /// A text, width, rounds, seed and work, and the most directions; and what `check` prints for what `certify` writes.
 type Known = (&'static [u8], [u32; 4], u32, Wanted);
 
-/// The least makespans of nine and of six jobs are those of all their sequences, tried apart from the program. Of the
-/// long job no number above the first bound is proved by so few directions.
-static KNOWN: [Known; 9] = [
+/// The least makespans of nine, eight, six and four jobs are those of all their sequences, tried apart from the
+/// program, where no text says them. Of the long job no number above the first bound is proved by so few directions.
+/// Where a text stands with a number of directions and with one more, all searches together have 850 for each one that
+/// is given, over the cost of a direction: 684 on 9 jobs and 26 machines; and on 7 jobs and 2 machines 464, or 928
+/// above the makespan 65,535. The bounds of three generated instances are those of a plain search, written apart, which
+/// follows the steps of the manual.
+static KNOWN: [Known; 23] = [
     (THREE_MACHINES, NONE, 1_000, Ok(b"optimal 12\n")),
     (
         THREE_MACHINES,
@@ -180,6 +202,26 @@ static KNOWN: [Known; 9] = [
         Ok(b"optimal 44\n"),
     ),
     (ONE_LONG_JOB, NONE, 1_000, Ok(b"bounds 24 33\n")),
+    // The first search proves the makespan, if half of all directions suffice.
+    (LONG_JOBS, NONE, 3_148, Ok(b"bounds 61 286\n")),
+    (LONG_JOBS, NONE, 3_149, Ok(b"optimal 286\n")),
+    (UP_TO_16_BITS, NONE, 2_136, Ok(b"bounds 32772 65535\n")),
+    (UP_TO_16_BITS, NONE, 2_137, Ok(b"optimal 65535\n")),
+    // The whole budget comes at once: four fifths of all directions.
+    (LONG_TOTAL, NONE, 1_968, Ok(b"bounds 250 260\n")),
+    (LONG_TOTAL, NONE, 1_969, Ok(b"optimal 260\n")),
+    (ABOVE_16_BITS, NONE, 2_670, Ok(b"bounds 32768 65536\n")),
+    (ABOVE_16_BITS, NONE, 2_671, Ok(b"optimal 65536\n")),
+    // What is kept raises the first bound, as far as searches that are over leave some of it.
+    (NINE_JOBS, NONE, 330, Ok(b"bounds 656 684\n")),
+    // The last search has a greater budget than that which was over, but not ten times as great.
+    (EIGHT_JOBS, NONE, 223, Ok(b"optimal 591\n")),
+    (ON_THREE, NONE, 60, Ok(b"optimal 540\n")),
+    // What is kept is given when the beam has the least makespan.
+    (TOTAL_IN_NARROW, [16, 0, 1, 1], 22, Ok(b"optimal 45\n")),
+    (TOTAL_IN_WIDE, [64, 0, 1, 1], 48, Ok(b"optimal 27\n")),
+    // No search comes to 559 within its budget: only a beam of width 4 does that is aimed at 560.
+    (AIMED, [1, 0, 1, 1], 100, Ok(b"optimal 559\n")),
 ];
 
 /// Whether `check` prints this for a two-ended certificate.

@@ -30,6 +30,67 @@ pub(super) const FOUR_MACHINES: &[u8] =
 pub(super) const ONE_LONG_JOB: &[u8] =
     b"a\n14 2 0 0 0\nb\n1 1 1 1 1 1 1 1 1 1 1 1 1 10\n1 1 1 1 1 1 1 1 1 1 1 1 1 10\n";
 
+/// Nine jobs on 26 machines: six short ones with time 1 on each, and three long ones with 10. All sequences have the
+/// makespan 286, and the bound with no job put is 61. For each number above 61 and up to 286 the directions are as many
+/// as the lists of distinct short jobs, 1,957: until a long job is put, at either end each short job is below the
+/// number, and no long one is.
+pub(super) const LONG_JOBS: &[u8] =
+    b"a\n9 26 0 0 0\nb\n1 1 1 1 1 1 10 10 10\n1 1 1 1 1 1 10 10 10\n1 1 1 1 1 1 10 10 10\n1 1 1 1 1 1 10 10 10\n\
+1 1 1 1 1 1 10 10 10\n1 1 1 1 1 1 10 10 10\n1 1 1 1 1 1 10 10 10\n1 1 1 1 1 1 10 10 10\n\
+1 1 1 1 1 1 10 10 10\n1 1 1 1 1 1 10 10 10\n1 1 1 1 1 1 10 10 10\n1 1 1 1 1 1 10 10 10\n\
+1 1 1 1 1 1 10 10 10\n1 1 1 1 1 1 10 10 10\n1 1 1 1 1 1 10 10 10\n1 1 1 1 1 1 10 10 10\n\
+1 1 1 1 1 1 10 10 10\n1 1 1 1 1 1 10 10 10\n1 1 1 1 1 1 10 10 10\n1 1 1 1 1 1 10 10 10\n\
+1 1 1 1 1 1 10 10 10\n1 1 1 1 1 1 10 10 10\n1 1 1 1 1 1 10 10 10\n1 1 1 1 1 1 10 10 10\n\
+1 1 1 1 1 1 10 10 10\n1 1 1 1 1 1 10 10 10\n";
+
+/// Nine jobs on 26 machines: six with no times; one with 10 on each; one with 240 and 10 on the first two; and one with
+/// 10 and 240 on the last two. The job of 10 has the total 260. So has the starting sequence, where the last job comes
+/// before it, and the other one behind. The bound with no job put is 250. For each number above 250 and up to 260 the
+/// directions are again 1,957.
+pub(super) const LONG_TOTAL: &[u8] =
+    b"a\n9 26 0 0 0\nb\n0 0 0 0 0 0 10 240 0\n0 0 0 0 0 0 10 10 0\n0 0 0 0 0 0 10 0 0\n0 0 0 0 0 0 10 0 0\n\
+0 0 0 0 0 0 10 0 0\n0 0 0 0 0 0 10 0 0\n0 0 0 0 0 0 10 0 0\n0 0 0 0 0 0 10 0 0\n\
+0 0 0 0 0 0 10 0 0\n0 0 0 0 0 0 10 0 0\n0 0 0 0 0 0 10 0 0\n0 0 0 0 0 0 10 0 0\n\
+0 0 0 0 0 0 10 0 0\n0 0 0 0 0 0 10 0 0\n0 0 0 0 0 0 10 0 0\n0 0 0 0 0 0 10 0 0\n\
+0 0 0 0 0 0 10 0 0\n0 0 0 0 0 0 10 0 0\n0 0 0 0 0 0 10 0 0\n0 0 0 0 0 0 10 0 0\n\
+0 0 0 0 0 0 10 0 0\n0 0 0 0 0 0 10 0 0\n0 0 0 0 0 0 10 0 0\n0 0 0 0 0 0 10 0 0\n\
+0 0 0 0 0 0 10 0 10\n0 0 0 0 0 0 10 0 240\n";
+
+/// Seven jobs on two machines, six short ones and a long one. All sequences have the makespan 65,535, and the bound
+/// with no job put is 32,772. For each greater number, up to the makespan, the directions are again 1,957.
+pub(super) const UP_TO_16_BITS: &[u8] = b"a\n7 2 0 0 0\nb\n1 1 1 1 1 2 32764\n1 1 1 1 1 2 32764\n";
+
+/// The same with 65,536, which is the total of the long job, and with the bound 32,768.
+pub(super) const ABOVE_16_BITS: &[u8] = b"a\n7 2 0 0 0\nb\n0 0 0 0 0 0 32768\n0 0 0 0 0 0 32768\n";
+
+/// Four jobs on six machines, and six on five. The first job has the least makespan as its total. The starting
+/// sequence has a greater one, and a beam comes to the least one: up to the width 16 in the first text, and beyond in
+/// the second.
+pub(super) const TOTAL_IN_NARROW: &[u8] =
+    b"a\n4 6 0 0 0\nb\n3 0 1 0\n7 4 3 4\n4 3 1 1\n9 3 0 2\n8 2 0 1\n9 2 2 4\n";
+
+pub(super) const TOTAL_IN_WIDE: &[u8] =
+    b"a\n6 5 0 0 0\nb\n5 0 0 4 4 0\n4 4 2 3 2 1\n4 4 4 2 1 4\n8 0 1 3 3 4\n4 0 0 2 0 4\n";
+
+/// Eight jobs on four machines, with the times of `gen 8 4 251`. The starting sequence has the makespan 571, and the
+/// least one is 559.
+pub(super) const AIMED: &[u8] = b"a\n8 4 0 0 0\nb\n1 2 66 12 72 95 81 40\n50 61 26 37 57 68 42 95\n\
+46 93 24 77 79 38 83 54\n39 26 9 14 42 99 49 31\n";
+
+/// Instances with the times of `gen 9 5 17`, of `gen 8 4 26` and of `gen 8 3 111`. Their least makespans are 677, 591
+/// and 540.
+pub(super) const NINE_JOBS: &[u8] =
+    b"a\n9 5 0 0 0\nb\n1 24 84 79 6 72 80 54 55\n89 52 83 13 59 90 1 41 13\n52 14 10 67 2 81 39 95 56\n\
+12 8 92 48 95 46 80 51 58\n75 86 84 21 20 70 29 80 8\n";
+
+pub(super) const EIGHT_JOBS: &[u8] =
+    b"a\n8 4 0 0 0\nb\n1 42 64 92 85 69 23 65\n66 30 97 50 60 89 39 77\n\
+45 20 96 74 85 85 32 19\n1 70 39 1 81 23 67 81\n";
+
+pub(super) const ON_THREE: &[u8] =
+    b"a\n8 3 0 0 0\nb\n1 60 87 91 14 31 22 36\n40 75 57 65 24 83 93 79\n\
+50 85 56 42 34 23 38 28\n";
+
 /// The certificate of the first text at depth 0.
 pub(super) const DEPTH_0: &[u8] = b"flowshop certificate 1\n3 3 0\n12\n3 1 2\n+BC++.B\nend\n";
 
