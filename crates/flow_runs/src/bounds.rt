@@ -1,5 +1,5 @@
-//! What a search for bounds comes to, which no contract says. The directions and the bounds are those of a slow search in
-//! Python, written apart; the least makespans of the drawn instances are known.
+//! What a search for bounds comes to, which no contract says. The directions and the bounds are those of a slow search
+//! in Python, written apart; the least makespans of the drawn instances are known.
 
 use crate::searches::{ANY, start_of};
 use flow_certify::{Certified, certify};
