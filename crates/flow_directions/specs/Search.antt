@@ -1,6 +1,6 @@
 -- The search for directions that prove a number: at which end it opens a node, and what it meets.
-use Rattle.std.specs.Prelude.{ℕ, zero, suc, ◌≡◌, ◌*◌, ◌<◌, ◌≤◌, ◌↔◌, min, Bool, cond, ◌||◌, ◌&&◌, nat_eq, nat_lt, nat_le}
-use Rattle.std.specs.Prelude.{List, [], ◌∷◌, ◌++◌, length, filter, sum_by, Option, Some, None}
+use Rattle.std.specs.Prelude.{ℕ, zero, suc, ◌≡◌, ◌*◌, ◌<◌, ◌≤◌, ◌↔◌, min, Bool, cond, ◌||◌, ◌&&◌}
+use Rattle.std.specs.Prelude.{nat_eq, nat_lt, nat_le, List, [], ◌∷◌, ◌++◌, length, filter, sum_by, Option, Some, None}
 use Rattle.std.specs.List.{flat_map}
 use Rattle.flow_shop.specs.Shop.{Shop}
 use Rattle.flow_shop.specs.Paths.{span}

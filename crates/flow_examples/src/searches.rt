@@ -7,8 +7,8 @@ use sha2::{Digest, Sha256};
 use std::alloc::Global;
 
 /// Jobs, machines and seed of a published instance, its least makespan, how many directions prove it, and how the
-/// SHA-256 of the directions begins. The program in plain Rust, bench/plain.rs, found the same; and a program in Python,
-/// written apart, where there are fewer than 10,000 directions and at most 50 jobs.
+/// SHA-256 of the directions begins. The program in plain Rust, bench/plain.rs, found the same; and a program in
+/// Python, written apart, where there are fewer than 10,000 directions and at most 50 jobs.
 type Published = (u32, u32, u32, u64, u64, [u8; 8]);
 
 static PUBLISHED: [Published; 13] = [

@@ -8,8 +8,8 @@ use std::alloc::Global;
 /// Jobs, machines, and the time of each job on each machine.
 type Equal = (u32, u32, u32);
 
-/// With equal times all sequences have one makespan, and each node has it as its bound. With 800 jobs on two machines it
-/// needs more than 16 bits where each time is 82 or more.
+/// With equal times all sequences have one makespan, and each node has it as its bound. With 800 jobs on two machines
+/// it needs more than 16 bits where each time is 82 or more.
 static EQUAL: [Equal; 8] = [
     (1, 1, 0),
     (1, 26, 999_999),

@@ -14,8 +14,8 @@ pub fn each_prefix_is_asked_once()
         times_asked number (tasks_of k n worker) ≡ 0 }
 {}
 
-/// Two reports of plans of one instance, one starting sequence, one depth and one version have one verdict, whatever the
-/// workers and budgets.
+/// Two reports of plans of one instance, one starting sequence, one depth and one version have one verdict, whatever
+/// the workers and budgets.
 pub fn reports_agree()
     ensures { ReportsAgree }
 {}

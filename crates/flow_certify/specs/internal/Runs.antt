@@ -26,7 +26,8 @@ pub record IsLater (shop : Shop) (before after : Run) : Type 0 where
 
 -- after a search below a number: it was over; or the number is proved; or a sequence below it is known
 abbrev pub IsSearched : ℕ → Run → Run → Bool → Type 0
-IsSearched number before after true = (after.known.lower ≡ before.known.lower) × (after.known.upper ≡ before.known.upper)
+IsSearched number before after true =
+    (after.known.lower ≡ before.known.lower) × (after.known.upper ≡ before.known.upper)
 IsSearched number before after false =
     ((after.known.lower ≡ number) × (after.known.upper ≡ before.known.upper))
     ⊎ ((after.known.lower ≡ before.known.lower) × (after.known.upper < number))

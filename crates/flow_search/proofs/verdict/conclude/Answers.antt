@@ -29,7 +29,8 @@ returns-clause-within c =
     ∙ c.requires.count in
     let none : first_refusal 0 c.args.outcomes.items ≡ None = ap (first_refusal 0) (sym c.deref.ensures.value)
     ∙ sym c.first_refusal.ensures ∙ c.in_default.is in
-    (refusals c.args.plan.now c.args.outcomes.items (omega (arith, size)) c.requires.lawful).none (omega (arith, size)) none
+    (refusals c.args.plan.now c.args.outcomes.items (omega (arith, size)) c.requires.lawful).none
+    (omega (arith, size)) none
 
 pub returns-clause-done : goal.returns-clause-done
 returns-clause-done c i other h =
