@@ -11,6 +11,7 @@ use Rattle.flow_shop.specs.Shop.{Shop, IsWithinLimits}
 use Rattle.flow_shop.specs.Sequences.{IsSequence}
 use Rattle.flow_shop.specs.Paths.{span}
 use Rattle.flow_shop.specs.Directions.{Proves}
+use Rattle.flow_shop.specs.Ends.{end_bound}
 use Rattle.flow_shop.proofs.DirectionsSound.{proved_is_lower_bound}
 use Rattle.flow_check.specs.TextLines.{line, spaced, ending}
 use Rattle.flow_check.specs.TwoEnded.{title_line, size_lines, bounds_lines, sequence_lines, two_ended_text}
@@ -150,10 +151,10 @@ lower-low shop number sequence directions proves is = proved_is_lower_bound shop
 -- the text of what was found, once the directions are put in
 pub text-found : (shop : Shop) (start : List ℕ) (most : ℕ) (bounds : Bounds) (sequence directions frame : List ℕ) →
     IsWithinLimits shop → IsSequence shop.jobs sequence → span shop sequence ≡ bounds.upper →
-    bounds.upper ≤ span shop start → Proves shop bounds.lower directions → length directions ≤ most →
-    frame ≡ two_ended_text shop bounds sequence [] →
+    bounds.upper ≤ span shop start → Proves shop bounds.lower directions → end_bound shop [] [] ≤ bounds.lower →
+    length directions ≤ most → frame ≡ two_ended_text shop bounds sequence [] →
     IsTextFrom shop start most (with_directions frame directions) bounds sequence
-text-found shop start most bounds sequence directions frame limits is attained no_worse proves few text =
+text-found shop start most bounds sequence directions frame limits is attained no_worse proves floor few text =
     let fits : span shop sequence < 2 ^ 64 = span-fits shop sequence limits is in
     let low : bounds.lower ≤ span shop sequence = lower-low shop bounds.lower sequence directions proves is in
     let high : bounds.upper < 2 ^ 64 = omega (arith, fits, attained) in
@@ -172,6 +173,7 @@ text-found shop start most bounds sequence directions frame limits is attained n
         text = ap (λ t. with_directions t directions) text ∙ text-with shop bounds sequence directions;
       };
       no_worse = no_worse;
+      floor = floor;
       few = few;
       short =
           omega (

@@ -5,6 +5,7 @@ use Rattle.std.specs.Option.{option_map}
 use Rattle.flow_limits.specs.Limits.{most_directions}
 use Rattle.flow_shop.specs.Refusals.{fault_unless, first_fault}
 use Rattle.flow_shop.specs.Shop.{Shop}
+use Rattle.flow_shop.specs.Ends.{end_bound}
 use Rattle.flow_shop.specs.Paths.{span}
 use Rattle.flow_check.specs.TwoEnded.{IsTwoEnded}
 use Rattle.flow_check.specs.declared.bounds.Bounds.{Bounds}
@@ -31,11 +32,12 @@ abbrev pub most_beside : ℕ
 most_beside = 3300
 
 -- bytes are a lawful two-ended certificate of these bounds, with this sequence, which is no worse than the start, and
--- with at most so many directions
+-- with at most so many directions; the lower bound is no less than that of the node of two empty lists
 pub record IsTextFrom (shop : Shop) (start : List ℕ) (most : ℕ) (bytes : List ℕ) (bounds : Bounds)
     (sequence : List ℕ) : Type 0 where
   pub lawful : IsTwoEnded shop bytes bounds sequence
   pub no_worse : bounds.upper ≤ span shop start
+  pub floor : end_bound shop [] [] ≤ bounds.lower
   pub few : length lawful.directions ≤ most
   pub short : length bytes ≤ most + most_beside
 

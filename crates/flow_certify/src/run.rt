@@ -1,9 +1,10 @@
 //! Searches for directions, one after the other, and what they found so far.
 
-ghost use Rattle.std.specs.Prelude.{◌≡◌, ◌↔◌, ◌<◌, ◌≤◌, min, length, IfOk, IsTrue};
+ghost use Rattle.std.specs.Prelude.{◌≡◌, ◌↔◌, ◌<◌, ◌≤◌, min, [], length, IfOk, IsTrue};
 ghost use Rattle.flow_shop.specs.Shop.{Shop};
 ghost use Rattle.flow_shop.specs.Paths.{span};
 ghost use Rattle.flow_shop.specs.Directions.{Proves};
+ghost use Rattle.flow_shop.specs.Ends.{end_bound};
 ghost use Rattle.flow_shop.specs.Sequences.{IsSequence};
 ghost use Rattle.flow_certify.specs.Signs.{most_signs};
 ghost use Rattle.flow_certify.specs.internal.Runs.{IsLater, IsRun, IsSearched};
@@ -12,6 +13,7 @@ use crate::certified::Certified;
 use crate::fund::Fund;
 use flow_directions::{Found, prove};
 use flow_improve::Reached;
+use flow_nodes::Node;
 use flow_shop::{Instance, Sequence, makespan};
 use std::alloc::{AllocError, Global};
 
@@ -26,8 +28,16 @@ pub(crate) struct Run {
     over: Option<u64>,
 }
 
+/// What empty directions prove: the bound of the node of two empty lists.
+fn root_bound(instance: &Instance) -> u64
+    ensures bound { result ≡ end_bound instance.now [] [] }
+    ensures proved { Proves instance.now result [] }
+{
+    u64::from(Node::root(instance).bound(instance))
+}
+
 impl Run {
-    /// A run that knows a sequence alone: empty directions prove 0.
+    /// A run that knows a sequence, and what empty directions prove: the bound of the node of two empty lists.
     pub(crate) fn new(
         alloc: Global,
         instance: &Instance,
@@ -37,13 +47,14 @@ impl Run {
         requires { length start.now ≡ instance.now.jobs }
         ensures run { IfOk result (IsRun instance.now) }
         ensures upper { IfOk result (λ run. run.known.upper ≡ span instance.now start.now) }
+        ensures floor { IfOk result (λ run. end_bound instance.now [] [] ≤ run.known.lower) }
         ensures whole { IfOk result (λ run. run.whole ≤ min directions most_signs) }
     {
         let upper = makespan(instance, start);
         let fund = Fund::new(instance, upper, directions);
         Ok(Run {
             known: Certified {
-                lower: 0,
+                lower: root_bound(instance),
                 upper,
                 sequence: Sequence::of_known(alloc, start.jobs())?,
                 directions: Vec::new(alloc),
@@ -100,7 +111,8 @@ impl Run {
 
     /// Takes directions that prove a number.
     fn hold(&mut self, number: u64, directions: Vec<u8>)
-        requires { length directions.items ≤ self.old.whole }
+        requires few { length directions.items ≤ self.old.whole }
+        requires no_less { self.old.known.lower ≤ number }
         ensures later { (shop : Shop) → IsRun shop self.old → Proves shop number directions.items →
             IsLater shop self.old self.new }
         ensures lower { self.new.known.lower ≡ number }
@@ -136,7 +148,8 @@ impl Run {
         budget: u64,
     ) -> Result<bool, AllocError>
         requires run { IsRun instance.now self.old }
-        requires number { number ≤ self.old.known.upper }
+        requires from { self.old.known.lower ≤ number }
+        requires to { number ≤ self.old.known.upper }
         ensures later { IsLater instance.now self.old self.new }
         ensures searched { IfOk result (IsSearched number self.old self.new) }
     {

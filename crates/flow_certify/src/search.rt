@@ -1,10 +1,11 @@
 //! From a start to bounds: which sequences and numbers are searched, and with which budgets.
 
-ghost use Rattle.std.specs.Prelude.{◌≡◌, ◌<◌, ◌≤◌, min, length, IfOk};
+ghost use Rattle.std.specs.Prelude.{◌≡◌, ◌<◌, ◌≤◌, min, [], length, IfOk};
 ghost use Rattle.flow_text.specs.Generator.{modulus};
 ghost use Rattle.flow_shop.specs.Paths.{span};
 ghost use Rattle.flow_shop.specs.Sequences.{IsSequence};
 ghost use Rattle.flow_shop.specs.Directions.{Proves};
+ghost use Rattle.flow_shop.specs.Ends.{end_bound};
 ghost use Rattle.flow_certify.specs.Signs.{most_signs};
 ghost use Rattle.flow_certify.specs.internal.Runs.{IsLater, IsRun};
 
@@ -19,7 +20,10 @@ use std::alloc::{AllocError, Global};
 const NARROW: u32 = 16;
 
 /// The greatest width of a beam that is aimed at a number.
-const AIMED: u32 = 16_384;
+const AIMED: u32 = 65_536;
+
+/// How many times the steps of the beam a beam may take that is aimed at a number.
+const AIMED_SHARE: u64 = 4;
 
 /// The budgets of the searches from the start, and from the best of a narrow beam.
 const SMALL: [u64; 2] = [10_000, 100_000];
@@ -130,7 +134,7 @@ fn aim(alloc: Global, instance: &Instance, effort: &Effort, run: &mut Run) -> Re
     }
     let number = run.known.lower.saturating_add(1);
     let width = effort.width.saturating_mul(4).min(AIMED);
-    let work = effort.beam_work();
+    let work = effort.beam_work().saturating_mul(AIMED_SHARE);
     let aimed = beam_below(alloc, instance, &run.known.sequence, number, width, work)?;
     run.take(alloc, &aimed)
 }
@@ -176,6 +180,7 @@ pub fn certify(
     ensures attained { IfOk result (λ found. span instance.now found.sequence ≡ found.upper) }
     ensures no_worse { IfOk result (λ found. found.upper ≤ span instance.now start.now) }
     ensures proved { IfOk result (λ found. Proves instance.now found.lower found.directions.items) }
+    ensures floor { IfOk result (λ found. end_bound instance.now [] [] ≤ found.lower) }
     ensures few { IfOk result (λ found. length found.directions.items ≤ min directions most_signs) }
 {
     let mut run = Run::new(alloc, instance, start, directions)?;

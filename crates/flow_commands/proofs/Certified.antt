@@ -10,6 +10,7 @@ use Rattle.flow_core.specs.Paths.{span}
 use Rattle.flow_core.specs.Sequences.{IsSequence}
 use Rattle.flow_core.specs.Shop.{Shop, IsWithinLimits}
 use Rattle.flow_core.specs.Directions.{Proves}
+use Rattle.flow_core.specs.Ends.{end_bound}
 use Rattle.flow_certify.specs.Signs.{most_signs}
 use Rattle.flow_check.specs.TextLines.{ending, line, spaced}
 use Rattle.flow_check.specs.TwoEnded.{IsTwoEnded, ShowsBounds, title_line, two_ended_text}
@@ -104,11 +105,11 @@ text-short shop bounds jobs directions limits shows few =
 pub certifies : (shop : Shop) (given : Option (List ℕ)) (start jobs directions : List ℕ) (bounds : Bounds)
     (most : ℕ) → IsWithinLimits shop → StartsFrom shop given start → IsSequence shop.jobs jobs →
     span shop jobs ≡ bounds.upper → bounds.upper ≤ span shop start → Proves shop bounds.lower directions →
-    length directions ≤ min most most_signs →
+    end_bound shop [] [] ≤ bounds.lower → length directions ≤ min most most_signs →
     (IsSequence shop.jobs jobs → span shop jobs ≡ bounds.upper → Proves shop bounds.lower directions →
     IsTwoEnded shop (two_ended_text shop bounds jobs directions) bounds jobs) →
     Certifies shop given most (two_ended_text shop bounds jobs directions)
-certifies shop given start jobs directions bounds most limits starts whole attained better proved few lawful =
+certifies shop given start jobs directions bounds most limits starts whole attained better proved floor few lawful =
     let shown = (lawful whole attained proved).shows in
     let shows : ShowsBounds shop bounds jobs directions = record {
       lower_fits = shown.lower_fits;
@@ -124,6 +125,7 @@ certifies shop given start jobs directions bounds most limits starts whole attai
       jobs,
       record { directions = directions; shows = shows; text = refl },
       (start, starts, whole, of_start),
+      floor,
       within,
       text-short shop bounds jobs directions limits shows short,
     )

@@ -2,6 +2,7 @@
 use Rattle.std.specs.Prelude.{◌≡◌, ℕ, ◌≤◌, List, [], ◌∷◌, length, Option, Some, None, Ok, Err}
 use Rattle.std.specs.Int.{is_in_range}
 use Rattle.flow_core.specs.Shop.{Shop}
+use Rattle.flow_core.specs.Ends.{end_bound}
 use Rattle.flow_core.specs.Limits.{most_certificate, most_directions}
 use Rattle.flow_core.specs.Refusals.{fault_unless, first_fault}
 use Rattle.flow_check.specs.TwoEnded.{AreProved, IsTwoEnded}
@@ -20,12 +21,12 @@ certify_fault request = first_fault (
     ∷ fault_unless (is_in_range 1 most_directions request.directions) Directions
     ∷ [])
 
--- a lawful two-ended certificate, short enough for `check`: its sequence is no worse than the one to start from, and it
--- has at most so many directions
+-- a lawful two-ended certificate, short enough for `check`: its sequence is no worse than the one to start from, its
+-- lower bound no less than that of the node of two empty lists, and it has at most so many directions
 abbrev pub Certifies : Shop → Option (List ℕ) → ℕ → List ℕ → Type 0
 Certifies shop given most text =
     (bounds : Bounds) × (jobs : List ℕ) × (lawful : IsTwoEnded shop text bounds jobs) × IsImproved shop given jobs
-    × (length lawful.directions ≤ most) × (length text ≤ most_certificate)
+    × (end_bound shop [] [] ≤ bounds.lower) × (length lawful.directions ≤ most) × (length text ≤ most_certificate)
 
 -- what `certify` answers for a shop and a given sequence: such a text; or why its numbers are refused
 abbrev pub AnswersCertify : CertifyRequest → Shop → Option (List ℕ) → Answer → Type 0

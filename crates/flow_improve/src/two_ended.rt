@@ -70,12 +70,40 @@ impl Limits {
         self.aim.is_some_and(|number| makespan < number)
     }
 
-    /// A pass of a width.
-    fn plan(&self, width: u32, mode: Mode) -> Plan {
-        Plan {
-            width,
-            mode,
-            below: self.aim.unwrap_or(u64::MAX),
+    /// The first pass of a width. Where all children are below a number that is aimed at, their bounds say little, and
+    /// the deficit decides.
+    fn first(&self, width: u32) -> Plan {
+        match self.aim {
+            Some(number) => Plan {
+                width,
+                mode: Mode::Deficit,
+                fewer: number,
+                below: number,
+            },
+            None => Plan {
+                width,
+                mode: Mode::Bound,
+                fewer: 0,
+                below: u64::MAX,
+            },
+        }
+    }
+
+    /// The second pass of a width.
+    fn second(&self, width: u32) -> Plan {
+        match self.aim {
+            Some(number) => Plan {
+                width,
+                mode: Mode::Deficit,
+                fewer: 0,
+                below: number,
+            },
+            None => Plan {
+                width,
+                mode: Mode::Sum,
+                fewer: 0,
+                below: u64::MAX,
+            },
         }
     }
 }
@@ -133,11 +161,11 @@ fn search<V: Lanes>(
         if width > limits.width {
             break;
         }
-        let plan = limits.plan(width, Mode::Bound);
+        let plan = limits.first(width);
         if ends_with(alloc, instance, limits, passes, reached, &plan)? {
             break;
         }
-        let plan = limits.plan(width, Mode::Sum);
+        let plan = limits.second(width);
         if ends_with(alloc, instance, limits, passes, reached, &plan)? {
             break;
         }

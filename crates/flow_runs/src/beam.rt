@@ -139,26 +139,35 @@ fn beam_ends_at_its_widths_and_steps(rt: HostRuntime) {
 
 /// A number, and what a search below it comes to with passes up to the width 32, of twenty jobs on ten machines: the
 /// makespan, the jobs, and whether the search was whole. The start has the makespan 1680, and the bound is 1448.
-static BELOW: [(u64, u64, &[u16], bool); 6] = [
+static BELOW: [(u64, u64, &[u16], bool); 7] = [
     (0, 1680, OF_TWENTY, true),
     // A pass of width 1 keeps few children, and drops none.
     (1449, 1680, OF_TWENTY, true),
     // No pass comes to a sequence.
     (1601, 1680, OF_TWENTY, false),
+    // The second pass of width 32 comes to it.
+    (
+        1610,
+        1609,
+        &[
+            5, 9, 12, 17, 15, 4, 2, 3, 8, 19, 10, 14, 18, 6, 13, 11, 1, 20, 7, 16,
+        ],
+        false,
+    ),
     (
         1637,
-        1636,
+        1633,
         &[
-            18, 9, 3, 17, 5, 19, 12, 4, 2, 20, 8, 13, 10, 6, 11, 14, 15, 7, 16, 1,
+            4, 5, 2, 12, 9, 18, 8, 15, 10, 14, 6, 3, 17, 19, 13, 16, 11, 1, 20, 7,
         ],
         false,
     ),
     // The makespan of the start is not below itself.
     (
         1680,
-        1670,
+        1677,
         &[
-            18, 2, 9, 17, 19, 3, 4, 14, 13, 15, 12, 5, 8, 10, 6, 11, 1, 20, 7, 16,
+            5, 4, 15, 9, 12, 17, 2, 18, 16, 8, 19, 3, 7, 14, 6, 20, 11, 1, 13, 10,
         ],
         false,
     ),

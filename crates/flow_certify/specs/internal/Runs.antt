@@ -18,11 +18,12 @@ pub record IsCertified (shop : Shop) (most : ℕ) (known : Certified) : Type 0 w
 abbrev pub IsRun : Shop → Run → Type 0
 IsRun shop run = IsCertified shop run.whole run.known
 
--- after a step what a run knows is so, and its sequence is no worse
+-- after a step what a run knows is so, its sequence is no worse, and no less is proved
 pub record IsLater (shop : Shop) (before after : Run) : Type 0 where
   pub run : IsRun shop after
   pub whole : after.whole ≡ before.whole
   pub upper : after.known.upper ≤ before.known.upper
+  pub lower : before.known.lower ≤ after.known.lower
 
 -- after a search below a number: it was over; or the number is proved; or a sequence below it is known
 abbrev pub IsSearched : ℕ → Run → Run → Bool → Type 0

@@ -46,6 +46,15 @@ fn write_lanes<V: Lanes>(numbers: &mut [u32; MAX_JOBS], group: usize, lanes: V)
     }
 }
 
+/// What the bounds of the children at an end come to.
+#[derive(Clone, Copy)]
+struct Totals {
+    /// How many are below a number.
+    below: u64,
+    /// The sum of all.
+    sum: u64,
+}
+
 /// The bounds of the children of a node, by their jobs: a number of the cap or more stands as the cap.
 #[derive(Drop)]
 pub(crate) struct Bounds {
@@ -110,17 +119,32 @@ impl Bounds {
         child.bound(instance)
     }
 
-    /// The end at which the bounds of all children sum to more, and the front where both sums are equal.
-    pub(crate) fn end_taken(&self, instance: &Instance, entry: &Entry) -> End
+    /// How many bounds of the children at an end are below a number, and the sum of all bounds there.
+    fn totals(&self, instance: &Instance, entry: &Entry, end: End, number: u64) -> Totals
         requires entry { IsEntry instance.now entry.now }
         requires bounds { HasBounds instance.now entry.now self.now }
     {
-        let mut front: u64 = 0;
-        let mut back: u64 = 0;
+        let mut totals = Totals { below: 0, sum: 0 };
         for place in entry.first..entry.before {
-            front = front.wrapping_add(u64::from(self.at(instance, entry, End::Front, place)));
-            back = back.wrapping_add(u64::from(self.at(instance, entry, End::Back, place)));
+            let bound = u64::from(self.at(instance, entry, end, place));
+            totals.below = totals.below.wrapping_add(u64::from(bound < number));
+            totals.sum = totals.sum.wrapping_add(bound);
         }
-        if back > front { End::Back } else { End::Front }
+        totals
+    }
+
+    /// The end where fewer children are below a number; where as many are, the end whose bounds sum to more; and the
+    /// front where these sums are equal too.
+    pub(crate) fn end_taken(&self, instance: &Instance, entry: &Entry, number: u64) -> End
+        requires entry { IsEntry instance.now entry.now }
+        requires bounds { HasBounds instance.now entry.now self.now }
+    {
+        let front = self.totals(instance, entry, End::Front, number);
+        let back = self.totals(instance, entry, End::Back, number);
+        if back.below < front.below || back.below == front.below && back.sum > front.sum {
+            End::Back
+        } else {
+            End::Front
+        }
     }
 }

@@ -16,6 +16,8 @@ pub(crate) enum Mode {
     Bound,
     /// By a sum of the bound and the deficit.
     Sum,
+    /// By the deficit, and then by the bound.
+    Deficit,
 }
 
 /// The order of the children in a pass.
@@ -129,6 +131,7 @@ impl Order {
         match self.mode {
             Mode::Bound => self.greatest.wrapping_mul(2),
             Mode::Sum => self.greatest,
+            Mode::Deficit => self.greatest.wrapping_add(self.greatest / 2),
         }
     }
 
@@ -149,6 +152,10 @@ impl Order {
                 first: self.weight().wrapping_mul(bound).wrapping_add(deficit),
                 second: 0,
             },
+            Mode::Deficit => Key {
+                first: deficit,
+                second: bound,
+            },
         }
     }
 
@@ -161,6 +168,9 @@ impl Order {
                 Some(most) => most.wrapping_add(1),
                 None => u64::MAX,
             },
+            Mode::Deficit if deficit < key.first => u64::MAX,
+            Mode::Deficit if deficit == key.first => key.second.wrapping_add(1),
+            Mode::Deficit => 0,
         }
     }
 
@@ -171,6 +181,7 @@ impl Order {
             Mode::Bound if bound < key.first => u64::MAX,
             Mode::Bound => key.second,
             Mode::Sum => key.first.saturating_sub(self.weight().wrapping_mul(bound)),
+            Mode::Deficit => key.first,
         }
     }
 

@@ -21,6 +21,8 @@ pub(crate) struct Plan {
     /// The most nodes of a list.
     pub(crate) width: u32,
     pub(crate) mode: Mode,
+    /// A node is opened at the end where fewer children are below this number, and then where their bounds sum to more.
+    pub(crate) fewer: u64,
     /// Children are kept whose bound is below this number.
     pub(crate) below: u64,
 }
@@ -31,6 +33,7 @@ impl Plan {
         Plan {
             width: self.width,
             mode: self.mode,
+            fewer: self.fewer,
             below: self.below.min(number),
         }
     }
@@ -169,7 +172,7 @@ impl<V: Lanes> Passes<V> {
             },
             below: plan.below,
             parent: place,
-            end: self.bounds.end_taken(instance, entry),
+            end: self.bounds.end_taken(instance, entry, plan.fewer),
         };
         let rows = self.rows.as_slice();
         offers.offer(instance, rows, entry, &self.bounds, &mut self.kept)

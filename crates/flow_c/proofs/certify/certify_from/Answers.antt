@@ -16,7 +16,7 @@ found c =
     (record { lower = c.in_ok-found.found.lower; upper = c.in_ok-found.found.upper }) c.in_ok-found.found.sequence
     c.in_ok-found.found.directions.items c.in_ok-frame.frame.bytes c.requires.limits c.in_ok-found.ensures.each
     c.in_ok-found.ensures.attained c.in_ok-found.ensures.no_worse c.in_ok-found.ensures.proved
-    (omega (arith, c.in_ok-found.ensures.few)) c.in_ok-frame.ensures.text
+    c.in_ok-found.ensures.floor (omega (arith, c.in_ok-found.ensures.few)) c.in_ok-frame.ensures.text
 
 pub returns-clause-text : goal.returns-clause-text
 returns-clause-text c = found (goal.at.returns-clause-text c).In_ok-frame

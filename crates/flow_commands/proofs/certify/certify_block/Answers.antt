@@ -16,7 +16,7 @@ returns-clause-written g c =
       certified-answers c.args.request c.args.instance c.args.given _ c.in_ok-effort.ensures.accepted
           (certifies c.args.instance c.args.given c.in_ok-start.start found.sequence found.directions.items bounds
           c.args.request.directions (rw (← c.instance.view_is) c.instance.invariant.0)
-          c.in_ok-start.ensures.start says.each says.attained says.no_worse says.proved says.few
+          c.in_ok-start.ensures.start says.each says.attained says.no_worse says.proved says.floor says.few
           (rw c.as_slice.ensures.value at c.write_two_ended.ensures.lawful)),
       rw c.as_slice.ensures.value at c.in_ok-write_two_ended.ensures.ok,
     )
@@ -30,7 +30,7 @@ returns-clause-lawful g c =
     (sink_run g.K.Sink.taken c.args.out.now c.write_two_ended.new.out)
     (certifies c.args.instance c.args.given c.in_ok-start.start found.sequence found.directions.items bounds
     c.args.request.directions (rw (← c.instance.view_is) c.instance.invariant.0)
-    c.in_ok-start.ensures.start says.each says.attained says.no_worse says.proved says.few
+    c.in_ok-start.ensures.start says.each says.attained says.no_worse says.proved says.floor says.few
     (rw c.as_slice.ensures.value at c.write_two_ended.ensures.lawful))
     (rw c.as_slice.ensures.value at c.in_ok-write_two_ended.ensures.ok)
 
@@ -49,6 +49,6 @@ returns-in_err-write_two_ended-clause-ended g c =
     (certified-answers c.args.request c.args.instance c.args.given _ c.in_ok-effort.ensures.accepted
     (certifies c.args.instance c.args.given c.in_ok-start.start found.sequence found.directions.items bounds
     c.args.request.directions (rw (← c.instance.view_is) c.instance.invariant.0)
-    c.in_ok-start.ensures.start says.each says.attained says.no_worse says.proved says.few
+    c.in_ok-start.ensures.start says.each says.attained says.no_worse says.proved says.floor says.few
     (rw c.as_slice.ensures.value at c.write_two_ended.ensures.lawful)))
     (rw c.as_slice.ensures.value at c.in_err-write_two_ended.ensures.err))
