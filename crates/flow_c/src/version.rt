@@ -5,7 +5,9 @@ ghost use Rattle.std.specs.Prelude.{◌≡◌};
 ghost use Rattle.flow_c.specs.Versions.{version_number};
 
 const MAJOR: u32 = 1;
+
 const MINOR: u32 = 0;
+
 const PATCH: u32 = 0;
 
 /// The version as one number: a million for each major version, a thousand for each minor one, and the patches.
