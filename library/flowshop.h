@@ -9,10 +9,10 @@
  * its type, and what is written to overlaps nothing else that the call is lent. Nothing is kept of what a call is
  * lent, and nothing is left for the caller to free.
  *
- * Each call returns a status: FLOWSHOP_DONE, or the number of what is wrong, which is the first fault in the order
- * that the call lists; or FLOWSHOP_MEMORY where memory ran out, which can come in the place of any later fault. A
- * call that is done leaves `place` as it is. One that is not changes nothing but `place`, which then has the place
- * of the fault: which time or which job of the list, counted from 1; which line of a text; which prefix is over the
+ * Each call but flowshop_version returns a status: FLOWSHOP_DONE, or the number of what is wrong, which is the first
+ * fault in the order that the call lists; or FLOWSHOP_MEMORY where memory ran out, which can come in the place of any
+ * later fault. A call that is done leaves `place` as it is. One that is not changes nothing but `place`, which then has
+ * the place of the fault: which time or which job of the list, counted from 1; which line of a text; which prefix is over the
  * budget, counted from 0; how many entries a slice needs (FLOWSHOP_ROOM); how many blocks a text has
  * (FLOWSHOP_INDEX); else 0.
  *
@@ -32,6 +32,9 @@
 #ifdef __cplusplus
 extern "C" {
 #endif
+
+/* The version of this header. flowshop_version gives that of the library. */
+#define FLOWSHOP_LIBRARY_VERSION 1000000
 
 /* The limits. */
 enum flowshop_limit {
@@ -107,6 +110,10 @@ enum flowshop_status {
     FLOWSHOP_TIMES = 76, /* there is not one time for each job and machine */
     FLOWSHOP_INDEX = 77 /* the text has no block of this index; place: how many blocks it has */
 };
+
+/* The version of the library as one number: a million for each major version, a thousand for each minor one, and the
+ * patches. It is no status. */
+uint32_t flowshop_version(void);
 
 /* The shop of a seed, by Taillard's generator: each time is drawn from 1 to 99. The first jobs * machines entries of
  * `times` become its times, machine by machine; the rest stays as it was.

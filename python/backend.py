@@ -1,55 +1,81 @@
-"""Makes a wheel of the package and of the library that ./build --library made. It needs the standard library alone, so
-that pip install ./python works with no network."""
+"""Makes a wheel of the package with the released library, or with that of FLOWSHOP_LIBRARY. It needs the standard
+library alone, so that pip install ./python works with no network. Two wheels of the same files have the same bytes."""
 
 import base64
 import hashlib
 import os
 import zipfile
 
+import needs
+
 HERE = os.path.dirname(os.path.abspath(__file__))
-LIBRARY = os.path.join(os.path.dirname(HERE), "out", "libflowshop.so")
-VERSION = "0.1.0"
-TAG = "py3-none-linux_x86_64"
+TOP = os.path.dirname(HERE)
+LICENSES = ["LICENSE-APACHE", "LICENSE-MIT"]
+
+
+def read(*path):
+    """The bytes of a file of the clone."""
+    with open(os.path.join(TOP, *path), "rb") as file:
+        return file.read()
+
+
+VERSION = read("VERSION").decode().strip()
 INFO = f"flowshop-{VERSION}.dist-info"
 METADATA = f"""Metadata-Version: 2.1
 Name: flowshop
 Version: {VERSION}
 Summary: Exact permutation flow shops, with certificates that a proved checker reads
-Requires-Python: >=3.9
+Author: the Rikuembo authors
 License: MIT OR Apache-2.0
-"""
+{"".join(f"License-File: {name}" + chr(10) for name in LICENSES)}\
+Requires-Python: >=3.9
+Description-Content-Type: text/markdown
+
+{read("python", "README.md").decode()}"""
 
 
-def contents():
-    """The files of the wheel, but for the record: their names and bytes."""
-    if not os.path.exists(LIBRARY):
-        raise SystemExit("flowshop: run ./build --library at the top of the clone first")
-    files = {}
-    folder = os.path.join(HERE, "flowshop")
-    for name in sorted(os.listdir(folder)):
+def package():
+    """The files of the package, by their names in a wheel, and its platform."""
+    path = os.environ.get("FLOWSHOP_LIBRARY") or os.path.join(TOP, "release", "libflowshop.so")
+    if not os.path.exists(path):
+        raise SystemExit(f"flowshop: there is no library {path}")
+    with open(path, "rb") as file:
+        library = file.read()
+    files = {"flowshop/libflowshop.so": library}
+    for name in os.listdir(os.path.join(HERE, "flowshop")):
         if name.endswith((".py", ".typed")):
-            with open(os.path.join(folder, name), "rb") as file:
-                files[f"flowshop/{name}"] = file.read()
-    with open(LIBRARY, "rb") as file:
-        files["flowshop/libflowshop.so"] = file.read()
-    files[f"{INFO}/METADATA"] = METADATA.encode()
-    files[f"{INFO}/WHEEL"] = f"Wheel-Version: 1.0\nGenerator: flowshop\nRoot-Is-Purelib: false\nTag: {TAG}\n".encode()
-    return files
+            files[f"flowshop/{name}"] = read("python", "flowshop", name)
+    return files, needs.platform(library)
+
+
+def write(folder, files, tag, is_pure):
+    """Writes a wheel of these files, and returns its name."""
+    about = f"Wheel-Version: 1.0\nGenerator: flowshop\nRoot-Is-Purelib: {str(is_pure).lower()}\nTag: {tag}\n"
+    files = {**files, f"{INFO}/METADATA": METADATA.encode(), f"{INFO}/WHEEL": about.encode()}
+    files.update((f"{INFO}/{name}", read(name)) for name in LICENSES)
+    record = ""
+    for name, data in sorted(files.items()):
+        digest = base64.urlsafe_b64encode(hashlib.sha256(data).digest()).rstrip(b"=").decode()
+        record += f"{name},sha256={digest},{len(data)}\n"
+    wheel = f"flowshop-{VERSION}-{tag}.whl"
+    with zipfile.ZipFile(os.path.join(folder, wheel), "w") as out:
+        for name, data in [*sorted(files.items()), (f"{INFO}/RECORD", f"{record}{INFO}/RECORD,,\n".encode())]:
+            entry = zipfile.ZipInfo(name)  # of 1980, the first date that a wheel can have
+            entry.external_attr = 0o644 << 16
+            out.writestr(entry, data)
+    return wheel
 
 
 def build_wheel(wheel_directory, config_settings=None, metadata_directory=None):
     """Writes the wheel, and returns its name."""
-    files = contents()
-    record = ""
-    for name, data in files.items():
-        digest = base64.urlsafe_b64encode(hashlib.sha256(data).digest()).rstrip(b"=").decode()
-        record += f"{name},sha256={digest},{len(data)}\n"
-    files[f"{INFO}/RECORD"] = (record + f"{INFO}/RECORD,,\n").encode()
-    wheel = f"flowshop-{VERSION}-{TAG}.whl"
-    with zipfile.ZipFile(os.path.join(wheel_directory, wheel), "w", zipfile.ZIP_DEFLATED) as out:
-        for name, data in files.items():
-            out.writestr(name, data)
-    return wheel
+    files, platform = package()
+    return write(wheel_directory, files, f"py3-none-{platform}", False)
+
+
+def build_editable(wheel_directory, config_settings=None, metadata_directory=None):
+    """Writes a wheel that leads to the package in this folder, and returns its name. The library is that of the clone:
+    the built one, else the released one."""
+    return write(wheel_directory, {"flowshop.pth": f"{HERE}\n".encode()}, "py3-none-any", True)
 
 
 def build_sdist(sdist_directory, config_settings=None):

@@ -432,6 +432,7 @@ static void at_once(void) {
 }
 
 int main(void) {
+    is("the version", flowshop_version(), FLOWSHOP_LIBRARY_VERSION);
     makespans();
     generated();
     blocks();

@@ -19,7 +19,7 @@ LIBRARY = ctypes.CDLL(os.environ.get("FLOWSHOP_LIBRARY", os.path.join(TOP, "out"
 HEADER = open(os.path.join(TOP, "library", "flowshop.h"), encoding="ascii").read()
 STATUS = {name: int(number) for name, number in re.findall(r"FLOWSHOP_(\w+) = (\d+)", HEADER)}
 NAMES = {number: name for name, number in STATUS.items() if not name.startswith(("MAX_", "MIN_"))}
-PROGRAM = os.path.join(TOP, "crates", "flow_tool", "out", "flow_tool")
+PROGRAM = os.environ.get("FLOWSHOP_PROGRAM", os.path.join(TOP, "crates", "flow_tool", "out", "flow_tool"))
 SHOPS = int(sys.argv[1]) if len(sys.argv) > 1 else 2_000
 
 passed = 0
@@ -636,6 +636,9 @@ def compare_at_once():
         thread.join()
 
 
+with open(os.path.join(TOP, "VERSION"), encoding="ascii") as version:
+    major, minor, patch = map(int, version.read().split("."))
+equal("the version", LIBRARY.flowshop_version(), major * 1_000_000 + minor * 1_000 + patch)
 compare_statuses()
 compare_directions()
 compare_certify()

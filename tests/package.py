@@ -37,6 +37,12 @@ def refused(call):
         return type(error)
 
 
+# The version is that of the library and of the file VERSION.
+with open(os.path.join(TOP, "VERSION"), encoding="ascii") as file:
+    equal("the version", flowshop.__version__, file.read().strip())
+number = _library.load().flowshop_version()
+equal("that of the library", flowshop.__version__, f"{number // 1_000_000}.{number // 1_000 % 1_000}.{number % 1_000}")
+
 # The statuses are those of the header.
 with open(os.path.join(TOP, "library", "flowshop.h"), encoding="ascii") as header:
     text = header.read()

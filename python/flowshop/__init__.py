@@ -22,6 +22,8 @@ from . import _library
 
 __all__ = ["Block", "Certificate", "FlowshopError", "Operation", "Picture", "Shop", "Start", "read"]
 
+__version__ = "1.0.0"
+
 _LIBRARY = _library.load()
 # The most bytes that a text has beside its trees or its directions.
 _BESIDE = 3300

@@ -54,6 +54,7 @@ size, out = ctypes.c_size_t, ctypes.POINTER
 data = ctypes.c_char_p
 SHOP = [u32, u32, out(u32), size]
 CALLS = {
+    "version": [],
     "generate": [u32, u32, u32, out(u32), size, out(size)],
     "block": [data, size, u32, out(u32), out(u32), out(u32), size] + 3 * [out(u32)] + [out(size)],
     "makespan": SHOP + [out(u16), size, out(u64), out(size)],
@@ -71,12 +72,14 @@ CALLS = {
 
 
 def _path() -> Path:
-    """The library: that of FLOWSHOP_LIBRARY, else the one beside this file, else the one of the clone."""
+    """The library: that of FLOWSHOP_LIBRARY, else the one beside this file, else the one that was built in the clone,
+    else the released one."""
     named = os.environ.get("FLOWSHOP_LIBRARY")
     if named:
         return Path(named)
     here = Path(__file__).resolve().parent
-    for path in (here / "libflowshop.so", here.parent.parent / "out" / "libflowshop.so"):
+    for folder in (here, here.parent.parent / "out", here.parent.parent / "release"):
+        path = folder / "libflowshop.so"
         if path.exists():
             return path
     raise ImportError(

@@ -5,4 +5,5 @@ pub mod Checks
 pub mod Blocks
 pub mod Certify
 pub mod Pictures
+pub mod Versions
 pub mod internal

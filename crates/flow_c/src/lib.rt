@@ -16,3 +16,4 @@ mod report;
 mod room;
 mod solve;
 mod timetable;
+mod version;
