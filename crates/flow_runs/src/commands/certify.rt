@@ -213,7 +213,7 @@ static KNOWN: [Known; 23] = [
     (ABOVE_16_BITS, NONE, 2_670, Ok(b"bounds 32768 65536\n")),
     (ABOVE_16_BITS, NONE, 2_671, Ok(b"optimal 65536\n")),
     // What is kept raises the first bound, as far as searches that are over leave some of it.
-    (NINE_JOBS, NONE, 330, Ok(b"bounds 656 684\n")),
+    (NINE_JOBS, NONE, 330, Ok(b"bounds 653 684\n")),
     // The last search has a greater budget than that which was over, but not ten times as great.
     (EIGHT_JOBS, NONE, 223, Ok(b"optimal 591\n")),
     (ON_THREE, NONE, 60, Ok(b"optimal 540\n")),
