@@ -77,15 +77,14 @@ pub(super) const TOTAL_IN_WIDE: &[u8] =
 pub(super) const AIMED: &[u8] = b"a\n8 4 0 0 0\nb\n1 2 66 12 72 95 81 40\n50 61 26 37 57 68 42 95\n\
 46 93 24 77 79 38 83 54\n39 26 9 14 42 99 49 31\n";
 
-/// Instances with the times of `gen 9 5 17`, of `gen 8 4 26` and of `gen 8 3 111`. Their least makespans are 677, 591
+/// Instances with the times of `gen 9 5 17`, of `gen 7 3 191` and of `gen 8 3 111`. Their least makespans are 677, 431
 /// and 540.
 pub(super) const NINE_JOBS: &[u8] =
     b"a\n9 5 0 0 0\nb\n1 24 84 79 6 72 80 54 55\n89 52 83 13 59 90 1 41 13\n52 14 10 67 2 81 39 95 56\n\
 12 8 92 48 95 46 80 51 58\n75 86 84 21 20 70 29 80 8\n";
 
-pub(super) const EIGHT_JOBS: &[u8] =
-    b"a\n8 4 0 0 0\nb\n1 42 64 92 85 69 23 65\n66 30 97 50 60 89 39 77\n\
-45 20 96 74 85 85 32 19\n1 70 39 1 81 23 67 81\n";
+pub(super) const SEVEN_JOBS: &[u8] =
+    b"a\n7 3 0 0 0\nb\n1 13 32 60 76 82 98\n66 74 53 25 21 71 60\n21 18 19 47 24 76 74\n";
 
 pub(super) const ON_THREE: &[u8] =
     b"a\n8 3 0 0 0\nb\n1 60 87 91 14 31 22 36\n40 75 57 65 24 83 93 79\n\
