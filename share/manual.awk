@@ -74,6 +74,9 @@ BEGIN {
   print ".SH NAME\nflowshop \\- exact permutation flow shops, with certificates"
   print ".SH SYNOPSIS\n\\fBflowshop\\fR \\fICOMMAND\\fR \\fIWORD\\fR..."
   print ".SH DESCRIPTION"
+  print "In a permutation flow shop each machine takes the jobs in one common order. flowshop finds an order in which"
+  print "the last job leaves the last machine as soon as possible, or bounds of that time, and writes a certificate."
+  print "The folder examples and the pages that are named here are in its repository.\n.PP"
 }
 
 /^# / { next }
