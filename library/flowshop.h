@@ -12,8 +12,8 @@
  * Each call but flowshop_version returns a status: FLOWSHOP_DONE, or the number of what is wrong, which is the first
  * fault in the order that the call lists; or FLOWSHOP_MEMORY where memory ran out, which can come in the place of any
  * later fault. A call that is done leaves `place` as it is. One that is not changes nothing but `place`, which then has
- * the place of the fault: which time or which job of the list, counted from 1; which line of a text; which prefix is over the
- * budget, counted from 0; how many entries a slice needs (FLOWSHOP_ROOM); how many blocks a text has
+ * the place of the fault: which time or which job of the list, counted from 1; which line of a text; which prefix is
+ * over the budget, counted from 0; how many entries a slice needs (FLOWSHOP_ROOM); how many blocks a text has
  * (FLOWSHOP_INDEX); else 0.
  *
  * The calls keep no state, so that any number of threads may call them at once. They start no thread and take no
