@@ -23,7 +23,7 @@ const NARROW: u32 = 16;
 const AIMED: u32 = 65_536;
 
 /// How many times the steps of the beam a beam may take that is aimed at a number.
-const AIMED_SHARE: u64 = 4;
+const AIMED_SHARE: u64 = 8;
 
 /// The budgets of the searches from the start, and from the best of a narrow beam.
 const SMALL: [u64; 2] = [10_000, 100_000];
@@ -139,8 +139,36 @@ fn aim(alloc: Global, instance: &Instance, effort: &Effort, run: &mut Run) -> Re
     run.take(alloc, &aimed)
 }
 
-/// Raises the proved number with greater and greater budgets, looks for a sequence that has it as its makespan, and
-/// searches below the makespan of the best sequence with the whole budget.
+/// Looks for better sequences by narrower beams, each aimed half of the way between the proved number, or the greatest
+/// one that such a beam came to no sequence below, and the best makespan.
+fn halve(
+    alloc: Global,
+    instance: &Instance,
+    effort: &Effort,
+    run: &mut Run,
+) -> Result<(), AllocError>
+    requires { IsRun instance.now run.old }
+    ensures { IsLater instance.now run.old run.new }
+{
+    let width = effort.width / 4;
+    let work = effort.beam_work() / 2;
+    let mut missed = run.known.lower.saturating_add(1);
+    let mut top = run.known.upper;
+    'halved: while top.saturating_sub(missed) > 1 {
+        let number = missed + (top - missed) / 2;
+        let aimed = beam_below(alloc, instance, &run.known.sequence, number, width, work)?;
+        if aimed.value < number {
+            top = aimed.value;
+            run.take(alloc, &aimed)?;
+        } else {
+            missed = number;
+        }
+    }
+    Ok(())
+}
+
+/// Raises the proved number with greater and greater budgets, looks for a sequence that has it as its makespan, and for
+/// better ones, and searches below the makespan of the best sequence with the whole budget.
 fn prove_more(
     alloc: Global,
     instance: &Instance,
@@ -155,6 +183,7 @@ fn prove_more(
     run.raise(alloc, instance, SMALL[0].min(whole / 10))?;
     run.raise(alloc, instance, whole / 30)?;
     aim(alloc, instance, effort, run)?;
+    halve(alloc, instance, effort, run)?;
     run.prove_upper(alloc, instance, whole)?;
     let proved = run.known.lower;
     run.raise(alloc, instance, whole / 10)?;

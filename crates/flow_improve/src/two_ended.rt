@@ -237,8 +237,10 @@ pub fn beam(
     best_within(alloc, instance, start, &limits)
 }
 
-/// The same for a number: no child is kept whose bound is at least the number, and the search ends as soon as it comes
-/// to a sequence below the number. So it may end with the start.
+/// The best sequence of a two-ended beam search for a sequence below a number, and its makespan, which is at most that
+/// of the start. No child is kept whose bound is at least the number, and the search ends as soon as it comes to a
+/// sequence below the number. So it may end with the start. Widths, passes and steps are those of `beam`, but children
+/// are ordered by the deficit.
 pub fn beam_below(
     alloc: Global,
     instance: &Instance,

@@ -174,7 +174,8 @@ impl Order {
         }
     }
 
-    /// The greatest deficit with which the key of a bound is not above a key.
+    /// The greatest deficit with which the key of a bound is not above a key; or, where the deficit comes first in the
+    /// order, one that no such deficit exceeds.
     pub(crate) fn most_deficit(&self, key: &Key, bound: u32) -> u64 {
         let bound = u64::from(bound);
         match self.mode {

@@ -22,6 +22,7 @@ pub(crate) struct Plan {
     pub(crate) width: u32,
     pub(crate) mode: Mode,
     /// A node is opened at the end where fewer children are below this number, and then where their bounds sum to more.
+    /// No child is below 0: then the sum alone decides.
     pub(crate) fewer: u64,
     /// Children are kept whose bound is below this number.
     pub(crate) below: u64,

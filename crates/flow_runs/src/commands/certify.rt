@@ -2,9 +2,9 @@
 
 use super::endless::Endless;
 use super::texts::{
-    ABOVE_16_BITS, AIMED, BEST, FOUR_MACHINES, GENERATED, LAST, LONG_JOBS, LONG_TOTAL, LONG_TREES,
-    NINE_JOBS, ON_THREE, ONE_JOB, ONE_LONG_JOB, SEVEN_JOBS, START, THREE_MACHINES, TOTAL_IN_NARROW,
-    TOTAL_IN_WIDE, TWO_ENDED_12, TWO_MACHINES, UP_TO_16_BITS,
+    ABOVE_16_BITS, AIMED, BEST, FOUR_MACHINES, GENERATED, HALVED, LAST, LONG_JOBS, LONG_TOTAL,
+    LONG_TREES, NINE_JOBS, ON_THREE, ONE_JOB, ONE_LONG_JOB, SEVEN_JOBS, START, THREE_MACHINES,
+    TOTAL_IN_NARROW, TOTAL_IN_WIDE, TWO_ENDED_12, TWO_MACHINES, UP_TO_16_BITS,
 };
 use super::{
     End, Given, OF_THREE, ROOM, STARTED, UNREAD, Wanted, all_of, comes_to, end_of, ends, filled,
@@ -177,7 +177,7 @@ type Known = (&'static [u8], [u32; 4], u32, Wanted);
 /// is given, over the cost of a direction: 684 on 9 jobs and 26 machines; and on 7 jobs and 2 machines 464, or 928
 /// above the makespan 65,535. The bounds of three generated instances are those of a plain search, written apart, which
 /// follows the steps of the manual.
-static KNOWN: [Known; 24] = [
+static KNOWN: [Known; 25] = [
     (THREE_MACHINES, NONE, 1_000, Ok(b"optimal 12\n")),
     (
         THREE_MACHINES,
@@ -221,8 +221,11 @@ static KNOWN: [Known; 24] = [
     // What is kept is given when the beam has the least makespan.
     (TOTAL_IN_NARROW, [16, 0, 1, 1], 22, Ok(b"optimal 45\n")),
     (TOTAL_IN_WIDE, [64, 0, 1, 1], 48, Ok(b"optimal 27\n")),
-    // No search comes to 559 within its budget: only a beam of width 4 does that is aimed at 560.
-    (AIMED, [1, 0, 1, 1], 130, Ok(b"optimal 559\n")),
+    // No search comes to 484 within its budget: only a beam of width 8 does that is aimed at 485.
+    (AIMED, [1, 0, 1, 1], 30, Ok(b"optimal 484\n")),
+    // Neither a search nor the beam that is aimed at 536 comes below 574: a beam of width 1 does that is aimed half of
+    // the way.
+    (HALVED, [4, 0, 1, 1], 20, Ok(b"bounds 535 548\n")),
 ];
 
 /// Whether `check` prints this for a two-ended certificate.

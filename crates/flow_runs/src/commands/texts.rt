@@ -72,10 +72,14 @@ pub(super) const TOTAL_IN_NARROW: &[u8] =
 pub(super) const TOTAL_IN_WIDE: &[u8] =
     b"a\n6 5 0 0 0\nb\n5 0 0 4 4 0\n4 4 2 3 2 1\n4 4 4 2 1 4\n8 0 1 3 3 4\n4 0 0 2 0 4\n";
 
-/// Eight jobs on four machines, with the times of `gen 8 4 251`. The starting sequence has the makespan 571, and the
-/// least one is 559.
-pub(super) const AIMED: &[u8] = b"a\n8 4 0 0 0\nb\n1 2 66 12 72 95 81 40\n50 61 26 37 57 68 42 95\n\
-46 93 24 77 79 38 83 54\n39 26 9 14 42 99 49 31\n";
+/// Eight jobs on three machines, with the times of `gen 8 3 547`. The starting sequence has the makespan 491, and the
+/// least one is 484.
+pub(super) const AIMED: &[u8] = b"a\n8 3 0 0 0\nb\n1 95 32 88 42 77 73 34\n\
+57 28 77 12 54 91 25 74\n12 21 73 56 37 66 17 94\n";
+
+/// Nine jobs on three machines, with the times of `gen 9 3 276`.
+pub(super) const HALVED: &[u8] = b"a\n9 3 0 0 0\nb\n1 31 55 59 5 43 98 37 49\n\
+97 84 36 35 54 75 20 24 13\n82 45 23 55 56 80 54 43 38\n";
 
 /// Instances with the times of `gen 9 5 17`, of `gen 7 3 191` and of `gen 8 3 111`. Their least makespans are 677, 431
 /// and 540.
