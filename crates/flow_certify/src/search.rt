@@ -23,7 +23,7 @@ const NARROW: u32 = 16;
 const AIMED: u32 = 65_536;
 
 /// How many times the steps of the beam a beam may take that is aimed at a number.
-const AIMED_SHARE: u64 = 8;
+const AIMED_SHARE: u64 = 4;
 
 /// The budgets of the searches from the start, and from the best of a narrow beam.
 const SMALL: [u64; 2] = [10_000, 100_000];
@@ -133,7 +133,7 @@ fn aim(alloc: Global, instance: &Instance, effort: &Effort, run: &mut Run) -> Re
         return Ok(());
     }
     let number = run.known.lower.saturating_add(1);
-    let width = effort.width.saturating_mul(4).min(AIMED);
+    let width = effort.width.saturating_mul(8).min(AIMED);
     let work = effort.beam_work().saturating_mul(AIMED_SHARE);
     let aimed = beam_below(alloc, instance, &run.known.sequence, number, width, work)?;
     run.take(alloc, &aimed)
