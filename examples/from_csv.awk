@@ -17,6 +17,11 @@ function stop(why) {
   exit 1
 }
 
+# Says what is in doubt, and which words tell it, and ends.
+function ask(doubt, words) {
+  stop(doubt ": write " words " before the name of the table")
+}
+
 # --- Names ---
 
 # A name in small letters, with one blank before and after each of its words.
@@ -172,7 +177,7 @@ function test_words() {
   test_word("rows", rows, "jobs", "machines")
   test_word("totals", totals, "drop", "keep")
   test_word("decimal", decimal, "point", "comma")
-  if (from !~ /^[0-9]*$/) stop("the word after from= is the number of a line")
+  if (from !~ /^([1-9][0-9]*)?$/) stop("the word after from= is the number of a line")
 }
 
 # Whether a list of skip= or keep= has this name, or this number of a column. A name that is a number does not count.
@@ -243,11 +248,11 @@ function is_word(field) {
 function test_title(    row) {
   for (row = 2; row <= height && last_of[row] < 2; row++);
   if (last_of[1] == 1 && row <= height)
-    stop("line " at[1] " looks like a title: write from=" at[row] tell " if it begins in line " at[row])
+    ask("line " at[1] " looks like a title", "from=" at[row])
 }
 
 # Stops at a column after the first that has words, and no numbers.
-function test_word_columns(    column, row, words, numbers) {
+function test_word_columns(    column, row, words, numbers, word) {
   for (column = 2; column <= width; column++) {
     words = numbers = 0
     for (row = above + 1; row <= height; row++) {
@@ -255,10 +260,9 @@ function test_word_columns(    column, row, words, numbers) {
       else if (cell[row, column] ~ /[^-]/) words++
     }
     if (!words || numbers) continue
-    row = "skip=" (skip == "" ? "" : skip ",")
-    stop(column_place(column) " has words, no times: write " \
-      (column == 2 && !is_word(cell[above + 1, 1]) ? row origin[1] tell " if these are the names, or " : "") \
-      row origin[column] (column == 2 && !is_word(cell[above + 1, 1]) ? "" : tell) " to leave it out")
+    word = "skip=" (skip == "" ? "" : skip ",")
+    ask(column_place(column) " has words, no times", \
+      (column > 2 || is_word(cell[above + 1, 1]) ? "" : word origin[1] " if these are the names, or ") word origin[column])
   }
 }
 
@@ -276,22 +280,28 @@ function has_header(    column, words) {
   test_word_columns()
   for (column = 1; column <= width; column++)
     if (is_word(cell[1, column]) || column == 1 && cell[1, 1] == "") words++
-  if (words) stop("line " at[1] ": is this a row of names, or of times? Write header=yes or header=no" tell)
+  if (words) ask("it is not clear whether line " at[1] " has names or times", "header=yes or header=no")
   return 0
 }
 
+# Whether the numbers in the first column go up by one, or, where there are three or more, by one step.
+function has_running_numbers(    row, step) {
+  step = number_of(cell[above + 2, 1]) - number_of(cell[above + 1, 1])
+  for (row = above + 1; row <= height; row++) {
+    if (cell[row, 1] !~ /^[0-9]+$/) return 0
+    if (row > above + 1 && number_of(cell[row, 1]) - number_of(cell[row - 1, 1]) != step) return 0
+  }
+  return height > above + 1 && (step == 1 || step > 1 && height > above + 2)
+}
+
 # Whether the first column has names.
-function has_names(    row, words, consecutive) {
+function has_names(    row, words) {
   if (first != "") return first == "names"
   if (width == 1) return 0
   if (above && (cell[1, 1] == "" || is_name(cell[1, 1], job_names)) || is_word(cell[above + 1, 1])) return 1
-  consecutive = height > above + 1
-  for (row = above + 1; row <= height; row++) {
-    if (is_word(cell[row, 1])) words++
-    if (row > above + 1 && cell[row, 1] != cell[row - 1, 1] + 1) consecutive = 0
-  }
-  if (above || words || consecutive)
-    stop("does column " origin[1] " have names, or times? Write first=names or first=times" tell)
+  for (row = above + 1; row <= height; row++) if (is_word(cell[row, 1])) words++
+  if (above || words || has_running_numbers())
+    ask("it is not clear whether column " origin[1] " has names or times", "first=names or first=times")
   return 0
 }
 
@@ -302,7 +312,7 @@ function find_names(    row) {
   before = has_names()
   for (row = 2; row <= height; row++) {
     if (last_of[row] > width)
-      stop("line " at[row] " has more columns than line " at[1] ": is that a title (then write from=" at[2] tell \
+      stop("line " at[row] " has more columns than line " at[1] ": is that a title (from=" at[2] \
         "), has a column no name, or is a comma a decimal sign?")
   }
 }
@@ -347,7 +357,7 @@ function doubt_of_rows(    i, row_machines, row_jobs, column_machines, column_jo
 function list_jobs_and_machines(    i, doubt) {
   if (height == above || width == before) stop("there are no times")
   doubt = rows == "" ? doubt_of_rows() : ""
-  if (doubt != "") stop(doubt ": write rows=machines" tell " if each row is a machine, or rows=jobs if it is a job")
+  if (doubt != "") ask(doubt, "rows=machines or rows=jobs")
   turned = rows == "machines"
   jobs = turned ? width - before : height - above
   machines = turned ? height - above : width - before
@@ -388,19 +398,18 @@ function drop_machine(k) {
 }
 
 # Whether totals at this place are to be left out. It asks where it was not told.
-function drops_totals(place, kind) {
-  if (totals == "")
-    stop(place " looks like totals: write totals=drop" tell " to leave them out, or totals=keep if it is a " kind)
+function drops_totals(place) {
+  if (totals == "") ask(place " looks like totals", "totals=drop or totals=keep")
   return totals == "drop"
 }
 
 # Finds totals by their names.
 function test_total_names(    i) {
   for (i = jobs; i >= 1; i--) {
-    if (has_word(job_name(i), total_words) && drops_totals(job_place(i), "job")) drop_job(i)
+    if (has_word(job_name(i), total_words) && drops_totals(job_place(i))) drop_job(i)
   }
   for (i = machines; i >= 1; i--) {
-    if (has_word(machine_name(i), total_words) && drops_totals(machine_place(i), "machine")) drop_machine(i)
+    if (has_word(machine_name(i), total_words) && drops_totals(machine_place(i))) drop_machine(i)
   }
 }
 
@@ -409,8 +418,8 @@ function doubt_machine(k, why,    name, word) {
   name = machine_name(k)
   if (is_listed(keep, name, turned ? "" : origin[machine_at[k]])) return
   word = turned || is_word(name) && name !~ /[^A-Za-z0-9_-]/ ? name : origin[machine_at[k]]
-  stop(machine_place(k) " " why ": write skip=" (skip == "" ? "" : skip ",") word tell " to leave it out, or keep=" \
-    (keep == "" ? "" : keep ",") word " if it is a machine")
+  ask(machine_place(k) " " why, \
+    "skip=" (skip == "" ? "" : skip ",") word " or keep=" (keep == "" ? "" : keep ",") word)
 }
 
 # Stops at names that are no machine's, and at a name that two machines have.
@@ -483,8 +492,8 @@ function test_sums(    j, k, time, of_machine, of_job) {
   }
   of_machine = total_machine()
   of_job = total_job(of_machine)
-  if (of_job && drops_totals(job_place(of_job), "job")) drop_job(of_job)
-  if (of_machine && drops_totals(machine_place(of_machine), "machine")) drop_machine(of_machine)
+  if (of_job && drops_totals(job_place(of_job))) drop_job(of_job)
+  if (of_machine && drops_totals(machine_place(of_machine))) drop_machine(of_machine)
 }
 
 # --- Times ---
@@ -513,12 +522,18 @@ function refuse_field(j, k, text,    i) {
 function test_sign(j, k, text,    mark) {
   mark = text ~ /,/ ? "comma" : "point"
   if (sign != "" && mark != sign)
-    stop(place_of(j, k) " has " text ", but " (decimal != "" ? "you wrote decimal=" decimal : example " stands before it") \
+    stop(place_of(j, k) " has " text ", but " (example == "" ? "you wrote decimal=" decimal : example " stands before it") \
       ": write one decimal sign, and no signs of thousands")
   if (decimal == "" && text ~ /^[1-9][0-9]?[0-9]?[.,][0-9][0-9][0-9]$/)
-    stop(place_of(j, k) " has " text ": write decimal=" mark tell " if the " mark " is a decimal sign; else take it out")
+    ask(place_of(j, k) " has " text ", perhaps a thousand", "the number without the " mark ", or decimal=" mark)
   sign = mark
   example = text
+}
+
+# The number of a text of digits. Some kinds of awk take a text that begins with 0 for an octal number.
+function number_of(digits) {
+  sub(/^0+/, "", digits)
+  return digits + 0
 }
 
 # The time of a field, in millionths.
@@ -533,7 +548,7 @@ function time_in(j, k,    text, whole, decimals) {
   sub(/0+$/, "", decimals)
   if (length(decimals) > 6) stop(place_of(j, k) " has " text ": round it to six decimals")
   if (length(whole) > 6) stop(place_of(j, k) " has " text ": no time may be above 999999")
-  return whole * 1000000 + substr(decimals "000000", 1, 6)
+  return number_of(whole) * 1000000 + number_of(substr(decimals "000000", 1, 6))
 }
 
 # Reads the times.
@@ -621,7 +636,7 @@ function report(    k, text, several) {
     text = text (k == 1 ? ": " : ", ") in_sentence(machine_name(k) == "" ? k : machine_name(k))
   if (turned ? above : before)
     text = text "; first job " in_sentence(job_name(1)) ", last job " in_sentence(job_name(jobs))
-  text = text "; times from " extreme(1) " to " extreme(-1) (scale > 1 ? ", kept in 1/" scale : "")
+  text = text "; times " extreme(1) " to " extreme(-1) (scale > 1 ? ", kept in 1/" scale : "")
   several = names_of_several()
   if (several != "") text = text "; name of several jobs: " several
   if (left_out != "") text = text "; left out: " left_out
@@ -661,7 +676,6 @@ FNR == 1 {
 
 END {
   if (stopped) exit 1
-  tell = " before the name of the table"
   test_words()
   find_separator()
   read_rows()

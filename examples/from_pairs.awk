@@ -19,6 +19,12 @@ function stop(why) {
   exit 1
 }
 
+# The number of a text of digits. Some kinds of awk take a text that begins with 0 for an octal number.
+function number_of(digits) {
+  sub(/^0+/, "", digits)
+  return digits + 0
+}
+
 # Whether the line has whole numbers alone.
 function has_numbers(    i) {
   for (i = 1; i <= NF; i++) if ($i !~ /^[0-9]+$/) return 0
@@ -28,22 +34,23 @@ function has_numbers(    i) {
 # Begins a shop of so many jobs and machines.
 function begin_shop() {
   shops++
-  jobs = $1 + 0
-  machines = $2 + 0
+  jobs = number_of($1)
+  machines = number_of($2)
   if (jobs < 1 || jobs > 800) stop(jobs " jobs: there may be 1 to 800")
   if (machines < 1 || machines > 26) stop(machines " machines: there may be 1 to 26")
   job = 0
 }
 
 # Takes the times of a job.
-function read_job(    k) {
+function read_job(    k, time) {
   job++
   if (NF != 2 * machines) stop(NF " numbers, where job " job " has a machine and a time " machines " times")
   for (k = 1; k <= machines; k++) {
-    if ($(2 * k - 1) + 0 != k - 1)
+    if (number_of($(2 * k - 1)) != k - 1)
       stop("machine " $(2 * k - 1) ", where machine " k - 1 " should stand: each job visits all machines from 0 on")
-    if ($(2 * k) + 0 > 999999) stop("a time above 999999: " $(2 * k))
-    times[k] = times[k] (job > 1 ? " " : "") $(2 * k) + 0
+    time = number_of($(2 * k))
+    if (time > 999999) stop("a time above 999999: " $(2 * k))
+    times[k] = times[k] (job > 1 ? " " : "") time
   }
 }
 

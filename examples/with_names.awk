@@ -15,6 +15,12 @@ function stop(file, why) {
   exit 1
 }
 
+# The number of a text of digits. Some kinds of awk take a text that begins with 0 for an octal number.
+function number_of(digits) {
+  sub(/^0+/, "", digits)
+  return digits + 0
+}
+
 # Takes a line of the shop: a label, or numbers of the label before.
 function read_shop(text,    part, parts, i) {
   parts = split(text, part, " ")
@@ -24,7 +30,7 @@ function read_shop(text,    part, parts, i) {
     return
   }
   if (block != "" && int((labels + 1) / 2) != block) return
-  for (i = 1; i <= parts; i++) number[labels, ++numbers[labels]] = part[i]
+  for (i = 1; i <= parts; i++) number[labels, ++numbers[labels]] = number_of(part[i])
 }
 
 # Finds the block, its sizes, its names and its unit.
@@ -40,7 +46,7 @@ function find_shop(    blocks, head, part) {
     stop(shop, "there is no shop in block " block)
   if (split(label[head], job_name, "\t") != jobs + 1 || split(label[body], machine_name, "\t") != machines + 1 || \
     job_name[1] != "jobs" || \
-    machine_name[1] !~ /^machines, times in 1\/[0-9]+, decimal (point|comma), separator (comma|semicolon|tab)$/)
+    machine_name[1] !~ /^machines, times in 1\/[1-9][0-9]*, decimal (point|comma), separator (comma|semicolon|tab)$/)
     stop(shop, "block " block " has no names as from_csv.awk writes them")
   split(machine_name[1], part, /[ ,\/]+/)
   scale = part[5]
@@ -69,7 +75,7 @@ function in_unit(time,    rest, digits) {
 
 # Puts a job behind the jobs before: start[k] and end[k] are its times on machine k. It must be one of the shop, and new.
 function place(job, line_number,    k) {
-  if (job !~ /^[0-9]+$/ || job < 1 || job > jobs || (job in placed)) refuse(line_number)
+  if (job < 1 || job > jobs || (job in placed)) refuse(line_number)
   placed[job] = 1
   for (k = 1; k <= machines; k++) {
     start[k] = k > 1 && end[k - 1] > end[k] ? end[k - 1] : end[k] + 0
@@ -87,7 +93,7 @@ function name_schedule(    i, k, job, part) {
     k = (i - 2) % machines + 1
     if (k == 1) {
       split(line[i], part, ",")
-      job = part[1]
+      job = number_of(part[1])
       place(job, i)
     }
     if (line[i] != job "," k "," start[k] "," end[k]) refuse(i)
@@ -103,7 +109,10 @@ function name_schedule(    i, k, job, part) {
 function name_sequence(    i, part, parts) {
   parts = split(line[1], part, " ")
   if (parts != jobs + 1) refuse(1)
-  for (i = 2; i <= parts; i++) place(part[i], 1)
+  for (i = 2; i <= parts; i++) {
+    part[i] = number_of(part[i])
+    place(part[i], 1)
+  }
   if (lines != 2 || line[2] != "makespan " end[machines]) refuse(2)
   print "place" separator "job"
   for (i = 2; i <= parts; i++) print i - 1 separator quoted(job_name[part[i] + 1])
