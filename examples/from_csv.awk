@@ -61,26 +61,27 @@ function looks_like_job(name) {
   return joined(name) ~ /^(j|job|order|auftrag)[0-9]+$/
 }
 
-# The lists, of words in small letters with a blank before and after each.
+# The lists, of words in small letters with a blank before and after each. Words: those of totals; those of quantities,
+# dates and the like. Names: of a column of jobs; of a column of machines; of columns that are no machines; of machines.
 BEGIN {
   total_words = " total totals subtotal sum sums summe summen gesamt gesamtsumme gesamtzeit zwischensumme insgesamt" \
     " somme suma soma somma totale totaal average avg mean mittelwert durchschnitt moyenne Σ σ ∑ Ø ø "
+  other_words = " qty quantity quantities pcs pieces amount menge anzahl stück stueck stk stückzahl stueckzahl" \
+    " losgröße losgroesse lot lotsize quantité quantite qté qte cantidad quantità quantita aantal due duedate" \
+    " deadline date datum termin liefertermin priority prio priorität prioritaet weight gewicht setup rüsten" \
+    " rüstzeit ruestzeit release price preis customer kunde "
   job_names = " job jobs order orders orderno ordernumber workorder auftrag aufträge auftragsnr auftragsnummer no nr" \
     " number nummer id pos position lfdnr name product produkt article artikel part item teil task "
   machine_names = " machine machines maschine maschinen station stations stage workcentre workcenter resource" \
     " arbeitsplatz arbeitsgang operation operations process step anlage "
-  other_words = " qty quantity quantities pcs pieces amount menge anzahl stück stueck stk stückzahl stueckzahl" \
-    " losgröße losgroesse lot lotsize quantité quantite qté qte cantidad quantità quantita aantal due duedate deadline" \
-    " date datum termin liefertermin priority prio priorität prioritaet weight gewicht setup rüsten rüstzeit ruestzeit" \
-    " release price preis customer kunde "
   other_names = job_names machine_names " time times zeit dauer duration start end week woche kw units count batch "
   operations = " cut cutting saw sawing mill milling drill drilling turn turning lathe grind grinding weld welding" \
     " bend bending press pressing punch punching paint painting coat coating polish polishing assemble assembly pack" \
     " packing packaging inspect inspection test testing wash washing clean cleaning dry drying heat hardening oven" \
-    " furnace mix mixing fill filling label labelling print printing fold folding sew sewing dye dyeing mould moulding" \
-    " cast casting forge forging laser solder soldering glue gluing sand sanding deburr deburring sägen säge fräsen" \
-    " fräse bohren drehen schleifen schweißen schweissen biegen stanzen lackieren montage montieren prüfen prüfung" \
-    " verpacken härten waschen trocknen "
+    " furnace mix mixing fill filling label labelling print printing fold folding sew sewing dye dyeing mould" \
+    " moulding cast casting forge forging laser solder soldering glue gluing sand sanding deburr deburring sägen" \
+    " säge fräsen fräse bohren drehen schleifen schweißen schweissen biegen stanzen lackieren montage montieren" \
+    " prüfen prüfung verpacken härten waschen trocknen "
 }
 
 # --- The file ---
@@ -117,6 +118,8 @@ function find_separator(    i, bare, tabs, semicolons, commas) {
     semicolons += (bare ~ /;/)
     commas += (bare ~ /,/)
   }
+  for (i = 1; i <= lines && !tabs && !semicolons && !commas; i++)
+    if (line[i] ~ /[0-9] +[0-9]/) stop("nothing separates the fields: write commas, semicolons or tabs between them")
   if (tabs && tabs >= semicolons && tabs >= commas) separator = "\t"
   else separator = semicolons && semicolons >= commas ? ";" : ","
 }
@@ -252,7 +255,7 @@ function test_title(    row) {
 }
 
 # Stops at a column after the first that has words, and no numbers.
-function test_word_columns(    column, row, words, numbers, word) {
+function test_word_columns(    column, row, words, numbers, word, other) {
   for (column = 2; column <= width; column++) {
     words = numbers = 0
     for (row = above + 1; row <= height; row++) {
@@ -261,16 +264,21 @@ function test_word_columns(    column, row, words, numbers, word) {
     }
     if (!words || numbers) continue
     word = "skip=" (skip == "" ? "" : skip ",")
-    ask(column_place(column) " has words, no times", \
-      (column > 2 || is_word(cell[above + 1, 1]) ? "" : word origin[1] " if these are the names, or ") word origin[column])
+    other = column > 2 || is_word(cell[above + 1, 1]) ? "" : word origin[1] " if these are the names, or "
+    ask(column_place(column) " has words, no times", other word origin[column])
   }
 }
 
-# How many numbers the first row has after its first field, or in it where it has no more.
-function numbers_in_first_row(    column, numbers) {
-  for (column = width > 1 ? 2 : 1; column <= width; column++)
-    if (cell[1, column] != "" && !is_word(cell[1, column])) numbers++
-  return numbers
+# Whether the first row has numbers after its first field, or in it where it has no more; or all fields there begin with
+# one, as where a unit stands behind each.
+function numbers_in_first_row(    column, field, filled, numbers, digits) {
+  for (column = width > 1 ? 2 : 1; column <= width; column++) {
+    field = cell[1, column]
+    filled += (field != "")
+    numbers += (field != "" && !is_word(field))
+    digits += (field ~ /^[-+.,]*[0-9]/)
+  }
+  return numbers || filled && digits == filled
 }
 
 # Whether the first row has names.
@@ -298,7 +306,8 @@ function has_running_numbers(    row, step) {
 function has_names(    row, words) {
   if (first != "") return first == "names"
   if (width == 1) return 0
-  if (above && (cell[1, 1] == "" || is_name(cell[1, 1], job_names)) || is_word(cell[above + 1, 1])) return 1
+  if (above && (cell[1, 1] == "" || is_name(cell[1, 1], job_names machine_names))) return 1
+  if (is_word(cell[above + 1, 1])) return 1
   for (row = above + 1; row <= height; row++) if (is_word(cell[row, 1])) words++
   if (above || words || has_running_numbers())
     ask("it is not clear whether column " origin[1] " has names or times", "first=names or first=times")
@@ -388,13 +397,15 @@ function field_of(j, k) {
 # --- Totals, and columns that are no machines ---
 
 function drop_job(j) {
-  for (note(job_place(j)); j < jobs; j++) job_at[j] = job_at[j + 1]
-  jobs--
+  note(job_place(j))
+  for (jobs--; j <= jobs; j++) job_at[j] = job_at[j + 1]
+  has_dropped_job = 1
 }
 
 function drop_machine(k) {
-  for (note(machine_place(k)); k < machines; k++) machine_at[k] = machine_at[k + 1]
-  machines--
+  note(machine_place(k))
+  for (machines--; k <= machines; k++) machine_at[k] = machine_at[k + 1]
+  has_dropped_machine = 1
 }
 
 # Whether totals at this place are to be left out. It asks where it was not told.
@@ -481,7 +492,7 @@ function total_job(but,    j, k, tested) {
   return 0
 }
 
-# Finds totals by their times.
+# Finds totals by their times, where there are none by their names.
 function test_sums(    j, k, time, of_machine, of_job) {
   for (j = 1; j <= jobs; j++) {
     for (k = 1; k <= machines; k++) {
@@ -490,8 +501,8 @@ function test_sums(    j, k, time, of_machine, of_job) {
       machine_sum[k] += time
     }
   }
-  of_machine = total_machine()
-  of_job = total_job(of_machine)
+  of_machine = has_dropped_machine ? 0 : total_machine()
+  of_job = has_dropped_job ? 0 : total_job(of_machine)
   if (of_job && drops_totals(job_place(of_job))) drop_job(of_job)
   if (of_machine && drops_totals(machine_place(of_machine))) drop_machine(of_machine)
 }
@@ -522,7 +533,8 @@ function refuse_field(j, k, text,    i) {
 function test_sign(j, k, text,    mark) {
   mark = text ~ /,/ ? "comma" : "point"
   if (sign != "" && mark != sign)
-    stop(place_of(j, k) " has " text ", but " (example == "" ? "you wrote decimal=" decimal : example " stands before it") \
+    stop(place_of(j, k) " has " text ", but " \
+      (example == "" ? "you wrote decimal=" decimal : example " stands before it") \
       ": write one decimal sign, and no signs of thousands")
   if (decimal == "" && text ~ /^[1-9][0-9]?[0-9]?[.,][0-9][0-9][0-9]$/)
     ask(place_of(j, k) " has " text ", perhaps a thousand", "the number without the " mark ", or decimal=" mark)

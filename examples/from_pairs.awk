@@ -3,9 +3,9 @@
 #     awk -f examples/from_pairs.awk instances.txt >shops.txt
 #
 # It reads the layout of Vallada, Ruiz and Framinan's files, and that of OR-Library's flowshop1.txt. Lines of words may
-# stand first. A line has the numbers of jobs and machines; then a line for each job has, for each machine from 0 on, its
-# number and the time. Another shop may follow after a line of plus signs; `instance NAME` in the lines before the
-# numbers is its name. Standard error says what was read, or the line that is at fault, and docs/tables.md what to do.
+# stand first. A line has the numbers of jobs and machines; then a line for each job has, for each machine from 0 on,
+# its number and the time. Another shop may follow after a line of plus signs; `instance NAME` in the lines before the
+# sizes is its name. Standard error says what was read, or which line is at fault.
 
 # The name of the text, for what is said on standard error.
 function text_name() {

@@ -73,7 +73,8 @@ function in_unit(time,    rest, digits) {
   return decimal == separator ? "\"" digits "\"" : digits
 }
 
-# Puts a job behind the jobs before: start[k] and end[k] are its times on machine k. It must be one of the shop, and new.
+# Puts a job behind the jobs before: it starts on machine k at start[k], and ends at end[k]. It must be one of the shop,
+# and new.
 function place(job, line_number,    k) {
   if (job < 1 || job > jobs || (job in placed)) refuse(line_number)
   placed[job] = 1
@@ -127,7 +128,7 @@ FNR == 1 {
 
 files == 1 { read_shop($0) }
 
-files == 2 { line[++lines] = $0 }
+files > 1 { line[++lines] = $0 }
 
 END {
   if (stopped) exit 1
