@@ -255,7 +255,7 @@ function test_title(    row) {
 }
 
 # Stops at a column after the first that has words, and no numbers.
-function test_word_columns(    column, row, words, numbers, word, other) {
+function test_word_columns(    column, row, words, numbers, other) {
   for (column = 2; column <= width; column++) {
     words = numbers = 0
     for (row = above + 1; row <= height; row++) {
@@ -263,9 +263,9 @@ function test_word_columns(    column, row, words, numbers, word, other) {
       else if (cell[row, column] ~ /[^-]/) words++
     }
     if (!words || numbers) continue
-    word = "skip=" (skip == "" ? "" : skip ",")
-    other = column > 2 || is_word(cell[above + 1, 1]) ? "" : word origin[1] " if these are the names, or "
-    ask(column_place(column) " has words, no times", other word origin[column])
+    other = with_name("skip", skip, origin[1]) " if these are the names, or "
+    if (column > 2 || is_word(cell[above + 1, 1])) other = ""
+    ask(column_place(column) " has words, no times", other with_name("skip", skip, origin[column]))
   }
 }
 
@@ -302,6 +302,20 @@ function has_running_numbers(    row, step) {
   return height > above + 1 && (step == 1 || step > 1 && height > above + 2)
 }
 
+# Whether the first column, of a table without a header, may have the numbers of jobs: they go up by one step, or no two
+# are equal and each is above all times.
+function may_number_jobs(    row, column, least, seen) {
+  if (has_running_numbers()) return 1
+  for (row = 1; row <= height; row++) {
+    if (cell[row, 1] !~ /^[0-9]+$/ || (cell[row, 1] in seen)) return 0
+    seen[cell[row, 1]] = 1
+    if (row == 1 || number_of(cell[row, 1]) < least) least = number_of(cell[row, 1])
+  }
+  for (row = 1; row <= height; row++)
+    for (column = 2; column <= width; column++) if (number_of(cell[row, column]) >= least) return 0
+  return height > 1
+}
+
 # Whether the first column has names.
 function has_names(    row, words) {
   if (first != "") return first == "names"
@@ -309,7 +323,7 @@ function has_names(    row, words) {
   if (above && (cell[1, 1] == "" || is_name(cell[1, 1], job_names machine_names))) return 1
   if (is_word(cell[above + 1, 1])) return 1
   for (row = above + 1; row <= height; row++) if (is_word(cell[row, 1])) words++
-  if (above || words || has_running_numbers())
+  if (above || words || may_number_jobs())
     ask("it is not clear whether column " origin[1] " has names or times", "first=names or first=times")
   return 0
 }
@@ -424,13 +438,19 @@ function test_total_names(    i) {
   }
 }
 
-# Stops at what may be no machine, but is not told to be one.
+# A word for the command line with one more name in its list, in quotation marks where the shell needs them.
+function with_name(word, list, name) {
+  word = word "=" (list == "" ? "" : list ",") name
+  return word ~ /[^A-Za-z0-9_=,-]/ ? "'" word "'" : word
+}
+
+# Stops at what may be no machine, but is not told to be one. A row is told by its name, a column by its number where its
+# name is more than one plain word.
 function doubt_machine(k, why,    name, word) {
   name = machine_name(k)
   if (is_listed(keep, name, turned ? "" : origin[machine_at[k]])) return
   word = turned || is_word(name) && name !~ /[^A-Za-z0-9_-]/ ? name : origin[machine_at[k]]
-  ask(machine_place(k) " " why, \
-    "skip=" (skip == "" ? "" : skip ",") word " or keep=" (keep == "" ? "" : keep ",") word)
+  ask(machine_place(k) " " why, with_name("skip", skip, word) " or " with_name("keep", keep, word))
 }
 
 # Stops at names that are no machine's, and at a name that two machines have.
