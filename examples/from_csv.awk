@@ -22,6 +22,12 @@ function ask(doubt, words) {
   stop(doubt ": write " words " before the name of the table")
 }
 
+# The number of a text of digits. Some kinds of awk take a text that begins with 0 for an octal number.
+function number_of(digits) {
+  sub(/^0+/, "", digits)
+  return digits + 0
+}
+
 # --- Names ---
 
 # A name in small letters, with one blank before and after each of its words.
@@ -250,8 +256,7 @@ function is_word(field) {
 # Stops at a title: a row of one field, above a row that has more.
 function test_title(    row) {
   for (row = 2; row <= height && last_of[row] < 2; row++);
-  if (last_of[1] == 1 && row <= height)
-    ask("line " at[1] " looks like a title", "from=" at[row])
+  if (last_of[1] == 1 && row <= height) ask("line " at[1] " looks like a title", "from=" at[row])
 }
 
 # Stops at a column after the first that has words, and no numbers.
@@ -444,8 +449,8 @@ function with_name(word, list, name) {
   return word ~ /[^A-Za-z0-9_=,-]/ ? "'" word "'" : word
 }
 
-# Stops at what may be no machine, but is not told to be one. A row is told by its name, a column by its number where its
-# name is more than one plain word.
+# Stops at what may be no machine, but is not told to be one. A row is told by its name, and a column by its number where
+# its name is more than one plain word.
 function doubt_machine(k, why,    name, word) {
   name = machine_name(k)
   if (is_listed(keep, name, turned ? "" : origin[machine_at[k]])) return
@@ -453,7 +458,7 @@ function doubt_machine(k, why,    name, word) {
   ask(machine_place(k) " " why, with_name("skip", skip, word) " or " with_name("keep", keep, word))
 }
 
-# Stops at names that are no machine's, and at a name that two machines have.
+# Stops at names that are no machine's, at a name that two machines have, and where keep= has a word that names none.
 function test_machine_names(    k, name, seen) {
   for (k = 1; k <= machines; k++) {
     name = machine_name(k)
@@ -542,8 +547,7 @@ function refuse_field(j, k, text,    i) {
   if (i > machines) stop(job_place(j) " has no times: take it out of the table, or write 0 where it skips a machine")
   for (i = 1; i <= jobs && field_of(i, k) == ""; i++);
   if (i > jobs) stop(machine_place(k) " has no times: take it out of the table, or write 0 where a job skips it")
-  if (text ~ /^(-|–|—)*$/)
-    stop(place_of(j, k) " has no time: write 0 if the job skips this machine")
+  if (text ~ /^(-|–|—)*$/) stop(place_of(j, k) " has no time: write 0 if the job skips this machine")
   if (text ~ /^-[0-9]/) stop(place_of(j, k) " has " text ": no time is below 0")
   if (text ~ /^[0-9]+([.,' ][0-9]+)+$/) stop(place_of(j, k) " has " text ": write it without signs of thousands")
   stop(place_of(j, k) " has " text ": write a number alone, in the unit of the table")
@@ -560,12 +564,6 @@ function test_sign(j, k, text,    mark) {
     ask(place_of(j, k) " has " text ", perhaps a thousand", "the number without the " mark ", or decimal=" mark)
   sign = mark
   example = text
-}
-
-# The number of a text of digits. Some kinds of awk take a text that begins with 0 for an octal number.
-function number_of(digits) {
-  sub(/^0+/, "", digits)
-  return digits + 0
 }
 
 # The time of a field, in millionths.
@@ -639,11 +637,11 @@ function in_sentence(name) {
   return "\"" name "\""
 }
 
-# The field of the least time, or of the greatest one where the sign is -1.
-function extreme(sign,    j, k, time, best, field) {
+# The field of the least time, or of the greatest one where the direction is -1.
+function extreme(direction,    j, k, time, best, field) {
   for (j = 1; j <= jobs; j++) {
     for (k = 1; k <= machines; k++) {
-      time = sign * time_of[job_at[j], machine_at[k]]
+      time = direction * time_of[job_at[j], machine_at[k]]
       if (field != "" && time >= best) continue
       best = time
       field = field_of(j, k)
