@@ -449,8 +449,8 @@ function with_name(word, list, name) {
   return word ~ /[^A-Za-z0-9_=,-]/ ? "'" word "'" : word
 }
 
-# Stops at what may be no machine, but is not told to be one. A row is told by its name, and a column by its number where
-# its name is more than one plain word.
+# Stops at what may be no machine, but is not told to be one. A row is told by its name, and so is a column where it is
+# one plain word; else by its number.
 function doubt_machine(k, why,    name, word) {
   name = machine_name(k)
   if (is_listed(keep, name, turned ? "" : origin[machine_at[k]])) return
