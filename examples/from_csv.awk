@@ -30,12 +30,21 @@ function number_of(digits) {
 
 # --- Names ---
 
-# A name in small letters, with one blank before and after each of its words.
-function plain(name) {
-  name = " " tolower(name) " "
-  gsub(/[-_.#]/, "", name)
-  gsub(/[ \t,:;()\/&+*|'"]+/, " ", name)
+# A name with small letters for A to Z. Some kinds of awk stop in tolower at bytes that are none of their encoding.
+function lower(name,    i) {
+  for (i = 1; i <= 26; i++)
+    gsub(substr("ABCDEFGHIJKLMNOPQRSTUVWXYZ", i, 1), substr("abcdefghijklmnopqrstuvwxyz", i, 1), name)
   return name
+}
+
+# A name in small letters, with one blank before and after each of its words. It is kept for the next time.
+function plain(name,    text) {
+  if (name in plain_names) return plain_names[name]
+  text = " " lower(name) " "
+  gsub(/[-_.#]/, "", text)
+  gsub(/[ \t,:;()\/&+*|'"]+/, " ", text)
+  plain_names[name] = text
+  return text
 }
 
 # Whether one of the words of a name stands in a list.
