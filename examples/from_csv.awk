@@ -67,11 +67,14 @@ function is_name(name, list) {
   return name != "" && index(list, " " name " ") > 0
 }
 
+# Whether a whole name is one that machines have, as "M1", "Station 2", "Saw" or "Saw 1".
 function looks_like_machine(name) {
-  return joined(name) ~ /^((m|mc)[0-9]+|(machine|maschine|station|stage|stufe)([0-9]+|[a-h]))$/ || \
-    is_name(name, operations)
+  if (joined(name) ~ /^((m|mc)[0-9]+|(machine|maschine|station|stage|stufe)([0-9]+|[a-h]))$/) return 1
+  sub(/ *[0-9]+$/, "", name)
+  return is_name(name, operations)
 }
 
+# Whether a whole name is one that jobs have, as "Job 1".
 function looks_like_job(name) {
   return joined(name) ~ /^(j|job|order|auftrag)[0-9]+$/
 }
@@ -84,7 +87,7 @@ BEGIN {
   other_words = " qty quantity quantities pcs pieces amount menge anzahl stück stueck stk stückzahl stueckzahl" \
     " losgröße losgroesse lot lotsize quantité quantite qté qte cantidad quantità quantita aantal due duedate" \
     " deadline date datum termin liefertermin priority prio priorität prioritaet weight gewicht setup rüsten" \
-    " rüstzeit ruestzeit release price preis customer kunde "
+    " rüstzeit ruestzeit release price preis customer kunde material drawing zeichnung sku "
   job_names = " job jobs order orders orderno ordernumber workorder auftrag aufträge auftragsnr auftragsnummer no nr" \
     " number nummer id pos position lfdnr name product produkt article artikel part item teil task "
   machine_names = " machine machines maschine maschinen station stations stage workcentre workcenter resource" \
@@ -481,19 +484,49 @@ function test_machine_names(    k, name, seen) {
   test_list("keep", keep)
 }
 
-# Whether a machine has one time for all jobs.
-function is_constant(k,    j) {
-  for (j = 2; j <= jobs; j++) if (time_of[job_at[j], machine_at[k]] != time_of[job_at[1], machine_at[k]]) return 0
-  return 1
+# Finds the least and the greatest time of each machine.
+function find_extremes(    j, k, time) {
+  for (k = 1; k <= machines; k++) {
+    least_of[k] = greatest_of[k] = time_of[job_at[1], machine_at[k]]
+    for (j = 2; j <= jobs; j++) {
+      time = time_of[job_at[j], machine_at[k]]
+      if (time < least_of[k]) least_of[k] = time
+      if (time > greatest_of[k]) greatest_of[k] = time
+    }
+  }
 }
 
-# Stops at a first machine with one small whole number for all jobs, where others have not: it may be a quantity.
-function test_quantity(    k, time) {
-  time = time_of[job_at[1], machine_at[1]] / 1000000
-  if (jobs < 3 || time < 1 || time > 100 || time != int(time) || !is_constant(1)) return
-  if (looks_like_machine(machine_name(1)) || turned && !is_word(machine_name(1))) return
-  for (k = 2; k <= machines && is_constant(k); k++);
-  if (k <= machines) doubt_machine(1, "has " field_of(1, 1) " for each job, as a quantity")
+# Whether a machine comes first and has one small whole number for all jobs, while others have not.
+function looks_like_quantity(k,    i) {
+  if (k > 1 || jobs < 3 || least_of[k] < greatest_of[k]) return 0
+  if (least_of[k] < 1000000 || least_of[k] > 100000000 || least_of[k] % 1000000) return 0
+  for (i = 2; i <= machines; i++) if (least_of[i] < greatest_of[i]) return 1
+  return 0
+}
+
+# Whether the times of a machine go up by one from job to job.
+function looks_like_count(k,    j) {
+  for (j = 2; j <= jobs; j++)
+    if (time_of[job_at[j], machine_at[k]] != time_of[job_at[j - 1], machine_at[k]] + 1000000) return 0
+  return jobs > 3
+}
+
+# Whether the times of a machine are all above ten times the greatest of the others.
+function looks_like_numbers(k,    i, greatest) {
+  for (i = 1; i <= machines; i++) if (i != k && greatest_of[i] > greatest) greatest = greatest_of[i]
+  return greatest && least_of[k] > 10 * greatest
+}
+
+# Stops at a machine whose name does not tell that it is one, and whose times look like something else.
+function test_times(    k, name) {
+  find_extremes()
+  for (k = 1; k <= machines; k++) {
+    name = machine_name(k)
+    if (looks_like_machine(name) || has_word(name, operations) || turned && !is_word(name)) continue
+    if (looks_like_quantity(k)) doubt_machine(k, "has " field_of(1, k) " for each job, as a quantity")
+    if (looks_like_count(k)) doubt_machine(k, "has running numbers")
+    if (looks_like_numbers(k)) doubt_machine(k, "has numbers far above all others")
+  }
 }
 
 # Whether a time is the sum of the others, of which all have a sum; totals may be rounded by one part in a hundred.
@@ -727,7 +760,7 @@ END {
   test_machine_names()
   read_times()
   test_sums()
-  test_quantity()
+  test_times()
   test_jobs_and_machines()
   find_scale()
   for (k = 1; k <= machines; k++) line[k] = times_of(k)
