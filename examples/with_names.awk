@@ -84,6 +84,7 @@ function place(job, line_number,    k) {
   }
 }
 
+# Stops at a line of the second file that this shop does not have.
 function refuse(line_number) {
   stop(ARGV[ARGC - 1], "line " line_number ": this is not of block " block " of " shop)
 }
