@@ -1,0 +1,236 @@
+"""Tables of times as they are given: lists of rows, arrays, buffers and frames."""
+
+from array import array
+from itertools import chain
+from operator import index
+from typing import Any, Hashable, Iterable, List, NamedTuple, Optional, Protocol, SupportsIndex, Tuple, Union
+
+from ._errors import NotAShop, counted, shown
+from ._library import MOST_JOBS, MOST_MACHINES, MOST_TIME, Refused, byref, call, u64
+
+Names = Tuple[Hashable, ...]
+
+
+class Array(Protocol):
+    """An array with two dimensions, as those of numpy."""
+
+    @property
+    def shape(self) -> Tuple[int, ...]:
+        """How many rows and columns it has."""
+
+    def tolist(self) -> Any:
+        """Its rows, as lists."""
+
+
+class Frame(Protocol):
+    """A table with labels of its rows and columns, as that of pandas. `to_numpy()` or `values` has its numbers."""
+
+    @property
+    def index(self) -> Any:
+        """The labels of the rows."""
+
+    @property
+    def columns(self) -> Any:
+        """The labels of the columns."""
+
+
+Table = Union[Iterable[Iterable[SupportsIndex]], Array, Frame, memoryview]
+
+
+class Contents(NamedTuple):
+    """A table that was read: `times` has its 32-bit numbers, machine by machine. Names are None where it has none."""
+
+    jobs: int
+    machines: int
+    times: bytes
+    job_names: Optional[Names]
+    machine_names: Optional[Names]
+
+
+class _Given:
+    """A table as it was given: its values, what its rows and its columns are, and their names where it has any."""
+
+    def __init__(self, table: Any, has_job_rows: bool) -> None:
+        self.has_job_rows = has_job_rows
+        self.row_names: Optional[Names] = None
+        self.column_names: Optional[Names] = None
+        if hasattr(table, "columns"):
+            self.row_names = _names_of(getattr(table, "index", None))
+            self.column_names = _names_of(table.columns)
+            table = table.to_numpy() if hasattr(table, "to_numpy") else table.values
+        self.values = table
+
+    def fault(self, name: str, place: Tuple[int, int], wrong: str) -> NotAShop:
+        """The refusal of the time in a row and a column."""
+        row, column = place
+        at = f"row {row}{_quoted(self.row_names, row)}, column {column}{_quoted(self.column_names, column)}"
+        return NotAShop(name, place, f"the time in {at} {wrong}")
+
+    def turned(self, of_rows: Any, of_columns: Any) -> Tuple[Any, Any]:
+        """What is that of the jobs, and what that of the machines."""
+        return (of_rows, of_columns) if self.has_job_rows else (of_columns, of_rows)
+
+    def test_sizes(self, rows: int, columns: int) -> None:
+        """Refuses sizes that are not within the limits, and says where they would be with rows taken for columns."""
+        jobs, machines = self.turned(rows, columns)
+        if not 1 <= jobs <= MOST_JOBS:
+            name, kind, count, most = "JOBS", "job", jobs, MOST_JOBS
+        elif not 1 <= machines <= MOST_MACHINES:
+            name, kind, count, most = "MACHINES", "machine", machines, MOST_MACHINES
+        else:
+            return
+        side = "row" if (kind == "job") == self.has_job_rows else "column"
+        sentence = f"this table has {counted(count, side)}, one for each {kind}, and a shop has 1 to {most} {kind}s"
+        if 1 <= machines <= MOST_JOBS and 1 <= jobs <= MOST_MACHINES:
+            other = "machines" if self.has_job_rows else "jobs"
+            sentence += f"; this table would fit with {other} as rows: Shop.from_{other}"
+        raise NotAShop(name, 0, sentence)
+
+
+def _names_of(labels: Any) -> Optional[Names]:
+    """Labels as names. Those that only count from 0 are none."""
+    names = () if labels is None else tuple(labels)
+    return None if names == tuple(range(len(names))) else names
+
+
+def _quoted(names: Optional[Names], number: int) -> str:
+    """The name of a row or a column in a sentence, where it has one."""
+    return f" ({names[number - 1]})" if names and number <= len(names) else ""
+
+
+def _is_missing(value: Any) -> bool:
+    """Whether a value stands for none, as None, NaN and what a frame has in its place."""
+    try:
+        return value is None or bool(value != value)
+    except (TypeError, ValueError):  # pandas.NA is neither equal to itself nor unequal; nor is an array
+        return not hasattr(value, "__len__")
+
+
+def _wrong(value: Any) -> str:
+    """What is wrong with a time; nothing where it is one."""
+    if _is_missing(value):
+        return f"is missing ({shown(value)}); write 0 where a job skips a machine"
+    try:
+        number = index(value)
+    except TypeError:
+        kind = type(value).__name__
+        return (
+            f"is {shown(value)}, of type {kind}, and has to be a whole number; "
+            "choose a unit in which all times are whole, and convert them to int"
+        )
+    return "" if 0 <= number <= MOST_TIME else f"is {shown(number)}, and has to be from 0 to {MOST_TIME:,}"
+
+
+def _first_fault(given: _Given, rows: List[List[Any]]) -> NotAShop:
+    """The refusal of the first time that is missing, or else of the first one at fault."""
+    places = [(place, value) for place, row in enumerate(rows, 1) for value in enumerate(row, 1)]
+    faults = ((row, column, _wrong(value)) for row, (column, value) in places)
+    missing = ((row, column, _wrong(value)) for row, (column, value) in places if _is_missing(value))
+    for row, column, wrong in chain(missing, faults):
+        if wrong:
+            return given.fault("TIME", (row, column), wrong)
+    return NotAShop("TIME", 0, "a time is at fault")
+
+
+def _rows_of(given: _Given) -> List[List[Any]]:
+    """The rows of a table, which are lists of one length."""
+    values = given.values
+    try:
+        rows: List[Any] = values.tolist() if hasattr(values, "tolist") else list(values)
+    except TypeError:
+        raise NotAShop("COUNT", 0, f"a table has a list for each row, and this is {shown(values)}") from None
+    for number, row in enumerate(rows, 1):
+        try:
+            rows[number - 1] = row if isinstance(row, list) else _list_of(row)
+        except TypeError:
+            place = (number, 1)
+            raise NotAShop("COUNT", place, f"row {number} is {shown(row)}, and has to be a list of times") from None
+    for number, row in enumerate(rows, 1):
+        if len(row) != len(rows[0]):
+            place = (number, min(len(row), len(rows[0])) + 1)
+            sentence = f"row {number} has {counted(len(row), 'time')}, and row 1 has {len(rows[0]):,}"
+            raise NotAShop("COUNT", place, f"{sentence}; all rows of a table have one length")
+    return rows
+
+
+def _list_of(row: Any) -> List[Any]:
+    """The times of a row. TypeError where it is a text, or no row."""
+    if isinstance(row, (str, bytes)):
+        raise TypeError
+    return list(row)
+
+
+def _packed_rows(given: _Given) -> Tuple[int, int, bytes]:
+    """The numbers of rows and of columns of any table, and its times machine by machine."""
+    given.values = rows = _rows_of(given)
+    columns = len(rows[0]) if rows else 0
+    given.test_sizes(len(rows), columns)
+    by_machine = zip(*rows) if given.has_job_rows else rows
+    try:
+        return len(rows), columns, array("I", list(chain.from_iterable(by_machine))).tobytes()
+    except (TypeError, OverflowError):
+        raise _first_fault(given, rows) from None
+
+
+def _packed_array(given: _Given) -> Optional[Tuple[int, int, bytes]]:
+    """The same of an array of whole numbers whose type converts itself, as that of numpy; None of other tables."""
+    values = given.values
+    kind = getattr(getattr(values, "dtype", None), "kind", None)
+    if kind not in ("i", "u") or getattr(values, "ndim", None) != 2:
+        return None
+    rows, columns = values.shape
+    given.test_sizes(rows, columns)
+    if values.min() < 0 or values.max() > MOST_TIME:
+        raise _first_fault(given, values.tolist())
+    by_machine = values.T if given.has_job_rows else values
+    return rows, columns, by_machine.astype("uint32", order="C").tobytes()
+
+
+def _packed_buffer(given: _Given) -> Optional[Tuple[int, int, bytes]]:
+    """The same of a buffer of 32-bit numbers with two dimensions; None of other tables. A number below 0 becomes one
+    that is too great."""
+    try:
+        view = memoryview(given.values)
+    except TypeError:
+        return None
+    if view.ndim != 2 or view.itemsize != 4 or view.format.lstrip("@=<") not in ("I", "i", "L", "l"):
+        return None
+    rows, columns = view.shape or (0, 0)
+    given.test_sizes(rows, columns)
+    times = array("I", view.tobytes())
+    if given.has_job_rows:
+        return rows, columns, b"".join(times[machine::columns].tobytes() for machine in range(columns))
+    return rows, columns, times.tobytes()
+
+
+def _chosen(kind: str, count: int, names: Optional[Iterable[Hashable]], found: Optional[Names]) -> Optional[Names]:
+    """The names that a caller gives, or else those of the table, where they are not the numbers from 1."""
+    chosen = found if names is None else tuple(names)
+    if chosen is not None and len(chosen) != count:
+        raise NotAShop("COUNT", 0, f"there are {counted(len(chosen), 'name')} for {counted(count, kind)}")
+    return None if chosen == tuple(range(1, count + 1)) else chosen
+
+
+def _test_times(given: _Given, jobs: int, machines: int, times: bytes) -> None:
+    """Refuses times that are no shop, by a call of the library, which tests the list of jobs after them."""
+    try:
+        call("makespan", jobs, machines, times, len(times) // 4, b"", 0, byref(u64()))
+    except Refused as refused:
+        if refused.name != "LENGTH":
+            raise _first_fault(given, _rows_of(given)) from None
+
+
+def read_table(
+    table: Table,
+    has_job_rows: bool,
+    job_names: Optional[Iterable[Hashable]],
+    machine_names: Optional[Iterable[Hashable]],
+) -> Contents:
+    """The shop that a table states, with a row for each job, or for each machine. NotAShop where it is none."""
+    given = _Given(table, has_job_rows)
+    rows, columns, times = _packed_array(given) or _packed_buffer(given) or _packed_rows(given)
+    jobs, machines = given.turned(rows, columns)
+    _test_times(given, jobs, machines, times)
+    of_jobs, of_machines = given.turned(given.row_names, given.column_names)
+    chosen_jobs = _chosen("job", jobs, job_names, of_jobs)
+    return Contents(jobs, machines, times, chosen_jobs, _chosen("machine", machines, machine_names, of_machines))
