@@ -181,7 +181,7 @@ class Picture(str):
 # Of a picture: the label of a row; a bar with its title, and the number in it, which stands only where it has room.
 _ROW = re.compile(r'(text-anchor="end">)machine (\d+)(?=</text>)')
 _BAR = re.compile(
-    r'(<rect [^>]*width="(\d+)"[^>]*><title>)job (\d+), machine (\d+)([^<]*</title></rect>)'
+    r'(<rect x="\d+" y="\d+" width="(\d+)"[^>]*><title>)job (\d+), machine (\d+)([^<]*</title></rect>)'
     r"(?:(\n<text [^>]*>)\d+(</text>))?"
 )
 # How wide a character is at most, in the unit of the picture, and how many have room before a row.

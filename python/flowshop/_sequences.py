@@ -35,16 +35,20 @@ def packed(sequence: Any, count: int) -> bytes:
         raise _strange(jobs, count) from None
 
 
+def _has_16_bits(job: Any) -> bool:
+    """Whether something is a whole number from 0 to 65,535."""
+    try:
+        return 0 <= index(job) <= 65_535
+    except TypeError:
+        return False
+
+
 def _strange(jobs: Sequence[Any], count: int) -> NotASequence:
     """The refusal of the first job that is no number of 16 bits."""
-    for place, job in enumerate(jobs, 1):
-        try:
-            if 0 <= index(job) <= 65_535:
-                continue
-        except TypeError:
-            return NotASequence("JOB", place, f"place {place} of the sequence is {shown(job)}, which is no job number")
+    place, job = next((place, job) for place, job in enumerate(jobs, 1) if not _has_16_bits(job))
+    if isinstance(job, int):
         return _no_job(place, job, jobs, count)
-    return NotASequence("JOB", 0, "the sequence is at fault")
+    return NotASequence("JOB", place, f"place {place} of the sequence is {shown(job)}, and has to be a job number")
 
 
 def _no_job(place: int, job: Any, jobs: Iterable[Any], count: int) -> NotASequence:

@@ -276,13 +276,13 @@ class Shop:
         >>> shop.bound()
         10
         """
-        order = range(1, self.jobs + 1)
-        least, most = 0, self.makespan(order)
-        head, rest = f"flowshop two-ended 1\n{self.jobs} {self.machines}\n", " ".join(map(str, order))
-        upper = most
+        sequence = range(1, self.jobs + 1)
+        upper = self.makespan(sequence)
+        head, jobs = f"flowshop two-ended 1\n{self.jobs} {self.machines}", " ".join(map(str, sequence))
+        least, most = 0, upper
         while least < most:
             middle = (least + most + 1) // 2
-            if self._proves(f"{head}{middle} {upper}\n{rest}\n\nend\n"):
+            if self._proves(f"{head}\n{middle} {upper}\n{jobs}\n\nend\n"):
                 least = middle
             else:
                 most = middle - 1
@@ -360,10 +360,7 @@ class Shop:
             words = [byref(value)]
             sequence, text = self._searched("solve", start, choice, words, _BESIDE + trees * (choice[1] + 1))
         except Refused as refused:
-            sentence = f"tree {refused.place} of {trees:,} has more bytes than the budget, which is {budget:,}"
-            raise OverBudget(
-                refused.name, refused.place, f"{sentence}; certify always ends, with a certificate of bounds at least"
-            ) from None
+            raise _over_budget(refused, trees, budget) from None
         return Certificate(value.value, value.value, sequence, text, self._named(sequence))
 
     def _trees(self, depth: int) -> int:
@@ -416,8 +413,8 @@ class Shop:
     def check(self, text: Text) -> Certificate:
         """What a text proves, with the sequence that it states: a certificate of version 1 or 2, or a two-ended one;
         line 1 tells which it is. It is given as bytes or str, as the path of a file (pathlib.Path), or as a
-        Certificate, of which the text alone is read. The least makespan is proved where `optimal` is true. NotLawful with the first
-        fault of the text where it is not lawful, OSError where a file is not read.
+        Certificate, of which the text alone is read. The least makespan is proved where `optimal` is true. NotLawful
+        with the first fault of the text where it is not lawful, OSError where a file is not read.
 
         >>> shop.check("flowshop two-ended 1\\n3 3\\n11 13\\n2 1 3\\n-\\nend\\n")
         Certificate(bounds 11 to 13, 1 direction)
@@ -430,6 +427,13 @@ class Shop:
             raise not_lawful(refused, text, read, self.jobs, self.machines) from None
         jobs = tuple(sequence)
         return Certificate(lower.value, upper.value, jobs, read, self._named(jobs))
+
+
+def _over_budget(refused: Refused, trees: int, budget: int) -> OverBudget:
+    """The refusal of a tree that is longer than the budget."""
+    sentence = f"tree {refused.place} of {trees:,}, counted from 0, is longer than the budget of {budget:,} bytes"
+    advice = "give a larger one, or call certify, which gives bounds where it proves no optimum"
+    return OverBudget(refused.name, refused.place, f"{sentence}; {advice}")
 
 
 class Block(NamedTuple):

@@ -7,8 +7,7 @@ from typing import Any, Hashable, Iterable, List, NamedTuple, Optional, Protocol
 
 from ._errors import NotAShop, counted, shown
 from ._library import MOST_JOBS, MOST_MACHINES, MOST_TIME, Refused, byref, call, u64
-
-Names = Tuple[Hashable, ...]
+from ._results import Names
 
 
 class Array(Protocol):
@@ -34,6 +33,8 @@ class Frame(Protocol):
         """The labels of the columns."""
 
 
+# The code of a signed number of so many bytes.
+_SIGNED = {1: "b", 2: "h", 4: "i", 8: "q"}
 Table = Union[Iterable[Iterable[SupportsIndex]], Array, Frame, memoryview]
 
 
@@ -110,34 +111,34 @@ def _wrong(value: Any) -> str:
     """What is wrong with a time; nothing where it is one."""
     if _is_missing(value):
         return f"is missing ({shown(value)}); write 0 where a job skips a machine"
+    if isinstance(value, str):
+        return f"is the text {shown(value)}; times are whole numbers, and names are the labels of a frame, or job_names"
     try:
         number = index(value)
     except TypeError:
-        kind = type(value).__name__
-        return (
-            f"is {shown(value)}, of type {kind}, and has to be a whole number; "
-            "choose a unit in which all times are whole, and convert them to int"
-        )
+        is_one = f"is {shown(value)}, of type {type(value).__name__}"
+        return f"{is_one}, and has to be a whole number; choose a unit in which all are whole, and convert them to int"
     return "" if 0 <= number <= MOST_TIME else f"is {shown(number)}, and has to be from 0 to {MOST_TIME:,}"
 
 
 def _first_fault(given: _Given, rows: List[List[Any]]) -> NotAShop:
     """The refusal of the first time that is missing, or else of the first one at fault."""
-    places = [(place, value) for place, row in enumerate(rows, 1) for value in enumerate(row, 1)]
-    faults = ((row, column, _wrong(value)) for row, (column, value) in places)
-    missing = ((row, column, _wrong(value)) for row, (column, value) in places if _is_missing(value))
-    for row, column, wrong in chain(missing, faults):
-        if wrong:
-            return given.fault("TIME", (row, column), wrong)
-    return NotAShop("TIME", 0, "a time is at fault")
+    faults = [
+        (row, column, value)
+        for row, times in enumerate(rows, 1)
+        for column, value in enumerate(times, 1)
+        if _wrong(value)
+    ]
+    row, column, value = next((fault for fault in faults if _is_missing(fault[2])), faults[0])
+    return given.fault("TIME", (row, column), _wrong(value))
 
 
 def _rows_of(given: _Given) -> List[List[Any]]:
     """The rows of a table, which are lists of one length."""
     values = given.values
     try:
-        rows: List[Any] = values.tolist() if hasattr(values, "tolist") else list(values)
-    except TypeError:
+        rows: List[Any] = values.tolist() if hasattr(values, "tolist") else _list_of(values)
+    except (TypeError, NotImplementedError):  # also of a buffer of numbers that memoryview does not read
         raise NotAShop("COUNT", 0, f"a table has a list for each row, and this is {shown(values)}") from None
     for number, row in enumerate(rows, 1):
         try:
@@ -153,11 +154,11 @@ def _rows_of(given: _Given) -> List[List[Any]]:
     return rows
 
 
-def _list_of(row: Any) -> List[Any]:
-    """The times of a row. TypeError where it is a text, or no row."""
-    if isinstance(row, (str, bytes)):
+def _list_of(items: Any) -> List[Any]:
+    """The rows of a table, or the times of a row. TypeError where they are a text, or nothing that has items."""
+    if isinstance(items, (str, bytes)):
         raise TypeError
-    return list(row)
+    return list(items)
 
 
 def _packed_rows(given: _Given) -> Tuple[int, int, bytes]:
@@ -188,15 +189,20 @@ def _packed_array(given: _Given) -> Optional[Tuple[int, int, bytes]]:
 
 def _packed_buffer(given: _Given) -> Optional[Tuple[int, int, bytes]]:
     """The same of a buffer of 32-bit numbers with two dimensions; None of other tables. A number below 0 becomes one
-    that is too great."""
+    that is too great. A buffer of other whole numbers is made one whose rows can be read."""
     try:
         view = memoryview(given.values)
     except TypeError:
         return None
-    if view.ndim != 2 or view.itemsize != 4 or view.format.lstrip("@=<") not in ("I", "i", "L", "l"):
+    kind = view.format[-1]
+    if view.ndim != 2 or view.shape is None or kind not in "bBhHiIlLqQnN" or view.format[0] in ">!":
         return None
-    rows, columns = view.shape or (0, 0)
+    rows, columns = view.shape
     given.test_sizes(rows, columns)
+    code = _SIGNED[view.itemsize].upper() if kind.isupper() else _SIGNED[view.itemsize]
+    given.values = view = memoryview(view.tobytes()).cast(code, [rows, columns])
+    if view.itemsize != 4:
+        return None
     times = array("I", view.tobytes())
     if given.has_job_rows:
         return rows, columns, b"".join(times[machine::columns].tobytes() for machine in range(columns))
@@ -207,7 +213,8 @@ def _chosen(kind: str, count: int, names: Optional[Iterable[Hashable]], found: O
     """The names that a caller gives, or else those of the table, where they are not the numbers from 1."""
     chosen = found if names is None else tuple(names)
     if chosen is not None and len(chosen) != count:
-        raise NotAShop("COUNT", 0, f"there are {counted(len(chosen), 'name')} for {counted(count, kind)}")
+        sentence = f"the table has {counted(count, kind)}, and {counted(len(chosen), 'name')} of {kind}s are given"
+        raise NotAShop("COUNT", 0, sentence)
     return None if chosen == tuple(range(1, count + 1)) else chosen
 
 

@@ -79,8 +79,8 @@ _UNLAWFUL: Dict[str, Tuple[int, str]] = {
 
 def _line(text: bytes, number: int) -> str:
     """A line of a text, as it stands in a sentence."""
-    lines = text.split(b"\n", number) if number else []
-    return shown(lines[number - 1][:80].decode("utf-8", "replace")) if number <= len(lines) else "missing"
+    lines = text.split(b"\n", number)
+    return shown(lines[number - 1][:80].decode("utf-8", "replace")) if 1 <= number <= len(lines) else "missing"
 
 
 def not_lawful(refused: Refused, given: Text, text: bytes, jobs: int, machines: int) -> NotLawful:
@@ -107,9 +107,9 @@ _MISREAD: Dict[str, str] = {
 def _misread(refused: Refused, path: Path, text: bytes) -> TextError:
     """The refusal of a file that is no benchmark text."""
     if refused.name not in _MISREAD:
-        return TextError(refused.name, refused.place, f"{os.fspath(path)} is empty, or has nothing but blanks")
+        return TextError(refused.name, refused.place, f"{path} has no block: it is empty, or has blanks alone")
     line = refused.place
-    sentence = f"line {line} of {os.fspath(path)} is {_line(text, line)}: {_MISREAD[refused.name]}"
+    sentence = f"line {line} of {path} is {_line(text, line)}: {_MISREAD[refused.name]}"
     return TextError(refused.name, line, sentence)
 
 
