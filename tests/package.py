@@ -13,6 +13,7 @@ import pickle
 import random
 import re
 import tempfile
+import warnings
 import xml.etree.ElementTree
 
 from counts import end, equal, refused
@@ -187,7 +188,8 @@ def use_names():
     titles = [element.text for element in drawing.iter("{http://www.w3.org/2000/svg}title")]
     equal("the names in a picture", (titles[1], titles[4]), ("D, Wë, start 0, end 8", "<T&> , Wë, start 8, end 10"))
     labels = [element.text for element in drawing.iter("{http://www.w3.org/2000/svg}text")]
-    equal("before its rows", [label in labels for label in ("Cut", "Wë", "Painting..", "machine 1")], [True] * 3 + [False])
+    named = [label in labels for label in ("Cut", "Wë", "Painting..", "machine 1")]
+    equal("before its rows", named, [True, True, True, False])
     equal("in its bars", ["D" in labels, "Shelf" in labels, "3" in labels], [True, True, False])
     with tempfile.TemporaryDirectory() as folder:
         picture.gantt([2, 1, 3]).save(os.path.join(folder, "picture.svg"))
@@ -316,8 +318,9 @@ def draw_timetables():
     equal("that they can be written", json.loads(json.dumps(timetable.columns()))["start"][8], 12)
     drawing = SHOP.gantt([2, 1, 3])
     bars = [bar[0].text for bar in xml.etree.ElementTree.fromstring(drawing).iter("{http://www.w3.org/2000/svg}rect")]
-    wanted = ["job 2, machine 2, start 0, end 8", "job 1, machine 1, start 0, end 4", "job 1, machine 3, start 8, end 12"]
-    equal("a picture", bars, wanted + ["job 3, machine 2, start 8, end 10", "job 3, machine 3, start 12, end 13"])
+    wanted = ["job 2, machine 2, start 0, end 8", "job 1, machine 1, start 0, end 4"]
+    wanted += ["job 1, machine 3, start 8, end 12", "job 3, machine 2, start 8, end 10"]
+    equal("a picture", bars, [*wanted, "job 3, machine 3, start 12, end 13"])
     equal("one for a notebook", (drawing._repr_svg_(), type(drawing._repr_svg_())), (drawing, str))
     shown = read(os.path.join(TOP, "docs", "schedule.svg")).decode()
     order = [int(job) for job in re.findall(r"job (\d+), machine 1,", shown)]
@@ -330,7 +333,7 @@ def use_files():
     equal("the blocks of a text", [block[1:] for block in blocks][2:], [(3, 708, 708)])
     equal("the times of the third", blocks[2].shop.times[4], [74, 94, 17, 26, 95, 22, 89, 65, 81, 31])
     (published,) = Shop.read(PUBLISHED)
-    equal("a published text", (published.shop, *published[1:]), (Shop.generate(20, 5, 873_654_221), 873_654_221, 1286, 1232))
+    equal("a published text", published, (Shop.generate(20, 5, 873_654_221), 873_654_221, 1286, 1232))
     with tempfile.TemporaryDirectory() as folder:
         path = pathlib.Path(folder, "shop.txt")
         Shop.generate(2, 2, 1).write(path, seed=1)
@@ -342,7 +345,8 @@ def use_files():
         text = read(path) + b" \n\t\r\n" + read(PUBLISHED).replace(b"\n", b" \r\n")
         path.write_bytes(text + b"\n~ 9\n1 1 0 0 0 \n\x0b\n7")
         again = Shop.read(path)
-        equal("blocks of three texts", (again[:2], again[2].shop.times), ([(SHOP, 7, 4_294_967_295, 0), published], [[7]]))
+        equal("blocks of three texts", again[:2], [(SHOP, 7, 4_294_967_295, 0), published])
+        equal("the last of them", again[2], (Shop.from_jobs([[7]]), 0, 0, 0))
         for change, number in [({"seed": -1}, "seed is -1"), ({"upper": 2**32}, "upper is 4,294,967,296")]:
             sentence = f"{number}, and has to be a whole number from 0 to 4,294,967,295"
             got = refused(lambda change=change: SHOP.write(path, **change))
@@ -358,9 +362,9 @@ def refuse_files():
         b"1 2\n": ("LABEL", 1, "line 1 of * is '1 2': a line of words is wanted before the head of a block, and"),
         b"a\n1;2\n": ("BYTE", 2, "line 2 of * is '1;2': a line of numbers has something that is neither a digit nor a"),
         b"a\n4294967296": ("NUMBER", 2, "line 2 of * is '4294967296': a number is above 4,294,967,295"),
-        b"a\nb\n": ("HEAD", 2, "line 2 of * is 'b': the head of a block is five numbers: jobs, machines, seed, upper bou"),
-        b"a\n0 1 0 0 0\n": ("LIMITS", 2, "line 2 of * is '0 1 0 0 0': the jobs have to be 1 to 800, the machines 1 to 26"),
-        b"a\n2 1 0 0 0\nb\n7": ("TIMES", 5, "line 5 of * is missing: there has to be one time for each job and machine"),
+        b"a\nb\n": ("HEAD", 2, "line 2 of * is 'b': the head of a block is five numbers: jobs, machines"),
+        b"a\n0 1 0 0 0\n": ("LIMITS", 2, "line 2 of * is '0 1 0 0 0': the jobs have to be 1 to 800, the"),
+        b"a\n2 1 0 0 0\nb\n7": ("TIMES", 5, "line 5 of * is missing: there has to be one time for each job"),
     }
     with tempfile.TemporaryDirectory() as folder:
         path = os.path.join(folder, "text")
@@ -389,8 +393,8 @@ def refuse_tables():
         (Shop.from_machines, [[1] * 5] * 60, "MACHINES", 0, f"this table has 60 rows, {machines}{turn('jobs')}"),
         (Shop.from_machines, [[1] * 801], "JOBS", 0, f"this table has 801 columns, {jobs}"),
         (Shop.from_jobs, [[1] * 27] * 27, "MACHINES", 0, f"this table has 27 columns, {machines}"),
-        (Shop.from_jobs, [[1, 2], [3]], "COUNT", (2, 2), "row 2 has 1 time, and row 1 has 2; all rows of a table have one"),
-        (Shop.from_jobs, [[1], [2, 3]], "COUNT", (2, 2), "row 2 has 2 times, and row 1 has 1; all rows of a table have"),
+        (Shop.from_jobs, [[1, 2], [3]], "COUNT", (2, 2), "row 2 has 1 time, and row 1 has 2; all rows of a table"),
+        (Shop.from_jobs, [[1], [2, 3]], "COUNT", (2, 2), "row 2 has 2 times, and row 1 has 1; all rows of a table"),
         (Shop.from_jobs, [1, 2], "COUNT", (1, 1), "row 1 is 1, and has to be a list of times"),
         (Shop.from_jobs, ["12"], "COUNT", (1, 1), "row 1 is '12', and has to be a list of times"),
         (Shop.from_jobs, 5, "COUNT", 0, "a table has a list for each row, and this is 5"),
@@ -403,7 +407,7 @@ def refuse_tables():
         (Shop.from_jobs, [[1, 2.5]], "TIME", (1, 2), f"is 2.5, of type float, {whole}"),
         (Shop.from_jobs, [[1, 2.0], [3, None]], "TIME", (2, 2), f"is missing (None); {skip}"),
         (Shop.from_jobs, [[float("nan"), 1.5]], "TIME", (1, 1), f"is missing (nan); {skip}"),
-        (Shop.from_jobs, [[1, "4"]], "TIME", (1, 2), "is the text '4'; times are whole numbers, and names are the labels of"),
+        (Shop.from_jobs, [[1, "4"]], "TIME", (1, 2), "is the text '4'; times are whole numbers, and names are"),
     ]:
         got = refused(lambda make=make, table=table: make(table))
         at = f"the time in row {place[0]}, column {place[1]} " if name == "TIME" else ""
@@ -418,10 +422,10 @@ def refuse_sequences():
         ([1, 2], "LENGTH", 0, "the sequence has 2 jobs, and the shop has 3; each job stands in it once"),
         ([], "LENGTH", 0, "the sequence has 0 jobs, and the shop has 3; each job stands in it once"),
         ([1, 4, 2], "JOB", 2, "place 2 of the sequence is 4, and the jobs are 1 to 3"),
-        ([2, 0, 1], "JOB", 2, "place 2 of the sequence is 0, and the jobs are 1 to 3; add 1 to each if they are counted fr"),
+        ([2, 0, 1], "JOB", 2, "place 2 of the sequence is 0, and the jobs are 1 to 3; add 1 to each if they are"),
         ([1, 2, 65_536], "JOB", 3, "place 3 of the sequence is 65,536, and the jobs are 1 to 3"),
         ([1, -2, 3], "JOB", 2, "place 2 of the sequence is -2, and the jobs are 1 to 3"),
-        ([1, 2, 1], "TWICE", 3, "job 1 stands at place 1 of the sequence, and again at place 3; each job stands in it once"),
+        ([1, 2, 1], "TWICE", 3, "job 1 stands at place 1 of the sequence, and again at place 3; each job"),
         ([1, 2.0, 3], "JOB", 2, "place 2 of the sequence is 2.0, and has to be a job number"),
         (["Door"], "JOB", 1, "place 1 of the sequence is 'Door', and has to be a job number"),
         (5, "JOB", 0, "a sequence is a list of job numbers, and this is 5"),
@@ -446,12 +450,12 @@ def refuse_texts():
         (BOUNDS, b"3 3", b"3 2", "SIZE", 0, "line 2 is '3 2', which is not of a shop with jobs 3 and machines 3"),
         (BOUNDS, b"11 13", b"11", "VALUE", 0, "line 3 is '11', and has to be the value that is proved, or both bounds"),
         (BOUNDS, b"2 1 3", b"2 1 2", "SEQUENCE", 0, "line 4 is '2 1 2', and has to have each job from 1 to 3 once"),
-        (BOUNDS, b"11 13", b"11 14", "NOT_ATTAINED", 0, "line 4 is a sequence of another makespan than line 3 says, which"),
+        (BOUNDS, b"11 13", b"11 14", "NOT_ATTAINED", 0, "line 4 is a sequence of another makespan than line 3"),
         (BOUNDS, b"11 13", b"12 13", "TREE", 5, f"line 5 is '-', which is not one whole proof; {changed}"),
         (TREE, b"+B", b".B", "TREE", 5, "line 5 is '.BC++.B', which is not one whole proof"),
         (TREE, b"+BC++.B", b"A", "WEAK", 5, f"line 5 has a bound that is below the value; {changed}"),
-        (BOUNDS, b"11 13\n2 1 3\n-", b"13 12\n3 1 2\n+++", "LOW", 5, "line 5 leads to a makespan that is below the value"),
-        (BOUNDS, b"\nend\n", b"\nend", "END", 0, "what follows the last tree, or the directions, is not the line 'end' alone"),
+        (BOUNDS, b"11 13\n2 1 3\n-", b"13 12\n3 1 2\n+++", "LOW", 5, "line 5 leads to a makespan that is below"),
+        (BOUNDS, b"\nend\n", b"\nend", "END", 0, "what follows the last tree, or the directions, is not the line"),
     ]:
         got = refused(lambda text=text, old=old, new=new: SHOP.check(text.replace(old, new, 1)))
         equal(f"{old!r} as {new!r}", got[:3], ("NotLawful", name, place))
@@ -531,12 +535,14 @@ def keep_errors():
     for name in ("NotAShop", "NotASequence", "NotLawful", "TextError", "OptionError", "OverBudget", "FlowshopError"):
         error = getattr(flowshop, name)("JOB", (2, 3), "a sentence")
         kept = pickle.loads(pickle.dumps(error))
-        equal(f"a kept {name}", (type(kept), str(kept), kept.name, kept.place), (type(error), "a sentence", "JOB", (2, 3)))
+        got = type(kept), str(kept), kept.name, kept.place
+        equal(f"a kept {name}", got, (type(error), "a sentence", "JOB", (2, 3)))
         equal(f"the base of {name}", (isinstance(error, FlowshopError), isinstance(error, ValueError)), (True, True))
 
 
 def main():
-    """Runs all, and ends."""
+    """Runs all, and ends. A warning of the package is an error."""
+    warnings.filterwarnings("error", module="flowshop")
     run_examples()
     compare_header()
     make_shops()

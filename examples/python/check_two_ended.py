@@ -20,7 +20,7 @@ class Fault(Exception):
 
 def read_shop(text: bytes, index: int) -> Shop:
     """For each job its times, one for each machine."""
-    groups: List[List[int]] = []  # of numbers, each after a line that begins with no digit: head, times, head, times, ..
+    groups: List[List[int]] = []  # of numbers, each after a line that begins with no digit: head, times, head, ..
     for line in text.split(b"\n"):
         line = line.strip(b" \t\r")
         if line[:1].isdigit():

@@ -1,5 +1,6 @@
-"""Certifies many shops in four processes, and says of each what was proved, or why it was refused."""
+"""Certifies shops in four processes, and prints what was proved of each, or why it was refused: many_shops.py SEED.."""
 
+import sys
 from concurrent.futures import ProcessPoolExecutor
 from typing import Union
 
@@ -7,14 +8,15 @@ from flowshop import Certificate, FlowshopError, Shop
 
 
 def certified(seed: int) -> Union[Certificate, FlowshopError]:
-    """Bounds of the shop of a seed, with few steps; or the refusal."""
+    """Bounds of the shop of a seed, with 20 jobs on 5 machines; or the refusal."""
     try:
-        return Shop.generate(20, 5, seed).certify(width=64, rounds=100, directions=10_000)
+        return Shop.generate(20, 5, seed).certify(directions=1_000_000)
     except FlowshopError as error:
         return error
 
 
 if __name__ == "__main__":
+    seeds = [int(word) for word in sys.argv[1:]]
     with ProcessPoolExecutor(4) as pool:
-        for seed, found in enumerate(pool.map(certified, range(4))):
+        for seed, found in zip(seeds, pool.map(certified, seeds)):
             print(seed, found)
