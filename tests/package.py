@@ -492,6 +492,31 @@ def refuse_options():
     equal("what is said of it", got[3][: len(sentence)], sentence)
 
 
+def compare_page():
+    """The sentences of docs/library.md are those of refusals, and it names each call on a shop."""
+    page = read(os.path.join(TOP, "docs", "library.md")).decode()
+    part = page[page.index("## From Python") : page.index("## From Rattle")]
+    nan = float("nan")
+    with tempfile.TemporaryDirectory() as folder:
+        pathlib.Path(folder, "shop.csv").write_bytes(b"a\n1;2\n")
+        for call in [
+            lambda: Shop.from_jobs([[1, 2, 3], [4, 5, nan], [6, 7, 8]], **NAMES),
+            lambda: Shop.from_machines([[1] * 5] * 60),
+            lambda: SHOP.makespan([2, 0, 1]),
+            lambda: SHOP.check(BOUNDS.replace(b"3 3", b"3 2")),
+            lambda: Shop.read(os.path.join(folder, "shop.csv")),
+            lambda: SHOP.improve(width=70_000),
+            lambda: SHOP.solve(depth=1, budget=1),
+        ]:
+            error, _, _, sentence = refused(call)
+            said = re.search(rf"^\| `{error}` \|((?:.*\n\| \|)?.*)$", part, re.MULTILINE)[1]
+            wanted = [sentence.replace(folder + os.sep, ""), sentence.split(", which")[0] + ", .."]
+            equal(f"the sentence of {error}", any(f"`{each}`" in said for each in wanted), True)
+    for name in vars(Shop):
+        if not name.startswith("_") and callable(getattr(Shop, name)):
+            equal(f"that the page names {name}", re.search(rf"`(Shop|shop)\.{name}\(", part) is not None, True)
+
+
 def keep_rooms():
     """A text is written once, whatever room there is for it, and uses memory for its bytes alone."""
     rooms = []
@@ -559,6 +584,7 @@ def main():
     refuse_sequences()
     refuse_texts()
     refuse_options()
+    compare_page()
     keep_rooms()
     keep_errors()
     compare_random_shops()

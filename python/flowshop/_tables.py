@@ -51,13 +51,14 @@ class Contents(NamedTuple):
 class _Given:
     """A table as it was given: its values, what its rows and its columns are, and their names where it has any."""
 
-    def __init__(self, table: Any, has_job_rows: bool) -> None:
+    def __init__(
+        self, table: Any, has_job_rows: bool, job_names: Optional[Names], machine_names: Optional[Names]
+    ) -> None:
         self.has_job_rows = has_job_rows
-        self.row_names: Optional[Names] = None
-        self.column_names: Optional[Names] = None
+        self.row_names, self.column_names = self.turned(job_names, machine_names)
         if hasattr(table, "columns"):
-            self.row_names = _names_of(getattr(table, "index", None))
-            self.column_names = _names_of(table.columns)
+            self.row_names = self.row_names or _names_of(getattr(table, "index", None))
+            self.column_names = self.column_names or _names_of(table.columns)
             table = table.to_numpy() if hasattr(table, "to_numpy") else table.values
         self.values = table
 
@@ -67,9 +68,9 @@ class _Given:
         at = f"row {row}{_quoted(self.row_names, row)}, column {column}{_quoted(self.column_names, column)}"
         return NotAShop(name, place, f"the time in {at} {wrong}")
 
-    def turned(self, of_rows: Any, of_columns: Any) -> Tuple[Any, Any]:
-        """What is that of the jobs, and what that of the machines."""
-        return (of_rows, of_columns) if self.has_job_rows else (of_columns, of_rows)
+    def turned(self, one: Any, other: Any) -> Tuple[Any, Any]:
+        """Of what rows and columns have, what jobs and machines have; and the other way round."""
+        return (one, other) if self.has_job_rows else (other, one)
 
     def test_sizes(self, rows: int, columns: int) -> None:
         """Refuses sizes that are not within the limits, and says where they would be with rows taken for columns."""
@@ -209,13 +210,12 @@ def _packed_buffer(given: _Given) -> Optional[Tuple[int, int, bytes]]:
     return rows, columns, times.tobytes()
 
 
-def _chosen(kind: str, count: int, names: Optional[Iterable[Hashable]], found: Optional[Names]) -> Optional[Names]:
-    """The names that a caller gives, or else those of the table, where they are not the numbers from 1."""
-    chosen = found if names is None else tuple(names)
-    if chosen is not None and len(chosen) != count:
-        sentence = f"the table has {counted(count, kind)}, and {counted(len(chosen), 'name')} of {kind}s are given"
+def _tested(kind: str, count: int, names: Optional[Names]) -> Optional[Names]:
+    """The names of the jobs or of the machines; None where they are the numbers from 1."""
+    if names is not None and len(names) != count:
+        sentence = f"the table has {counted(count, kind)}, and {counted(len(names), 'name')} of {kind}s are given"
         raise NotAShop("COUNT", 0, sentence)
-    return None if chosen == tuple(range(1, count + 1)) else chosen
+    return None if names == tuple(range(1, count + 1)) else names
 
 
 def _test_times(given: _Given, jobs: int, machines: int, times: bytes) -> None:
@@ -234,10 +234,10 @@ def read_table(
     machine_names: Optional[Iterable[Hashable]],
 ) -> Contents:
     """The shop that a table states, with a row for each job, or for each machine. NotAShop where it is none."""
-    given = _Given(table, has_job_rows)
+    chosen = [None if names is None else tuple(names) for names in (job_names, machine_names)]
+    given = _Given(table, has_job_rows, *chosen)
     rows, columns, times = _packed_array(given) or _packed_buffer(given) or _packed_rows(given)
     jobs, machines = given.turned(rows, columns)
     _test_times(given, jobs, machines, times)
     of_jobs, of_machines = given.turned(given.row_names, given.column_names)
-    chosen_jobs = _chosen("job", jobs, job_names, of_jobs)
-    return Contents(jobs, machines, times, chosen_jobs, _chosen("machine", machines, machine_names, of_machines))
+    return Contents(jobs, machines, times, _tested("job", jobs, of_jobs), _tested("machine", machines, of_machines))
