@@ -194,9 +194,11 @@ def use_names():
     with tempfile.TemporaryDirectory() as folder:
         picture.gantt([2, 1, 3]).save(os.path.join(folder, "picture.svg"))
         equal("one that is saved", "Wë" in read(os.path.join(folder, "picture.svg")).decode(), True)
-    for names, counted in ((["a"], "1 name"), ("abcd", "4 names")):
+    for names, counted in (([], "0 names"), (["a"], "1 name"), ("abcd", "4 names")):
         wanted = "NotAShop", "COUNT", 0, f"the table has 3 machines, and {counted} of machines are given"
-        equal(counted, refused(lambda names=names: Shop.from_jobs(ROWS, machine_names=names)), wanted)
+        for table in (ROWS, Frame(ROWS, "abc", "def")):
+            got = refused(lambda table=table, names=names: Shop.from_jobs(table, machine_names=names))
+            equal(counted, got, wanted)
 
 
 def list_names(sequence):

@@ -57,8 +57,10 @@ class _Given:
         self.has_job_rows = has_job_rows
         self.row_names, self.column_names = self.turned(job_names, machine_names)
         if hasattr(table, "columns"):
-            self.row_names = self.row_names or _names_of(getattr(table, "index", None))
-            self.column_names = self.column_names or _names_of(table.columns)
+            if self.row_names is None:
+                self.row_names = _names_of(getattr(table, "index", None))
+            if self.column_names is None:
+                self.column_names = _names_of(table.columns)
             table = table.to_numpy() if hasattr(table, "to_numpy") else table.values
         self.values = table
 
