@@ -24,7 +24,7 @@ def refused(call):
         return call()
     except FlowshopError as error:
         return type(error).__name__, error.name, error.place, str(error)
-    except (AttributeError, TypeError, OSError, MemoryError) as error:
+    except (AttributeError, ImportError, MemoryError, OSError, TypeError) as error:
         return type(error)
 
 

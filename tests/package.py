@@ -104,6 +104,7 @@ def compare_header():
     """The version is that of the library and of the file VERSION; statuses and limits are those of the header."""
     version = read(os.path.join(TOP, "VERSION")).decode().strip()
     equal("the versions", (flowshop.__version__, _library.version()), (version, version))
+    equal("a library of another version", refused(lambda: _library.require("0.0.0")), ImportError)
     header = read(os.path.join(TOP, "library", "flowshop.h")).decode()
     numbers = {name: int(number) for name, number in re.findall(r"FLOWSHOP_(\w+) = (\d+)", header)}
     statuses = {number: name for name, number in numbers.items() if not name.startswith(("MAX_", "MIN_"))}
@@ -247,6 +248,11 @@ def use_frames():
         frame = pandas.DataFrame({"Cut": [1, 2], "Weld": pandas.array([3, None], dtype=kind)}, index=["Shelf", "Door"])
         got = refused(lambda frame=frame: Shop.from_jobs(frame))
         equal("a blank cell", (got[2], got[3][:53]), ((2, 2), "the time in row 2 (Door), column 2 (Weld) is missing "))
+    wanted = "the time in row 2, column 2 (Weld) is 2.5, of type float, and has to be a whole number; choose a unit"
+    frame = pandas.DataFrame({"Cut": [1, 2], "Weld": [3, 2.5]})
+    equal("a time in parts", refused(lambda: Shop.from_jobs(frame))[3][: len(wanted)], wanted)
+    equal("a frame of sequences", list(SHOP.makespans(pandas.DataFrame([[2, 1, 3], [3, 1, 2]]))), [13, 12])
+    equal("a column as a sequence", SHOP.makespan(pandas.Series([2, 1, 3], name="order")), 13)
     frame = pandas.DataFrame({"Job": ["Shelf"], "Cut": [1]})
     wanted = "the time in row 1, column 1 (Job) is the text 'Shelf'; times are whole numbers, and names are the labels "
     equal("names in a column", refused(lambda: Shop.from_jobs(frame))[3].startswith(wanted), True)
@@ -407,6 +413,7 @@ def refuse_tables():
         (Shop.from_jobs, [[2**70]], "TIME", (1, 1), f"is 1,180,591,620,717,411,303,424, {limit}"),
         (Shop.from_jobs, [[10**5000]], "TIME", (1, 1), f"is a number of thousands of digits, {limit}"),
         (Shop.from_jobs, [[1, 2.5]], "TIME", (1, 2), f"is 2.5, of type float, {whole}"),
+        (Shop.from_jobs, [[1.0, 2], [3, 0.5]], "TIME", (2, 2), f"is 0.5, of type float, {whole}"),
         (Shop.from_jobs, [[1, 2.0], [3, None]], "TIME", (2, 2), f"is missing (None); {skip}"),
         (Shop.from_jobs, [[float("nan"), 1.5]], "TIME", (1, 1), f"is missing (nan); {skip}"),
         (Shop.from_jobs, [[1, "4"]], "TIME", (1, 2), "is the text '4'; times are whole numbers, and names are"),

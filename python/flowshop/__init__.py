@@ -12,6 +12,7 @@ threads run.
     (12, (3, 1, 2), True)
 """
 
+from . import _library
 from ._errors import FlowshopError, NotASequence, NotAShop, NotLawful, OptionError, OverBudget, TextError
 from ._results import Certificate, Operation, Picture, Start, Timetable
 from ._shop import Block, Shop
@@ -34,6 +35,7 @@ __all__ = [
     "Timetable",
 ]
 
+_library.require(__version__)
 # The modules are an inner matter: errors and pickles name the package.
 for _name in __all__:
     globals()[_name].__module__ = __name__

@@ -121,6 +121,12 @@ def version() -> str:
     return f"{number // 1_000_000}.{number // 1_000 % 1_000}.{number % 1_000}"
 
 
+def require(wanted: str) -> None:
+    """ImportError where the library is not of this version: its calls may take other arguments."""
+    if version() != wanted:
+        raise ImportError(f"flowshop: the library is of version {version()}, and the package of version {wanted}")
+
+
 def call(name: str, *words: Any) -> None:
     """Makes a call, whose last argument is the place. MemoryError where memory ran out; Refused on every other status
     but that of a call that is done."""

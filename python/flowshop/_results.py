@@ -73,6 +73,7 @@ class Timetable(Sequence[Operation]):
     _ends: bytes
 
     def _array(self, numbers: bytes) -> memoryview:
+        """Numbers of 64 bits as rows and columns."""
         return memoryview(numbers).cast("Q", [len(self.names), len(self.machine_names)])
 
     @property
@@ -239,17 +240,17 @@ class Certificate:
     def __repr__(self) -> str:
         """What is proved, and how many directions or trees the text has."""
         proved = f"optimal {self.lower}" if self.optimal else f"bounds {self.lower} to {self.upper}"
-        lines = self.text.count(b"\n")
         if self.text.startswith(b"flowshop two-ended "):
             return f"Certificate({proved}, {counted(self._directions(), 'direction')})"
-        return f"Certificate({proved}, {counted(max(0, lines - 5), 'tree')})"
+        trees = self.text.count(b"\n") - 5  # four lines stand before them, and one after them
+        return f"Certificate({proved}, {counted(trees, 'tree')})"
 
     def _directions(self) -> int:
         """How long line 5 is."""
         begun = 0
         for _ in range(4):
             begun = self.text.find(b"\n", begun) + 1
-        return max(0, self.text.find(b"\n", begun) - begun)
+        return self.text.find(b"\n", begun) - begun
 
     def save(self, path: Path) -> None:
         """Writes the text to a file, which `flowshop check` and `Shop.check` read. OSError where that fails.

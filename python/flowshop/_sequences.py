@@ -20,7 +20,8 @@ def items_of(given: Any) -> List[Any]:
             raise TypeError
         if isinstance(given, (Start, Certificate, Timetable)):
             return list(given.sequence)
-        items = given.tolist() if hasattr(given, "tolist") else given
+        items = given.to_numpy() if hasattr(given, "to_numpy") else given  # a frame would give the names of its columns
+        items = items.tolist() if hasattr(items, "tolist") else items
         return items if isinstance(items, list) else list(items)
     except TypeError:
         raise NotASequence("JOB", 0, f"a sequence is a list of job numbers, and this is {shown(given)}") from None

@@ -7,7 +7,7 @@ from math import perm
 from typing import Any, Hashable, Iterable, List, NamedTuple, NoReturn, Optional, Tuple
 
 from ._errors import NotASequence, NotLawful, OptionError, OverBudget, counted
-from ._library import MOST_TIMES, Refused, byref, call, u16, u32, u64
+from ._library import Refused, byref, call, u16, u32, u64
 from ._options import MOST_TREES, STATED, option
 from ._results import Certificate, Names, Path, Picture, Start, Timetable, listed, with_names
 from ._sequences import Jobs, Many, items_of, not_a_sequence, packed
@@ -96,10 +96,10 @@ class Shop:
         >>> Shop.generate(2, 2, 1).times
         [[1, 14], [75, 46]]
         """
-        sizes = option("jobs", jobs), option("machines", machines)
-        times = (u32 * MOST_TIMES)()
-        call("generate", *sizes, option("seed", seed), times, MOST_TIMES)
-        return cls._of(*sizes, bytes(times)[: 4 * jobs * machines], None, None)
+        jobs, machines = option("jobs", jobs), option("machines", machines)
+        times = (u32 * (jobs * machines))()
+        call("generate", jobs, machines, option("seed", seed), times, jobs * machines)
+        return cls._of(jobs, machines, bytes(times), None, None)
 
     @classmethod
     def read(cls, path: Path) -> List[Block]:
@@ -360,7 +360,7 @@ class Shop:
             words = [byref(value)]
             sequence, text = self._searched("solve", start, choice, words, _BESIDE + trees * (choice[1] + 1))
         except Refused as refused:
-            raise _over_budget(refused, trees, budget) from None
+            raise _over_budget(refused, trees, choice[1]) from None
         return Certificate(value.value, value.value, sequence, text, self._named(sequence))
 
     def _trees(self, depth: int) -> int:

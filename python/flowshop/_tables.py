@@ -2,7 +2,7 @@
 
 from array import array
 from itertools import chain
-from operator import index
+from operator import index, itemgetter
 from typing import Any, Hashable, Iterable, List, NamedTuple, Optional, Protocol, SupportsIndex, Tuple, Union
 
 from ._errors import NotAShop, counted, shown
@@ -11,14 +11,14 @@ from ._results import Names
 
 
 class Array(Protocol):
-    """An array with two dimensions, as those of numpy."""
+    """An array, as those of numpy."""
 
     @property
     def shape(self) -> Tuple[int, ...]:
-        """How many rows and columns it has."""
+        """How many entries it has in each of its dimensions."""
 
     def tolist(self) -> Any:
-        """Its rows, as lists."""
+        """Its entries, or its rows, as lists."""
 
 
 class Frame(Protocol):
@@ -61,14 +61,13 @@ class _Given:
                 self.row_names = _names_of(getattr(table, "index", None))
             if self.column_names is None:
                 self.column_names = _names_of(table.columns)
-            table = table.to_numpy() if hasattr(table, "to_numpy") else table.values
+            table = table.to_numpy() if hasattr(table, "to_numpy") else getattr(table, "values", table)
         self.values = table
 
-    def fault(self, name: str, place: Tuple[int, int], wrong: str) -> NotAShop:
-        """The refusal of the time in a row and a column."""
-        row, column = place
+    def fault(self, row: int, column: int, wrong: str) -> NotAShop:
+        """The refusal of a time."""
         at = f"row {row}{_quoted(self.row_names, row)}, column {column}{_quoted(self.column_names, column)}"
-        return NotAShop(name, place, f"the time in {at} {wrong}")
+        return NotAShop("TIME", (row, column), f"the time in {at} {wrong}")
 
     def turned(self, one: Any, other: Any) -> Tuple[Any, Any]:
         """Of what rows and columns have, what jobs and machines have; and the other way round."""
@@ -124,16 +123,23 @@ def _wrong(value: Any) -> str:
     return "" if 0 <= number <= MOST_TIME else f"is {shown(number)}, and has to be from 0 to {MOST_TIME:,}"
 
 
+def _rank(value: Any) -> int:
+    """Which faults are named first. A time that is missing or in parts turns whole ones of a frame into floats."""
+    if _is_missing(value):
+        return 0
+    return 2 if isinstance(value, float) and value.is_integer() else 1
+
+
 def _first_fault(given: _Given, rows: List[List[Any]]) -> NotAShop:
-    """The refusal of the first time that is missing, or else of the first one at fault."""
+    """The refusal of the first time at fault, of those that are named first."""
     faults = [
-        (row, column, value)
+        (_rank(value), row, column, value)
         for row, times in enumerate(rows, 1)
         for column, value in enumerate(times, 1)
         if _wrong(value)
     ]
-    row, column, value = next((fault for fault in faults if _is_missing(fault[2])), faults[0])
-    return given.fault("TIME", (row, column), _wrong(value))
+    _, row, column, value = min(faults, key=itemgetter(0, 1, 2))
+    return given.fault(row, column, _wrong(value))
 
 
 def _rows_of(given: _Given) -> List[List[Any]]:
