@@ -7,6 +7,7 @@ import ctypes
 import doctest
 import inspect
 import json
+import mmap
 import os
 import pathlib
 import pickle
@@ -15,6 +16,7 @@ import re
 import tempfile
 import warnings
 import xml.etree.ElementTree
+from unittest import mock
 
 from counts import end, equal, refused
 
@@ -241,6 +243,8 @@ def use_frames():
     shop = Shop.from_jobs(frame)
     equal("a frame", (shop, Shop.from_machines(frame.T)), (Shop.from_jobs(ROWS, **NAMES),) * 2)
     equal("one without labels", Shop.from_jobs(pandas.DataFrame(ROWS)), SHOP)
+    table = Shop.from_jobs(pandas.read_csv(os.path.join(TOP, "examples", "table.csv"), index_col=0))
+    equal("a table that was read", (table.times, table.job_names[0]), (SHOP.times, "Shelf, large"))
     ends = shop.schedule(shop.neh()).to_frame().set_index(["job", "machine"]).end
     equal("a timetable as a frame", (ends["Table", "Paint"], len(ends)), (13, 9))
     equal("the rows of the frame in their order", frame.loc[list(shop.check(LEAST).names)].Cut.tolist(), [0, 4, 0])
@@ -454,12 +458,12 @@ def refuse_texts():
     """Texts that are no lawful certificate, with the line at fault."""
     changed = "the text was cut off or changed, or is of another shop"
     for text, old, new, name, place, sentence in [
-        (BOUNDS, BOUNDS, b"", "HEADER", 0, "line 1 is '', and names no certificate, such as 'flowshop two-ended 1'"),
-        (BOUNDS, b"two-ended 1", b"two-ended 2", "HEADER", 0, "line 1 is 'flowshop two-ended 2', and names no"),
-        (BOUNDS, b"3 3", b"3 2", "SIZE", 0, "line 2 is '3 2', which is not of a shop with jobs 3 and machines 3"),
-        (BOUNDS, b"11 13", b"11", "VALUE", 0, "line 3 is '11', and has to be the value that is proved, or both bounds"),
-        (BOUNDS, b"2 1 3", b"2 1 2", "SEQUENCE", 0, "line 4 is '2 1 2', and has to have each job from 1 to 3 once"),
-        (BOUNDS, b"11 13", b"11 14", "NOT_ATTAINED", 0, "line 4 is a sequence of another makespan than line 3"),
+        (BOUNDS, BOUNDS, b"", "HEADER", 1, "line 1 is '', and names no certificate, such as 'flowshop two-ended 1'"),
+        (BOUNDS, b"two-ended 1", b"two-ended 2", "HEADER", 1, "line 1 is 'flowshop two-ended 2', and names no"),
+        (BOUNDS, b"3 3", b"3 2", "SIZE", 2, "line 2 is '3 2', which is not of a shop with jobs 3 and machines 3"),
+        (BOUNDS, b"11 13", b"11", "VALUE", 3, "line 3 is '11', and has to be the value that is proved, or both bounds"),
+        (BOUNDS, b"2 1 3", b"2 1 2", "SEQUENCE", 4, "line 4 is '2 1 2', and has to have each job from 1 to 3 once"),
+        (BOUNDS, b"11 13", b"11 14", "NOT_ATTAINED", 4, "line 4 is '2 1 3', a sequence of another"),
         (BOUNDS, b"11 13", b"12 13", "TREE", 5, f"line 5 is '-', which is not one whole proof; {changed}"),
         (TREE, b"+B", b".B", "TREE", 5, "line 5 is '.BC++.B', which is not one whole proof"),
         (TREE, b"+BC++.B", b"A", "WEAK", 5, f"line 5 has a bound that is below the value; {changed}"),
@@ -497,7 +501,7 @@ def refuse_options():
     equal("many trees", refused(lambda: hundred.solve(depth=3)), wanted)
     got = refused(lambda: SHOP.solve(depth=1, budget=1))
     equal("a small budget", got[:3], ("OverBudget", "OVER_BUDGET", 2))
-    sentence = "tree 2 of 3, counted from 0, is longer than the budget of 1 bytes; give a larger one, or call certify"
+    sentence = "tree 2 of 3, counted from 0, is longer than the budget of 1 byte; give a larger one, or call certify"
     equal("what is said of it", got[3][: len(sentence)], sentence)
 
 
@@ -544,6 +548,13 @@ def keep_rooms():
 
     equal("a text without room", refused(lambda: _texts.written(1 << 20, refuse)), MemoryError)
     equal("that it was written once", rooms[1:], [1 << 20])
+    small, real = mmap.mmap(-1, 1 << 16), _library._CALLS["solve"]
+    times = Shop.read(os.path.join(TOP, "examples", "large_tree.txt"))[0].shop
+    with mock.patch.object(_texts, "_room", lambda wanted: small), mock.patch.dict(
+        _library._CALLS, solve=lambda *words: (rooms.append("solve"), real(*words))[1]
+    ):
+        equal("a search without room", refused(lambda: times.solve(depth=2)), MemoryError)
+    equal("that it was made once", rooms[2:], ["solve"])
     equal("room that no system has", len(_texts._room(1 << 60)) >= 1 << 30, True)
 
 

@@ -431,7 +431,8 @@ class Shop:
 
 def _over_budget(refused: Refused, trees: int, budget: int) -> OverBudget:
     """The refusal of a tree that is longer than the budget."""
-    sentence = f"tree {refused.place} of {trees:,}, counted from 0, is longer than the budget of {budget:,} bytes"
+    tree = f"tree {refused.place:,} of {trees:,}, counted from 0,"
+    sentence = f"{tree} is longer than the budget of {counted(budget, 'byte')}"
     advice = "give a larger one, or call certify, which gives bounds where it proves no optimum"
     return OverBudget(refused.name, refused.place, f"{sentence}; {advice}")
 

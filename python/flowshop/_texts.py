@@ -62,14 +62,14 @@ def text_of(given: Text) -> bytes:
 
 
 _CHANGED = "the text was cut off or changed, or is of another shop"
-# What is wrong with a certificate, by the name of the status. {line} is the place, or the line that is always meant;
-# {text} is that line, {jobs} and {machines} are those of the shop.
+# What is wrong with a certificate, by the name of the status, and which line is at fault where it is always the same.
+# {line} is its number, {text} the line; {jobs} and {machines} are those of the shop.
 _UNLAWFUL: Dict[str, Tuple[int, str]] = {
     "HEADER": (1, "line 1 is {text}, and names no certificate, such as 'flowshop two-ended 1'"),
     "SIZE": (2, "line 2 is {text}, which is not of a shop with jobs {jobs} and machines {machines}"),
     "VALUE": (3, "line 3 is {text}, and has to be the value that is proved, or both bounds"),
     "SEQUENCE": (4, "line 4 is {text}, and has to have each job from 1 to {jobs} once"),
-    "NOT_ATTAINED": (3, "line 4 is a sequence of another makespan than line 3 says, which is {text}"),
+    "NOT_ATTAINED": (4, "line 4 is {text}, a sequence of another makespan than line 3 says"),
     "TREE": (0, f"line {{line}} is {{text}}, which is not one whole proof; {_CHANGED}"),
     "WEAK": (0, f"line {{line}} has a bound that is below the value; {_CHANGED}"),
     "LOW": (0, f"line {{line}} leads to a makespan that is below the value; {_CHANGED}"),
@@ -85,12 +85,12 @@ def _line(text: bytes, number: int) -> str:
 
 def not_lawful(refused: Refused, given: Text, text: bytes, jobs: int, machines: int) -> NotLawful:
     """The refusal of a text that is no certificate of a shop of these sizes."""
-    usual, form = _UNLAWFUL[refused.name]
-    line = refused.place or usual
+    only, form = _UNLAWFUL[refused.name]
+    line = refused.place or only
     sentence = form.format(line=line, text=_line(text, line), jobs=jobs, machines=machines)
     if isinstance(given, str) and b"\n" not in text:
         sentence += "; a str is the text itself, and a file is named by pathlib.Path"
-    return NotLawful(refused.name, refused.place, sentence)
+    return NotLawful(refused.name, line, sentence)
 
 
 # What is wrong with a line of a benchmark text, by the name of the status.
