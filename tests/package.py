@@ -160,6 +160,8 @@ def compare_shops():
     equal("its times", SHOP.times[0], [4, 0, 0])
     equal("what is shown of it", repr(Shop.generate(20, 5, 1)), "Shop(20 jobs, 5 machines)")
     equal("with names", repr(named), "Shop(3 jobs: Shelf, Door, Table; 3 machines: Cut, Weld, Paint)")
+    commas = Shop.from_jobs(ROWS, job_names=["Shelf, large", 7, "Table"])
+    equal("with a comma in a name", repr(commas), "Shop(3 jobs: 'Shelf, large', 7, Table; 3 machines)")
     some = Shop.from_jobs([[1]] * 4, job_names="abcd")
     equal("with names of jobs", repr(some), "Shop(4 jobs: a, b, c, ..; 1 machine)")
 
@@ -439,8 +441,8 @@ def refuse_sequences():
         ([1, 2, 65_536], "JOB", 3, "place 3 of the sequence is 65,536, and the jobs are 1 to 3"),
         ([1, -2, 3], "JOB", 2, "place 2 of the sequence is -2, and the jobs are 1 to 3"),
         ([1, 2, 1], "TWICE", 3, "job 1 stands at place 1 of the sequence, and again at place 3; each job"),
-        ([1, 2.0, 3], "JOB", 2, "place 2 of the sequence is 2.0, and has to be a job number"),
-        (["Door"], "JOB", 1, "place 1 of the sequence is 'Door', and has to be a job number"),
+        ([1, 2.0, 3], "JOB", 2, "place 2 of the sequence is 2.0, and has to be a job number from 1 to 3"),
+        (["Door"], "JOB", 1, "place 1 of the sequence is 'Door', and has to be a job number from 1 to 3"),
         (5, "JOB", 0, "a sequence is a list of job numbers, and this is 5"),
         ("123", "JOB", 0, "a sequence is a list of job numbers, and this is '123'"),
         (b"\1\2\3", "JOB", 0, "a sequence is a list of job numbers, and this is b'\\x01\\x02\\x03'"),

@@ -16,7 +16,8 @@ _MOST_SHOWN = 8
 
 def listed(names: Sequence[Hashable], most: int = _MOST_SHOWN) -> str:
     """The first names of a list, with commas between them, and two points where there are more."""
-    return ", ".join([*map(str, names[:most]), *([".."] if len(names) > most else [])])
+    first = [repr(name) if isinstance(name, str) and set(name) & set(",;:") else str(name) for name in names[:most]]
+    return ", ".join([*first, *([".."] if len(names) > most else [])])
 
 
 @dataclass(frozen=True, repr=False)

@@ -49,7 +49,8 @@ def _strange(jobs: Sequence[Any], count: int) -> NotASequence:
     place, job = next((place, job) for place, job in enumerate(jobs, 1) if not _has_16_bits(job))
     if isinstance(job, int):
         return _no_job(place, job, jobs, count)
-    return NotASequence("JOB", place, f"place {place} of the sequence is {shown(job)}, and has to be a job number")
+    sentence = f"place {place} of the sequence is {shown(job)}, and has to be a job number from 1 to {count}"
+    return NotASequence("JOB", place, sentence)
 
 
 def _no_job(place: int, job: Any, jobs: Iterable[Any], count: int) -> NotASequence:
