@@ -56,11 +56,12 @@ class _Given:
     ) -> None:
         self.has_job_rows = has_job_rows
         self.row_names, self.column_names = self.turned(job_names, machine_names)
-        if hasattr(table, "columns"):
+        columns = getattr(table, "columns", None)
+        if columns is not None and not callable(columns):
             if self.row_names is None:
                 self.row_names = _names_of(getattr(table, "index", None))
             if self.column_names is None:
-                self.column_names = _names_of(table.columns)
+                self.column_names = _names_of(columns)
             table = table.to_numpy() if hasattr(table, "to_numpy") else getattr(table, "values", table)
         self.values = table
 
@@ -114,7 +115,8 @@ def _wrong(value: Any) -> str:
     if _is_missing(value):
         return f"is missing ({shown(value)}); write 0 where a job skips a machine"
     if isinstance(value, str):
-        return f"is the text {shown(value)}; times are whole numbers, and names are the labels of a frame, or job_names"
+        advice = "convert it to int, or give names as job_names or as the labels of a frame"
+        return f"is the text {shown(value)}, and has to be a whole number; {advice}"
     try:
         number = index(value)
     except TypeError:
