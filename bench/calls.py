@@ -21,9 +21,9 @@ def measured(call, batches=300, calls=50):
 def bare_makespan(shop, sequence):
     """The call of the makespan with arguments that are there, by ctypes alone."""
     times = array("I", [time for row in shop.times for time in row]).tobytes()
-    words = [shop.jobs, shop.machines, times, shop.jobs * shop.machines]
-    jobs, value, place = array("H", sequence).tobytes(), _library.u64(), _library.size()
-    words += [jobs, shop.jobs, _library.byref(value), _library.byref(place)]
+    u32, size, byref = _library.u32, _library.size, _library.byref
+    words = [u32(shop.jobs), u32(shop.machines), times, size(shop.jobs * shop.machines)]
+    words += [array("H", sequence).tobytes(), size(shop.jobs), byref(_library.u64()), byref(size())]
     call = _library._CALLS["makespan"]
     return lambda: call(*words)
 

@@ -70,6 +70,9 @@ CALLS: Dict[str, List[Any]] = {
     + [data, size, u32, u32, u32, u32, u32, out(u16), size]
     + [out(u64), out(u64), out(u8), size, out(size), out(size)],
 }
+# Of these calls each argument is given as an object of ctypes or as bytes, so that ctypes has nothing to convert, which
+# takes longer than the call does on a small shop.
+AS_GIVEN = ("makespan",)
 
 
 class Refused(Exception):
@@ -105,7 +108,7 @@ def _load(path: Path) -> Dict[str, Any]:
         library = ctypes.CDLL(str(path))
         for name, types in CALLS.items():
             calls[name] = getattr(library, f"flowshop_{name}")
-            calls[name].argtypes = types
+            calls[name].argtypes = None if name in AS_GIVEN else types
             calls[name].restype = u32
     except (OSError, AttributeError) as error:
         raise ImportError(f"flowshop: {path} is not the library that this package calls: {error}") from error

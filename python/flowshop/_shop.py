@@ -7,7 +7,7 @@ from math import perm
 from typing import Any, Hashable, Iterable, List, NamedTuple, NoReturn, Optional, Tuple
 
 from ._errors import NotASequence, NotLawful, OptionError, OverBudget, counted
-from ._library import Refused, byref, call, u16, u32, u64
+from ._library import Refused, byref, call, size, u16, u32, u64
 from ._options import MOST_TREES, STATED, option
 from ._results import Certificate, Names, Path, Picture, Start, Timetable, listed, with_names
 from ._sequences import Jobs, Many, items_of, not_a_sequence, packed
@@ -32,9 +32,10 @@ class Shop:
     Shop(3 jobs, 3 machines)
     """
 
-    __slots__ = ("_words", "_names")
-    _words: Tuple[int, int, bytes, int]
-    _names: Tuple[Optional[Names], Optional[Names]]
+    __slots__ = ("_parts", "_words")
+    # Jobs, machines, times, and the names of both; and what each call takes of them first.
+    _parts: Tuple[int, int, bytes, Optional[Names], Optional[Names]]
+    _words: Tuple[Any, Any, bytes, Any]
 
     def __init__(self, *_: object) -> None:
         raise TypeError(
@@ -48,8 +49,8 @@ class Shop:
     ) -> Shop:
         """The shop of these times, machine by machine, as 32-bit numbers. The calls of the library test them."""
         shop = object.__new__(cls)
-        object.__setattr__(shop, "_words", (jobs, machines, times, len(times) // 4))
-        object.__setattr__(shop, "_names", (job_names, machine_names))
+        object.__setattr__(shop, "_parts", (jobs, machines, times, job_names, machine_names))
+        object.__setattr__(shop, "_words", (u32(jobs), u32(machines), times, size(len(times) // 4)))
         return shop
 
     @classmethod
@@ -134,7 +135,7 @@ class Shop:
         >>> shop.jobs
         3
         """
-        return self._words[0]
+        return self._parts[0]
 
     @property
     def machines(self) -> int:
@@ -143,7 +144,7 @@ class Shop:
         >>> shop.machines
         3
         """
-        return self._words[1]
+        return self._parts[1]
 
     @property
     def times(self) -> List[List[int]]:
@@ -152,9 +153,8 @@ class Shop:
         >>> shop.times
         [[4, 0, 0], [0, 8, 2], [4, 0, 1]]
         """
-        jobs, _, times, count = self._words
-        numbers = memoryview(times).cast("I").tolist()
-        return [numbers[start : start + jobs] for start in range(0, count, jobs)]
+        numbers = memoryview(self._parts[2]).cast("I").tolist()
+        return [numbers[start : start + self.jobs] for start in range(0, len(numbers), self.jobs)]
 
     @property
     def job_names(self) -> Names:
@@ -163,7 +163,7 @@ class Shop:
         >>> shop.job_names
         (1, 2, 3)
         """
-        return self._names[0] or tuple(range(1, self.jobs + 1))
+        return self._parts[3] or tuple(range(1, self.jobs + 1))
 
     @property
     def machine_names(self) -> Names:
@@ -172,7 +172,7 @@ class Shop:
         >>> shop.machine_names
         (1, 2, 3)
         """
-        return self._names[1] or tuple(range(1, self.machines + 1))
+        return self._parts[4] or tuple(range(1, self.machines + 1))
 
     def __setattr__(self, name: str, value: object) -> NoReturn:
         raise AttributeError(f"a Shop is frozen: {name} can not be set")
@@ -184,18 +184,18 @@ class Shop:
         """Whether times and names are the same."""
         if not isinstance(other, Shop):
             return NotImplemented
-        return self._words == other._words and self._names == other._names
+        return self._parts == other._parts
 
     def __hash__(self) -> int:
-        return hash((self._words, self._names))
+        return hash(self._parts)
 
     def __reduce__(self) -> Tuple[Any, Tuple[Any, ...]]:
         """What pickle and copy keep."""
-        return Shop._of, (*self._words[:3], *self._names)
+        return Shop._of, self._parts
 
     def __repr__(self) -> str:
         """The sizes, and the first names where there are any."""
-        jobs, machines = (listed(names, 3) if names else "" for names in self._names)
+        jobs, machines = (listed(names, 3) if names else "" for names in self._parts[3:])
         if not jobs and not machines:
             return f"Shop({counted(self.jobs, 'job')}, {counted(self.machines, 'machine')})"
         named = f"{counted(self.jobs, 'job')}: {jobs}" if jobs else counted(self.jobs, "job")
@@ -204,7 +204,7 @@ class Shop:
     def _call(self, name: str, sequence: bytes, *words: Any) -> None:
         """Makes a call on the shop and a sequence. NotASequence where that is none."""
         try:
-            call(name, *self._words, sequence, len(sequence) // 2, *words)
+            call(name, *self._words, sequence, size(len(sequence) // 2), *words)
         except Refused as refused:
             if refused.name in ("LENGTH", "JOB", "TWICE"):
                 raise not_a_sequence(refused, sequence, self.jobs) from None
@@ -212,7 +212,7 @@ class Shop:
 
     def _named(self, sequence: _Numbers) -> Names:
         """The names of jobs in the order of a sequence."""
-        names = self._names[0]
+        names = self._parts[3]
         return tuple(names[job - 1] for job in sequence) if names else sequence
 
     def makespan(self, sequence: Jobs) -> int:
@@ -223,7 +223,7 @@ class Shop:
         13
         """
         value = u64()
-        self._call("makespan", packed(sequence, self._words[0]), byref(value))
+        self._call("makespan", packed(sequence, self._parts[0]), byref(value))
         return value.value
 
     def makespans(self, sequences: Many) -> array[int]:
@@ -248,7 +248,7 @@ class Shop:
         >>> list(shop.schedule([2, 1, 3]))[-1]
         Operation(job=3, machine=3, start=12, end=13)
         """
-        jobs, count = packed(sequence, self.jobs), self._words[3]
+        jobs, count = packed(sequence, self.jobs), self.jobs * self.machines
         starts, ends = (u64 * count)(), (u64 * count)()
         self._call("timetable", jobs, starts, count, ends, count)
         numbers = tuple(memoryview(jobs).cast("H"))
@@ -262,9 +262,9 @@ class Shop:
         >>> shop.gantt(shop.neh())[:4]
         '<svg'
         """
-        jobs, room = packed(sequence, self.jobs), 16_384 + 400 * self._words[3]
+        jobs, room = packed(sequence, self.jobs), 16_384 + 400 * self.jobs * self.machines
         picture = written(room, lambda *rest: self._call("picture", jobs, *rest)).decode("ascii")
-        if self._names != (None, None):
+        if self._parts[3:] != (None, None):
             picture = with_names(picture, self.job_names, self.machine_names)
         return Picture(picture)
 
