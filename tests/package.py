@@ -1,206 +1,612 @@
-"""The package for Python: what it gives, and each of its errors."""
+"""The package for Python: its examples, what its calls give, what they take, and each of their errors with its
+sentence."""
 
+import array
+import copy
+import ctypes
 import doctest
+import inspect
+import json
+import mmap
 import os
+import pathlib
 import pickle
 import random
 import re
-import sys
 import tempfile
+import warnings
 import xml.etree.ElementTree
+from unittest import mock
+
+from counts import end, equal, refused
 
 import flowshop
-from flowshop import FlowshopError, Shop, _library, read
+from flowshop import Certificate, FlowshopError, Operation, Shop, _library, _options, _texts
+
+try:
+    import numpy
+except ImportError:
+    numpy = None
+try:
+    import pandas
+except ImportError:
+    pandas = None
 
 TOP = os.path.dirname(os.path.dirname(os.path.abspath(__file__)))
-failed = doctest.testmod(flowshop).failed
-passed = 0
+BLOCKS = os.path.join(TOP, "examples", "several_blocks.txt")
+PUBLISHED = os.path.join(TOP, "examples", "taillard_20_5.txt")
+# The shop that docs/formats.md reads by hand: a row for each job.
+ROWS = [[4, 0, 4], [0, 8, 0], [0, 2, 1]]
+SHOP = Shop.from_jobs(ROWS)
+# Two-ended texts of it, and one with a tree, which docs/formats.md reads by hand.
+BOUNDS = b"flowshop two-ended 1\n3 3\n11 13\n2 1 3\n-\nend\n"
+LEAST = b"flowshop two-ended 1\n3 3\n12 12\n3 1 2\n++\nend\n"
+TREE = b"flowshop certificate 1\n3 3 0\n12\n3 1 2\n+BC++.B\nend\n"
+FEW = {"width": 0, "rounds": 0, "seed": 1, "work": 0, "directions": 1000}
+NAMES = {"job_names": ["Shelf", "Door", "Table"], "machine_names": ["Cut", "Weld", "Paint"]}
 
 
-def equal(what, got, wanted):
-    """Counts whether what was got is what was wanted."""
-    global passed, failed
-    if got == wanted:
-        passed += 1
-    else:
-        failed += 1
-        print(f"not as it should be: {what}: {got!r} for {wanted!r}")
+class Frame:
+    """A table with labels, as a frame has them, that knows nothing of arrays."""
+
+    def __init__(self, values, index, columns):
+        self.values, self.index, self.columns = values, index, columns
 
 
-def refused(call):
-    """The error of a call: its name and place, or its type."""
-    try:
-        return call()
-    except FlowshopError as error:
-        return error.name, error.place
-    except (TypeError, ValueError) as error:
-        return type(error)
+def read(path):
+    """The bytes of a file."""
+    with open(path, "rb") as file:
+        return file.read()
 
 
-# The version is that of the library and of the file VERSION.
-with open(os.path.join(TOP, "VERSION"), encoding="ascii") as file:
-    equal("the version", flowshop.__version__, file.read().strip())
-number = _library.load().flowshop_version()
-equal("that of the library", flowshop.__version__, f"{number // 1_000_000}.{number // 1_000 % 1_000}.{number % 1_000}")
+def plain_makespan(rows, sequence):
+    """The makespan of a sequence, by its definition: no operation starts before the two that it follows have ended."""
+    ends = [0] * len(rows[0])
+    for job in sequence:
+        left = 0
+        for machine, time in enumerate(rows[job - 1]):
+            left = ends[machine] = max(left, ends[machine]) + time
+    return left
 
-# The statuses are those of the header.
-with open(os.path.join(TOP, "library", "flowshop.h"), encoding="ascii") as header:
-    text = header.read()
-for number, name in _library.STATUSES.items():
-    equal("a status of the header", f"FLOWSHOP_{name} = {number}" in text, True)
 
-for error in [FlowshopError("JOB", 2), FlowshopError("MEMORY", 0)]:
-    kept = pickle.loads(pickle.dumps(error))
-    equal("a refusal from another process", (str(kept), kept.name, kept.place), (str(error), error.name, error.place))
+def plain_bound(rows):
+    """The greatest, of all machines, of the times there with the least that a job needs before and after them."""
+    machines = range(len(rows[0]))
+    return max(
+        min(sum(row[:at]) for row in rows) + sum(row[at] for row in rows) + min(sum(row[at + 1 :]) for row in rows)
+        for at in machines
+    )
 
-rows = [[4, 0, 4], [0, 8, 0], [0, 2, 1]]
-shop = Shop.from_rows(rows)
-equal("rows and columns", shop.makespan([1, 2, 3]), Shop([list(row) for row in zip(*rows)]).makespan([1, 2, 3]))
-equal("a start", shop.neh(), ([2, 1, 3], 13))
-better = shop.improve([1, 2, 3])
-equal("a better start", shop.makespan(better.sequence), better.value)
-equal("that it is no worse", better.value <= shop.makespan([1, 2, 3]), True)
-equal("one from that of neh", shop.improve(width=8, rounds=5, seed=7, work=1).value <= 13, True)
-# The timetable that docs/formats.md reads by hand.
-equal(
-    "a timetable",
-    shop.schedule([2, 1, 3]),
-    [(2, 1, 0, 0), (2, 2, 0, 8), (2, 3, 8, 8), (1, 1, 0, 4), (1, 2, 8, 8), (1, 3, 8, 12)]
-    + [(3, 1, 4, 4), (3, 2, 8, 10), (3, 3, 12, 13)],
-)
-drawing = shop.gantt([2, 1, 3])
-bars = [bar[0].text for bar in xml.etree.ElementTree.fromstring(drawing).iter("{http://www.w3.org/2000/svg}rect")]
-equal(
-    "a picture",
-    bars,
-    ["job 2, machine 2, start 0, end 8", "job 1, machine 1, start 0, end 4", "job 1, machine 3, start 8, end 12"]
-    + ["job 3, machine 2, start 8, end 10", "job 3, machine 3, start 12, end 13"],
-)
-equal("a picture for a notebook", (drawing._repr_svg_(), type(drawing._repr_svg_())), (drawing, str))
-with tempfile.TemporaryDirectory() as folder:
-    drawing.save(os.path.join(folder, "picture.svg"))
-    with open(os.path.join(folder, "picture.svg"), "rb") as saved:
-        equal("a picture that is saved", saved.read().decode("ascii"), drawing)
-found = shop.solve()
-equal("a least makespan", (found.upper, found.sequence, shop.makespan(found.sequence)), (12, [3, 1, 2], 12))
-equal("a check", shop.check(found.text), found)
-shown = f"Certificate(lower=12, upper=12, sequence=[3, 1, 2], text=<{len(found.text)} bytes>)"
-equal("what is shown of it", (repr(found), str(found)), (shown, shown))
-equal("that it is the least", (found.lower, found.upper, found.optimal), (12, 12, True))
-# The two-ended certificates that docs/formats.md reads by hand.
-bounds = b"flowshop two-ended 1\n3 3\n11 13\n2 1 3\n-\nend\n"
-checked = shop.check(bounds)
-equal("bounds", checked, (11, 13, [2, 1, 3], bounds))
-equal("bounds that are not equal", checked.optimal, False)
-directions = b"flowshop two-ended 1\n3 3\n12 12\n3 1 2\n++\nend\n"
-checked = shop.check(directions)
-equal("a least value by directions", (checked[:3], checked.optimal), ((12, 12, [3, 1, 2]), True))
-equal("directions that do not", refused(lambda: shop.check(directions[:-6] + b"\nend\n")), ("TREE", 5))
-few = {"width": 0, "rounds": 0, "seed": 1, "work": 0, "directions": 1000}
-for certified in (shop.certify([2, 1, 3], **few), shop.certify(**few), shop.certify(width=8, rounds=5, seed=7, work=1)):
-    equal("a two-ended certificate", certified.text.startswith(b"flowshop two-ended 1\n3 3\n12 12\n"), True)
-    equal("what it proves", (certified.lower, certified.optimal, shop.makespan(certified.sequence)), (12, True, 12))
-    equal("a check of it", shop.check(certified.text), certified)
-# Each sequence of this shop has the makespan 34. The bound of a node is 25 until job 14 is put at an end, so that a
-# thousand directions prove no more.
-long = Shop([[1] * 13 + [10], [1] * 13 + [11]])
-certified = long.certify(**few)
-equal("bounds that are certified", (certified.lower, certified.upper, certified.optimal), (25, 34, False))
-equal("a check of them", long.check(certified.text), certified)
-with tempfile.TemporaryDirectory() as folder:
-    found.save(os.path.join(folder, "certificate"))
-    with open(os.path.join(folder, "certificate"), "rb") as saved:
-        equal("a text that is saved", saved.read(), found.text)
 
-# The published shop of 20 jobs and 5 machines whose seed is 873654221.
-with open(os.path.join(TOP, "examples", "taillard_20_5.txt"), encoding="ascii") as published:
-    lines = published.read().splitlines()
-times = [[int(word) for word in line.split()] for line in lines[3:8]]
-equal("a published shop", Shop.generate(20, 5, 873_654_221).times, times)
-equal("its makespans", Shop.generate(20, 5, 873_654_221).neh(), Shop(times).neh())
-with open(os.path.join(TOP, "docs", "schedule.svg"), encoding="ascii") as saved:
-    shown = saved.read()
-order = [int(job) for job in re.findall(r"job (\d+), machine 1,", shown)]
-equal("the picture of docs/", Shop(times).gantt(order), shown)
-great = Shop.generate(800, 26, 1)
-equal("the greatest picture", great.gantt(great.neh().sequence).count("<rect "), 800 * 26)
-equal("the greatest shop", len(Shop.generate(800, 26, 2_147_483_646).times), 26)
+def run_examples():
+    """Runs the examples in the package. Each public class has some, but for the errors below the base class, and so has
+    each public call."""
+    runner = doctest.DocTestRunner()
+    here = os.getcwd()
+    with tempfile.TemporaryDirectory() as folder:
+        os.chdir(folder)
+        tests = doctest.DocTestFinder(recurse=False).find(flowshop)
+        for name in flowshop.__all__:
+            found = getattr(flowshop, name)
+            globs = {**vars(flowshop), "shop": SHOP}
+            tests += doctest.DocTestFinder().find(found, name, module=False, globs=globs)
+            if not (inspect.isclass(found) and FlowshopError in found.__bases__):
+                equal(f"an example of {name}", ">>>" in found.__doc__, True)
+            for member, value in vars(found).items():
+                if not member.startswith("_") and (callable(value) or isinstance(value, (classmethod, property))):
+                    equal(f"an example of {name}.{member}", ">>>" in (getattr(found, member).__doc__ or ""), True)
+        for test in tests:
+            runner.run(test)
+        os.chdir(here)
+    equal("the examples", runner.failures, 0)
+    equal("that there are examples", runner.tries > 40, True)
 
-blocks = os.path.join(TOP, "examples", "several_blocks.txt")
-published = read(os.path.join(TOP, "examples", "taillard_20_5.txt"))
-equal("a published text", (published.shop.times, *published[1:]), (times, 873_654_221, 1286, 1232))
-equal("the third block", read(blocks, 3)[1:], (3, 708, 708))
-equal("its times", read(blocks, 3).shop.times[4], [74, 94, 17, 26, 95, 22, 89, 65, 81, 31])
-with tempfile.TemporaryDirectory() as folder:
-    empty = os.path.join(folder, "empty")
-    with open(empty, "wb"):
-        pass
-    equal("an empty text", refused(lambda: read(empty)), ("NO_BLOCK", 0))
 
-for what, call, wanted in [
-    ("a block 0", lambda: read(blocks, 0), ("INDEX", 3)),
-    ("a block 4", lambda: read(blocks, 4), ("INDEX", 3)),
-    ("a block of 33 bits", lambda: read(blocks, 1 << 32), ("INDEX", 3)),
-    ("a text that is none", lambda: read(__file__), ("HEAD", 3)),
-    ("no machines", lambda: Shop([]), ("JOBS", 0)),
-    ("no jobs", lambda: Shop([[]]), ("JOBS", 0)),
-    ("too many jobs", lambda: Shop([[1] * 801]), ("JOBS", 0)),
-    ("too many machines", lambda: Shop([[1]] * 27), ("MACHINES", 0)),
-    ("rows of two lengths", lambda: Shop([[1], [1, 2]]), ValueError),
-    ("columns of two lengths", lambda: Shop.from_rows([[1], [1, 2]]), ValueError),
-    ("a time too great", lambda: Shop([[1, 2], [3, 1_000_000]]), ("TIME", 4)),
-    ("a time below 0", lambda: Shop([[-1]]), ValueError),
-    ("a time above 32 bits", lambda: Shop([[1 << 32]]), ValueError),
-    ("a time that is not whole", lambda: Shop([[1.5]]), TypeError),
-    ("a shop of no jobs", lambda: Shop.generate(0, 5, 1), ("JOBS", 0)),
-    ("a shop of 33 bits", lambda: Shop.generate(1 << 32, 5, 1), ("JOBS", 0)),
-    ("a shop of too many machines", lambda: Shop.generate(1, 27, 1), ("MACHINES", 0)),
-    ("a seed of 0", lambda: Shop.generate(1, 1, 0), ("SEED", 0)),
-    ("a seed too great", lambda: Shop.generate(1, 1, 2_147_483_647), ("SEED", 0)),
-    ("a seed below 0", lambda: Shop.generate(1, 1, -1), ("SEED", 0)),
-    ("a timetable of a short list", lambda: shop.schedule([1, 2]), ("LENGTH", 0)),
-    ("a timetable of a job twice", lambda: shop.schedule([1, 2, 2]), ("TWICE", 3)),
-    ("a picture of a short list", lambda: shop.gantt([1, 2]), ("LENGTH", 0)),
-    ("a picture of a strange job", lambda: shop.gantt([1, 4, 2]), ("JOB", 2)),
-    ("a picture of a job twice", lambda: shop.gantt([1, 2, 2]), ("TWICE", 3)),
-    ("a picture of a job above 16 bits", lambda: shop.gantt([1, 2, 65_536]), ValueError),
-    ("a width too great", lambda: shop.improve(width=65_537), ("WIDTH", 0)),
-    ("a width below 0", lambda: shop.improve(width=-1), ("WIDTH", 0)),
-    ("too many rounds", lambda: shop.improve(rounds=100_000_001), ("ROUNDS", 0)),
-    ("no seed", lambda: shop.improve(seed=0), ("SEED", 0)),
-    ("too much work", lambda: shop.improve(work=1_000_001), ("WORK", 0)),
-    ("a start that is too short", lambda: shop.improve([2, 1]), ("LENGTH", 0)),
-    ("a short list", lambda: shop.makespan([1, 2]), ("LENGTH", 0)),
-    ("a job twice", lambda: shop.makespan([1, 2, 1]), ("TWICE", 3)),
-    ("a strange job", lambda: shop.makespan([1, 4, 2]), ("JOB", 2)),
-    ("a job above 16 bits", lambda: shop.makespan([1, 2, 65_536]), ValueError),
-    ("a depth below 0", lambda: shop.solve(depth=-1), ("DEPTH", 0)),
-    ("a depth of 33 bits", lambda: shop.solve(depth=1 << 32), ("DEPTH", 0)),
-    ("no budget", lambda: shop.solve(budget=0), ("BUDGET", 0)),
-    ("no version", lambda: shop.solve(version=3), ("VERSION", 0)),
-    ("a small budget", lambda: shop.solve(budget=1), ("OVER_BUDGET", 0)),
-    ("a start that is none", lambda: shop.solve([1]), ("LENGTH", 0)),
-    ("a start that is short", lambda: shop.certify([1]), ("LENGTH", 0)),
-    ("a start with a strange job", lambda: shop.certify([1, 2, 4]), ("JOB", 3)),
-    ("a start with a job twice", lambda: shop.certify([1, 2, 2]), ("TWICE", 3)),
-    ("a great width", lambda: shop.certify(width=65_537), ("WIDTH", 0)),
-    ("many rounds", lambda: shop.certify(rounds=100_000_001), ("ROUNDS", 0)),
-    ("a seed of 0 for it", lambda: shop.certify(seed=0), ("SEED", 0)),
-    ("much work", lambda: shop.certify(work=1_000_001), ("WORK", 0)),
-    ("no directions", lambda: shop.certify(directions=0), ("DIRECTIONS", 0)),
-    ("too many directions", lambda: shop.certify(directions=1_000_000_001), ("DIRECTIONS", 0)),
-    ("directions below 0", lambda: shop.certify(directions=-1), ("DIRECTIONS", 0)),
-    ("no text", lambda: shop.check(b""), ("HEADER", 0)),
-    ("a bound too high", lambda: shop.check(bounds.replace(b"11", b"12")), ("TREE", 5)),
-    ("a text cut short", lambda: shop.check(found.text[:-1]), ("END", 0)),
-]:
-    equal(what, refused(call), wanted)
+def compare_header():
+    """The version is that of the library and of the file VERSION; statuses and limits are those of the header."""
+    version = read(os.path.join(TOP, "VERSION")).decode().strip()
+    equal("the versions", (flowshop.__version__, _library.version()), (version, version))
+    equal("a library of another version", refused(lambda: _library.require("0.0.0")), ImportError)
+    header = read(os.path.join(TOP, "library", "flowshop.h")).decode()
+    numbers = {name: int(number) for name, number in re.findall(r"FLOWSHOP_(\w+) = (\d+)", header)}
+    statuses = {number: name for name, number in numbers.items() if not name.startswith(("MAX_", "MIN_"))}
+    equal("the statuses", {0: "DONE", **_library.STATUSES}, statuses)
+    for name, (least, most) in _options.LIMITS.items():
+        equal(f"the most of {name}", most, numbers[f"MAX_{name.upper()}"])
+        wanted = numbers.get(f"MIN_{name.upper()}", 0 if name in ("width", "rounds", "work", "depth") else 1)
+        equal(f"the least of {name}", least, wanted)
+    equal("the most trees", _options.MOST_TREES, numbers["MAX_PREFIXES"])
+    equal("the greatest time", _library.MOST_TIME, numbers["MAX_TIME"])
 
-draw = random.Random(1)
-for _ in range(20):
-    times = [[draw.randint(1, 99) for _ in range(6)] for _ in range(3)]
-    shop = Shop(times)
-    found = shop.solve(depth=1, version=2)
-    equal("a random shop", shop.check(found.text), found)
-print(f"the package for Python: {passed} as they should be, {failed} not")
-sys.exit(failed != 0)
+
+def make_shops():
+    """Each way to make a shop, of each kind of table."""
+    columns = [list(column) for column in zip(*ROWS)]
+    equal("rows and columns", (Shop.from_machines(columns), SHOP.times), (SHOP, columns))
+    equal("that a table alone says nothing", refused(lambda: Shop(ROWS)), TypeError)
+    equal("tuples, ranges and arrays", Shop.from_jobs((range(2), array.array("B", [3, 4]))).times, [[0, 3], [1, 4]])
+    equal("a table with a method `columns`", Shop.from_jobs(SHOP.schedule([2, 1, 3])).times[3][-1], 13)
+    equal("a table that is read once", Shop.from_jobs(iter(row) for row in ROWS), SHOP)
+    for kind in (ctypes.c_uint32, ctypes.c_int32, ctypes.c_int64, ctypes.c_uint8):
+        buffer = (kind * 3 * 2)((1, 2, 3), (4, 5, 6))
+        equal("a buffer of jobs", Shop.from_jobs(buffer).times, [[1, 4], [2, 5], [3, 6]])
+        equal("a buffer of machines", Shop.from_machines(memoryview(buffer)).times, [[1, 2, 3], [4, 5, 6]])
+    below = (ctypes.c_int32 * 2 * 2)((1, 2), (3, -4))
+    wanted = "NotAShop", "TIME", (2, 2), "the time in row 2, column 2 is -4, and has to be from 0 to 999,999"
+    equal("a buffer with a number below 0", refused(lambda: Shop.from_jobs(below)), wanted)
+    halves = memoryview((ctypes.c_double * 1 * 1)((1.0,)))
+    equal("a buffer of other numbers", refused(lambda: Shop.from_jobs(halves))[:3], ("NotAShop", "COUNT", 0))
+    lines = read(PUBLISHED).decode().splitlines()
+    times = [[int(word) for word in line.split()] for line in lines[3:8]]
+    equal("the shop of a seed", Shop.generate(20, 5, 873_654_221), Shop.from_machines(times))
+    great = Shop.generate(800, 26, 2_147_483_646)
+    equal("the greatest shop", (great.jobs, great.machines, len(great.times[25])), (800, 26, 800))
+    equal("the greatest picture", great.gantt(great.neh()).count("<rect "), 800 * 26)
+    equal("the greatest timetable", great.schedule(great.neh()).makespan, great.neh().value)
+
+
+def compare_shops():
+    """Shops are frozen, and equal where times and names are. Their reprs are short."""
+    other, named = Shop.from_jobs(ROWS), Shop.from_jobs(ROWS, **NAMES)
+    equal("two shops", (other == SHOP, hash(other) == hash(SHOP), len({other, SHOP})), (True, True, 1))
+    equal("that names tell shops apart", (named == SHOP, named == Shop.from_jobs(ROWS, **NAMES)), (False, True))
+    equal("a shop of the same times in another shape", Shop.from_jobs([[1, 2]]) == Shop.from_jobs([[1], [2]]), False)
+    equal("another kind of thing", SHOP == ROWS, False)
+    for kept in (pickle.loads(pickle.dumps(named)), copy.deepcopy(named)):
+        equal("a copy", (kept, kept.job_names, kept.makespan([3, 1, 2])), (named, named.job_names, 12))
+    for name in ("jobs", "machines", "times", "job_names", "other"):
+        equal("a shop that is changed", refused(lambda name=name: setattr(SHOP, name, 5)), AttributeError)
+    equal("a shop with less", refused(lambda: delattr(SHOP, "_words")), AttributeError)
+    SHOP.times[0][0] = 9
+    equal("its times", SHOP.times[0], [4, 0, 0])
+    equal("what is shown of it", repr(Shop.generate(20, 5, 1)), "Shop(20 jobs, 5 machines)")
+    equal("with names", repr(named), "Shop(3 jobs: Shelf, Door, Table; 3 machines: Cut, Weld, Paint)")
+    commas = Shop.from_jobs(ROWS, job_names=["Shelf, large", 7, "Table"])
+    equal("with a comma in a name", repr(commas), "Shop(3 jobs: 'Shelf, large', 7, Table; 3 machines)")
+    some = Shop.from_jobs([[1]] * 4, job_names="abcd")
+    equal("with names of jobs", repr(some), "Shop(4 jobs: a, b, c, ..; 1 machine)")
+
+
+def use_names():
+    """Names of jobs and machines come back with each result."""
+    named = Shop.from_jobs(ROWS, **NAMES)
+    for table in (Frame(ROWS, NAMES["job_names"], NAMES["machine_names"]), Frame(ROWS, [0, 1, 2], "abc")):
+        shop = Shop.from_jobs(table)
+        wanted = (1, 2, 3) if table.index == [0, 1, 2] else tuple(table.index)
+        equal("the labels of a frame", (shop.job_names, shop.machine_names), (wanted, tuple(table.columns)))
+        turned = Shop.from_machines(Frame([list(row) for row in zip(*ROWS)], table.columns, table.index))
+        equal("of one with machines as rows", turned, shop)
+    equal("names of a caller", Shop.from_jobs(Frame(ROWS, "abc", "def"), **NAMES), named)
+    equal("names that are numbers from 1", Shop.from_jobs(Frame(ROWS, [1, 2, 3], [1, 2, 3])), SHOP)
+    start = named.neh()
+    equal("the names of a start", (start.sequence, start.names), ((2, 1, 3), ("Door", "Shelf", "Table")))
+    equal("what is shown of it", repr(start), "Start(makespan 13: Door, Shelf, Table)")
+    for found in (named.solve(), named.certify(**FEW), named.check(LEAST)):
+        equal("the names of a certificate", found.names, tuple(NAMES["job_names"][job - 1] for job in found.sequence))
+    equal("that they prove the same", named.check(LEAST), SHOP.check(LEAST))
+    timetable = named.schedule([2, 1, 3])
+    equal("an operation with names", timetable[7], Operation("Table", "Weld", 8, 10))
+    equal("a column of names", timetable.columns()["job"], ["Door"] * 3 + ["Shelf"] * 3 + ["Table"] * 3)
+    equal("the other column", timetable.columns()["machine"], ["Cut", "Weld", "Paint"] * 3)
+    picture = Shop.from_jobs(ROWS, job_names=["Shelf", "D", "<T&>\n"], machine_names=["Cut", "Wë", "Painting shop"])
+    drawing = xml.etree.ElementTree.fromstring(picture.gantt([2, 1, 3]))
+    titles = [element.text for element in drawing.iter("{http://www.w3.org/2000/svg}title")]
+    equal("the names in a picture", (titles[1], titles[4]), ("D, Wë, start 0, end 8", "<T&> , Wë, start 8, end 10"))
+    labels = [element.text for element in drawing.iter("{http://www.w3.org/2000/svg}text")]
+    named = [label in labels for label in ("Cut", "Wë", "Painting..", "machine 1")]
+    equal("before its rows", named, [True, True, True, False])
+    equal("in its bars", ["D" in labels, "Shelf" in labels, "3" in labels], [True, True, False])
+    with tempfile.TemporaryDirectory() as folder:
+        picture.gantt([2, 1, 3]).save(os.path.join(folder, "picture.svg"))
+        equal("one that is saved", "Wë" in read(os.path.join(folder, "picture.svg")).decode(), True)
+    for names, counted in (([], "0 names"), (["a"], "1 name"), ("abcd", "4 names")):
+        wanted = "NotAShop", "COUNT", 0, f"the table has 3 machines, and {counted} of machines are given"
+        for table in (ROWS, Frame(ROWS, "abc", "def")):
+            got = refused(lambda table=table, names=names: Shop.from_jobs(table, machine_names=names))
+            equal(counted, got, wanted)
+
+
+def use_arrays():
+    """Arrays and frames as tables and sequences, and results as arrays and frames."""
+    if numpy is None:
+        print("no numpy: its arrays were passed over")
+        return
+    for kind in ("int64", "int32", "uint32", "uint64", "int16", "uint8", ">i8", "object"):
+        rows = numpy.array(ROWS, dtype=kind)
+        equal(f"an array of {kind}", (Shop.from_jobs(rows), Shop.from_machines(rows.T)), (SHOP, SHOP))
+        equal(f"one of {kind} with gaps", Shop.from_jobs(numpy.repeat(rows, 2, axis=0)[::2]), SHOP)
+        equal(f"a sequence of {kind}", SHOP.makespan(numpy.array([3, 1, 2], dtype=kind)), 12)
+    many = numpy.array([[1, 2, 3], [2, 1, 3], [3, 1, 2]])
+    equal("the makespans of an array", numpy.asarray(SHOP.makespans(many)).tolist(), [15, 13, 12])
+    equal("the array of a timetable", numpy.asarray(SHOP.schedule(many[1]).ends).max(axis=1).tolist(), [8, 12, 13])
+    for table, place, wrong in [
+        (numpy.array([[1, 2], [-3, 4]]), (2, 1), "is -3, and has to be from 0 to 999,999"),
+        (numpy.array([[1, 2**40], [3, 4]]), (1, 2), "is 1,099,511,627,776, and has to be from 0 to 999,999"),
+        (numpy.array([[1.0, 2.0], [numpy.nan, 4.0]]), (2, 1), "is missing (nan); write 0 where a job skips a machine"),
+    ]:
+        sentence = f"the time in row {place[0]}, column {place[1]} {wrong}"
+        equal("an array", refused(lambda table=table: Shop.from_jobs(table)), ("NotAShop", "TIME", place, sentence))
+    many[2, 1] = 3
+    wanted = "NotASequence", "TWICE", (3, 2)
+    equal("a row that is no sequence", refused(lambda: SHOP.makespans(many))[:3], wanted)
+
+
+def use_frames():
+    """Frames of pandas."""
+    if pandas is None:
+        print("no pandas: its frames were passed over")
+        return
+    frame = pandas.DataFrame(ROWS, index=NAMES["job_names"], columns=NAMES["machine_names"])
+    shop = Shop.from_jobs(frame)
+    equal("a frame", (shop, Shop.from_machines(frame.T)), (Shop.from_jobs(ROWS, **NAMES),) * 2)
+    equal("one without labels", Shop.from_jobs(pandas.DataFrame(ROWS)), SHOP)
+    table = Shop.from_jobs(pandas.read_csv(os.path.join(TOP, "examples", "table.csv"), index_col=0))
+    equal("a table that was read", (table.times, table.job_names[0]), (SHOP.times, "Shelf, large"))
+    ends = shop.schedule(shop.neh()).to_frame().set_index(["job", "machine"]).end
+    equal("a timetable as a frame", (ends["Table", "Paint"], len(ends)), (13, 9))
+    equal("the rows of the frame in their order", frame.loc[list(shop.check(LEAST).names)].Cut.tolist(), [0, 4, 0])
+    for kind in (None, "Int64"):
+        frame = pandas.DataFrame({"Cut": [1, 2], "Weld": pandas.array([3, None], dtype=kind)}, index=["Shelf", "Door"])
+        got = refused(lambda frame=frame: Shop.from_jobs(frame))
+        equal("a blank cell", (got[2], got[3][:53]), ((2, 2), "the time in row 2 (Door), column 2 (Weld) is missing "))
+    wanted = "the time in row 2, column 2 (Weld) is 2.5, of type float, and has to be a whole number; choose a unit"
+    frame = pandas.DataFrame({"Cut": [1, 2], "Weld": [3, 2.5]})
+    equal("a time in parts", refused(lambda: Shop.from_jobs(frame))[3][: len(wanted)], wanted)
+    equal("a frame of sequences", list(SHOP.makespans(pandas.DataFrame([[2, 1, 3], [3, 1, 2]]))), [13, 12])
+    equal("a column as a sequence", SHOP.makespan(pandas.Series([2, 1, 3], name="order")), 13)
+    frame = pandas.DataFrame({"Job": ["Shelf"], "Cut": [1]})
+    wanted = "the time in row 1, column 1 (Job) is the text 'Shelf', and has to be a whole number; convert it to int"
+    equal("names in a column", refused(lambda: Shop.from_jobs(frame))[3].startswith(wanted), True)
+
+
+def use_results():
+    """What each call gives, and how it fits the next one."""
+    start = SHOP.neh()
+    equal("a start", (start.sequence, start.value), ((2, 1, 3), 13))
+    better = SHOP.improve([1, 2, 3])
+    equal("a better start", (better.value <= 15, SHOP.makespan(better)), (True, better.value))
+    equal("one from that of neh", SHOP.improve(width=8, rounds=5, seed=7, work=1).value <= 13, True)
+    found, timetable = SHOP.solve(), SHOP.schedule([3, 1, 2])
+    equal("a least makespan", (found.lower, found.upper, found.sequence, found.optimal), (12, 12, (3, 1, 2), True))
+    for result, value in [(start, 13), (found, 12), (timetable, 12)]:
+        equal("a result as a sequence", (SHOP.makespan(result), SHOP.schedule(result).makespan), (value, value))
+        equal("its picture", f"<title>makespan {value}, jobs 3, machines 3<" in SHOP.gantt(result), True)
+        equal("a search from it", (SHOP.solve(result).upper, SHOP.certify(result, **FEW).upper), (12, 12))
+        equal("an improvement of it", SHOP.improve(result).value, 12)
+    equal("many results", SHOP.makespans([start, found, timetable, (1, 2, 3)]).tolist(), [13, 12, 12, 15])
+    equal("no sequences", SHOP.makespans([]).tolist(), [])
+    for result in (start, found, timetable, timetable[1], SHOP.gantt(start), SHOP.makespans([[1, 2, 3]])):
+        kept = pickle.loads(pickle.dumps(result))
+        equal("a result from elsewhere", (kept, type(kept), repr(kept)), (result, type(result), repr(result)))
+    equal("results in a set", len({start, found, timetable, SHOP.neh(), SHOP.solve(), SHOP.schedule(found)}), 3)
+    for result in (start, found, timetable):
+        frozen = refused(lambda result=result: setattr(result, "sequence", ()))
+        equal("a frozen result", issubclass(frozen, AttributeError), True)
+
+
+def use_texts():
+    """Texts in each form that a check takes, and certificates of both kinds."""
+    checked = SHOP.check(BOUNDS)
+    equal("bounds", (checked.lower, checked.upper, checked.sequence, checked.text), (11, 13, (2, 1, 3), BOUNDS))
+    equal("that they differ", (checked.optimal, repr(checked)), (False, "Certificate(bounds 11 to 13, 1 direction)"))
+    equal("a least makespan", repr(SHOP.check(LEAST)), "Certificate(optimal 12, 2 directions)")
+    equal("one by a tree", repr(SHOP.check(TREE)), "Certificate(optimal 12, 1 tree)")
+    long = Certificate(1, 2, (1, 2), b"flowshop two-ended 1\n2 1\n1 2\n1 2\n" + b"+" * 10**7 + b"\nend\n")
+    equal("what is shown of a long one", repr(long), "Certificate(bounds 1 to 2, 10,000,000 directions)")
+    with tempfile.TemporaryDirectory() as folder:
+        path = pathlib.Path(folder, "certificate")
+        checked.save(path)
+        equal("a text that is saved", read(path), BOUNDS)
+        for text in (BOUNDS, bytearray(BOUNDS), memoryview(BOUNDS), BOUNDS.decode(), path, checked):
+            equal(f"a text as {type(text).__name__}", SHOP.check(text), checked)
+        equal("a file that is not there", refused(lambda: SHOP.check(pathlib.Path(folder, "none"))), FileNotFoundError)
+    equal("what is no text", [refused(lambda text=text: SHOP.check(text)) for text in (5, None)], [TypeError] * 2)
+    certified = (SHOP.certify([2, 1, 3], **FEW), SHOP.certify(**FEW), SHOP.certify(width=8, rounds=5, seed=7, work=1))
+    for found in certified:
+        equal("a two-ended certificate", found.text.startswith(b"flowshop two-ended 1\n3 3\n12 12\n"), True)
+        equal("what it proves", (found.lower, found.optimal, SHOP.makespan(found.sequence)), (12, True, 12))
+        equal("a check of it", SHOP.check(found), found)
+    # Each sequence of this shop has the makespan 34. The bound of a node is 25 until job 14 is put at an end, so that a
+    # thousand directions prove no more.
+    long = Shop.from_machines([[1] * 13 + [10], [1] * 13 + [11]])
+    found = long.certify(**FEW)
+    equal("bounds that are certified", (found.lower, found.upper, long.bound()), (25, 34, 25))
+    equal("a check of them", long.check(found.text), found)
+
+
+def draw_timetables():
+    """Timetables and pictures. Those of the shop were worked out in docs/formats.md."""
+    timetable = SHOP.schedule([2, 1, 3])
+    wanted = [(2, 1, 0, 0), (2, 2, 0, 8), (2, 3, 8, 8), (1, 1, 0, 4), (1, 2, 8, 8), (1, 3, 8, 12)]
+    wanted += [(3, 1, 4, 4), (3, 2, 8, 10), (3, 3, 12, 13)]
+    equal("a timetable", (list(timetable), timetable[:], len(timetable)), (wanted, wanted, 9))
+    equal("its entries", ([timetable[at] for at in range(-9, 9)], timetable[1::4]), (wanted * 2, wanted[1::4]))
+    equal("its arrays", timetable.starts.tolist(), [[0, 0, 8], [0, 8, 8], [4, 8, 12]])
+    equal("that they are kept", timetable.ends.readonly, True)
+    equal("its columns", list(zip(*timetable.columns().values())), wanted)
+    equal("that they can be written", json.loads(json.dumps(timetable.columns()))["start"][8], 12)
+    drawing = SHOP.gantt([2, 1, 3])
+    bars = [bar[0].text for bar in xml.etree.ElementTree.fromstring(drawing).iter("{http://www.w3.org/2000/svg}rect")]
+    wanted = ["job 2, machine 2, start 0, end 8", "job 1, machine 1, start 0, end 4"]
+    wanted += ["job 1, machine 3, start 8, end 12", "job 3, machine 2, start 8, end 10"]
+    equal("a picture", bars, [*wanted, "job 3, machine 3, start 12, end 13"])
+    equal("one for a notebook", (drawing._repr_svg_(), type(drawing._repr_svg_())), (drawing, str))
+    shown = read(os.path.join(TOP, "docs", "schedule.svg")).decode()
+    order = [int(job) for job in re.findall(r"job (\d+), machine 1,", shown)]
+    equal("the picture of docs/", Shop.read(PUBLISHED)[0].shop.gantt(order), shown)
+
+
+def use_files():
+    """Benchmark texts that are read and written."""
+    blocks = Shop.read(BLOCKS)
+    equal("the blocks of a text", [block[1:] for block in blocks][2:], [(3, 708, 708)])
+    equal("the times of the third", blocks[2].shop.times[4], [74, 94, 17, 26, 95, 22, 89, 65, 81, 31])
+    (published,) = Shop.read(PUBLISHED)
+    equal("a published text", published, (Shop.generate(20, 5, 873_654_221), 873_654_221, 1286, 1232))
+    with tempfile.TemporaryDirectory() as folder:
+        path = pathlib.Path(folder, "shop.txt")
+        Shop.generate(2, 2, 1).write(path, seed=1)
+        # What docs/formats.md says that the program writes of this seed.
+        wanted = "number of jobs, number of machines, initial seed, upper bound and lower bound :\n2 2 1 122 122\n"
+        equal("a text that is written", read(path).decode(), f"{wanted}processing times :\n1 14\n75 46\n")
+        SHOP.write(path, seed=7, upper=4_294_967_295, lower=0)
+        equal("what is read of one", Shop.read(path), [(SHOP, 7, 4_294_967_295, 0)])
+        text = read(path) + b" \n\t\r\n" + read(PUBLISHED).replace(b"\n", b" \r\n")
+        path.write_bytes(text + b"\n~ 9\n1 1 0 0 0 \n\x0b\n7")
+        again = Shop.read(path)
+        equal("blocks of three texts", again[:2], [(SHOP, 7, 4_294_967_295, 0), published])
+        equal("the last of them", again[2], (Shop.from_jobs([[7]]), 0, 0, 0))
+        for change, number in [({"seed": -1}, "seed is -1"), ({"upper": 2**32}, "upper is 4,294,967,296")]:
+            sentence = f"{number}, and has to be a whole number from 0 to 4,294,967,295"
+            got = refused(lambda change=change: SHOP.write(path, **change))
+            equal("a number that is not written", got, ("OptionError", number.split()[0].upper(), 0, sentence))
+        equal("that the file is as it was", Shop.read(path)[0].seed, 7)
+    equal("a file that is not there", refused(lambda: Shop.read("/nothing")), FileNotFoundError)
+
+
+def refuse_files():
+    """The first fault of a benchmark text, with its line."""
+    wanted = {
+        b"": ("NO_BLOCK", 0, " has no block: it is empty, or has blanks alone"),
+        b"1 2\n": ("LABEL", 1, "line 1 of * is '1 2': a line of words is wanted before the head of a block, and"),
+        b"a\n1;2\n": ("BYTE", 2, "line 2 of * is '1;2': a line of numbers has something that is neither a digit nor a"),
+        b"a\n4294967296": ("NUMBER", 2, "line 2 of * is '4294967296': a number is above 4,294,967,295"),
+        b"a\nb\n": ("HEAD", 2, "line 2 of * is 'b': the head of a block is five numbers: jobs, machines"),
+        b"a\n0 1 0 0 0\n": ("LIMITS", 2, "line 2 of * is '0 1 0 0 0': the jobs have to be 1 to 800, the"),
+        b"a\n2 1 0 0 0\nb\n7": ("TIMES", 5, "line 5 of * is missing: there has to be one time for each job"),
+    }
+    with tempfile.TemporaryDirectory() as folder:
+        path = os.path.join(folder, "text")
+        for text, (name, line, sentence) in wanted.items():
+            pathlib.Path(path).write_bytes(text)
+            got = refused(lambda: Shop.read(path))
+            equal(f"the fault {name}", got[:3], ("TextError", name, line))
+            equal(f"what is said of {name}", sentence in got[3].replace(path, "*"), True)
+
+
+def refuse_tables():
+    """Tables that are no shop, each with its place, and a sentence with the value, the limit and what to do."""
+    jobs = "one for each job, and a shop has 1 to 800 jobs"
+    machines = "one for each machine, and a shop has 1 to 26 machines"
+    turn = "; this table would fit with {0} as rows: Shop.from_{0}".format
+    whole = "and has to be a whole number; choose a unit in which all are whole, and convert them to int"
+    skip = "write 0 where a job skips a machine"
+    limit = "and has to be from 0 to 999,999"
+    for make, table, name, place, sentence in [  # of some sentences the first words
+        (Shop.from_jobs, [], "JOBS", 0, f"this table has 0 rows, {jobs}"),
+        (Shop.from_machines, [], "JOBS", 0, f"this table has 0 columns, {jobs}"),
+        (Shop.from_jobs, [[]], "MACHINES", 0, f"this table has 0 columns, {machines}"),
+        (Shop.from_machines, [[]], "JOBS", 0, f"this table has 0 columns, {jobs}"),
+        (Shop.from_jobs, [[1]] * 801, "JOBS", 0, f"this table has 801 rows, {jobs}"),
+        (Shop.from_jobs, [[1] * 27], "MACHINES", 0, f"this table has 27 columns, {machines}{turn('machines')}"),
+        (Shop.from_machines, [[1] * 5] * 60, "MACHINES", 0, f"this table has 60 rows, {machines}{turn('jobs')}"),
+        (Shop.from_machines, [[1] * 801], "JOBS", 0, f"this table has 801 columns, {jobs}"),
+        (Shop.from_jobs, [[1] * 27] * 27, "MACHINES", 0, f"this table has 27 columns, {machines}"),
+        (Shop.from_jobs, [[1, 2], [3]], "COUNT", (2, 2), "row 2 has 1 time, and row 1 has 2; all rows of a table"),
+        (Shop.from_jobs, [[1], [2, 3]], "COUNT", (2, 2), "row 2 has 2 times, and row 1 has 1; all rows of a table"),
+        (Shop.from_jobs, [1, 2], "COUNT", (1, 1), "row 1 is 1, and has to be a list of times"),
+        (Shop.from_jobs, ["12"], "COUNT", (1, 1), "row 1 is '12', and has to be a list of times"),
+        (Shop.from_jobs, 5, "COUNT", 0, "a table has a list for each row, and this is 5"),
+        (Shop.from_jobs, "a.csv", "COUNT", 0, "a table has a list for each row, and this is 'a.csv'"),
+        (Shop.from_jobs, [[1, 2], [3, 4], [1_000_000, 5]], "TIME", (3, 1), f"is 1,000,000, {limit}"),
+        (Shop.from_machines, [[1, 2], [3, 1_000_000]], "TIME", (2, 2), f"is 1,000,000, {limit}"),
+        (Shop.from_jobs, [[1, -1]], "TIME", (1, 2), f"is -1, {limit}"),
+        (Shop.from_jobs, [[2**70]], "TIME", (1, 1), f"is 1,180,591,620,717,411,303,424, {limit}"),
+        (Shop.from_jobs, [[10**5000]], "TIME", (1, 1), f"is a number of thousands of digits, {limit}"),
+        (Shop.from_jobs, [[1, 2.5]], "TIME", (1, 2), f"is 2.5, of type float, {whole}"),
+        (Shop.from_jobs, [[1.0, 2], [3, 0.5]], "TIME", (2, 2), f"is 0.5, of type float, {whole}"),
+        (Shop.from_jobs, [[1, 2.0], [3, None]], "TIME", (2, 2), f"is missing (None); {skip}"),
+        (Shop.from_jobs, [[float("nan"), 1.5]], "TIME", (1, 1), f"is missing (nan); {skip}"),
+        (Shop.from_jobs, [[1, "4"]], "TIME", (1, 2), "is the text '4', and has to be a whole number; convert"),
+    ]:
+        got = refused(lambda make=make, table=table: make(table))
+        at = f"the time in row {place[0]}, column {place[1]} " if name == "TIME" else ""
+        equal(f"the table of which is said: {sentence}", got[:3], ("NotAShop", name, place))
+        equal("what is said of a table", got[3][: len(at + sentence)], at + sentence)
+        equal("that no other advice follows", ("would fit" in got[3]) == ("would fit" in sentence), True)
+
+
+def refuse_sequences():
+    """Lists that are no sequence, in each call that takes one."""
+    for jobs, name, place, sentence in [
+        ([1, 2], "LENGTH", 0, "the sequence has 2 jobs, and the shop has 3; each job stands in it once"),
+        ([], "LENGTH", 0, "the sequence has 0 jobs, and the shop has 3; each job stands in it once"),
+        ([1, 4, 2], "JOB", 2, "place 2 of the sequence is 4, and the jobs are 1 to 3"),
+        ([2, 0, 1], "JOB", 2, "place 2 of the sequence is 0, and the jobs are 1 to 3; add 1 to each if they are"),
+        ([1, 2, 65_536], "JOB", 3, "place 3 of the sequence is 65,536, and the jobs are 1 to 3"),
+        ([1, -2, 3], "JOB", 2, "place 2 of the sequence is -2, and the jobs are 1 to 3"),
+        ([1, 2, 1], "TWICE", 3, "job 1 stands at place 1 of the sequence, and again at place 3; each job"),
+        ([1, 2.0, 3], "JOB", 2, "place 2 of the sequence is 2.0, and has to be a job number from 1 to 3"),
+        (["Door"], "JOB", 1, "place 1 of the sequence is 'Door', and has to be a job number from 1 to 3"),
+        (5, "JOB", 0, "a sequence is a list of job numbers, and this is 5"),
+        ("123", "JOB", 0, "a sequence is a list of job numbers, and this is '123'"),
+        (b"\1\2\3", "JOB", 0, "a sequence is a list of job numbers, and this is b'\\x01\\x02\\x03'"),
+    ]:
+        for call in (SHOP.makespan, SHOP.schedule, SHOP.gantt, SHOP.improve, SHOP.solve, SHOP.certify):
+            got = refused(lambda call=call, jobs=jobs: call(jobs))
+            equal(f"{call.__name__} of {jobs!r}", got[:3], ("NotASequence", name, place))
+            equal(f"what {call.__name__} says of {jobs!r}", got[3][: len(sentence)], sentence)
+        got = refused(lambda jobs=jobs: SHOP.makespans([[1, 2, 3], jobs]))
+        equal(f"many with {jobs!r}", got[:3], ("NotASequence", name, (2, place)))
+        equal(f"what is said of many with {jobs!r}", got[3][: len(sentence) + 12], f"sequence 2: {sentence}")
+
+
+def refuse_texts():
+    """Texts that are no lawful certificate, with the line at fault."""
+    changed = "the text was cut off or changed, or is of another shop"
+    for text, old, new, name, place, sentence in [
+        (BOUNDS, BOUNDS, b"", "HEADER", 1, "line 1 is '', and names no certificate, such as 'flowshop two-ended 1'"),
+        (BOUNDS, b"two-ended 1", b"two-ended 2", "HEADER", 1, "line 1 is 'flowshop two-ended 2', and names no"),
+        (BOUNDS, b"3 3", b"3 2", "SIZE", 2, "line 2 is '3 2', which is not of a shop with jobs 3 and machines 3"),
+        (BOUNDS, b"11 13", b"11", "VALUE", 3, "line 3 is '11', and has to be the value that is proved, or both bounds"),
+        (BOUNDS, b"2 1 3", b"2 1 2", "SEQUENCE", 4, "line 4 is '2 1 2', and has to have each job from 1 to 3 once"),
+        (BOUNDS, b"11 13", b"11 14", "NOT_ATTAINED", 4, "line 4 is '2 1 3', a sequence of another"),
+        (BOUNDS, b"11 13", b"12 13", "TREE", 5, f"line 5 is '-', which is not one whole proof; {changed}"),
+        (TREE, b"+B", b".B", "TREE", 5, "line 5 is '.BC++.B', which is not one whole proof"),
+        (TREE, b"+BC++.B", b"A", "WEAK", 5, f"line 5 has a bound that is below the value; {changed}"),
+        (BOUNDS, b"11 13\n2 1 3\n-", b"13 12\n3 1 2\n+++", "LOW", 5, "line 5 leads to a makespan that is below"),
+        (BOUNDS, b"\nend\n", b"\nend", "END", 0, "what follows the last tree, or the directions, is not the line"),
+    ]:
+        got = refused(lambda text=text, old=old, new=new: SHOP.check(text.replace(old, new, 1)))
+        equal(f"{old!r} as {new!r}", got[:3], ("NotLawful", name, place))
+        equal(f"what is said of {new!r}", got[3][: len(sentence)], sentence)
+    advice = "; a str is the text itself, and a file is named by pathlib.Path"
+    equal("the name of a file", refused(lambda: SHOP.check("shop.certificate"))[3].endswith(advice), True)
+    equal("a text with other signs", refused(lambda: SHOP.check("\ud800é"))[:2], ("NotLawful", "HEADER"))
+
+
+def refuse_options():
+    """Numbers that the calls do not take, each with its limits."""
+    for call, options in [
+        (SHOP.improve, ["width", "rounds", "seed", "work"]),
+        (SHOP.certify, ["width", "rounds", "seed", "work", "directions"]),
+        (SHOP.solve, ["depth", "budget", "version"]),
+        (Shop.generate, ["jobs", "machines", "seed"]),
+    ]:
+        for name in options:
+            least, most = _options.LIMITS[name]
+            for value, shown in [(least - 1, f"{least - 1}"), (most + 1, f"{most + 1:,}"), (2**32, "4,294,967,296"),
+                                 (1.5, "1.5"), (None, "None"), ("3", "'3'")]:
+                sizes = {"jobs": 1, "machines": 1, "seed": 1} if call == Shop.generate else {}
+                got = refused(lambda: call(**{**sizes, name: value}))
+                sentence = f"{name} is {shown}, and has to be a whole number from {least:,} to {most:,}"
+                equal(f"{name} as {value!r}", got, ("OptionError", name.upper(), 0, sentence))
+    one, hundred = Shop.from_jobs([[5]]), Shop.from_jobs([[5]] * 100)
+    wanted = "OptionError", "PLAN_DEPTH", 0, "depth is 2, and the shop has 1 job"
+    equal("a great depth", refused(lambda: one.solve(depth=2)), wanted)
+    wanted = "OptionError", "PLAN_PREFIXES", 0, "depth is 3, which makes 970,200 trees, and there are 100,000 at most"
+    equal("many trees", refused(lambda: hundred.solve(depth=3)), wanted)
+    got = refused(lambda: SHOP.solve(depth=1, budget=1))
+    equal("a small budget", got[:3], ("OverBudget", "OVER_BUDGET", 2))
+    sentence = "tree 2 of 3, counted from 0, is longer than the budget of 1 byte; give a larger one, or call certify"
+    equal("what is said of it", got[3][: len(sentence)], sentence)
+
+
+def compare_page():
+    """The sentences of docs/library.md are those of refusals, and it names each call on a shop."""
+    page = read(os.path.join(TOP, "docs", "library.md")).decode()
+    part = page[page.index("## From Python") : page.index("## From Rattle")]
+    nan = float("nan")
+    with tempfile.TemporaryDirectory() as folder:
+        pathlib.Path(folder, "shop.csv").write_bytes(b"a\n1;2\n")
+        for call in [
+            lambda: Shop.from_jobs([[1, 2, 3], [4, 5, nan], [6, 7, 8]], **NAMES),
+            lambda: Shop.from_machines([[1] * 5] * 60),
+            lambda: SHOP.makespan([2, 0, 1]),
+            lambda: SHOP.check(BOUNDS.replace(b"3 3", b"3 2")),
+            lambda: Shop.read(os.path.join(folder, "shop.csv")),
+            lambda: SHOP.improve(width=70_000),
+            lambda: SHOP.solve(depth=1, budget=1),
+        ]:
+            error, _, _, sentence = refused(call)
+            said = re.search(rf"^\| `{error}` \|((?:.*\n\| \|)?.*)$", part, re.MULTILINE)[1]
+            wanted = [sentence.replace(folder + os.sep, ""), sentence.split(", which")[0] + ", .."]
+            equal(f"the sentence of {error}", any(f"`{each}`" in said for each in wanted), True)
+    for name in vars(Shop):
+        if not name.startswith("_") and callable(getattr(Shop, name)):
+            equal(f"that the page names {name}", re.search(rf"`(Shop|shop)\.{name}\(", part) is not None, True)
+
+
+def keep_rooms():
+    """A text is written once, whatever room there is for it, and uses memory for its bytes alone."""
+    rooms = []
+
+    def fill(text, room, length):
+        rooms.append(room)
+        ctypes.memset(ctypes.addressof(text._obj) + 70_000_000, 65, 1)
+        length._obj.value = 70_000_001
+
+    text = _texts.written(1 << 32, fill)
+    equal("a long text", (len(text), text[-1:], rooms), (70_000_001, b"A", [1 << 32]))
+
+    def refuse(text, room, length):
+        rooms.append(room)
+        raise _library.Refused("ROOM", 1 << 50)
+
+    equal("a text without room", refused(lambda: _texts.written(1 << 20, refuse)), MemoryError)
+    equal("that it was written once", rooms[1:], [1 << 20])
+    small, real = mmap.mmap(-1, 1 << 16), _library._CALLS["solve"]
+    large = Shop.read(os.path.join(TOP, "examples", "large_tree.txt"))[0].shop
+    with mock.patch.object(_texts, "_room", lambda wanted: small), mock.patch.dict(
+        _library._CALLS, solve=lambda *words: (rooms.append("solve"), real(*words))[1]
+    ):
+        equal("a search without room", refused(lambda: large.solve(depth=2)), MemoryError)
+    equal("that it was made once", rooms[2:], ["solve"])
+    equal("room that no system has", len(_texts._room(1 << 60)) >= 1 << 24, True)
+
+
+def compare_random_shops():
+    """Random shops beside plain code."""
+    draw = random.Random(1)
+    for _ in range(50):
+        rows = [[draw.choice([0, draw.randint(1, 99), 999_999]) for _ in range(draw.randint(1, 6))]]
+        rows += [[draw.randint(0, 99) for _ in rows[0]] for _ in range(draw.randint(0, 6))]
+        shop = Shop.from_jobs(rows)
+        many = [draw.sample(range(1, len(rows) + 1), len(rows)) for _ in range(4)]
+        values = [plain_makespan(rows, sequence) for sequence in many]
+        equal("random makespans", list(shop.makespans(many)), values)
+        equal("random timetables", [shop.schedule(sequence).makespan for sequence in many], values)
+        equal("a random bound", shop.bound(), plain_bound(rows))
+        found = shop.solve(depth=1, version=2)
+        equal("a random certificate", shop.check(found.text), found)
+        equal("that none is below it", min(values) >= found.upper == plain_makespan(rows, found.sequence), True)
+
+
+def keep_errors():
+    """Each class of errors is a FlowshopError and a ValueError, says a sentence, and comes back from pickle."""
+    for name in ("NotAShop", "NotASequence", "NotLawful", "TextError", "OptionError", "OverBudget", "FlowshopError"):
+        error = getattr(flowshop, name)("JOB", (2, 3), "a sentence")
+        kept = pickle.loads(pickle.dumps(error))
+        got = type(kept), str(kept), kept.name, kept.place
+        equal(f"a kept {name}", got, (type(error), "a sentence", "JOB", (2, 3)))
+        equal(f"the base of {name}", (isinstance(error, FlowshopError), isinstance(error, ValueError)), (True, True))
+
+
+def main():
+    """Runs all, and ends. A warning of the package is an error."""
+    warnings.filterwarnings("error", module="flowshop")
+    run_examples()
+    compare_header()
+    make_shops()
+    compare_shops()
+    use_names()
+    use_arrays()
+    use_frames()
+    use_results()
+    use_texts()
+    draw_timetables()
+    use_files()
+    refuse_files()
+    refuse_tables()
+    refuse_sequences()
+    refuse_texts()
+    refuse_options()
+    compare_page()
+    keep_rooms()
+    keep_errors()
+    compare_random_shops()
+    end("the package for Python")
+
+
+if __name__ == "__main__":
+    main()

@@ -7,7 +7,9 @@ where no sequence has a makespan below L, and the one on line 4 has U; or, on st
 
 import re
 import sys
+from typing import List, Tuple
 
+Shop = List[List[int]]  # for each job its times, one for each machine
 NUMBERS = re.compile(rb"(0|[1-9][0-9]{0,19})( (0|[1-9][0-9]{0,19}))*")
 sys.setrecursionlimit(10_000)  # a node has at most 800 nodes above it
 
@@ -16,9 +18,9 @@ class Fault(Exception):
     """The first fault of a text."""
 
 
-def read_shop(text, index):
+def read_shop(text: bytes, index: int) -> Shop:
     """For each job its times, one for each machine."""
-    groups = []  # of numbers, each after a line that begins with no digit: head, times, head, times, ..
+    groups: List[List[int]] = []  # of numbers, each after a line that begins with no digit: head, times, head, ..
     for line in text.split(b"\n"):
         line = line.strip(b" \t\r")
         if line[:1].isdigit():
@@ -29,7 +31,7 @@ def read_shop(text, index):
     return [times[job::jobs] for job in range(jobs)]
 
 
-def longer(front, job):
+def longer(front: List[int], job: List[int]) -> List[int]:
     """The front of a list, which is its completion time on each machine, with a job put after its last."""
     done, fronts = 0, []
     for free, time in zip(front, job):
@@ -38,14 +40,14 @@ def longer(front, job):
     return fronts
 
 
-def walk(shop, lower, signs):
+def walk(shop: Shop, lower: int, signs: bytes) -> int:
     """How many of the signs are read until all nodes are proved to have no sequence below a number."""
     place = 0
 
-    def read(front, back, owed, left):
+    def read(front: List[int], back: List[int], owed: List[int], left: List[int]) -> None:
         """Reads a node: a list that begins the sequence, one that ends it, and the numbers of the jobs in neither."""
         nonlocal place
-        if max(map(sum, zip(front, owed, back))) >= lower:
+        if max(sum(three) for three in zip(front, owed, back)) >= lower:
             return
         if not left:
             raise Fault("Low 5")
@@ -68,11 +70,11 @@ def walk(shop, lower, signs):
     return place
 
 
-def check(shop, text):
+def check(shop: Shop, text: bytes) -> Tuple[int, int, List[int]]:
     """What a text proves of a shop: the numbers L and U, and the sequence."""
     lines = text.split(b"\n")  # all but the last end with LF
 
-    def numbers(line, count, fault):
+    def numbers(line: int, count: int, fault: str) -> List[int]:
         """The numbers of a line, of which there are so many."""
         if not line < len(lines) or not NUMBERS.fullmatch(lines[line - 1]):
             raise Fault(fault)
@@ -102,7 +104,7 @@ def check(shop, text):
     return lower, upper, sequence
 
 
-def main(file, index, text):
+def main(file: str, index: str, text: str) -> int:
     """Prints what the check says, and gives the status."""
     if int(index) < 1:
         print("refused index", file=sys.stderr)

@@ -6,18 +6,21 @@ is the most that the text has."""
 import sys
 from pathlib import Path
 
-from flowshop import FlowshopError, read
+from flowshop import FlowshopError, Shop
 
 
 def main() -> None:
     """Reads, certifies, checks and writes, and prints what is proved."""
-    path = sys.argv[1] if len(sys.argv) > 1 else Path(__file__).parent.parent / "taillard_20_5.txt"
+    path = Path(sys.argv[1]) if len(sys.argv) > 1 else Path(__file__).parent.parent / "taillard_20_5.txt"
     index = int(sys.argv[2]) if len(sys.argv) > 2 else 1
     directions = int(sys.argv[3]) if len(sys.argv) > 3 else 100_000_000
-    shop = read(path, index).shop
-    checked = shop.check(shop.certify(directions=directions).text)
+    blocks = Shop.read(path)
+    if not 1 <= index <= len(blocks):
+        sys.exit(f"refused: {path} has the blocks 1 to {len(blocks)}")
+    shop = blocks[index - 1].shop
+    checked = shop.check(shop.certify(directions=directions))
     checked.save("published.certificate")
-    shop.gantt(checked.sequence).save("published.svg")
+    shop.gantt(checked).save("published.svg")
     proved = checked.lower if checked.optimal else f"{checked.lower} to {checked.upper}"
     print(f"least makespan {proved}:", *checked.sequence)
 
@@ -25,6 +28,6 @@ def main() -> None:
 try:
     main()
 except FlowshopError as error:
-    sys.exit(f"refused {error}")
+    sys.exit(f"refused: {error}")
 except (OSError, ValueError, MemoryError) as error:
     sys.exit(f"not done: {error}")

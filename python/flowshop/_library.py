@@ -1,9 +1,9 @@
-"""The shared library, and the statuses of its calls (library/flowshop.h)."""
+"""The shared library, its calls, and their statuses and limits (library/flowshop.h)."""
 
 import ctypes
 import os
 from pathlib import Path
-from typing import Dict
+from typing import Any, Dict, List
 
 STATUSES: Dict[int, str] = {
     1: "MEMORY",
@@ -45,30 +45,43 @@ STATUSES: Dict[int, str] = {
     77: "INDEX",
 }
 
-# The most times of a shop: 800 jobs on 26 machines.
-MOST_TIMES = 20_800
+# The limits of a shop.
+MOST_JOBS, MOST_MACHINES, MOST_TIME = 800, 26, 999_999
+MOST_TIMES = MOST_JOBS * MOST_MACHINES
 
 u16, u32, u64, u8 = ctypes.c_uint16, ctypes.c_uint32, ctypes.c_uint64, ctypes.c_uint8
-size, out = ctypes.c_size_t, ctypes.POINTER
-# Bytes that a call reads. They are not copied, and where there are none the pointer is not null.
+size, out, byref = ctypes.c_size_t, ctypes.POINTER, ctypes.byref
+# Numbers or text that a call reads, as bytes. They are not copied, and where there are none the pointer is not null.
 data = ctypes.c_char_p
-SHOP = [u32, u32, out(u32), size]
-CALLS = {
+SHOP = [u32, u32, data, size]
+CALLS: Dict[str, List[Any]] = {
     "version": [],
     "generate": [u32, u32, u32, out(u32), size, out(size)],
     "block": [data, size, u32, out(u32), out(u32), out(u32), size] + 3 * [out(u32)] + [out(size)],
-    "makespan": SHOP + [out(u16), size, out(u64), out(size)],
-    "timetable": SHOP + [out(u16), size, out(u64), size, out(u64), size, out(size)],
-    "picture": SHOP + [out(u16), size, out(u8), size, out(size), out(size)],
+    "makespan": SHOP + [data, size, out(u64), out(size)],
+    "timetable": SHOP + [data, size, out(u64), size, out(u64), size, out(size)],
+    "picture": SHOP + [data, size, out(u8), size, out(size), out(size)],
     "neh": SHOP + [out(u16), size, out(u64), out(size)],
-    "improve": SHOP + [out(u16), size, u32, u32, u32, u32, out(u16), size, out(u64), out(size)],
+    "improve": SHOP + [data, size, u32, u32, u32, u32, out(u16), size, out(u64), out(size)],
     "check": SHOP + [data, size, out(u16), size, out(u64), out(u64), out(size)],
     "solve": SHOP
-    + [out(u16), size, u32, u32, u32, out(u16), size, out(u64), out(u8), size, out(size), out(size)],
+    + [data, size, u32, u32, u32, out(u16), size, out(u64), out(u8), size, out(size), out(size)],
     "certify": SHOP
-    + [out(u16), size, u32, u32, u32, u32, u32, out(u16), size]
+    + [data, size, u32, u32, u32, u32, u32, out(u16), size]
     + [out(u64), out(u64), out(u8), size, out(size), out(size)],
 }
+# Of these calls each argument is given as an object of ctypes or as bytes, so that ctypes has nothing to convert, which
+# takes longer than the call does on a small shop.
+AS_GIVEN = ("makespan",)
+
+
+class Refused(Exception):
+    """A call that is not done: the name of its status, and the place."""
+
+    def __init__(self, name: str, place: int) -> None:
+        super().__init__(name, place)
+        self.name = name
+        self.place = place
 
 
 def _path() -> Path:
@@ -88,11 +101,41 @@ def _path() -> Path:
     )
 
 
-def load() -> ctypes.CDLL:
-    """The library, with the types of its calls."""
-    library = ctypes.CDLL(str(_path()))
-    for name, types in CALLS.items():
-        call = getattr(library, f"flowshop_{name}")
-        call.argtypes = types
-        call.restype = u32
-    return library
+def _load(path: Path) -> Dict[str, Any]:
+    """The calls of the library at a path, with their types. ImportError where it is none."""
+    calls = {}
+    try:
+        library = ctypes.CDLL(str(path))
+        for name, types in CALLS.items():
+            calls[name] = getattr(library, f"flowshop_{name}")
+            calls[name].argtypes = None if name in AS_GIVEN else types
+            calls[name].restype = u32
+    except (OSError, AttributeError) as error:
+        raise ImportError(f"flowshop: {path} is not the library that this package calls: {error}") from error
+    return calls
+
+
+_CALLS = _load(_path())
+
+
+def version() -> str:
+    """The version of the library, as three numbers."""
+    number = _CALLS["version"]()
+    return f"{number // 1_000_000}.{number // 1_000 % 1_000}.{number % 1_000}"
+
+
+def require(wanted: str) -> None:
+    """ImportError where the library is not of this version: its calls may take other arguments."""
+    if version() != wanted:
+        raise ImportError(f"flowshop: the library is of version {version()}, and the package of version {wanted}")
+
+
+def call(name: str, *words: Any) -> None:
+    """Makes a call, whose last argument is the place. MemoryError where memory ran out; Refused on every other status
+    but that of a call that is done."""
+    place = size()
+    status = _CALLS[name](*words, byref(place))
+    if status == 1:
+        raise MemoryError("flowshop: memory ran out")
+    if status:
+        raise Refused(STATUSES.get(status, f"STATUS_{status}"), place.value)

@@ -1,0 +1,73 @@
+"""What is refused: one base class, and a class for each kind of thing that is refused."""
+
+from typing import Tuple, Union
+
+# Where a fault is: one number, or a row and a column, or the number of a sequence and a place in it. All from 1.
+Place = Union[int, Tuple[int, int]]
+
+
+class FlowshopError(ValueError):
+    """What was refused, and why: the base of all errors of this package.
+
+    `str` of it is a sentence with the value at fault and its limit. `name` is that of a status of library/flowshop.h,
+    without FLOWSHOP_. `place` is where the fault is: (row, column) of a table; the place in a sequence, or (number of
+    the sequence, place) where there are many; the line of a text; which tree, counted from 0; else 0.
+
+    >>> try:
+    ...     shop.makespan([2, 4, 3])
+    ... except FlowshopError as error:
+    ...     print(type(error).__name__, error.name, error.place)
+    ...     print(error)
+    NotASequence JOB 2
+    place 2 of the sequence is 4, and the jobs are 1 to 3
+    """
+
+    def __init__(self, name: str, place: Place, sentence: str) -> None:
+        super().__init__(name, place, sentence)
+        self.name = name
+        self.place = place
+
+    def __str__(self) -> str:
+        """The sentence."""
+        return str(self.args[2])
+
+
+class NotAShop(FlowshopError):
+    """A table that is no shop: JOBS, MACHINES, COUNT or TIME."""
+
+
+class NotASequence(FlowshopError):
+    """A list that is no sequence of the shop: LENGTH, JOB or TWICE."""
+
+
+class NotLawful(FlowshopError):
+    """A text that is no lawful certificate of the shop: HEADER, SIZE, VALUE, SEQUENCE, NOT_ATTAINED, TREE, WEAK, LOW or
+    END."""
+
+
+class TextError(FlowshopError):
+    """A file that is no benchmark text: NO_BLOCK, LABEL, BYTE, NUMBER, HEAD, LIMITS or TIMES."""
+
+
+class OptionError(FlowshopError):
+    """A number that a call does not take: JOBS, MACHINES, SEED, DEPTH, BUDGET, VERSION, WIDTH, ROUNDS, WORK,
+    DIRECTIONS, UPPER or LOWER; or PLAN_DEPTH or PLAN_PREFIXES, where the shop has no lists of so many jobs, or too
+    many."""
+
+
+class OverBudget(FlowshopError):
+    """A search whose tree is longer than the budget: OVER_BUDGET."""
+
+
+def counted(number: int, what: str) -> str:
+    """A number of things, as `1 job` or `1,000 jobs`."""
+    return f"{number:,} {what}" if number == 1 else f"{number:,} {what}s"
+
+
+def shown(value: object) -> str:
+    """A value as it stands in a sentence, in some 40 characters at most."""
+    try:
+        text = f"{value:,}" if type(value) is int else repr(value)
+    except ValueError:  # an int that Python does not write out
+        text = "a number of thousands of digits"
+    return text if len(text) <= 40 else f"{text[:37]}..."

@@ -1,0 +1,38 @@
+"""The numbers that a call takes beside a shop and a sequence."""
+
+from operator import index
+from typing import Dict, SupportsIndex, Tuple
+
+from ._errors import OptionError, shown
+from ._library import MOST_JOBS, MOST_MACHINES
+
+_MOST_32 = 4_294_967_295
+# The least and the greatest number of each option.
+LIMITS: Dict[str, Tuple[int, int]] = {
+    "jobs": (1, MOST_JOBS),
+    "machines": (1, MOST_MACHINES),
+    "seed": (1, 2_147_483_646),
+    "width": (0, 65_536),
+    "rounds": (0, 100_000_000),
+    "work": (0, 1_000_000),
+    "directions": (1, 1_000_000_000),
+    "depth": (0, 3),
+    "budget": (1, 100_000_000),
+    "version": (1, 2),
+}
+# Those of the head of a benchmark text, which are only written down.
+STATED: Dict[str, Tuple[int, int]] = {"seed": (0, _MOST_32), "upper": (0, _MOST_32), "lower": (0, _MOST_32)}
+MOST_TREES = 100_000
+
+
+def option(name: str, value: SupportsIndex, limits: Dict[str, Tuple[int, int]] = LIMITS) -> int:
+    """The number of an option. OptionError where it is not whole, or not within its limits."""
+    least, most = limits[name]
+    try:
+        number = index(value)
+    except TypeError:
+        number = -1
+    if least <= number <= most:
+        return number
+    sentence = f"{name} is {shown(value)}, and has to be a whole number from {least:,} to {most:,}"
+    raise OptionError(name.upper(), 0, sentence)

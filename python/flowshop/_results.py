@@ -1,0 +1,262 @@
+"""What the calls on a shop give. All of it is frozen, and can be compared, hashed and pickled."""
+
+import html
+import importlib
+import os
+import re
+from dataclasses import dataclass, field
+from typing import Any, Dict, Hashable, Iterator, List, NamedTuple, Sequence, Tuple, Union, overload
+
+from ._errors import counted
+
+Names = Tuple[Hashable, ...]
+Path = Union[str, "os.PathLike[str]"]
+_MOST_SHOWN = 8
+
+
+def listed(names: Sequence[Hashable], most: int = _MOST_SHOWN) -> str:
+    """The first names of a list, with commas between them, and two points where there are more."""
+    first = [repr(name) if isinstance(name, str) and set(name) & set(",;:") else str(name) for name in names[:most]]
+    return ", ".join([*first, *([".."] if len(names) > most else [])])
+
+
+@dataclass(frozen=True, repr=False)
+class Start:
+    """A sequence of a shop, as job numbers from 1, and its makespan `value` in the unit of the times. `names` has the
+    names of the jobs in this order, or their numbers where the shop has no names. A Start is taken wherever a sequence
+    is.
+
+    >>> shop.neh()
+    Start(makespan 13: 2, 1, 3)
+    """
+
+    sequence: Tuple[int, ...]
+    value: int
+    names: Names = field(default=(), compare=False)
+
+    def __repr__(self) -> str:
+        """The makespan, and the first jobs by their names."""
+        return f"Start(makespan {self.value}: {listed(self.names or self.sequence)})"
+
+
+class Operation(NamedTuple):
+    """What a job does on a machine: when it starts and when it ends there, in the unit of the times. Job and machine
+    are names, or numbers from 1 where the shop has no names. A job whose time there is 0 ends as it starts.
+
+    >>> shop.schedule([2, 1, 3])[-1].end
+    13
+    """
+
+    job: Hashable
+    machine: Hashable
+    start: int
+    end: int
+
+
+@dataclass(frozen=True, repr=False)
+class Timetable(Sequence[Operation]):
+    """When each job of a sequence starts and ends on each machine: an Operation for each job in the order of the
+    sequence, and for each machine. A Timetable is taken wherever a sequence of jobs is.
+
+    >>> timetable = shop.schedule([2, 1, 3])
+    >>> timetable
+    Timetable(makespan 13, 3 jobs, 3 machines)
+    >>> timetable[1]
+    Operation(job=2, machine=2, start=0, end=8)
+    >>> timetable.ends.tolist()
+    [[0, 8, 8], [4, 8, 12], [4, 10, 13]]
+    """
+
+    sequence: Tuple[int, ...]
+    names: Names
+    machine_names: Names
+    _starts: bytes
+    _ends: bytes
+
+    def _array(self, numbers: bytes) -> memoryview:
+        """Numbers of 64 bits as rows and columns."""
+        return memoryview(numbers).cast("Q", [len(self.names), len(self.machine_names)])
+
+    @property
+    def starts(self) -> memoryview:
+        """When the jobs start: a row for each job in the order of the sequence, and a column for each machine. numpy
+        takes it as it is: `numpy.asarray(timetable.starts)`. The numbers are of 64 bits.
+
+        >>> shop.schedule([2, 1, 3]).starts.tolist()
+        [[0, 0, 8], [0, 8, 8], [4, 8, 12]]
+        """
+        return self._array(self._starts)
+
+    @property
+    def ends(self) -> memoryview:
+        """When the jobs end, in the form of `starts`.
+
+        >>> shop.schedule([2, 1, 3]).ends.shape
+        (3, 3)
+        """
+        return self._array(self._ends)
+
+    @property
+    def makespan(self) -> int:
+        """When the last job leaves the last machine.
+
+        >>> shop.schedule([2, 1, 3]).makespan
+        13
+        """
+        return memoryview(self._ends).cast("Q")[-1]
+
+    def columns(self) -> Dict[str, List[Any]]:
+        """The operations as columns, which pandas, polars and csv take: `pandas.DataFrame(timetable.columns())`.
+
+        >>> shop.schedule([2, 1, 3]).columns()["end"]
+        [0, 8, 8, 4, 8, 12, 4, 10, 13]
+        """
+        machines = len(self.machine_names)
+        return {
+            "job": [name for name in self.names for _ in range(machines)],
+            "machine": list(self.machine_names) * len(self.names),
+            "start": memoryview(self._starts).cast("Q").tolist(),
+            "end": memoryview(self._ends).cast("Q").tolist(),
+        }
+
+    def to_frame(self) -> Any:
+        """The operations as a pandas.DataFrame, with the columns of `columns`. ImportError where there is no pandas.
+
+        >>> shop.schedule([2, 1, 3]).to_frame().end.max()  # doctest: +SKIP
+        13
+        """
+        return importlib.import_module("pandas").DataFrame(self.columns())
+
+    def __len__(self) -> int:
+        """How many operations there are."""
+        return len(self.names) * len(self.machine_names)
+
+    @overload
+    def __getitem__(self, place: int) -> Operation: ...
+
+    @overload
+    def __getitem__(self, place: slice) -> List[Operation]: ...
+
+    def __getitem__(self, place: Union[int, slice]) -> Union[Operation, List[Operation]]:
+        """The operation at a place, or a list of them."""
+        if isinstance(place, slice):
+            return [self[at] for at in range(len(self))[place]]
+        at = range(len(self))[place]
+        job, machine = divmod(at, len(self.machine_names))
+        start, end = memoryview(self._starts).cast("Q")[at], memoryview(self._ends).cast("Q")[at]
+        return Operation(self.names[job], self.machine_names[machine], start, end)
+
+    def __iter__(self) -> Iterator[Operation]:
+        """The operations in turn."""
+        return map(Operation, *self.columns().values())
+
+    def __repr__(self) -> str:
+        """The makespan and the sizes."""
+        sizes = f"{counted(len(self.names), 'job')}, {counted(len(self.machine_names), 'machine')}"
+        return f"Timetable(makespan {self.makespan}, {sizes})"
+
+
+class Picture(str):
+    """A Gantt chart of a sequence, as SVG text. A notebook shows it as a picture.
+
+    >>> shop.gantt([2, 1, 3])
+    Picture(makespan 13, jobs 3, machines 3)
+    """
+
+    def _repr_svg_(self) -> str:
+        """The text, for a notebook."""
+        return str(self)
+
+    def __repr__(self) -> str:
+        """The title of the picture."""
+        return f"Picture({self.partition('<title>')[2].partition('</title>')[0]})"
+
+    def save(self, path: Path) -> None:
+        """Writes the text to a file. OSError where that fails.
+
+        >>> shop.gantt([2, 1, 3]).save("schedule.svg")
+        """
+        with open(path, "wb") as file:
+            file.write(self.encode())
+
+
+# Of a picture: the label of a row; a bar with its title, and the number in it, which stands only where it has room.
+_ROW = re.compile(r'(text-anchor="end">)machine (\d+)(?=</text>)')
+_BAR = re.compile(
+    r'(<rect x="\d+" y="\d+" width="(\d+)"[^>]*><title>)job (\d+), machine (\d+)([^<]*</title></rect>)'
+    r"(?:(\n<text [^>]*>)\d+(</text>))?"
+)
+# How wide a character is at most, in the unit of the picture, and how many have room before a row.
+_CHARACTER, _MOST_BEFORE = 800, 10
+
+
+def _escaped(name: Hashable) -> str:
+    """A name as it stands in a picture."""
+    return html.escape("".join(sign if sign.isprintable() else " " for sign in str(name)), quote=False)
+
+
+def with_names(picture: str, jobs: Names, machines: Names) -> str:
+    """A picture with the names of jobs and machines in the place of their numbers. A long name of a machine is cut; the
+    name of a job stands in a bar where it has room."""
+
+    def row(found: "re.Match[str]") -> str:
+        name = str(machines[int(found[2]) - 1])
+        return found[1] + _escaped(name if len(name) <= _MOST_BEFORE else f"{name[: _MOST_BEFORE - 2]}..")
+
+    def bar(found: "re.Match[str]") -> str:
+        name, machine = jobs[int(found[3]) - 1], machines[int(found[4]) - 1]
+        titled = f"{found[1]}{_escaped(name)}, {_escaped(machine)}{found[5]}"
+        has_room = found[6] and _CHARACTER * len(str(name)) <= int(found[2])
+        return f"{titled}{found[6]}{_escaped(name)}{found[7]}" if has_room else titled
+
+    return _BAR.sub(bar, _ROW.sub(row, picture))
+
+
+@dataclass(frozen=True, repr=False)
+class Certificate:
+    """What a text proves of a shop: no sequence has a makespan below `lower`, in the unit of the times, and `sequence`,
+    as job numbers from 1, has the makespan `upper`. `names` has the names of the jobs in this order, or their numbers
+    where the shop has no names. A Certificate is taken wherever a sequence or a text is.
+
+    >>> shop.solve()
+    Certificate(optimal 12, 1 tree)
+    """
+
+    lower: int
+    upper: int
+    sequence: Tuple[int, ...]
+    text: bytes
+    names: Names = field(default=(), compare=False)
+
+    @property
+    def optimal(self) -> bool:
+        """Whether the bounds are equal, so that no sequence has a smaller makespan than this one. So it is with every
+        certificate of `solve`.
+
+        >>> shop.certify().optimal
+        True
+        """
+        return self.lower == self.upper
+
+    def __repr__(self) -> str:
+        """What is proved, and how many directions or trees the text has."""
+        proved = f"optimal {self.lower}" if self.optimal else f"bounds {self.lower} to {self.upper}"
+        if self.text.startswith(b"flowshop two-ended "):
+            return f"Certificate({proved}, {counted(self._directions(), 'direction')})"
+        trees = self.text.count(b"\n") - 5  # four lines stand before them, and one after them
+        return f"Certificate({proved}, {counted(trees, 'tree')})"
+
+    def _directions(self) -> int:
+        """How long line 5 is."""
+        begun = 0
+        for _ in range(4):
+            begun = self.text.find(b"\n", begun) + 1
+        return self.text.find(b"\n", begun) - begun
+
+    def save(self, path: Path) -> None:
+        """Writes the text to a file, which `flowshop check` and `Shop.check` read. OSError where that fails.
+
+        >>> shop.certify().save("certificate")
+        """
+        with open(path, "wb") as file:
+            file.write(self.text)

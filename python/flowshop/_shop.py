@@ -1,0 +1,452 @@
+"""Shops, and the calls on them."""
+
+from __future__ import annotations
+
+from array import array
+from math import perm
+from typing import Any, Hashable, Iterable, List, NamedTuple, NoReturn, Optional, Tuple
+
+from ._errors import NotASequence, NotLawful, OptionError, OverBudget, counted
+from ._library import Refused, byref, call, size, u16, u32, u64
+from ._options import MOST_TREES, STATED, option
+from ._results import Certificate, Names, Path, Picture, Start, Timetable, listed, with_names
+from ._sequences import Jobs, Many, items_of, not_a_sequence, packed
+from ._tables import Table, read_table
+from ._texts import Text, block_text, blocks_of, not_lawful, text_of, written
+
+# The most bytes that a text has beside its trees or its directions.
+_BESIDE = 3300
+_Numbers = Tuple[int, ...]
+
+
+class Shop:
+    """A permutation flow shop: 1 to 800 jobs on 1 to 26 machines, with whole times from 0 to 999,999, in a unit of your
+    choice. `from_jobs` or `from_machines` make it of a table. It is frozen: it can be compared, hashed and pickled, and
+    used by any number of threads.
+
+    In the examples of this package `shop` is this one:
+
+    >>> from flowshop import Shop
+    >>> shop = Shop.from_jobs([[4, 0, 4], [0, 8, 0], [0, 2, 1]])
+    >>> shop
+    Shop(3 jobs, 3 machines)
+    """
+
+    __slots__ = ("_parts", "_words")
+    # Jobs, machines, times, and the names of both; and what each call takes of them first.
+    _parts: Tuple[int, int, bytes, Optional[Names], Optional[Names]]
+    _words: Tuple[Any, Any, bytes, Any]
+
+    def __init__(self, *_: object) -> None:
+        raise TypeError(
+            "Shop(..) does not say what a row is: Shop.from_jobs(table) has a row for each job, "
+            "Shop.from_machines(table) a row for each machine"
+        )
+
+    @classmethod
+    def _of(
+        cls, jobs: int, machines: int, times: bytes, job_names: Optional[Names], machine_names: Optional[Names]
+    ) -> Shop:
+        """The shop of these times, machine by machine, as 32-bit numbers. The calls of the library test them."""
+        shop = object.__new__(cls)
+        object.__setattr__(shop, "_parts", (jobs, machines, times, job_names, machine_names))
+        object.__setattr__(shop, "_words", (u32(jobs), u32(machines), times, size(len(times) // 4)))
+        return shop
+
+    @classmethod
+    def from_jobs(
+        cls,
+        table: Table,
+        *,
+        job_names: Optional[Iterable[Hashable]] = None,
+        machine_names: Optional[Iterable[Hashable]] = None,
+    ) -> Shop:
+        """The shop of a table with a row for each job and a column for each machine, in the order in which jobs visit
+        the machines: lists, an array of whole numbers with two dimensions, or a frame as that of pandas. The labels of
+        a frame are the names of jobs and machines, but for those that only count from 0. NotAShop where it is none.
+
+        >>> Shop.from_jobs([[4, 0], [0, 8]], job_names=["Shelf", "Door"], machine_names=["Cut", "Weld"])
+        Shop(2 jobs: Shelf, Door; 2 machines: Cut, Weld)
+        >>> Shop.from_jobs([[4, 0], [0, None]])
+        Traceback (most recent call last):
+        flowshop.NotAShop: the time in row 2, column 2 is missing (None); write 0 where a job skips a machine
+        """
+        return cls._of(*read_table(table, True, job_names, machine_names))
+
+    @classmethod
+    def from_machines(
+        cls,
+        table: Table,
+        *,
+        job_names: Optional[Iterable[Hashable]] = None,
+        machine_names: Optional[Iterable[Hashable]] = None,
+    ) -> Shop:
+        """The shop of a table with a row for each machine, in the order in which jobs visit them, and a column for each
+        job. The rest is as in `from_jobs`.
+
+        >>> Shop.from_machines([[4, 0, 0], [0, 8, 2], [4, 0, 1]]) == shop
+        True
+        """
+        return cls._of(*read_table(table, False, job_names, machine_names))
+
+    @classmethod
+    def generate(cls, jobs: int, machines: int, seed: int) -> Shop:
+        """The shop of a seed, 1 to 2,147,483,646, by the generator of Taillard (1993): each time is drawn from 1 to 99.
+        OptionError where jobs, machines or seed are not within their limits.
+
+        >>> Shop.generate(2, 2, 1).times
+        [[1, 14], [75, 46]]
+        """
+        jobs, machines = option("jobs", jobs), option("machines", machines)
+        times = (u32 * (jobs * machines))()
+        call("generate", jobs, machines, option("seed", seed), times, jobs * machines)
+        return cls._of(jobs, machines, bytes(times), None, None)
+
+    @classmethod
+    def read(cls, path: Path) -> List[Block]:
+        """All blocks of a benchmark text in a file, in their order. OSError where the file is not read, TextError with
+        the first fault of the text and its line.
+
+        >>> shop.write("shop.txt")
+        >>> Shop.read("shop.txt")[0].shop == shop
+        True
+        """
+        return [Block(cls._of(*block[:3], None, None), *block[3:]) for block in blocks_of(path)]
+
+    def write(self, path: Path, *, seed: int = 0, upper: Optional[int] = None, lower: Optional[int] = None) -> None:
+        """Writes the shop to a file, as a benchmark text of one block, which has no place for names. Its head states a
+        seed and bounds of the least makespan, which nothing tests: where they are left out, the makespan of `neh` and
+        the bound of `bound`. OSError where the file is not written, OptionError where a number is not of 32 bits.
+
+        >>> shop.write("shop.txt")
+        """
+        stated = [
+            option("seed", seed, STATED),
+            option("upper", self.neh().value if upper is None else upper, STATED),
+            option("lower", self.bound() if lower is None else lower, STATED),
+        ]
+        with open(path, "w", encoding="ascii") as file:
+            file.write(block_text(self.times, *stated))
+
+    @property
+    def jobs(self) -> int:
+        """How many jobs there are.
+
+        >>> shop.jobs
+        3
+        """
+        return self._parts[0]
+
+    @property
+    def machines(self) -> int:
+        """How many machines there are.
+
+        >>> shop.machines
+        3
+        """
+        return self._parts[1]
+
+    @property
+    def times(self) -> List[List[int]]:
+        """The times: a row for each machine, each with the time of each job.
+
+        >>> shop.times
+        [[4, 0, 0], [0, 8, 2], [4, 0, 1]]
+        """
+        numbers = memoryview(self._parts[2]).cast("I").tolist()
+        return [numbers[start : start + self.jobs] for start in range(0, len(numbers), self.jobs)]
+
+    @property
+    def job_names(self) -> Names:
+        """The names of the jobs; their numbers from 1 where they have none.
+
+        >>> shop.job_names
+        (1, 2, 3)
+        """
+        return self._parts[3] or tuple(range(1, self.jobs + 1))
+
+    @property
+    def machine_names(self) -> Names:
+        """The names of the machines; their numbers from 1 where they have none.
+
+        >>> shop.machine_names
+        (1, 2, 3)
+        """
+        return self._parts[4] or tuple(range(1, self.machines + 1))
+
+    def __setattr__(self, name: str, value: object) -> NoReturn:
+        raise AttributeError(f"a Shop is frozen: {name} can not be set")
+
+    def __delattr__(self, name: str) -> NoReturn:
+        raise AttributeError(f"a Shop is frozen: {name} can not be deleted")
+
+    def __eq__(self, other: object) -> bool:
+        """Whether times and names are the same."""
+        if not isinstance(other, Shop):
+            return NotImplemented
+        return self._parts == other._parts
+
+    def __hash__(self) -> int:
+        return hash(self._parts)
+
+    def __reduce__(self) -> Tuple[Any, Tuple[Any, ...]]:
+        """What pickle and copy keep."""
+        return Shop._of, self._parts
+
+    def __repr__(self) -> str:
+        """The sizes, and the first names where there are any."""
+        jobs, machines = (listed(names, 3) if names else "" for names in self._parts[3:])
+        if not jobs and not machines:
+            return f"Shop({counted(self.jobs, 'job')}, {counted(self.machines, 'machine')})"
+        named = f"{counted(self.jobs, 'job')}: {jobs}" if jobs else counted(self.jobs, "job")
+        return f"Shop({named}; {counted(self.machines, 'machine')}{': ' if machines else ''}{machines})"
+
+    def _call(self, name: str, sequence: bytes, *words: Any) -> None:
+        """Makes a call on the shop and a sequence. NotASequence where that is none."""
+        try:
+            call(name, *self._words, sequence, size(len(sequence) // 2), *words)
+        except Refused as refused:
+            if refused.name in ("LENGTH", "JOB", "TWICE"):
+                raise not_a_sequence(refused, sequence, self.jobs) from None
+            raise
+
+    def _named(self, sequence: _Numbers) -> Names:
+        """The names of jobs in the order of a sequence."""
+        names = self._parts[3]
+        return tuple(names[job - 1] for job in sequence) if names else sequence
+
+    def makespan(self, sequence: Jobs) -> int:
+        """The makespan of a sequence, in the unit of the times: a list or an array with each job number from 1 once, or
+        a Start, Certificate or Timetable. NotASequence where it is none.
+
+        >>> shop.makespan([2, 1, 3])
+        13
+        """
+        value = u64()
+        self._call("makespan", packed(sequence, self._parts[0]), byref(value))
+        return value.value
+
+    def makespans(self, sequences: Many) -> array[int]:
+        """The makespans of many sequences: of a list of them, or of the rows of an array. They are an array of 64-bit
+        numbers, which numpy takes as it is. NotASequence where one is none: its place is (number, place), from 1.
+
+        >>> shop.makespans([[1, 2, 3], [2, 1, 3], [3, 1, 2]])
+        array('Q', [15, 13, 12])
+        """
+        values = array("Q")
+        for number, sequence in enumerate(items_of(sequences), 1):
+            try:
+                values.append(self.makespan(sequence))
+            except NotASequence as error:
+                place = error.place if isinstance(error.place, int) else 0
+                raise NotASequence(error.name, (number, place), f"sequence {number}: {error}") from None
+        return values
+
+    def schedule(self, sequence: Jobs) -> Timetable:
+        """The timetable of a sequence, where each job starts as early as it can. Errors are those of `makespan`.
+
+        >>> list(shop.schedule([2, 1, 3]))[-1]
+        Operation(job=3, machine=3, start=12, end=13)
+        """
+        jobs, count = packed(sequence, self.jobs), self.jobs * self.machines
+        starts, ends = (u64 * count)(), (u64 * count)()
+        self._call("timetable", jobs, starts, count, ends, count)
+        numbers = tuple(memoryview(jobs).cast("H"))
+        return Timetable(numbers, self._named(numbers), self.machine_names, bytes(starts), bytes(ends))
+
+    def gantt(self, sequence: Jobs) -> Picture:
+        """The picture of the timetable of a sequence, as SVG text: a row for each machine, and a bar for each job and
+        machine where the time is not 0. The outlined bars are those of a heaviest path, whose times sum to the
+        makespan. Errors are those of `makespan`.
+
+        >>> shop.gantt(shop.neh())[:4]
+        '<svg'
+        """
+        jobs, room = packed(sequence, self.jobs), 16_384 + 400 * self.jobs * self.machines
+        picture = written(room, lambda *rest: self._call("picture", jobs, *rest)).decode("ascii")
+        if self._parts[3:] != (None, None):
+            picture = with_names(picture, self.job_names, self.machine_names)
+        return Picture(picture)
+
+    def bound(self) -> int:
+        """A number below which no sequence has a makespan: the bound of the two-ended certificate with no directions.
+        That is, of all machines, the greatest sum of its times, the least time that a job needs before it, and the
+        least that one needs after it.
+
+        >>> shop.bound()
+        10
+        """
+        sequence = range(1, self.jobs + 1)
+        upper = self.makespan(sequence)
+        head, jobs = f"flowshop two-ended 1\n{self.jobs} {self.machines}", " ".join(map(str, sequence))
+        least, most = 0, upper
+        while least < most:
+            middle = (least + most + 1) // 2
+            if self._proves(f"{head}\n{middle} {upper}\n{jobs}\n\nend\n"):
+                least = middle
+            else:
+                most = middle - 1
+        return least
+
+    def _proves(self, text: str) -> bool:
+        """Whether a text is a lawful certificate of the shop."""
+        try:
+            self.check(text)
+        except NotLawful:
+            return False
+        return True
+
+    def neh(self) -> Start:
+        """The starting sequence of Nawaz, Enscore and Ham (1983): jobs by decreasing total time, of equal ones the
+        lower number first, each put in at the earliest place that gives the least makespan.
+
+        >>> shop.neh().sequence
+        (2, 1, 3)
+        """
+        sequence, value = (u16 * self.jobs)(), u64()
+        call("neh", *self._words, sequence, self.jobs, byref(value))
+        return self._start(tuple(sequence), value.value)
+
+    def _start(self, sequence: _Numbers, value: int) -> Start:
+        return Start(sequence, value, self._named(sequence))
+
+    def _begun(self, start: Optional[Jobs]) -> bytes:
+        """The sequence from which a search begins."""
+        return packed(self.neh() if start is None else start, self.jobs)
+
+    def improve(
+        self,
+        start: Optional[Jobs] = None,
+        *,
+        width: int = 4096,
+        rounds: int = 10_000,
+        seed: int = 1,
+        work: int = 8500,
+    ) -> Start:
+        """A sequence whose makespan is at most that of a start, or of the sequence of `neh`, by searches on this
+        thread: a two-ended beam of widths up to `width`, 0 to 65,536, and two runs of at most `rounds` rounds, 0 to
+        100,000,000, with the random numbers of `seed`, 1 to 2,147,483,646. They take about `work` million steps at
+        most, 0 to 1,000,000, each about the work for one job on one machine. NotASequence where the start is none,
+        OptionError where a number is not as said here.
+
+        >>> shop.improve([1, 2, 3]).value
+        12
+        """
+        choice = [option("width", width), option("rounds", rounds), option("seed", seed), option("work", work)]
+        sequence, value = (u16 * self.jobs)(), u64()
+        self._call("improve", self._begun(start), *choice, sequence, self.jobs, byref(value))
+        return self._start(tuple(sequence), value.value)
+
+    def solve(
+        self,
+        start: Optional[Jobs] = None,
+        *,
+        depth: int = 0,
+        budget: int = 10_000_000,
+        version: int = 1,
+    ) -> Certificate:
+        """The least makespan with its certificate, by a search on this thread from a sequence, or from that of `neh`.
+        There is a tree for each list of `depth` jobs, 0 to 3, of at most `budget` bytes, 1 to 100,000,000; `version`, 1
+        or 2, says by which bound the search cuts. OverBudget where a tree is longer, NotASequence where the start is
+        none, OptionError where a number is not as said here. The search can take long, and no time limit ends it.
+
+        >>> shop.solve().upper
+        12
+        """
+        choice = [option("depth", depth), option("budget", budget), option("version", version)]
+        trees = self._trees(choice[0])
+        value = u64()
+        try:
+            words = [byref(value)]
+            sequence, text = self._searched("solve", start, choice, words, _BESIDE + trees * (choice[1] + 1))
+        except Refused as refused:
+            raise _over_budget(refused, trees, choice[1]) from None
+        return Certificate(value.value, value.value, sequence, text, self._named(sequence))
+
+    def _trees(self, depth: int) -> int:
+        """How many lists of so many jobs there are. OptionError where there are none, or too many."""
+        if depth > self.jobs:
+            raise OptionError("PLAN_DEPTH", 0, f"depth is {depth}, and the shop has {counted(self.jobs, 'job')}")
+        trees = perm(self.jobs, depth)
+        if trees > MOST_TREES:
+            sentence = f"depth is {depth}, which makes {trees:,} trees, and there are {MOST_TREES:,} at most"
+            raise OptionError("PLAN_PREFIXES", 0, sentence)
+        return trees
+
+    def certify(
+        self,
+        start: Optional[Jobs] = None,
+        *,
+        width: int = 4096,
+        rounds: int = 10_000,
+        seed: int = 1,
+        work: int = 8500,
+        directions: int = 100_000_000,
+    ) -> Certificate:
+        """Bounds of the least makespan with a two-ended certificate of them, by searches on this thread from a
+        sequence, or from that of `neh`, and from better ones. The least makespan is proved where `optimal` is true; the
+        upper bound is at most the makespan of the start. The text has at most `directions` directions, 1 to
+        1,000,000,000: the more it may have, the longer the searches take where they do not find the least makespan. The
+        other numbers are those of `improve`. With the numbers left out a call may take a minute and a half. Errors are
+        those of `improve`. No time limit ends the searches.
+
+        >>> certificate = shop.certify()
+        >>> certificate.lower, certificate.upper
+        (12, 12)
+        """
+        choice = [option("width", width), option("rounds", rounds), option("seed", seed), option("work", work)]
+        choice.append(option("directions", directions))
+        lower, upper = u64(), u64()
+        words = [byref(lower), byref(upper)]
+        sequence, text = self._searched("certify", start, choice, words, _BESIDE + choice[-1])
+        return Certificate(lower.value, upper.value, sequence, text, self._named(sequence))
+
+    def _searched(
+        self, name: str, start: Optional[Jobs], choice: List[int], values: List[Any], most: int
+    ) -> Tuple[_Numbers, bytes]:
+        """The sequence and the text of a search, which has at most so many bytes."""
+        sequence = (u16 * self.jobs)()
+        words = [self._begun(start), *choice, sequence, self.jobs, *values]
+        text = written(most, lambda *rest: self._call(name, *words, *rest))
+        return tuple(sequence), text
+
+    def check(self, text: Text) -> Certificate:
+        """What a text proves, with the sequence that it states: a certificate of version 1 or 2, or a two-ended one;
+        line 1 tells which it is. It is given as bytes or str, as the path of a file (pathlib.Path), or as a
+        Certificate, of which the text alone is read. The least makespan is proved where `optimal` is true. NotLawful
+        with the first fault of the text where it is not lawful, OSError where a file is not read.
+
+        >>> shop.check("flowshop two-ended 1\\n3 3\\n11 13\\n2 1 3\\n-\\nend\\n")
+        Certificate(bounds 11 to 13, 1 direction)
+        """
+        read = text_of(text)
+        sequence, lower, upper = (u16 * self.jobs)(), u64(), u64()
+        try:
+            call("check", *self._words, read, len(read), sequence, self.jobs, byref(lower), byref(upper))
+        except Refused as refused:
+            raise not_lawful(refused, text, read, self.jobs, self.machines) from None
+        jobs = tuple(sequence)
+        return Certificate(lower.value, upper.value, jobs, read, self._named(jobs))
+
+
+def _over_budget(refused: Refused, trees: int, budget: int) -> OverBudget:
+    """The refusal of a tree that is longer than the budget."""
+    tree = f"tree {refused.place:,} of {trees:,}, counted from 0,"
+    sentence = f"{tree} is longer than the budget of {counted(budget, 'byte')}"
+    advice = "give a larger one, or call certify, which gives bounds where it proves no optimum"
+    return OverBudget(refused.name, refused.place, f"{sentence}; {advice}")
+
+
+class Block(NamedTuple):
+    """A block of a benchmark text: a shop, and the seed and the bounds of its least makespan that the text states. They
+    are what the text says, and nothing tests them.
+
+    >>> shop.write("shop.txt", seed=5)
+    >>> Shop.read("shop.txt")
+    [Block(shop=Shop(3 jobs, 3 machines), seed=5, upper=13, lower=10)]
+    """
+
+    shop: Shop
+    seed: int
+    upper: int
+    lower: int

@@ -1,0 +1,148 @@
+"""Texts as they are given and written: certificates, and files of shops."""
+
+import mmap
+import os
+import re
+import resource
+from typing import Callable, Dict, Iterator, List, Tuple, Union
+
+from ._errors import NotLawful, TextError, shown
+from ._library import MOST_TIMES, Refused, byref, call, size, u8, u32
+from ._results import Certificate, Path
+
+# What is taken for a text. A str is the text itself, and no path.
+Text = Union[bytes, bytearray, memoryview, str, "os.PathLike[str]", Certificate]
+# Memory of which no page is reserved before it is written. Older versions of Python have no name for it.
+_NO_RESERVE = getattr(mmap, "MAP_NORESERVE", 0x4000)
+_LEAST_ROOM = 1 << 16
+_LABEL_LINE = re.compile(rb"^[ \t\r]*[^ \t\r\n0-9]", re.MULTILINE)
+
+
+def _room(wanted: int) -> mmap.mmap:
+    """Memory for so many bytes; for fewer where the system has no addresses for them. A page of it is used only when it
+    is written."""
+    limit = resource.getrlimit(resource.RLIMIT_AS)[0]
+    if limit != resource.RLIM_INFINITY:
+        wanted = min(wanted, limit // 2)
+    while wanted >= _LEAST_ROOM:
+        try:
+            return mmap.mmap(-1, wanted, flags=mmap.MAP_PRIVATE | mmap.MAP_ANONYMOUS | _NO_RESERVE)
+        except OSError:
+            wanted //= 2
+    raise MemoryError("flowshop: memory ran out")
+
+
+def written(most: int, write: Callable[..., None]) -> bytes:
+    """The text that a call writes, which has at most so many bytes. MemoryError where there is no room for it."""
+    memory = _room(max(most, _LEAST_ROOM))
+    length = size()
+    try:
+        write(byref(u8.from_buffer(memory)), len(memory), byref(length))
+    except Refused as refused:
+        if refused.name != "ROOM":
+            raise
+        raise MemoryError(f"flowshop: there is no room for a text of {refused.place:,} bytes") from None
+    return memory[: length.value]
+
+
+def text_of(given: Text) -> bytes:
+    """The bytes of a text. OSError where a file is not read, TypeError where it is no text."""
+    if isinstance(given, Certificate):
+        return given.text
+    if isinstance(given, bytes):
+        return given
+    if isinstance(given, str):
+        return given.encode("utf-8", "replace")
+    if isinstance(given, (bytearray, memoryview)):
+        return bytes(given)
+    if isinstance(given, os.PathLike):
+        with open(given, "rb") as file:
+            return file.read()
+    raise TypeError(f"a text is bytes, a str, a path or a Certificate, and this is {shown(given)}")
+
+
+_CHANGED = "the text was cut off or changed, or is of another shop"
+# What is wrong with a certificate, by the name of the status, and which line is at fault where it is always the same.
+# {line} is its number, {text} the line; {jobs} and {machines} are those of the shop.
+_UNLAWFUL: Dict[str, Tuple[int, str]] = {
+    "HEADER": (1, "line 1 is {text}, and names no certificate, such as 'flowshop two-ended 1'"),
+    "SIZE": (2, "line 2 is {text}, which is not of a shop with jobs {jobs} and machines {machines}"),
+    "VALUE": (3, "line 3 is {text}, and has to be the value that is proved, or both bounds"),
+    "SEQUENCE": (4, "line 4 is {text}, and has to have each job from 1 to {jobs} once"),
+    "NOT_ATTAINED": (4, "line 4 is {text}, a sequence of another makespan than line 3 says"),
+    "TREE": (0, f"line {{line}} is {{text}}, which is not one whole proof; {_CHANGED}"),
+    "WEAK": (0, f"line {{line}} has a bound that is below the value; {_CHANGED}"),
+    "LOW": (0, f"line {{line}} leads to a makespan that is below the value; {_CHANGED}"),
+    "END": (0, "what follows the last tree, or the directions, is not the line 'end' alone"),
+}
+
+
+def _line(text: bytes, number: int) -> str:
+    """A line of a text, as it stands in a sentence."""
+    lines = text.split(b"\n", number)
+    return shown(lines[number - 1][:80].decode("utf-8", "replace")) if 1 <= number <= len(lines) else "missing"
+
+
+def not_lawful(refused: Refused, given: Text, text: bytes, jobs: int, machines: int) -> NotLawful:
+    """The refusal of a text that is no certificate of a shop of these sizes."""
+    only, form = _UNLAWFUL[refused.name]
+    line = refused.place or only
+    sentence = form.format(line=line, text=_line(text, line), jobs=jobs, machines=machines)
+    if isinstance(given, str) and b"\n" not in text:
+        sentence += "; a str is the text itself, and a file is named by pathlib.Path"
+    return NotLawful(refused.name, line, sentence)
+
+
+# What is wrong with a line of a benchmark text, by the name of the status.
+_MISREAD: Dict[str, str] = {
+    "LABEL": "a line of words is wanted before the head of a block, and before its times",
+    "BYTE": "a line of numbers has something that is neither a digit nor a blank",
+    "NUMBER": "a number is above 4,294,967,295",
+    "HEAD": "the head of a block is five numbers: jobs, machines, seed, upper bound and lower bound",
+    "LIMITS": "the jobs have to be 1 to 800, the machines 1 to 26, and each time 0 to 999,999",
+    "TIMES": "there has to be one time for each job and machine",
+}
+
+
+def _misread(refused: Refused, path: Path, text: bytes) -> TextError:
+    """The refusal of a file that is no benchmark text."""
+    if refused.name not in _MISREAD:
+        return TextError(refused.name, refused.place, f"{path} has no block: it is empty, or has blanks alone")
+    line = refused.place
+    sentence = f"line {line} of {path} is {_line(text, line)}: {_MISREAD[refused.name]}"
+    return TextError(refused.name, line, sentence)
+
+
+def blocks_of(path: Path) -> Iterator[Tuple[int, int, bytes, int, int, int]]:
+    """Each block of a benchmark text in a file: its jobs, machines and times, seed, upper and lower bound."""
+    with open(path, "rb") as file:
+        text = file.read()
+    try:
+        _block(text, 1)
+    except Refused as refused:
+        raise _misread(refused, path, text) from None
+    # The text has no fault, so it has two label lines for each block.
+    begun = [found.start() for found in _LABEL_LINE.finditer(text)][::2]
+    for start, end in zip(begun, [*begun[1:], len(text)]):
+        yield _block(text[start:end], 1)
+
+
+def _block(text: bytes, number: int) -> Tuple[int, int, bytes, int, int, int]:
+    """A block of a benchmark text, counted from 1."""
+    numbers = [u32() for _ in range(5)]
+    jobs, machines, *stated = [byref(number) for number in numbers]
+    times = (u32 * MOST_TIMES)()
+    call("block", text, len(text), number, jobs, machines, times, MOST_TIMES, *stated)
+    found = [number.value for number in numbers]
+    return found[0], found[1], bytes(times)[: 4 * found[0] * found[1]], found[2], found[3], found[4]
+
+
+def block_text(rows: List[List[int]], seed: int, upper: int, lower: int) -> str:
+    """The benchmark text of a shop, of which the rows are those of its machines."""
+    lines = [
+        "number of jobs, number of machines, initial seed, upper bound and lower bound :",
+        f"{len(rows[0])} {len(rows)} {seed} {upper} {lower}",
+        "processing times :",
+        *(" ".join(map(str, row)) for row in rows),
+    ]
+    return "".join(f"{line}\n" for line in lines)

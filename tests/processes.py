@@ -1,0 +1,129 @@
+"""The package for Python in pools of processes, by fork and by spawn, and in eight threads; what a call on a small shop
+takes of memory and time; and what an import without a library says."""
+
+import concurrent.futures
+import multiprocessing
+import os
+import resource
+import subprocess
+import sys
+import threading
+import time
+
+from counts import end, equal
+
+from flowshop import FlowshopError, NotASequence, Shop
+
+SMALL = Shop.from_jobs([[4, 0, 4], [0, 8, 0], [0, 2, 1]], job_names=["Shelf", "Door", "Table"])
+# Sequences of it, of which the third is none, and their makespans, worked out in docs/formats.md.
+SEQUENCES = [[2, 1, 3], [3, 1, 2], [1, 2, 2]]
+SENTENCE = "job 2 stands at place 2 of the sequence, and again at place 3; each job stands in it once"
+
+
+def solved(seed):
+    """The certificate of a shop of a seed, which another process is given and gives back."""
+    return Shop.generate(8, 3, seed).solve()
+
+
+def use_pool(method):
+    """A pool of processes: results come back, and so does a refusal, after which the pool still works."""
+    context = multiprocessing.get_context(method)
+    with concurrent.futures.ProcessPoolExecutor(2, mp_context=context) as pool:
+        futures = [pool.submit(SMALL.makespan, sequence) for sequence in SEQUENCES]
+        equal(f"makespans by {method}", [future.result(60) for future in futures[:2]], [13, 12])
+        compare_refusal(method, futures[2].exception(60))
+        seeds = range(1, 5)
+        equal(f"certificates by {method}", list(pool.map(solved, seeds, timeout=60)), list(map(solved, seeds)))
+        named = pool.submit(SMALL.neh).result(60)
+        equal(f"names by {method}", named.names, ("Door", "Shelf", "Table"))
+    with context.Pool(2) as pool:
+        results = [pool.apply_async(SMALL.makespan, (sequence,)) for sequence in SEQUENCES]
+        equal(f"makespans by another pool by {method}", [result.get(60) for result in results[:2]], [13, 12])
+        try:
+            compare_refusal(method, results[2].get(60))
+        except NotASequence as error:
+            compare_refusal(method, error)
+
+
+def compare_refusal(method, error):
+    """A refusal from another process."""
+    got = type(error), getattr(error, "name", None), getattr(error, "place", None), str(error)
+    equal(f"a refusal by {method}", got, (NotASequence, "TWICE", 3, SENTENCE))
+
+
+def use_threads():
+    """One shop in eight threads at once, and shops of each thread."""
+    wanted = [solved(seed) for seed in range(1, 9)]
+    shop = Shop.generate(30, 10, 3)
+    sequence = shop.neh()
+    texts = [str(shop.gantt(sequence)), list(shop.schedule(sequence)), sequence]
+    got = [[] for _ in wanted]
+
+    def work(number):
+        for _ in range(5):
+            found = Shop.generate(8, 3, number + 1).solve()
+            same = [str(shop.gantt(sequence)), list(shop.schedule(sequence)), shop.neh()] == texts
+            try:
+                shop.makespan([number] * 30)
+            except FlowshopError as error:
+                got[number].append((found == wanted[number], same, error.name))
+
+    threads = [threading.Thread(target=work, args=[number]) for number in range(8)]
+    for thread in threads:
+        thread.start()
+    for thread in threads:
+        thread.join()
+    # Job 0 is none; every other one stands there twice.
+    equal("eight threads", got, [[(True, True, "TWICE" if number else "JOB")] * 5 for number in range(8)])
+
+
+def measure_small_calls():
+    """A search on a small shop takes a few milliseconds at most, and no memory to speak of."""
+    few = {"width": 0, "rounds": 0, "work": 0}
+    held = resource.getrusage(resource.RUSAGE_SELF).ru_maxrss
+    for name, call in (("solve", SMALL.solve), ("certify", lambda: SMALL.certify(**few))):
+        least = 1.0
+        for _ in range(5):
+            begun = time.process_time()
+            call()
+            least = min(least, time.process_time() - begun)
+        equal(f"that {name} takes less than 10 ms, with {1000 * least:.1f}", least < 0.010, True)
+    more = resource.getrusage(resource.RUSAGE_SELF).ru_maxrss - held
+    equal(f"that they hold less than 8 MB more, with {more} KB", more < 8192, True)
+
+
+def say(code, **environment):
+    """The last line that a program in Python writes, and its status."""
+    words = [sys.executable, "-c", code]
+    run = subprocess.run(words, env={**os.environ, **environment}, capture_output=True, check=False)
+    return run.returncode, (run.stdout + run.stderr).decode().strip().splitlines()[-1]
+
+
+def use_little_memory():
+    """A search where a process may have few addresses: the room for its text is what is left."""
+    limit = "import resource; resource.setrlimit(resource.RLIMIT_AS, (600 << 20,) * 2)\n"
+    code = f"{limit}from flowshop import Shop\nprint(Shop.generate(8, 3, 1).solve(depth=3, budget=100_000_000).optimal)"
+    equal("a search with few addresses", say(code), (0, "True"))
+
+
+def miss_library():
+    """An import with a library that is not there, or is another one."""
+    for path, ends in [("/nothing.so", "No such file or directory"), (os.__file__, "invalid ELF header")]:
+        status, line = say("import flowshop", FLOWSHOP_LIBRARY=path)
+        wanted = f"ImportError: flowshop: {path} is not the library that this package calls: {path}: "
+        equal(f"an import with {path}", (status, line.startswith(wanted), line.endswith(ends)), (1, True, True))
+
+
+def main():
+    """Runs all, and ends. Pools come before threads, which a fork would not copy."""
+    measure_small_calls()
+    for method in ("fork", "spawn"):
+        use_pool(method)
+    use_threads()
+    use_little_memory()
+    miss_library()
+    end("processes and threads from Python")
+
+
+if __name__ == "__main__":
+    main()
