@@ -43,6 +43,12 @@ BOUNDS = b"flowshop two-ended 1\n3 3\n11 13\n2 1 3\n-\nend\n"
 LEAST = b"flowshop two-ended 1\n3 3\n12 12\n3 1 2\n++\nend\n"
 TREE = b"flowshop certificate 1\n3 3 0\n12\n3 1 2\n+BC++.B\nend\n"
 FEW = {"width": 0, "rounds": 0, "seed": 1, "work": 0, "directions": 1000}
+OPTIONS = [
+    (SHOP.improve, ["width", "rounds", "seed", "work"]),
+    (SHOP.certify, ["width", "rounds", "seed", "work", "directions"]),
+    (SHOP.solve, ["depth", "budget", "version"]),
+    (Shop.generate, ["jobs", "machines", "seed"]),
+]
 NAMES = {"job_names": ["Shelf", "Door", "Table"], "machine_names": ["Cut", "Weld", "Paint"]}
 
 
@@ -131,6 +137,8 @@ def make_shops():
         buffer = (kind * 3 * 2)((1, 2, 3), (4, 5, 6))
         equal("a buffer of jobs", Shop.from_jobs(buffer).times, [[1, 4], [2, 5], [3, 6]])
         equal("a buffer of machines", Shop.from_machines(memoryview(buffer)).times, [[1, 2, 3], [4, 5, 6]])
+    buffer = (ctypes.c_uint32.__ctype_be__ * 3 * 2)((1, 2, 3), (4, 5, 6))
+    equal("a buffer of the other order of bytes", Shop.from_jobs(buffer).times, [[1, 4], [2, 5], [3, 6]])
     below = (ctypes.c_int32 * 2 * 2)((1, 2), (3, -4))
     wanted = "NotAShop", "TIME", (2, 2), "the time in row 2, column 2 is -4, and has to be from 0 to 999,999"
     equal("a buffer with a number below 0", refused(lambda: Shop.from_jobs(below)), wanted)
@@ -188,14 +196,19 @@ def use_names():
     equal("an operation with names", timetable[7], Operation("Table", "Weld", 8, 10))
     equal("a column of names", timetable.columns()["job"], ["Door"] * 3 + ["Shelf"] * 3 + ["Table"] * 3)
     equal("the other column", timetable.columns()["machine"], ["Cut", "Weld", "Paint"] * 3)
-    picture = Shop.from_jobs(ROWS, job_names=["Shelf", "D", "<T&>\n"], machine_names=["Cut", "Wë", "Painting shop"])
+    picture = Shop.from_jobs(ROWS, job_names=["Shelf", "D", "<T&>\n"], machine_names=["Paint shop", "Wë", "Paint shops"])
     drawing = xml.etree.ElementTree.fromstring(picture.gantt([2, 1, 3]))
     titles = [element.text for element in drawing.iter("{http://www.w3.org/2000/svg}title")]
     equal("the names in a picture", (titles[1], titles[4]), ("D, Wë, start 0, end 8", "<T&> , Wë, start 8, end 10"))
     labels = [element.text for element in drawing.iter("{http://www.w3.org/2000/svg}text")]
-    named = [label in labels for label in ("Cut", "Wë", "Painting..", "machine 1")]
+    named = [label in labels for label in ("Paint shop", "Wë", "Paint sh..", "machine 1")]
     equal("before its rows", named, [True, True, True, False])
     equal("in its bars", ["D" in labels, "Shelf" in labels, "3" in labels], [True, True, False])
+    # The bars of job 3 are 14,770 and 7,385 wide, and a sign 800.
+    for length, bars in ((9, 2), (10, 1), (18, 1), (19, 0)):
+        name = "T" * length
+        drawing = Shop.from_jobs(ROWS, job_names=["Shelf", "Door", name]).gantt([2, 1, 3])
+        equal(f"bars with a name of {length} signs", drawing.count(f">{name}</text>"), bars)
     with tempfile.TemporaryDirectory() as folder:
         picture.gantt([2, 1, 3]).save(os.path.join(folder, "picture.svg"))
         equal("one that is saved", "Wë" in read(os.path.join(folder, "picture.svg")).decode(), True)
@@ -221,6 +234,7 @@ def use_arrays():
     equal("the array of a timetable", numpy.asarray(SHOP.schedule(many[1]).ends).max(axis=1).tolist(), [8, 12, 13])
     for table, place, wrong in [
         (numpy.array([[1, 2], [-3, 4]]), (2, 1), "is -3, and has to be from 0 to 999,999"),
+        (numpy.array([[1, 2], [3 - 2**32, 4]]), (2, 1), "is -4,294,967,293, and has to be from 0 to 999,999"),
         (numpy.array([[1, 2**40], [3, 4]]), (1, 2), "is 1,099,511,627,776, and has to be from 0 to 999,999"),
         (numpy.array([[1.0, 2.0], [numpy.nan, 4.0]]), (2, 1), "is missing (nan); write 0 where a job skips a machine"),
     ]:
@@ -475,14 +489,26 @@ def refuse_texts():
     equal("a text with other signs", refused(lambda: SHOP.check("\ud800é"))[:2], ("NotLawful", "HEADER"))
 
 
+def pass_options():
+    """Each number comes to the argument that the header names as the option is named."""
+    header = read(os.path.join(TOP, "library", "flowshop.h")).decode()
+    numbers = {"jobs": 2, "machines": 3, "width": 4, "rounds": 5, "seed": 6, "work": 1, "directions": 7, "depth": 1}
+    numbers.update(budget=1000, version=2)
+    for call, options in OPTIONS:
+        name = call.__name__
+        words = [word.split()[-1] for word in re.search(rf"flowshop_{name}\(([^)]*)\)", header)[1].split(",")]
+        keep = mock.Mock(side_effect=_library._CALLS[name])
+        with mock.patch.dict(_library._CALLS, {name: keep}):
+            call(**{option: numbers[option] for option in options})
+        given = keep.call_args[0]
+        wanted = [numbers[option] for option in options]
+        equal(f"the numbers of {name}", [given[words.index(option)] for option in options], wanted)
+        equal(f"the arguments of {name}", len(given), len(words))
+
+
 def refuse_options():
     """Numbers that the calls do not take, each with its limits."""
-    for call, options in [
-        (SHOP.improve, ["width", "rounds", "seed", "work"]),
-        (SHOP.certify, ["width", "rounds", "seed", "work", "directions"]),
-        (SHOP.solve, ["depth", "budget", "version"]),
-        (Shop.generate, ["jobs", "machines", "seed"]),
-    ]:
+    for call, options in OPTIONS:
         for name in options:
             least, most = _options.LIMITS[name]
             for value, shown in [(least - 1, f"{least - 1}"), (most + 1, f"{most + 1:,}"), (2**32, "4,294,967,296"),
@@ -552,6 +578,11 @@ def keep_rooms():
     ):
         equal("a search without room", refused(lambda: large.solve(depth=2)), MemoryError)
     equal("that it was made once", rooms[2:], ["solve"])
+    # The greatest lengths of the header.
+    with mock.patch.object(_texts, "_room", lambda wanted: (rooms.append(wanted), mmap.mmap(-1, wanted))[1]):
+        SHOP.certify(**{**FEW, "directions": 100_000})
+        SHOP.solve(depth=1, budget=100_000)
+    equal("the room of a text", (rooms[3] >= 103_300, rooms[4] >= 3200 + 3 * 100_001), (True, True))
     equal("room that no system has", len(_texts._room(1 << 60)) >= 1 << 24, True)
 
 
@@ -600,6 +631,7 @@ def main():
     refuse_tables()
     refuse_sequences()
     refuse_texts()
+    pass_options()
     refuse_options()
     compare_page()
     keep_rooms()
