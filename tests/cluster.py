@@ -99,7 +99,7 @@ def compare_searches():
                     wanted = 1, len(text), b"", reached
                 workers = _spread.Workers(draw.choice([map, shuffled(budget)]), draw.randint(1, 5))
                 with small_tasks(draw.choice([1e-6, 1e-4])), _spread.Spread(shop._parts[:3], workers, int) as spread:
-                    spread._speed = draw.choice([1e4, 1e6])
+                    spread.pace.speed, spread.pace.nodes = draw.choice([1e4, 1e6]), draw.randint(1, 30)
                     found = spread.prove(number, budget)
                 got = *found[:3], tuple(memoryview(found.sequence).cast("H"))
                 equal(f"a search of {rows} below {number} with {budget}", got, wanted)

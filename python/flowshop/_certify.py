@@ -1,7 +1,7 @@
 """The steps of certify, as docs/manual.md has them, with searches whose parts workers do. The text is that of the call
 flowshop_certify, byte by byte."""
 
-from typing import Callable, NamedTuple
+from typing import Callable, Dict, NamedTuple
 
 from ._parts import BELOW, OVER, PROVED, Instance, Reached
 from ._spread import Numbers, Spread, Workers
@@ -254,25 +254,47 @@ class Run:
             else:
                 step, top = 2 * step, min(top, self.known.upper + 1)
 
-    def _aim(self) -> None:
-        """Looks for a sequence that has the proved number as its makespan, by a beam that is aimed at the next one."""
-        if not self._is_proved():
-            width, steps = min(8 * self._effort.width, AIMED), 4 * self._effort.steps(12)
-            aimed = self._spread.reached("beam", self.known.sequence, self.known.lower + 1, width, steps)
-            self._take(aimed.sequence, aimed.makespan)
+    def _aimed(self, number: int, width: int, steps: int) -> Callable[[], Reached]:
+        """What a beam reaches that looks for a sequence below a number, from the best sequence so far."""
+        best = self.known.sequence
+        return self._spread.ahead(lambda: self._spread.reached("beam", best, number, width, steps))
 
-    def _halve(self) -> None:
+    def _aim(self) -> Callable[[], None]:
+        """Looks for a sequence that has the proved number as its makespan, by a beam that is aimed at the next one. The
+        beam is begun here, and what is given takes what it reaches."""
+        if self._is_proved():
+            return lambda: None
+        width, steps = min(8 * self._effort.width, AIMED), 4 * self._effort.steps(12)
+        aimed = self._aimed(self.known.lower + 1, width, steps)
+
+        def take() -> None:
+            reached = aimed()
+            self._take(reached.sequence, reached.makespan)
+
+        return take
+
+    def _halvings(self, missed: int, top: int) -> Dict[int, Callable[[], Reached]]:
+        """Beams that are aimed half of the way between two numbers: the next ones, where none comes to a sequence."""
+        beams: Dict[int, Callable[[], Reached]] = {}
+        while top - missed > 1 and len(beams) < self._spread.most_ahead:
+            missed += (top - missed) // 2
+            beams[missed] = self._aimed(missed, self._effort.width // 4, self._effort.steps(12) // 2)
+        return beams
+
+    def _halve(self, beams: Dict[int, Callable[[], Reached]]) -> None:
         """Looks for better sequences by narrower beams, each aimed half of the way between the proved number, or the
-        greatest one that such a beam came to no sequence below, and the best makespan."""
+        greatest one that such a beam came to no sequence below, and the best makespan. Some may be begun already."""
         missed, top = self.known.lower + 1, self.known.upper
         while top - missed > 1:
             self._pause()
             number = missed + (top - missed) // 2
-            width, steps = self._effort.width // 4, self._effort.steps(12) // 2
-            aimed = self._spread.reached("beam", self.known.sequence, number, width, steps)
+            if number not in beams:
+                beams = self._halvings(missed, top)
+            aimed = beams[number]()
             if aimed.makespan < number:
                 top = aimed.makespan
                 self._take(aimed.sequence, aimed.makespan)
+                beams = {}
             else:
                 missed = number
 
@@ -285,13 +307,15 @@ class Run:
         self._raise(min(SMALL[0], whole // 10))
         self._raise(whole // 30)
         self._begin(6)
-        self._aim()
+        known, take = self.known, self._aim()
+        beams = self._halvings(known.lower + 1, known.upper) if self._spread.most_ahead > 1 else {}
+        take()
         self._begin(7)
-        self._halve()
+        self._halve(beams if self.known == known else {})
         self._prove_upper(whole)
         self._begin(8)
         proved = self.known.lower
         self._raise(whole // 10)
         if self.known.lower > proved:
-            self._aim()
+            self._aim()()
             self._prove_upper(whole)

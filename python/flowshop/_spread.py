@@ -203,16 +203,31 @@ def _runs(items: List[_Item], nodes: int, most: int) -> Iterator[Union[_Item, Li
         yield run
 
 
+class Pace:
+    """How much a task has, as earlier ones have shown: how many directions a worker writes in a second, and how many
+    nodes it can search in the time of a task."""
+
+    def __init__(self, speed: float) -> None:
+        self.speed, self.nodes = speed, 1
+
+    def learn(self, task: Task, answer: Answer) -> None:
+        """Learns from a task that was done."""
+        if answer.rest:
+            self.nodes = max(1, self.nodes - self.nodes // 4)
+        elif answer.seconds < task.seconds / 2:
+            self.nodes = min(_MOST_NODES, self.nodes + self.nodes // 4 + 1)
+        if answer.written > 0 and answer.seconds > _SHORT / 2:
+            self.speed += (answer.written / answer.seconds - self.speed) / 8
+
+
 class Shared:
     """A search whose parts are given to workers: what is settled, and what is known of the rest, in order."""
 
-    def __init__(self, shop: Tuple[int, int, int, bytes], number: int, budget: int, speed: float) -> None:
+    def __init__(self, shop: Tuple[int, int, int, bytes], number: int, budget: int, pace: Pace) -> None:
         self.written = 0
-        self.speed = speed
-        self._shop, self._number, self._budget = shop, number, budget
+        self._shop, self._number, self._budget, self._pace = shop, number, budget, pace
         self._settled: List[_Done] = []
         self._items: List[_Item] = []
-        self._nodes = 1
         self._place = 0
 
     def begin(self, directions: bytes, parts: List[PackedPart]) -> None:
@@ -226,12 +241,12 @@ class Shared:
         nodes = sum(item.size() for item in self._items if isinstance(item, PackedPart))
         left = self._budget + 1 - self.written
         left -= sum(item.task.budget for item in self._items if isinstance(item, _Given))
-        seconds = _SHORT if nodes < 2 * most else _LONG
-        budget = int(min(seconds * self.speed, max(_SHORT * self.speed, left / (2 * most)))) + 1
+        seconds, speed = _SHORT if nodes < 2 * most else _LONG, self._pace.speed
+        budget = int(min(seconds * speed, max(_SHORT * speed, left / (2 * most)))) + 1
         most = min(most, -(-left // budget))
         items: List[_Item] = []
         given = []
-        for item in _runs(self._items, max(1, min(self._nodes, nodes // max(1, most))), most):
+        for item in _runs(self._items, max(1, min(self._pace.nodes, nodes // max(1, most))), most):
             if isinstance(item, list):
                 self._place += 1
                 parts = packed_parts(item)
@@ -247,12 +262,7 @@ class Shared:
         task = given.task
         if answer.place != task.place:
             raise RuntimeError("flowshop: the map does not give its results in the order of what it is given")
-        if answer.rest:
-            self._nodes = max(1, self._nodes - self._nodes // 4)
-        elif answer.seconds < task.seconds / 2:
-            self._nodes = min(_MOST_NODES, self._nodes + self._nodes // 4 + 1)
-        if answer.written > 0 and answer.seconds > _SHORT / 2:
-            self.speed += (answer.written / answer.seconds - self.speed) / 8
+        self._pace.learn(task, answer)
         if given in self._items:
             at = self._items.index(given)
             more: List[_Item] = [_Done(answer.written, answer.bits), *parts_of(answer.rest)]
@@ -299,8 +309,10 @@ class Spread:
         self._map = map if workers.map is None and workers.size == 1 else workers.map
         self._threads: Optional[Threads] = None
         self._known: Set[int] = set()
-        # Directions of a second, until they are measured.
-        self._speed = 400_000_000 / (shop[0] * shop[1] + 450)
+        # How many calls may be made beside each other.
+        self.most_ahead = 1 if self._map is map else max(2, min(4, workers.size))
+        # How many directions a worker writes in a second is about this, until it is measured.
+        self.pace = Pace(1_500_000_000 / (shop[0] * shop[1] + 450))
 
     def __enter__(self) -> "Spread":
         return self
@@ -320,12 +332,12 @@ class Spread:
     def prove(self, number: int, budget: int) -> Found:
         """What a search below a number comes to, with a budget of directions. Where beams are not given to workers, a
         search that soon ends is not either."""
-        shared = Shared(self._shop, number, budget, self._speed)
+        shared = Shared(self._shop, number, budget, self.pace)
         if self._workers.has_beams:
             shared.begin(b"", [PackedPart(b"", b"", 0, b"")])
             self._spread(shared)
             return shared.found()
-        rooms = Rooms(self._instance, min(budget, max(1, int(_LONG * self._speed))))
+        rooms = Rooms(self._instance, min(budget, max(1, int(_LONG * self.pace.speed))))
         begun = time.monotonic()
         found = rooms.search(b"", b"", number)
         if found == PROVED:
@@ -334,7 +346,7 @@ class Spread:
             return Found(BELOW, rooms.written, b"", rooms.reached(), rooms.makespan)
         if rooms.written == budget:
             return Found(OVER, budget)
-        shared.speed = rooms.written / max(time.monotonic() - begun, 1e-6)
+        self.pace.speed = rooms.written / max(time.monotonic() - begun, 1e-6)
         shared.begin(rooms.directions(), parts_of(rooms.rest()))
         self._spread(shared)
         return shared.found()
@@ -368,7 +380,7 @@ class Spread:
 
     def ahead(self, call: Callable[[], _T]) -> Callable[[], _T]:
         """A call that is made beside others where there are more workers than one, and else when it is asked for."""
-        if self._map is map:
+        if self.most_ahead == 1:
             return call
         running = Running(call)
         running.start()
