@@ -56,7 +56,7 @@ def packed_parts(parts: Iterable[PackedPart]) -> bytes:
 
 
 def parts_of(numbers: bytes) -> List[PackedPart]:
-    """The parts that the library wrote, one after the other."""
+    """The parts that the library wrote, one after the other, without those that are no node."""
     parts, at = [], 0
     while at < len(numbers):
         *counts, end = _HEAD.unpack_from(numbers, at)
@@ -65,7 +65,8 @@ def parts_of(numbers: bytes) -> List[PackedPart]:
         for count in counts:
             lists.append(numbers[at : at + 2 * count])
             at += 2 * count
-        parts.append(PackedPart(lists[0], lists[1], end, lists[2]))
+        if lists[2] or not end:
+            parts.append(PackedPart(lists[0], lists[1], end, lists[2]))
     return parts
 
 
