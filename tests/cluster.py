@@ -24,7 +24,7 @@ from flowshop import Interrupted, Shop, _files, _spread
 TOP = pathlib.Path(__file__).resolve().parent.parent
 BLOCKS = TOP / "examples" / "several_blocks.txt"
 # A shop whose least makespan no search of a test proves.
-HARD = Shop.generate(20, 10, 268_827_376)
+HARD = Shop.generate(30, 15, 7)
 FEW = {"width": 20, "rounds": 20, "seed": 3, "work": 7, "directions": 30_000}
 LONG = {"width": 16, "rounds": 10, "work": 1, "directions": 1_000_000_000}
 
@@ -47,25 +47,25 @@ def small_tasks(seconds=0.0005):
     return mock.patch.multiple(_spread, _LONG=seconds, _SHORT=seconds / 4)
 
 
-def drawn_shops():
-    """Shops of all kinds: few and many jobs and machines, small times, times of which many are equal or 0, and times so
-    great that makespans are above 65,535."""
-    draw = random.Random(5)
-    for number in range(40):
-        jobs, machines = draw.randint(5, 30), draw.randint(2, 20)
+def drawn_runs():
+    """Shops of all kinds, and numbers for their runs: few and many jobs and machines, small times, times of which many
+    are equal or 0, and times so great that makespans are above 65,535. The last four end in steps that are rare."""
+    draw = random.Random(9)
+    for number in range(116):
+        jobs, machines = draw.randint(5, 30), draw.choice([2, 3, 4, 5, 8, 12, 20])
         kinds = [lambda: draw.randint(1, 99), lambda: draw.randint(1, 4), lambda: draw.choice([0, 0, 1, 50])]
         kinds.append(lambda: draw.randint(5000, 20_000))
-        kind = kinds[number % 4]
-        yield Shop.from_machines([[kind() for _ in range(jobs)] for _ in range(machines)])
+        shop = Shop.from_machines([[kinds[number % 4]() for _ in range(jobs)] for _ in range(machines)])
+        choice = {"width": draw.choice([0, 5, 16, 37, 150]), "rounds": 20, "work": draw.choice([0, 1, 7, 30])}
+        choice.update(seed=draw.randint(1, 99), directions=draw.choice([1, 1000, 29_999, 200_000]))
+        if number < 36 or number in (38, 83, 104, 115):
+            yield shop, choice
 
 
 def compare_texts(pool):
     """The text of a run whose searches are shared is that of one call."""
-    draw = random.Random(6)
     steps = set()
-    for shop in drawn_shops():
-        choice = {**FEW, "width": draw.choice([0, 5, 16, 37]), "work": draw.choice([0, 1, 7]), "seed": draw.randint(1, 99)}
-        choice["directions"] = draw.choice([1, 1000, 29_999])
+    for shop, choice in drawn_runs():
         wanted = shop.certify(**choice)
         with small_tasks():
             for name, words in [
@@ -79,7 +79,7 @@ def compare_texts(pool):
                 equal(f"the text of {shop!r} by {name} with {choice}", got.text == wanted.text, True)
                 equal(f"what {name} say of it", (got, reports[-1].lower), (wanted, wanted.lower))
                 steps.add(reports[-1].step)
-    equal("that runs end in all steps", steps >= {1, 2, 3, 8}, True)
+    equal("that runs end in many steps", steps, {1, 2, 3, 8})
 
 
 def compare_searches():
@@ -205,7 +205,7 @@ def interrupt_runs(pool):
 def stop_threads():
     """Searches that are left behind do not keep a process from ending, nor does one in a thread that is a daemon."""
     code = (
-        "import threading\nfrom flowshop import Shop\nshop = Shop.generate(20, 10, 268_827_376)\n"
+        "import threading\nfrom flowshop import Shop\nshop = Shop.generate(30, 15, 7)\n"
         "threading.Thread(target=shop.certify, daemon=True).start()\n"
         "print(shop.certify(workers=3, time_limit=0.5, directions=1_000_000_000).optimal)"
     )
