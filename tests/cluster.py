@@ -363,6 +363,28 @@ def stop_command():
         equal("what it ends with", (run.returncode, command("check", file, "--out", out).returncode), (0, 0))
 
 
+def use_page():
+    """The commands of docs/cluster.md for one machine, and the examples of the two pages."""
+    page = (TOP / "docs" / "cluster.md").read_text()
+    with tempfile.TemporaryDirectory() as folder:
+        pathlib.Path(folder, "shops.txt").write_bytes(BLOCKS.read_bytes())
+        lines = [line.split()[3:] for line in page.splitlines() if line.startswith("    python3 -m flowshop ")]
+        lines = [words for words in lines if "HOST" not in words[-3]]
+        equal("that there are commands", [words[0] for words in lines], ["certify", "certify", "check"])
+        for words in lines:
+            run = command(*words, cwd=folder)
+            last = run.stdout.splitlines()[-1].split()[:6] if run.stdout else run.stderr
+            equal(f"{words}", (run.returncode, last), (0, ["shops.txt", "3", "10", "5", "708", "708"]))
+    for name in ("by_processes.py", "many_workers.py"):
+        equal(f"what {name} prints", example(name), "Certificate(optimal 303, 15 directions)\n")
+
+
+def example(name, *words):
+    """What an example prints of a shop."""
+    run = [sys.executable, TOP / "examples" / "python" / name, BLOCKS, "1", *words]
+    return subprocess.run(run, capture_output=True, text=True, timeout=120, check=False).stdout
+
+
 def use_dask():
     """Workers of dask, two processes on this machine: the same text, a limit of time, and the command."""
     distributed = __import__("distributed")
@@ -370,6 +392,8 @@ def use_dask():
         with distributed.Client(cluster) as client:
             compare_executor("dask", client.get_executor())
         compare_command(f"dask:{cluster.scheduler_address}")
+        printed = example("by_dask.py", cluster.scheduler_address)
+        equal("what by_dask.py prints", printed, "Certificate(optimal 303, 15 directions)\n")
 
 
 def compare_executor(name, executor):
@@ -415,6 +439,7 @@ def use_local():
     use_eight_threads()
     use_command()
     stop_command()
+    use_page()
 
 
 if __name__ == "__main__":

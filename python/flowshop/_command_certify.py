@@ -9,7 +9,7 @@ import sys
 import time
 from concurrent.futures import BrokenExecutor, ProcessPoolExecutor
 from contextlib import contextmanager
-from typing import Any, Callable, Iterator, List, NamedTuple, Optional
+from typing import Callable, Iterator, List, NamedTuple, Optional
 
 from ._certify import Effort
 from ._errors import NotLawful
@@ -25,9 +25,9 @@ it proves. A block whose certificate is there and lawful is not searched again, 
 where it was."""
 
 
-def words(parsers: Any) -> None:
+def words(parsers: "argparse._SubParsersAction[argparse.ArgumentParser]") -> None:
     """The words of the command."""
-    parser: argparse.ArgumentParser = parsers.add_parser("certify", help="certify shops", description=_ABOUT)
+    parser = parsers.add_parser("certify", help="certify shops", description=_ABOUT)
     words_of_blocks(parser)
     count = len(os.sched_getaffinity(0))
     parser.add_argument("--workers", type=int, metavar="K", help=f"how many share the searches; else {count}")
