@@ -49,7 +49,8 @@ def small_tasks(seconds=0.0005):
 
 def drawn_runs():
     """Shops of all kinds, and numbers for their runs: few and many jobs and machines, small times, times of which many
-    are equal or 0, and times so great that makespans are above 65,535. The last four end in steps that are rare."""
+    are equal or 0, and times so great that makespans are above 65,535. Of great times the number that a budget proves
+    depends on each direction of it. The last four end in steps that are rare."""
     draw = random.Random(9)
     for number in range(116):
         jobs, machines = draw.randint(5, 30), draw.choice([2, 3, 4, 5, 8, 12, 20])
@@ -58,22 +59,33 @@ def drawn_runs():
         shop = Shop.from_machines([[kinds[number % 4]() for _ in range(jobs)] for _ in range(machines)])
         choice = {"width": draw.choice([0, 5, 16, 37, 150]), "rounds": 20, "work": draw.choice([0, 1, 7, 30])}
         choice.update(seed=draw.randint(1, 99), directions=draw.choice([1, 1000, 29_999, 200_000]))
-        if number < 36 or number in (38, 83, 104, 115):
+        if number < 20 or number in (38, 83, 104, 115):
             yield shop, choice
+    for _ in range(20):
+        most = draw.choice([3000, 6000, 999_999])
+        jobs, machines = draw.randint(12, 20), draw.randint(6, 20)
+        shop = Shop.from_machines([[draw.randint(0, most) for _ in range(jobs)] for _ in range(machines)])
+        choice = {"width": draw.choice([0, 16, 24]), "rounds": 5, "work": 1, "seed": draw.randint(1, 99)}
+        yield shop, {**choice, "directions": draw.randint(3000, 40_000)}
+    for _ in range(4):
+        shop = Shop.from_machines([[draw.randint(0, 3000) for _ in range(14)] for _ in range(10)])
+        yield shop, {"width": 0, "rounds": 5, "work": 1, "seed": 1, "directions": draw.randint(1_000_000, 2_500_000)}
 
 
 def compare_texts(pool):
     """The text of a run whose searches are shared is that of one call."""
     steps = set()
+    ways = [
+        ("one worker", {"time_limit": 1000}),
+        ("three threads", {"workers": 3}),
+        ("a map", {"map": shuffled(7)}),
+        ("processes", {"map": pool.map, "workers": 2}),
+    ]
     for shop, choice in drawn_runs():
         wanted = shop.certify(**choice)
-        with small_tasks():
-            for name, words in [
-                ("one worker", {"time_limit": 1000}),
-                ("three threads", {"workers": 3}),
-                ("a map", {"map": shuffled(7)}),
-                ("processes", {"map": pool.map, "workers": 2}),
-            ]:
+        is_long = choice["directions"] > 200_000
+        with small_tasks(0.05 if is_long else 0.0005):
+            for name, words in ways[1:2] if is_long else ways:
                 reports = []
                 got = shop.certify(**choice, **words, progress=reports.append)
                 equal(f"the text of {shop!r} by {name} with {choice}", got.text == wanted.text, True)
@@ -151,7 +163,9 @@ def keep_time(pool):
     better = HARD.improve(time_limit=0.3)
     equal("improve in time", time.monotonic() - begun < 1.3, True)
     equal("what it gives", HARD.makespan(better) == better.value <= HARD.neh().value, True)
-    equal("improve with time", HARD.improve(work=50, time_limit=1000), HARD.improve(work=50))
+    for rounds, seed in [(0, 1), (0, 2), (20, 3), (20, 4)]:
+        shop, choice = Shop.generate(40, 10, seed), {"width": 600, "rounds": rounds, "work": 100}
+        equal(f"improve {shop!r} with time", shop.improve(**choice, time_limit=1000), shop.improve(**choice))
 
 
 def interrupt(seconds, call):

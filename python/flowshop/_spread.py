@@ -352,13 +352,14 @@ class Spread:
         return shared.found()
 
     def _spread(self, shared: Shared) -> None:
-        """Gives parts to workers until the search is decided. While some are searched, about as many wait."""
+        """Gives parts to workers until the search is decided. While some are searched, others wait, some two for each
+        worker, so that none is idle while the first one of them is waited for."""
         flight: Deque[Tuple[_Given, Iterator[Answer]]] = deque()
         try:
             while not shared.is_decided():
                 self._pause(shared.written)
                 most = max(self._workers.size, len(self._known) + 1)
-                given = shared.give(most) if len(flight) <= most else []
+                given = shared.give(most) if len(flight) <= 2 * most else []
                 if given:
                     answers = self._mapped(work, [one.task for one in given])
                     flight.extend((one, answers) for one in given)
