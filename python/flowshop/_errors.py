@@ -51,8 +51,8 @@ class TextError(FlowshopError):
 
 class OptionError(FlowshopError):
     """A number that a call does not take: JOBS, MACHINES, SEED, DEPTH, BUDGET, VERSION, WIDTH, ROUNDS, WORK,
-    DIRECTIONS, UPPER, LOWER, BOUND, WORKERS or TIME_LIMIT; or PLAN_DEPTH or PLAN_PREFIXES, where the shop has no lists of so many jobs, or too
-    many."""
+    DIRECTIONS, UPPER, LOWER, BOUND, WORKERS or TIME_LIMIT; or PLAN_DEPTH or PLAN_PREFIXES, where the shop has no lists
+    of so many jobs, or too many."""
 
 
 class OverBudget(FlowshopError):
