@@ -133,8 +133,8 @@ class Traced:
 def follow_manual():
     """The searches of a run that comes to nothing, with their budgets, and its beams and rounds, with their steps, by
     docs/manual.md. Some numbers, for 20 jobs on 10 machines and 10,000,000 directions: all searches have 850 of 650
-    parts of these, 13,076,923, of which each takes 20 x 20 / 3 = 133 more than it writes; of 17,000,000 steps beams have
-    12,000,000."""
+    parts of these, 13,076,923, of which each takes 20 x 20 / 3 = 133 more than it writes; of 17,000,000 steps beams
+    have 12,000,000."""
     upper, lower = SOME.neh().value, SOME.bound()
     halves, missed = [], lower + 1
     while upper - missed > 1:
