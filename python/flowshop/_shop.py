@@ -6,11 +6,13 @@ from array import array
 from math import perm
 from typing import Any, Hashable, Iterable, List, NamedTuple, NoReturn, Optional, Tuple
 
+from ._clock import times_of
 from ._errors import NotASequence, NotLawful, OptionError, OverBudget, counted
 from ._labels import Unit, label_lines
 from ._library import Refused, byref, call, size, u16, u32, u64
 from ._options import MOST_TREES, STATED, option
-from ._results import Certificate, Names, Path, Picture, Start, Timetable, listed, with_names
+from ._page import MOST_BARS, Facts, page
+from ._results import Certificate, Names, Path, Picture, Report, Start, Timetable, listed, with_names
 from ._sequences import Jobs, Many, items_of, not_a_sequence, packed
 from ._tables import Table, read_table
 from ._texts import Text, block_text, blocks_of, not_lawful, text_of, written
@@ -288,6 +290,37 @@ class Shop:
         if self._parts[3:5] != (None, None):
             picture = with_names(picture, self.job_names, self.machine_names)
         return Picture(picture)
+
+    def report(
+        self,
+        order: Jobs,
+        *,
+        start: Optional[str] = None,
+        unit: Optional[str] = None,
+        title: Optional[str] = None,
+    ) -> Report:
+        """A page of HTML for whoever carries the schedule out: the order, a picture, a table of the machines, and a
+        sheet for each of them with start and end of each job. It says what is proved: of a Certificate, which is
+        checked, its lower bound, and of another sequence that of `bound`. Times are in the unit of the table; or by the
+        clock, where `start` is the time of day when the first job starts, and `unit` how long one unit of the table is,
+        as `15min`, `1h` or `30s`. NotLawful where a certificate is none of the shop, OptionError where start or unit
+        has another form, or one is given alone; the other errors are those of `makespan`.
+
+        >>> shop.report(shop.certify(), start="07:30", unit="15min").save("schedule.html")
+        """
+        times = times_of(self._parts[5], start, unit)
+        certificate = self.check(order) if isinstance(order, Certificate) else None
+        timetable = self.schedule(certificate or order)
+        facts = Facts(
+            title=title or f"Schedule of {counted(self.jobs, 'job')} on {counted(self.machines, 'machine')}",
+            timetable=timetable,
+            lower=certificate.lower if certificate else self.bound(),
+            is_certified=certificate is not None,
+            listed=self.makespan(range(1, self.jobs + 1)),
+            picture=self.gantt(timetable) if self.jobs * self.machines <= MOST_BARS else "",
+            times=times,
+        )
+        return Report(page(facts))
 
     def bound(self) -> int:
         """A number below which no sequence has a makespan: the bound of the two-ended certificate with no directions.

@@ -94,6 +94,31 @@ def not_lawful(refused: Refused, given: Text, text: bytes, jobs: int, machines: 
     return NotLawful(refused.name, line, sentence)
 
 
+# The lines of a sequence, as the program prints them, and what each has to be.
+_SEQUENCE = re.compile(rb"[ \t\r]*sequence((?:[ \t\r]+[0-9]{1,20})+)[ \t\r]*")
+_MAKESPAN = re.compile(rb"[ \t\r]*makespan[ \t\r]+([0-9]{1,20})[ \t\r]*")
+_NOTHING = re.compile(rb"()")
+_SEQUENCE_LINES = [
+    (_SEQUENCE, "the word sequence and the numbers of the jobs"),
+    (_MAKESPAN, "the word makespan and a number"),
+]
+
+
+def sequence_of(text: bytes) -> Tuple[List[int], Optional[int], int]:
+    """The jobs that a text of a sequence has; and the makespan that it states, if it does, with its line. TextError
+    with the first line that has another form."""
+    found, number = [], 0
+    lines = [(number, line) for number, line in enumerate(text.split(b"\n"), 1) if line.strip(b" \t\r")]
+    for at, (number, line) in enumerate(lines):
+        form, wanted = _SEQUENCE_LINES[at] if at < 2 else (_NOTHING, "blank")
+        match = form.fullmatch(line)
+        if not match:
+            sentence = f"line {number} is {_line(text, number)}, and has to be {wanted}"
+            raise TextError("SEQUENCE", number, sentence)
+        found.append([int(word) for word in match[1].split()])
+    return found[0], found[1][0] if len(found) == 2 else None, number
+
+
 # What is wrong with a line of a benchmark text, by the name of the status.
 _MISREAD: Dict[str, str] = {
     "LABEL": "a line of words is wanted before the head of a block, and before its times",
