@@ -27,7 +27,7 @@ def words(parsers: "argparse._SubParsersAction[argparse.ArgumentParser]") -> Non
         "text",
         metavar="TEXT",
         nargs="?",
-        help="the file of a certificate, which is checked, or of a sequence; left out, one is searched for some seconds",
+        help="the file of a certificate, which is checked, or of a sequence; left out, a search takes some seconds",
     )
     parser.add_argument("--start", metavar="TIME", help="the time of day when the first job starts, as 07:30")
     parser.add_argument("--unit", metavar="LENGTH", help="how long one unit of the table is, as 15min, 1h or 30s")
