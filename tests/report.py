@@ -239,8 +239,8 @@ def say_what_is_proved():
         equal(f"what is said beside it of {order!r}", [each.text() for each in root.all("p")][1], beside)
         (drawing,) = root.all("svg")
         equal("the picture as words", drawing.attributes["aria-label"].endswith(proved), True)
-    wanted = "Not modelled are due dates, set-up times, shifts and breaks; every machine takes the jobs in the same order"
-    equal("what is not modelled", line_of(root, "Not").partition(". Made")[0], wanted)
+    wanted = "Not modelled are due dates, set-up times, shifts and breaks; every machine takes the jobs in the same "
+    equal("what is not modelled", line_of(root, "Not").partition("order. Made")[0], wanted)
     other = Shop.from_jobs([[1, 2, 4]] * 3)
     got = refused(lambda: other.report(SHOP.check(LEAST)))[:3]
     equal("a certificate of another shop", got, ("NotLawful", "NOT_ATTAINED", 4))
@@ -436,9 +436,9 @@ def refuse_by_the_command():
     blocks = "two.txt has 2 blocks: write the number of one behind it"
     head = "line 2 of table.csv is 'A;1': the head of a block is five numbers: jobs, machines, seed, upper bound and"
     for words, status, said in [
-        ("nothing", 1, "nothing: No such file or directory"),
-        ("shop.txt 1 nothing", 1, "nothing: No such file or directory"),
-        ("shop.txt 1 least --out nothing/report.html", 1, "nothing/report.html: No such file or directory"),
+        ("nothing", 3, "[Errno 2] No such file or directory: 'nothing'"),
+        ("shop.txt 1 nothing", 3, "[Errno 2] No such file or directory: 'nothing'"),
+        ("shop.txt 1 least --out nothing/a.html", 3, "[Errno 2] No such file or directory: 'nothing/a.html'"),
         ("table.csv", 1, f"{head} lower bound; examples/from_csv.awk turns a table into such a file"),
         ("two.txt", 2, blocks),
         ("two.txt least", 2, blocks),
@@ -456,7 +456,7 @@ def refuse_by_the_command():
          "table.csv: line 1 is 'Job;Cut', and names no certificate, such as 'flowshop two-ended 1'"),
         ("shop.txt 1 least --start 7", 2, "start needs unit: how long one unit of the table is, as 15min"),
     ]:
-        equal(f"report {words}", run(*words.split()), (status, "", f"{said}\n"))
+        equal(f"report {words}", run(*words.split()), (status, "", f"flowshop: {said}\n"))
     equal("report alone", run()[:2], (2, ""))
 
 

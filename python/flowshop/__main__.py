@@ -1,22 +1,35 @@
-"""The commands of the package: python3 -m flowshop COMMAND .."""
+"""The commands of the package: python -m flowshop COMMAND .."""
 
 import argparse
 import sys
+from typing import List, Optional
 
 from . import _report
+from ._errors import FlowshopError, OptionError
 
-COMMANDS = (_report,)
+_COMMANDS = (_report,)
 
 
-def main() -> int:
-    """Runs the command that the words name, and returns its status."""
-    parser = argparse.ArgumentParser(prog="python3 -m flowshop", description="Commands on permutation flow shops.")
+def main(words: Optional[List[str]] = None) -> int:
+    """Runs a command. The status is 1 where something is refused, 2 where it is the words, and 3 where a file is not
+    read or written; a line on standard error says why."""
+    about = "Exact permutation flow shops. Each command says with --help what its words are."
+    parser = argparse.ArgumentParser(prog="python -m flowshop", description=about)
     parsers = parser.add_subparsers(metavar="COMMAND", required=True)
-    for command in COMMANDS:
+    for command in _COMMANDS:
         command.words(parsers)
-    options = parser.parse_args()
-    status: int = options.run(options)
-    return status
+    options = parser.parse_args(words)
+    try:
+        return int(options.run(options))
+    except OptionError as error:
+        print(f"flowshop: {error}", file=sys.stderr)
+        return 2
+    except FlowshopError as error:
+        print(f"flowshop: {error}", file=sys.stderr)
+        return 1
+    except OSError as error:
+        print(f"flowshop: {error}", file=sys.stderr)
+        return 3
 
 
 if __name__ == "__main__":

@@ -35,7 +35,7 @@ svg { display: block; min-width: 100%; height: auto; }
 table { border-collapse: collapse; font-variant-numeric: tabular-nums; }
 th, td { padding: .15em .6em; border-bottom: 1px solid #888; text-align: right; vertical-align: baseline;
   white-space: nowrap; }
-thead th { border-bottom: 2px solid #000; vertical-align: bottom; }
+thead th { border-bottom: 2px solid #000; vertical-align: bottom; white-space: normal; }
 tbody th { font-weight: normal; }
 th.name { text-align: left; white-space: normal; min-width: 6em; overflow-wrap: anywhere; }
 tr { break-inside: avoid; }
@@ -213,7 +213,8 @@ def _sheet(machine: _Machine, facts: Facts, title: str) -> List[str]:
         ]
         width = max(10, *(len(turn.job) for turn in turns)) + 2 * max(5, len(times.at(turns[-1].end))) + 12
         columns = f' style="--width: {width}ch"' if jobs > _MOST_IN_LINE else ""
-        heads = [("", "Place"), (_NAME, "Job"), ("", "Start"), ("", "End")]
+        job = f"Job on {machine.name}" if jobs > _MOST_IN_LINE else "Job"
+        heads = [("", "Place"), (_NAME, job), ("", "Start"), ("", "End")]
         lines += [f'<div class="rows"{columns}>', *_table(heads, rows), "</div>"]
     return [*lines, "</section>"]
 

@@ -4,8 +4,8 @@ import argparse
 import sys
 from typing import Optional
 
-from ._errors import FlowshopError, OptionError, TextError, counted, shown
-from ._results import Report
+from ._errors import NotASequence, NotLawful, OptionError, TextError, counted, shown
+from ._results import Certificate
 from ._sequences import Jobs
 from ._shop import Shop
 from ._texts import sequence_of
@@ -52,14 +52,8 @@ def _picked(path: str, index: Optional[str]) -> Shop:
     return blocks[int(index) - 1].shop
 
 
-def _order(shop: Shop, path: Optional[str]) -> Jobs:
-    """The certificate or the sequence in a file, or else a certificate that is searched for."""
-    if path is None:
-        return shop.certify(work=100, directions=1_000_000)
-    with open(path, "rb") as file:
-        text = file.read()
-    if not text.lstrip(b" \t\r\n").startswith(b"sequence"):
-        return shop.check(text)
+def _sequence(shop: Shop, text: bytes) -> Jobs:
+    """The sequence in a text. TextError where it has another makespan than the text says."""
     jobs, stated, line = sequence_of(text)
     makespan = shop.makespan(jobs)
     if stated not in (None, makespan):
@@ -68,33 +62,29 @@ def _order(shop: Shop, path: Optional[str]) -> Jobs:
     return jobs
 
 
-def _made(options: argparse.Namespace) -> Report:
-    """The report that is asked for."""
+def _order(shop: Shop, path: Optional[str]) -> Jobs:
+    """The sequence in a file, or its text as that of a certificate, which is not checked yet; or else a certificate
+    that is searched for."""
+    if path is None:
+        return shop.certify(work=100, directions=1_000_000)
+    with open(path, "rb") as file:
+        text = file.read()
+    return _sequence(shop, text) if text.split(None, 1)[:1] == [b"sequence"] else Certificate(0, 0, (), text)
+
+
+def run(options: argparse.Namespace) -> int:
+    """Writes the report. OptionError where a word is none; the other errors are those of the calls."""
     index, text = options.index, options.text
     if index is not None and text is None and not index.isdecimal():
         index, text = None, index
     shop = _picked(options.shop, index)
     title = options.title or f"Schedule of {options.shop}{f', block {index}' if index not in (None, '1') else ''}"
     try:
-        order = _order(shop, text)
-    except FlowshopError as error:
+        report = shop.report(_order(shop, text), start=options.start, unit=options.unit, title=title)
+    except (NotASequence, NotLawful, TextError) as error:
         raise type(error)(error.name, error.place, f"{text}: {error}") from None
-    return shop.report(order, start=options.start, unit=options.unit, title=title)
-
-
-def run(options: argparse.Namespace) -> int:
-    """Writes the report. The status is 1 where a text is refused or a file is not read or written, and 2 where a word
-    is refused; a line on standard error says why."""
-    try:
-        report = _made(options)
-        if options.out is None:
-            sys.stdout.buffer.write(report.encode("utf-8", "replace"))
-        else:
-            report.save(options.out)
-    except FlowshopError as error:
-        print(error, file=sys.stderr)
-        return 2 if isinstance(error, OptionError) else 1
-    except OSError as error:
-        print(f"{error.filename or options.out}: {error.strerror}", file=sys.stderr)
-        return 1
+    if options.out is None:
+        sys.stdout.buffer.write(report.encode("utf-8", "replace"))
+    else:
+        report.save(options.out)
     return 0

@@ -317,7 +317,7 @@ class Shop:
             lower=certificate.lower if certificate else self.bound(),
             is_certified=certificate is not None,
             listed=self.makespan(range(1, self.jobs + 1)),
-            picture=self.gantt(timetable) if self.jobs * self.machines <= MOST_BARS else "",
+            picture=self.gantt(certificate or timetable) if self.jobs * self.machines <= MOST_BARS else "",
             times=times,
         )
         return Report(page(facts))
