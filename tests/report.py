@@ -16,7 +16,7 @@ import time
 
 from counts import end, equal, refused
 
-from flowshop import Certificate, Report, Shop
+from flowshop import Certificate, Report, Shop, _clock, _labels, _page
 
 TOP = os.path.dirname(os.path.dirname(os.path.abspath(__file__)))
 PROGRAM = os.environ.get("FLOWSHOP_PROGRAM", os.path.join(TOP, "crates", "flow_tool", "out", "flow_tool"))
@@ -333,6 +333,16 @@ def draw_pictures():
     root = read(shop_of([[2420]], 4, "comma").report([1]))
     texts = [element.text() for element in next(root.all("svg")).all("text")]
     equal("marks in parts", [text for text in texts if text.isdigit()][:5], ["0", "125", "250", "375", "500"])
+    root = read(shop_of([[616]], 4).report([1], start="22:30", unit="1min"))
+    texts = [element.text() for element in next(root.all("svg")).all("text")]
+    marks = ["22:30", "22:55", "23:20", "23:45", "day 2, 00:10", "00:35", "01:00"]
+    equal("marks without seconds", [text for text in texts if re.search(r"\d\d:\d\d$", text)], marks)
+    # A picture whose title has a bound.
+    clock = _clock.times_of(_labels.Unit(), "07:30", "1min")
+    drawing = "<title>optimal {}, jobs 2</title><text>makespan {}, lower bound {}, jobs 3</text>".format
+    mark = '<line x="1"/><text x="2">{}</text>'.format
+    got = _page._with_times(drawing(61, 61, 5) + mark(61), clock)
+    equal("a title with a bound", got, drawing("1:01", "1:01", "0:05") + mark("08:31"))
     for jobs, bars in [(200, 4000), (201, 0)]:
         shop = Shop.generate(jobs, 20, 1)
         equal(f"the bars of {jobs} x 20", shop.report(shop.neh()).count("<rect "), bars)

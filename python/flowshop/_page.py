@@ -12,8 +12,9 @@ from ._library import version
 from ._results import Timetable
 
 # Of a picture: the makespan and a bound in its title and over it, a mark of its time axis, and the title of a bar.
-_HEAD = re.compile(r"\b(makespan|optimal|at least) (\d+)")
+_HEAD = re.compile(r"\b(makespan|optimal|lower bound) (\d+)")
 _MARK = re.compile(r"(<line [^>]*/><text [^>]*>)(\d+)(?=</text>)")
+_WHOLE = re.compile(r"^(\d\d:\d\d):00$")
 _SPAN = re.compile(r"\bstart (\d+), end (\d+)(?=</title>)")
 # How many bars a picture has at most, to be of use on a page.
 MOST_BARS = 4000
@@ -220,15 +221,16 @@ def _sheet(machine: _Machine, facts: Facts, title: str) -> List[str]:
 
 
 def _with_times(picture: str, times: Times) -> str:
-    """A picture with the times as the page shows them. Of two marks of the time axis in a row that are of one day, the
-    second has the time of day alone."""
-    day = ""
+    """A picture with the times as the page shows them. A mark of the time axis has the day where that begins, and no
+    seconds where there are none."""
+    last = ""
 
     def mark(found: "re.Match[str]") -> str:
-        nonlocal day
-        before, (*on, at) = day, times.at(int(found[2])).split(", ")
-        day = "".join(on)
-        return f"{found[1]}{at if day == before else ', '.join([*on, at])}"
+        nonlocal last
+        day, comma, at = times.at(int(found[2])).rpartition(", ")
+        text = (day + comma if day != last else "") + _WHOLE.sub(r"\1", at)
+        last = day
+        return found[1] + text
 
     def span(found: "re.Match[str]") -> str:
         return f"start {times.at(int(found[1]))}, end {times.at(int(found[2]))}"
