@@ -14,8 +14,9 @@ from ._results import Timetable
 # Of a picture: the makespan and a bound in its title and over it, a mark of its time axis, and the title of a bar.
 _HEAD = re.compile(r"\b(makespan|optimal|lower bound) (\d+)")
 _MARK = re.compile(r"(<line [^>]*/><text [^>]*>)(\d+)(?=</text>)")
-_WHOLE = re.compile(r"^(\d\d:\d\d):00$")
 _SPAN = re.compile(r"\bstart (\d+), end (\d+)(?=</title>)")
+# A time of day without seconds.
+_WHOLE = re.compile(r"^(\d\d:\d\d):00$")
 # How many bars a picture has at most, to be of use on a page.
 MOST_BARS = 4000
 # Up to so many jobs the sheets of several machines share a page of paper; above so many the rows of a sheet stand in
@@ -68,7 +69,7 @@ _NAME = ' class="name"'
 @dataclass(frozen=True)
 class Facts:
     """What a page says of a schedule: its timetable; a number below which no order has a makespan, and whether a text
-    proves it; the makespan of the jobs in the order of the table; a picture; and how times are shown."""
+    proves it; the makespan of the jobs in the order of the table; a picture, or nothing; and how times are shown."""
 
     title: str
     timetable: Timetable
@@ -104,7 +105,7 @@ class _Machine(NamedTuple):
         return self.turns[-1].end - self.turns[0].start - self.working() if self.turns else 0
 
 
-def plain(name: Hashable) -> str:
+def _plain(name: Hashable) -> str:
     """A name as text on a page: what is no sign is a blank."""
     return html.escape("".join(sign if sign.isprintable() else " " for sign in str(name)))
 
@@ -116,7 +117,7 @@ def _jobs(timetable: Timetable) -> List[str]:
     texts = (f"{name} (job {job})" if count[str(name)] > 1 else f"{name}" for name, job in named)
     if timetable.names == timetable.sequence:
         texts = (f"Job {job}" for job in timetable.sequence)
-    return [plain(text) for text in texts]
+    return [_plain(text) for text in texts]
 
 
 def _machines(timetable: Timetable) -> List[_Machine]:
@@ -132,7 +133,7 @@ def _machines(timetable: Timetable) -> List[_Machine]:
             for place, (job, begun, ended) in enumerate(zip(jobs, starts, ends), 1)
             if begun[at] < ended[at]
         ]
-        machines.append(_Machine(at + 1, f"Machine {name}" if are_numbers else plain(name), turns))
+        machines.append(_Machine(at + 1, f"Machine {name}" if are_numbers else _plain(name), turns))
     return machines
 
 
@@ -243,9 +244,9 @@ def _with_times(picture: str, times: Times) -> str:
 
 
 def _picture(facts: Facts) -> List[str]:
-    """The picture, where there is one."""
+    """The picture, or a sentence where it is left out."""
     if not facts.picture:
-        return []
+        return ['<p class="small">The picture is left out: it has too many bars for a page.</p>']
     label = f"A row for each machine, with a bar for each job from its start to its end. {_proved(facts)}"
     picture = _with_times(facts.picture, facts.times).rstrip("\n")
     picture = picture.replace("<svg ", f'<svg role="img" aria-label="{label}" ', 1)
@@ -255,7 +256,7 @@ def _picture(facts: Facts) -> List[str]:
 
 def page(facts: Facts) -> str:
     """The page."""
-    title, timetable = plain(facts.title), facts.timetable
+    title, timetable = _plain(facts.title), facts.timetable
     machines = _machines(timetable)
     lines = [
         "<!DOCTYPE html>",
