@@ -393,8 +393,8 @@ def keep_reports():
     report = SHOP.report([2, 1, 3], title="Öl")
     equal("its kind", (isinstance(report, Report), isinstance(report, str)), (True, True))
     frame = Reader(report._repr_html_())
-    shown = [each.attributes["srcdoc"] for each in frame.root.all("iframe")]
-    equal("one for a notebook", (frame.faults, shown), ([], [report]))
+    shown = [(each.attributes["title"], each.attributes["srcdoc"]) for each in frame.root.all("iframe")]
+    equal("one for a notebook", (frame.faults, shown), ([], [("Öl", report)]))
     with tempfile.TemporaryDirectory() as folder:
         path = os.path.join(folder, "report.html")
         report.save(path)

@@ -189,11 +189,16 @@ class Report(str):
 
     def _repr_html_(self) -> str:
         """The page in a frame of its own, for a notebook."""
-        return f'<iframe srcdoc="{html.escape(self)}" style="width: 100%; height: 40em; border: 0"></iframe>'
+        style = "width: 100%; height: 40em; border: 0"
+        return f'<iframe title="{self._title()}" srcdoc="{html.escape(self)}" style="{style}"></iframe>'
+
+    def _title(self) -> str:
+        """The title of the page, as it stands there."""
+        return self.partition("<title>")[2].partition("</title>")[0]
 
     def __repr__(self) -> str:
         """The title of the page."""
-        return f"Report({html.unescape(self.partition('<title>')[2].partition('</title>')[0])})"
+        return f"Report({html.unescape(self._title())})"
 
     def save(self, path: Path) -> None:
         """Writes the page to a file. OSError where that fails.
