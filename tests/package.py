@@ -378,6 +378,61 @@ def use_files():
     equal("a file that is not there", refused(lambda: Shop.read("/nothing")), FileNotFoundError)
 
 
+def use_labels():
+    """Names and unit in the label lines of a block, in the form of docs/formats.md, and in others."""
+    lines = ["jobs\tShelf\tDoor", "2 1 0 0 0", "machines, times in 1/4, decimal comma, separator tab\tCut, saw", "5 7"]
+    wanted = ("Shelf", "Door"), ("Cut, saw",), 4
+    none = (1, 2), (1,), 1
+    with tempfile.TemporaryDirectory() as folder:
+        path = pathlib.Path(folder, "shop.txt")
+        for at, old, new, names in [
+            (0, "", "", wanted),
+            (0, "Shelf", " Schränke ", ((" Schränke ", "Door"), *wanted[1:])),
+            (0, "Shelf\tDoor", "1\t2", ((1, 2), *wanted[1:])),
+            (0, "Shelf\tDoor", "2\t1", (("2", "1"), *wanted[1:])),
+            (2, "Cut, saw", "1", (wanted[0], (1,), 4)),
+            (2, "1/4", "1/1000000", (*wanted[:2], 1_000_000)),
+            (0, "\tDoor", "", none),
+            (0, "Door", "Door\tBed", none),
+            (0, "Door", "", none),
+            (0, "jobs", "Jobs", none),
+            (0, "jobs", " jobs", none),
+            (2, "\tCut, saw", "", none),
+            (2, "Cut, saw", "Cut\tsaw", none),
+            (2, "1/4", "1/3", none),
+            (2, "1/4", "1/04", none),
+            (2, "1/4", "1/2000000", none),
+            (2, "comma,", "point comma,", none),
+            (2, "separator tab", "separator |", none),
+        ]:
+            text = [line.replace(old, new, 1) if at == number else line for number, line in enumerate(lines)]
+            for encoding, end_of_line in (("utf-8", "\n"), ("cp1252", "\r\n")):
+                path.write_bytes(end_of_line.join([*text, ""]).encode(encoding))
+                (shop,) = (block.shop for block in Shop.read(path))
+                equal(f"the labels {text[::2]}", (shop.job_names, shop.machine_names, shop.scale), names)
+                shop.write(path)
+                equal("a shop that is written and read", [block.shop for block in Shop.read(path)], [shop])
+                equal("the scale of a copy", pickle.loads(pickle.dumps(shop)).scale, names[2])
+        path.write_bytes("\n".join([*lines, "jobs\tBed", "1 1 0 0 0", lines[2].replace("/4", "/2"), "3"]).encode())
+        shops = [block.shop for block in Shop.read(path)]
+        equal("the names of two blocks", [shop.job_names for shop in shops], [("Shelf", "Door"), ("Bed",)])
+        equal("their scales", [shop.scale for shop in shops], [4, 2])
+        whole = Shop.from_machines([[5, 7]], job_names=["Shelf", "Door"], machine_names=["Cut, saw"])
+        equal("that the scale tells shops apart", (shops[0] == whole, shops[0].times == whole.times), (False, True))
+        shops[0].write(path)
+        equal("label lines that are written", read(path).decode().split("\n")[:3:2], [lines[0], lines[2]])
+        named = Shop.from_jobs(ROWS, **NAMES)
+        named.write(path, seed=3)
+        equal("names of a table", Shop.read(path), [(named, 3, 13, 10)])
+        Shop.from_jobs([[1], [2]], job_names=["Shelf", 7]).write(path)
+        equal("names that are no text", Shop.read(path)[0].shop.job_names, ("Shelf", "7"))
+        for name in ("", "a\tb", "a\n", "a\r"):
+            sentence = f"the name of job 2 is {name!r}, and has to have a sign, no tab and no end of a line"
+            got = refused(lambda name=name: Shop.from_jobs([[1], [2]], job_names=["a", name]).write(path))
+            equal(f"the name {name!r}", got, ("TextError", "LABEL", 2, sentence))
+        equal("that the file is as it was", Shop.read(path)[0].shop.jobs, 2)
+
+
 def refuse_files():
     """The first fault of a benchmark text, with its line."""
     wanted = {
@@ -627,6 +682,7 @@ def main():
     use_texts()
     draw_timetables()
     use_files()
+    use_labels()
     refuse_files()
     refuse_tables()
     refuse_sequences()

@@ -14,7 +14,7 @@ threads run.
 
 from . import _library
 from ._errors import FlowshopError, NotASequence, NotAShop, NotLawful, OptionError, OverBudget, TextError
-from ._results import Certificate, Operation, Picture, Start, Timetable
+from ._results import Certificate, Operation, Picture, Report, Start, Timetable
 from ._shop import Block, Shop
 
 __version__ = "1.0.0"
@@ -29,6 +29,7 @@ __all__ = [
     "OptionError",
     "OverBudget",
     "Picture",
+    "Report",
     "Shop",
     "Start",
     "TextError",

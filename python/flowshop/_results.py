@@ -180,6 +180,35 @@ class Picture(str):
             file.write(self.encode())
 
 
+class Report(str):
+    """A schedule on one page of HTML, for screen and paper. A notebook shows it in a frame.
+
+    >>> shop.report([2, 1, 3])
+    Report(Schedule of 3 jobs on 3 machines)
+    """
+
+    def _repr_html_(self) -> str:
+        """The page in a frame of its own, for a notebook."""
+        style = "width: 100%; height: 40em; border: 0"
+        return f'<iframe title="{self._title()}" srcdoc="{html.escape(self)}" style="{style}"></iframe>'
+
+    def _title(self) -> str:
+        """The title of the page, as it stands there."""
+        return self.partition("<title>")[2].partition("</title>")[0]
+
+    def __repr__(self) -> str:
+        """The title of the page."""
+        return f"Report({html.unescape(self._title())})"
+
+    def save(self, path: Path) -> None:
+        """Writes the page to a file. OSError where that fails.
+
+        >>> shop.report([2, 1, 3]).save("schedule.html")
+        """
+        with open(path, "wb") as file:
+            file.write(self.encode("utf-8", "replace"))
+
+
 # Of a picture: the label of a row; a bar with its title, and the number in it, which stands only where it has room.
 _ROW = re.compile(r'(text-anchor="end">)machine (\d+)(?=</text>)')
 _BAR = re.compile(

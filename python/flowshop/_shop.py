@@ -6,10 +6,13 @@ from array import array
 from math import perm
 from typing import Any, Hashable, Iterable, List, NamedTuple, NoReturn, Optional, Tuple
 
+from ._clock import times_of
 from ._errors import NotASequence, NotLawful, OptionError, OverBudget, counted
+from ._labels import Unit, label_lines
 from ._library import Refused, byref, call, size, u16, u32, u64
 from ._options import MOST_TREES, STATED, option
-from ._results import Certificate, Names, Path, Picture, Start, Timetable, listed, with_names
+from ._page import MOST_BARS, Facts, page
+from ._results import Certificate, Names, Path, Picture, Report, Start, Timetable, listed, with_names
 from ._sequences import Jobs, Many, items_of, not_a_sequence, packed
 from ._tables import Table, read_table
 from ._texts import Text, block_text, blocks_of, not_lawful, text_of, written
@@ -33,8 +36,8 @@ class Shop:
     """
 
     __slots__ = ("_parts", "_words")
-    # Jobs, machines, times, and the names of both; and what each call takes of them first.
-    _parts: Tuple[int, int, bytes, Optional[Names], Optional[Names]]
+    # Jobs, machines, times, the names of both, and the unit of the times; and what each call takes of them first.
+    _parts: Tuple[int, int, bytes, Optional[Names], Optional[Names], Unit]
     _words: Tuple[Any, Any, bytes, Any]
 
     def __init__(self, *_: object) -> None:
@@ -45,11 +48,17 @@ class Shop:
 
     @classmethod
     def _of(
-        cls, jobs: int, machines: int, times: bytes, job_names: Optional[Names], machine_names: Optional[Names]
+        cls,
+        jobs: int,
+        machines: int,
+        times: bytes,
+        job_names: Optional[Names],
+        machine_names: Optional[Names],
+        unit: Unit = Unit(),
     ) -> Shop:
         """The shop of these times, machine by machine, as 32-bit numbers. The calls of the library test them."""
         shop = object.__new__(cls)
-        object.__setattr__(shop, "_parts", (jobs, machines, times, job_names, machine_names))
+        object.__setattr__(shop, "_parts", (jobs, machines, times, job_names, machine_names, unit))
         object.__setattr__(shop, "_words", (u32(jobs), u32(machines), times, size(len(times) // 4)))
         return shop
 
@@ -104,19 +113,22 @@ class Shop:
 
     @classmethod
     def read(cls, path: Path) -> List[Block]:
-        """All blocks of a benchmark text in a file, in their order. OSError where the file is not read, TextError with
-        the first fault of the text and its line.
+        """All blocks of a benchmark text in a file, in their order. A shop has the names and the unit that the label
+        lines of its block have in the form of docs/formats.md, as examples/from_csv.awk writes them. OSError where the
+        file is not read, TextError with the first fault of the text and its line.
 
         >>> shop.write("shop.txt")
         >>> Shop.read("shop.txt")[0].shop == shop
         True
         """
-        return [Block(cls._of(*block[:3], None, None), *block[3:]) for block in blocks_of(path)]
+        return [Block(cls._of(*block[:6]), *block[6:]) for block in blocks_of(path)]
 
     def write(self, path: Path, *, seed: int = 0, upper: Optional[int] = None, lower: Optional[int] = None) -> None:
-        """Writes the shop to a file, as a benchmark text of one block, which has no place for names. Its head states a
-        seed and bounds of the least makespan, which nothing tests: where they are left out, the makespan of `neh` and
-        the bound of `bound`. OSError where the file is not written, OptionError where a number is not of 32 bits.
+        """Writes the shop to a file, as a benchmark text of one block. Its label lines have the names and the unit,
+        where the shop has any; names come back as text. Its head states a seed and bounds of the least makespan, which
+        nothing tests: where they are left out, the makespan of `neh` and the bound of `bound`. OSError where the file
+        is not written, OptionError where a number is not of 32 bits, TextError where a name is empty, or has a tab or
+        an end of a line.
 
         >>> shop.write("shop.txt")
         """
@@ -125,8 +137,10 @@ class Shop:
             option("upper", self.neh().value if upper is None else upper, STATED),
             option("lower", self.bound() if lower is None else lower, STATED),
         ]
-        with open(path, "w", encoding="ascii") as file:
-            file.write(block_text(self.times, *stated))
+        labels = label_lines(self.jobs, self.machines, *self._parts[3:])
+        text = block_text(labels, self.times, *stated).encode("utf-8", "replace")
+        with open(path, "wb") as file:
+            file.write(text)
 
     @property
     def jobs(self) -> int:
@@ -174,6 +188,15 @@ class Shop:
         """
         return self._parts[4] or tuple(range(1, self.machines + 1))
 
+    @property
+    def scale(self) -> int:
+        """By what the times of a table were multiplied, so that all are whole: 1, or what the file of the shop says.
+
+        >>> shop.scale
+        1
+        """
+        return self._parts[5].scale
+
     def __setattr__(self, name: str, value: object) -> NoReturn:
         raise AttributeError(f"a Shop is frozen: {name} can not be set")
 
@@ -181,7 +204,7 @@ class Shop:
         raise AttributeError(f"a Shop is frozen: {name} can not be deleted")
 
     def __eq__(self, other: object) -> bool:
-        """Whether times and names are the same."""
+        """Whether times, names and scale are the same."""
         if not isinstance(other, Shop):
             return NotImplemented
         return self._parts == other._parts
@@ -195,7 +218,7 @@ class Shop:
 
     def __repr__(self) -> str:
         """The sizes, and the first names where there are any."""
-        jobs, machines = (listed(names, 3) if names else "" for names in self._parts[3:])
+        jobs, machines = (listed(names, 3) if names else "" for names in self._parts[3:5])
         if not jobs and not machines:
             return f"Shop({counted(self.jobs, 'job')}, {counted(self.machines, 'machine')})"
         named = f"{counted(self.jobs, 'job')}: {jobs}" if jobs else counted(self.jobs, "job")
@@ -264,9 +287,40 @@ class Shop:
         """
         jobs, room = packed(sequence, self.jobs), 16_384 + 400 * self.jobs * self.machines
         picture = written(room, lambda *rest: self._call("picture", jobs, *rest)).decode("ascii")
-        if self._parts[3:] != (None, None):
+        if self._parts[3:5] != (None, None):
             picture = with_names(picture, self.job_names, self.machine_names)
         return Picture(picture)
+
+    def report(
+        self,
+        order: Jobs,
+        *,
+        start: Optional[str] = None,
+        unit: Optional[str] = None,
+        title: Optional[str] = None,
+    ) -> Report:
+        """A page of HTML for whoever carries the schedule out: the order, a picture, a table of the machines, and a
+        sheet for each of them with start and end of each job. It says what is proved: of a Certificate, which is
+        checked, its lower bound, and of another sequence that of `bound`. Times are in the unit of the table; or by the
+        clock, where `start` is the time of day when the first job starts, and `unit` how long one unit of the table is,
+        as `15min`, `1h` or `30s`. NotLawful where a certificate is none of the shop, OptionError where start or unit
+        has another form, or one is given alone; the other errors are those of `makespan`.
+
+        >>> shop.report(shop.certify(), start="07:30", unit="15min").save("schedule.html")
+        """
+        times = times_of(self._parts[5], start, unit)
+        certificate = self.check(order) if isinstance(order, Certificate) else None
+        timetable = self.schedule(certificate or order)
+        facts = Facts(
+            title=title or f"Schedule of {counted(self.jobs, 'job')} on {counted(self.machines, 'machine')}",
+            timetable=timetable,
+            lower=certificate.lower if certificate else self.bound(),
+            is_certified=certificate is not None,
+            listed=self.makespan(range(1, self.jobs + 1)),
+            picture=self.gantt(certificate or timetable) if self.jobs * self.machines <= MOST_BARS else "",
+            times=times,
+        )
+        return Report(page(facts))
 
     def bound(self) -> int:
         """A number below which no sequence has a makespan: the bound of the two-ended certificate with no directions.
