@@ -8,6 +8,7 @@ use crate::bar::push_bar;
 use crate::frame::frame;
 use crate::operations::timetable;
 use crate::path::heaviest_path;
+use crate::scale::breadth_of;
 use flow_shop::{Instance, Sequence, makespan};
 use std::alloc::{AllocError, Global};
 
@@ -27,9 +28,11 @@ pub fn timetable_picture(
     let makespan = makespan(instance, sequence);
     let operations = timetable(alloc, instance, sequence)?;
     let path = heaviest_path(alloc, instance, sequence.jobs(), operations.as_slice())?;
-    let mut out = frame(alloc, instance, makespan, lower, tick_step(makespan))?;
+    let breadth = breadth_of(instance);
+    let step = tick_step(breadth, makespan);
+    let mut out = frame(alloc, instance, breadth, makespan, lower, step)?;
     for operation in &operations {
-        push_bar(&mut out, makespan, path.as_slice(), operation)?;
+        push_bar(&mut out, breadth, makespan, path.as_slice(), operation)?;
     }
     out.extend_from_slice(b"</g></svg>\n")?;
     Ok(out)
