@@ -196,19 +196,27 @@ def use_names():
     equal("an operation with names", timetable[7], Operation("Table", "Weld", 8, 10))
     equal("a column of names", timetable.columns()["job"], ["Door"] * 3 + ["Shelf"] * 3 + ["Table"] * 3)
     equal("the other column", timetable.columns()["machine"], ["Cut", "Weld", "Paint"] * 3)
-    picture = Shop.from_jobs(ROWS, job_names=["Shelf", "D", "<T&>\n"], machine_names=["Paint shop", "Wë", "Paint shops"])
+    picture = Shop.from_jobs(ROWS, job_names=["Shelf", "D", "<T&>\n"], machine_names=["Cut", "Wë", "Painting shop"])
     drawing = xml.etree.ElementTree.fromstring(picture.gantt([2, 1, 3]))
     titles = [element.text for element in drawing.iter("{http://www.w3.org/2000/svg}title")]
     equal("the names in a picture", (titles[1], titles[4]), ("D, Wë, start 0, end 8", "<T&> , Wë, start 8, end 10"))
     labels = [element.text for element in drawing.iter("{http://www.w3.org/2000/svg}text")]
-    named = [label in labels for label in ("Paint shop", "Wë", "Paint sh..", "machine 1")]
+    named = [label in labels for label in ("Cut", "Wë", "Painting shop", "machine 1")]
     equal("before its rows", named, [True, True, True, False])
+    # Three jobs on three machines are 109,500 wide, of which 8,000 are before the rows; a character there has 700.
+    ground = drawing.find("{http://www.w3.org/2000/svg}path").get("d")
+    size = (drawing.get("width"), drawing.get("viewBox"), ground)
+    equal("room for a long name", size, ("1106", "-1100 0 110600 18300", "M-1100 0H109500V18300H-1100z"))
+    rows = [("a" * 11, "a" * 11, "0"), ("b" * 40, "b" * 40, "-20000"), ("c" * 41, "c" * 38 + "..", "-20000")]
+    for name, shown, left in rows:
+        text = Shop.from_jobs([[1]], machine_names=[name]).gantt([1])
+        equal("a name of a row", (f'text-anchor="end">{shown}<' in text, f'viewBox="{left} 0 ' in text), (True, True))
     equal("in its bars", ["D" in labels, "Shelf" in labels, "3" in labels], [True, True, False])
-    # The bars of job 3 are 14,770 and 7,385 wide, and a sign 800.
-    for length, bars in ((9, 2), (10, 1), (18, 1), (19, 0)):
+    # The bars of job 3 are 14,770 and 7,385 wide, and a character 670.
+    for length, bars in ((11, 2), (12, 1), (22, 1), (23, 0)):
         name = "T" * length
         drawing = Shop.from_jobs(ROWS, job_names=["Shelf", "Door", name]).gantt([2, 1, 3])
-        equal(f"bars with a name of {length} signs", drawing.count(f">{name}</text>"), bars)
+        equal(f"bars with a name of {length} characters", drawing.count(f">{name}</text>"), bars)
     with tempfile.TemporaryDirectory() as folder:
         picture.gantt([2, 1, 3]).save(os.path.join(folder, "picture.svg"))
         equal("one that is saved", "Wë" in read(os.path.join(folder, "picture.svg")).decode(), True)

@@ -209,14 +209,17 @@ class Report(str):
             file.write(self.encode("utf-8", "replace"))
 
 
-# Of a picture: the label of a row; a bar with its title, and the number in it, which stands only where it has room.
+# Of a picture: its size and its ground, where the left side is 0; the label of a row; a bar with its title, and the
+# number in it, which stands only where it has room.
+_HEAD = re.compile(r'(<svg [^>]* width=")(\d+)("[^>]* viewBox=")0 0 (\d+)([^>]*>.*?<path d="M)0( [^"]*H)0z', re.DOTALL)
 _ROW = re.compile(r'(text-anchor="end">)machine (\d+)(?=</text>)')
 _BAR = re.compile(
     r'(<rect x="\d+" y="\d+" width="(\d+)"[^>]*><title>)job (\d+), machine (\d+)([^<]*</title></rect>)'
     r"(?:(\n<text [^>]*>)\d+(</text>))?"
 )
-# How wide a character is at most, in the unit of the picture, and how many have room before a row.
-_CHARACTER, _MOST_BEFORE = 800, 10
+# In the unit of the picture: how wide a character is, in a bar and before a row, and how much room a row has before it.
+# How many characters of a long name stand there.
+_IN_BAR, _BEFORE_ROW, _ROOM_BEFORE, _MOST_BEFORE = 670, 700, 8000, 40
 
 
 def _escaped(name: Hashable) -> str:
@@ -225,19 +228,25 @@ def _escaped(name: Hashable) -> str:
 
 
 def with_names(picture: str, jobs: Names, machines: Names) -> str:
-    """A picture with the names of jobs and machines in the place of their numbers. A long name of a machine is cut; the
-    name of a job stands in a bar where it has room."""
+    """A picture with the names of jobs and machines in the place of their numbers. It is wider where the name of a
+    machine is long, and a very long one is cut; the name of a job stands in a bar where it has room."""
+    labels = [name if len(name) <= _MOST_BEFORE else f"{name[: _MOST_BEFORE - 2]}.." for name in map(str, machines)]
+    more = max(0, _BEFORE_ROW * max(map(len, labels)) - _ROOM_BEFORE)
+
+    def head(found: "re.Match[str]") -> str:
+        size = f"{found[1]}{int(found[2]) + more // 100}{found[3]}-{more} 0 {int(found[4]) + more}"
+        return f"{size}{found[5]}-{more}{found[6]}-{more}z"
 
     def row(found: "re.Match[str]") -> str:
-        name = str(machines[int(found[2]) - 1])
-        return found[1] + _escaped(name if len(name) <= _MOST_BEFORE else f"{name[: _MOST_BEFORE - 2]}..")
+        return found[1] + _escaped(labels[int(found[2]) - 1])
 
     def bar(found: "re.Match[str]") -> str:
         name, machine = jobs[int(found[3]) - 1], machines[int(found[4]) - 1]
         titled = f"{found[1]}{_escaped(name)}, {_escaped(machine)}{found[5]}"
-        has_room = found[6] and _CHARACTER * len(str(name)) <= int(found[2])
+        has_room = found[6] and _IN_BAR * len(str(name)) <= int(found[2])
         return f"{titled}{found[6]}{_escaped(name)}{found[7]}" if has_room else titled
 
+    picture = _HEAD.sub(head, picture, count=1) if more else picture
     return _BAR.sub(bar, _ROW.sub(row, picture))
 
 

@@ -279,8 +279,8 @@ class Shop:
 
     def gantt(self, sequence: Jobs) -> Picture:
         """The picture of the timetable of a sequence, as SVG text: a row for each machine, and a bar for each job and
-        machine where the time is not 0. The outlined bars are those of a heaviest path, whose times sum to the
-        makespan. Errors are those of `makespan`.
+        machine where the time is not 0. The outlined operations leave no room: together they take the whole time.
+        Errors are those of `makespan`.
 
         >>> shop.gantt(shop.neh())[:4]
         '<svg'
