@@ -13,22 +13,39 @@ threads run.
 """
 
 from . import _library
-from ._errors import FlowshopError, NotASequence, NotAShop, NotLawful, OptionError, OverBudget, TextError
+from ._errors import (
+    FlowshopError,
+    Interrupted,
+    NotASequence,
+    NotAShop,
+    NotLawful,
+    OptionError,
+    OverBudget,
+    TextError,
+)
+from ._found import Below, Over, Part, Proved
 from ._results import Certificate, Operation, Picture, Report, Start, Timetable
 from ._shop import Block, Shop
+from ._waiting import Progress
 
 __version__ = "1.0.0"
 __all__ = [
+    "Below",
     "Block",
     "Certificate",
     "FlowshopError",
+    "Interrupted",
     "NotASequence",
     "NotAShop",
     "NotLawful",
     "Operation",
     "OptionError",
+    "Over",
     "OverBudget",
+    "Part",
     "Picture",
+    "Progress",
+    "Proved",
     "Report",
     "Shop",
     "Start",

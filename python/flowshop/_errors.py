@@ -1,6 +1,6 @@
 """What is refused: one base class, and a class for each kind of thing that is refused."""
 
-from typing import Tuple, Union
+from typing import Any, Tuple, Union
 
 # Where a fault is: one number, or a row and a column, or the number of a sequence and a place in it. All from 1.
 Place = Union[int, Tuple[int, int]]
@@ -53,12 +53,30 @@ class TextError(FlowshopError):
 
 class OptionError(FlowshopError):
     """A number that a call does not take: JOBS, MACHINES, SEED, DEPTH, BUDGET, VERSION, WIDTH, ROUNDS, WORK,
-    DIRECTIONS, UPPER or LOWER; or PLAN_DEPTH or PLAN_PREFIXES, where the shop has no lists of so many jobs, or too
-    many; START or UNIT of a report, and to the command `report` INDEX."""
+    DIRECTIONS, UPPER, LOWER, BOUND, WORKERS or TIME_LIMIT; or PLAN_DEPTH or PLAN_PREFIXES, where the shop has no lists
+    of so many jobs, or too many; START or UNIT of a report, and to the command `report` INDEX."""
 
 
 class OverBudget(FlowshopError):
     """A search whose tree is longer than the budget: OVER_BUDGET."""
+
+
+class Interrupted(KeyboardInterrupt):
+    """A KeyboardInterrupt of a search. `result` is the best so far: of `certify` a Certificate, of `improve` a Start.
+
+    >>> try:
+    ...     certificate = shop.certify()
+    ... except Interrupted as stopped:
+    ...     certificate = stopped.result
+    """
+
+    def __init__(self, result: Any) -> None:
+        super().__init__(result)
+        self.result = result
+
+    def __str__(self) -> str:
+        """What the result is."""
+        return repr(self.result)
 
 
 def counted(number: int, what: str) -> str:

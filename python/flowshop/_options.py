@@ -1,7 +1,7 @@
 """The numbers that a call takes beside a shop and a sequence."""
 
 from operator import index
-from typing import Dict, SupportsIndex, Tuple
+from typing import Any, Dict, Optional, SupportsIndex, Tuple
 
 from ._errors import OptionError, shown
 from ._library import MOST_JOBS, MOST_MACHINES
@@ -23,6 +23,12 @@ LIMITS: Dict[str, Tuple[int, int]] = {
 # Those of the head of a benchmark text, which are only written down.
 STATED: Dict[str, Tuple[int, int]] = {"seed": (0, _MOST_32), "upper": (0, _MOST_32), "lower": (0, _MOST_32)}
 MOST_TREES = 100_000
+# Those of a search by parts, and how many workers there are.
+OF_PARTS: Dict[str, Tuple[int, int]] = {
+    "bound": (0, 2**64 - 1),
+    "budget": (0, 1_000_000_000),
+    "workers": (1, 10_000),
+}
 
 
 def option(name: str, value: SupportsIndex, limits: Dict[str, Tuple[int, int]] = LIMITS) -> int:
@@ -36,3 +42,17 @@ def option(name: str, value: SupportsIndex, limits: Dict[str, Tuple[int, int]] =
         return number
     sentence = f"{name} is {shown(value)}, and has to be a whole number from {least:,} to {most:,}"
     raise OptionError(name.upper(), 0, sentence)
+
+
+def time_limit_of(value: Any) -> Optional[float]:
+    """How many seconds a search may take, or None. OptionError where it is neither."""
+    if value is None:
+        return None
+    try:
+        seconds = float(value)
+    except (TypeError, ValueError, OverflowError):
+        seconds = -1.0
+    if seconds >= 0:
+        return seconds
+    sentence = f"time_limit is {shown(value)}, and has to be a number of seconds from 0 on, or None"
+    raise OptionError("TIME_LIMIT", 0, sentence)

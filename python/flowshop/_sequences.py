@@ -71,3 +71,14 @@ def not_a_sequence(refused: Refused, sequence: bytes, count: int) -> NotASequenc
     else:
         sentence = f"the sequence has {counted(len(jobs), 'job')}, and the shop has {count:,}"
     return NotASequence(refused.name, place, f"{sentence}; each job stands in it once")
+
+
+def not_a_node(refused: Refused, front: bytes, back: bytes, count: int) -> NotASequence:
+    """The refusal of two lists that no sequence of a shop with so many jobs begins and ends with."""
+    jobs = memoryview(front + back).cast("H").tolist()
+    begins, place = len(front) // 2, refused.place
+    name, at = ("front", place) if place <= begins else ("back", place - begins)
+    job = jobs[place - 1]
+    if refused.name == "TWICE":
+        return NotASequence("TWICE", place, f"place {at} of {name} is {job}, which stands before it in front or back")
+    return NotASequence(refused.name, place, f"place {at} of {name} is {job}, and the jobs are 1 to {count}")

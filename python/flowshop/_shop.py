@@ -4,18 +4,23 @@ from __future__ import annotations
 
 from array import array
 from math import perm
-from typing import Any, Hashable, Iterable, List, NamedTuple, NoReturn, Optional, Tuple
+from typing import Any, Callable, Hashable, Iterable, List, NamedTuple, NoReturn, Optional, Tuple, Union
 
+from ._certify import Better, Effort, Known, Run
 from ._clock import times_of
-from ._errors import NotASequence, NotLawful, OptionError, OverBudget, counted
+from ._errors import Interrupted, NotASequence, NotLawful, OptionError, OverBudget, counted
+from ._found import Below, Over, Proved, numbers_of, part_of
 from ._labels import Unit, label_lines
 from ._library import Refused, byref, call, size, u16, u32, u64
-from ._options import MOST_TREES, STATED, option
+from ._options import MOST_TREES, OF_PARTS, STATED, option, time_limit_of
 from ._page import MOST_BARS, Facts, page
+from ._parts import BELOW, PROVED, Instance, Rooms, parts_of
 from ._results import Certificate, Names, Path, Picture, Report, Start, Timetable, listed, with_names
-from ._sequences import Jobs, Many, items_of, not_a_sequence, packed
+from ._sequences import Jobs, Many, items_of, not_a_node, not_a_sequence, packed
+from ._spread import Map, Workers
 from ._tables import Table, read_table
-from ._texts import Text, block_text, blocks_of, not_lawful, text_of, written
+from ._texts import Text, block_text, blocks_of, not_lawful, text_of, two_ended_text, written
+from ._waiting import Progress, Watch, waited
 
 # The most bytes that a text has beside its trees or its directions.
 _BESIDE = 3300
@@ -376,20 +381,33 @@ class Shop:
         rounds: int = 10_000,
         seed: int = 1,
         work: int = 8500,
+        time_limit: Optional[float] = None,
     ) -> Start:
-        """A sequence whose makespan is at most that of a start, or of the sequence of `neh`, by searches on this
-        thread: a two-ended beam of widths up to `width`, 0 to 65,536, and two runs of at most `rounds` rounds, 0 to
+        """A sequence whose makespan is at most that of a start, or of the sequence of `neh`, by searches in one thread:
+        a two-ended beam of widths up to `width`, 0 to 65,536, and two runs of at most `rounds` rounds, 0 to
         100,000,000, with the random numbers of `seed`, 1 to 2,147,483,646. They take about `work` million steps at
-        most, 0 to 1,000,000, each about the work for one job on one machine. NotASequence where the start is none,
-        OptionError where a number is not as said here.
+        most, 0 to 1,000,000, each about the work for one job on one machine. After `time_limit` seconds the best
+        sequence so far is given. An interrupt ends the searches within a second, as Interrupted, which has it.
+        NotASequence where the start is none, OptionError where a number is not as said here.
 
         >>> shop.improve([1, 2, 3]).value
         12
         """
-        choice = [option("width", width), option("rounds", rounds), option("seed", seed), option("work", work)]
+        effort = Effort(option("width", width), option("rounds", rounds), option("seed", seed), option("work", work))
+        limit, begun = time_limit_of(time_limit), self._begun(start)
         sequence, value = (u16 * self.jobs)(), u64()
-        self._call("improve", self._begun(start), *choice, sequence, self.jobs, byref(value))
-        return self._start(tuple(sequence), value.value)
+        if limit is None:
+            try:
+                waited(lambda: self._call("improve", begun, *effort, sequence, self.jobs, byref(value)))
+            except KeyboardInterrupt:
+                raise Interrupted(self._start(numbers_of(begun), self.makespan(numbers_of(begun)))) from None
+            return self._start(tuple(sequence), value.value)
+        search = Better(self._parts[:3], begun, self.makespan(numbers_of(begun)), effort)
+        try:
+            search.search_until(Watch(limit, None))
+        except KeyboardInterrupt:
+            raise Interrupted(self._start(numbers_of(search.best.sequence), search.best.makespan)) from None
+        return self._start(numbers_of(search.best.sequence), search.best.makespan)
 
     def solve(
         self,
@@ -399,10 +417,11 @@ class Shop:
         budget: int = 10_000_000,
         version: int = 1,
     ) -> Certificate:
-        """The least makespan with its certificate, by a search on this thread from a sequence, or from that of `neh`.
+        """The least makespan with its certificate, by a search in one thread from a sequence, or from that of `neh`.
         There is a tree for each list of `depth` jobs, 0 to 3, of at most `budget` bytes, 1 to 100,000,000; `version`, 1
         or 2, says by which bound the search cuts. OverBudget where a tree is longer, NotASequence where the start is
-        none, OptionError where a number is not as said here. The search can take long, and no time limit ends it.
+        none, OptionError where a number is not as said here. The search can take long, and no time limit ends it. An
+        interrupt does, within a second.
 
         >>> shop.solve().upper
         12
@@ -412,7 +431,7 @@ class Shop:
         value = u64()
         try:
             words = [byref(value)]
-            sequence, text = self._searched("solve", start, choice, words, _BESIDE + trees * (choice[1] + 1))
+            sequence, text = self._searched("solve", self._begun(start), choice, words, _BESIDE + trees * (choice[1] + 1))
         except Refused as refused:
             raise _over_budget(refused, trees, choice[1]) from None
         return Certificate(value.value, value.value, sequence, text, self._named(sequence))
@@ -427,6 +446,40 @@ class Shop:
             raise OptionError("PLAN_PREFIXES", 0, sentence)
         return trees
 
+    def prove(
+        self,
+        bound: int,
+        *,
+        front: Iterable[int] = (),
+        back: Iterable[int] = (),
+        budget: int = 1_000_000,
+    ) -> Union[Proved, Below, Over]:
+        """A search for directions that prove that no sequence has a makespan below `bound`, 0 to
+        18,446,744,073,709,551,615; of the sequences alone that begin with the jobs `front` and end with the jobs
+        `back`, where these are given. It comes to directions, Proved; or to a sequence below the bound, Below; or it is
+        Over, with the parts that are left, where there are more directions than `budget`, 0 to 1,000,000,000.
+        NotASequence where a job of `front` and `back` is none of the shop, or stands there twice, OptionError where a
+        number is not as said here.
+
+        >>> shop.prove(12), shop.prove(13), shop.prove(12, budget=1)
+        (Proved(2 directions), Below(makespan 12: 3, 1, 2), Over(1 direction, 1 part left))
+        >>> shop.prove(14, front=[2])
+        Below(makespan 13: 2, 1, 3)
+        """
+        number, room = option("bound", bound, OF_PARTS), option("budget", budget, OF_PARTS)
+        lists = packed(front, self.jobs), packed(back, self.jobs)
+        rooms = Rooms(Instance(*self._parts[:3]), room)
+        try:
+            found = waited(lambda: rooms.search(*lists, number))
+        except Refused as refused:
+            raise not_a_node(refused, *lists, self.jobs) from None
+        if found == PROVED:
+            return Proved(rooms.directions())
+        if found == BELOW:
+            jobs = numbers_of(rooms.reached())
+            return Below(jobs, rooms.makespan, self._named(jobs), rooms.directions())
+        return Over(rooms.directions(), tuple(map(part_of, parts_of(rooms.rest()))))
+
     def certify(
         self,
         start: Optional[Jobs] = None,
@@ -436,32 +489,68 @@ class Shop:
         seed: int = 1,
         work: int = 8500,
         directions: int = 100_000_000,
+        workers: int = 1,
+        map: Optional[Map] = None,
+        time_limit: Optional[float] = None,
+        progress: Union[bool, Callable[[Progress], object], None] = None,
     ) -> Certificate:
-        """Bounds of the least makespan with a two-ended certificate of them, by searches on this thread from a
-        sequence, or from that of `neh`, and from better ones. The least makespan is proved where `optimal` is true; the
-        upper bound is at most the makespan of the start. The text has at most `directions` directions, 1 to
-        1,000,000,000: the more it may have, the longer the searches take where they do not find the least makespan. The
-        other numbers are those of `improve`. With the numbers left out a call may take a minute and a half. Errors are
-        those of `improve`. No time limit ends the searches.
+        """Bounds of the least makespan with a two-ended certificate of them, by searches from a sequence, or from that
+        of `neh`, and from better ones. The least makespan is proved where `optimal` is true; the upper bound is at most
+        the makespan of the start. The text has at most `directions` directions, 1 to 1,000,000,000: the more it may
+        have, the longer the searches take where they do not find the least makespan. The other numbers are those of
+        `improve`. With the numbers left out a call may take a minute and a half.
 
-        >>> certificate = shop.certify()
+        Searches for directions are shared by so many `workers`, which are threads; or by those of a `map`, such as that
+        of a pool of processes. The certificate is the same for any number of workers and any map. After `time_limit`
+        seconds it is one of the best bounds so far. An interrupt ends the call within a second, as Interrupted, which
+        has it. `progress` is called with a Progress, a few times a second; where it is True, a line on standard error
+        tells the same. Errors are those of `improve`, and those of the map.
+
+        >>> certificate = shop.certify(workers=4, time_limit=60)
         >>> certificate.lower, certificate.upper
         (12, 12)
         """
-        choice = [option("width", width), option("rounds", rounds), option("seed", seed), option("work", work)]
-        choice.append(option("directions", directions))
+        effort = Effort(option("width", width), option("rounds", rounds), option("seed", seed), option("work", work))
+        most, count = option("directions", directions), option("workers", workers, OF_PARTS)
+        limit, begun = time_limit_of(time_limit), self._begun(start)
+        if (count, map, limit, progress or None) != (1, None, None, None):
+            return self._certify(begun, effort, most, Workers(map, count), Watch(limit, progress))
         lower, upper = u64(), u64()
         words = [byref(lower), byref(upper)]
-        sequence, text = self._searched("certify", start, choice, words, _BESIDE + choice[-1])
+        try:
+            sequence, text = self._searched("certify", begun, [*effort, most], words, _BESIDE + most)
+        except KeyboardInterrupt:
+            raise Interrupted(self._certificate(self._run(begun, effort, most).known)) from None
         return Certificate(lower.value, upper.value, sequence, text, self._named(sequence))
 
+    def _run(self, start: bytes, effort: Effort, directions: int) -> Run:
+        """The run of certify from a sequence."""
+        return Run(self._parts[:3], start, self.makespan(numbers_of(start)), effort, directions)
+
+    def _certify(
+        self, start: Optional[bytes], effort: Effort, directions: int, workers: Workers, watch: Watch
+    ) -> Certificate:
+        """What certify comes to where workers share its searches, or somebody watches them."""
+        run = self._run(self._begun(None) if start is None else start, effort, directions)
+        try:
+            run.search_until(watch, workers)
+        except KeyboardInterrupt:
+            raise Interrupted(self._certificate(run.known)) from None
+        return self._certificate(run.known)
+
+    def _certificate(self, known: Known) -> Certificate:
+        """The certificate of what is known."""
+        jobs = numbers_of(known.sequence)
+        text = two_ended_text(self.jobs, self.machines, known.lower, known.upper, jobs, known.directions)
+        return Certificate(known.lower, known.upper, jobs, text, self._named(jobs))
+
     def _searched(
-        self, name: str, start: Optional[Jobs], choice: List[int], values: List[Any], most: int
+        self, name: str, start: bytes, choice: List[int], values: List[Any], most: int
     ) -> Tuple[_Numbers, bytes]:
         """The sequence and the text of a search, which has at most so many bytes."""
         sequence = (u16 * self.jobs)()
-        words = [self._begun(start), *choice, sequence, self.jobs, *values]
-        text = written(most, lambda *rest: self._call(name, *words, *rest))
+        words = [start, *choice, sequence, self.jobs, *values]
+        text = waited(lambda: written(most, lambda *rest: self._call(name, *words, *rest)))
         return tuple(sequence), text
 
     def check(self, text: Text) -> Certificate:

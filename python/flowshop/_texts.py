@@ -4,7 +4,7 @@ import mmap
 import os
 import re
 import resource
-from typing import Callable, Dict, Iterator, List, Optional, Tuple, Union
+from typing import Callable, Dict, Iterable, Iterator, List, Optional, Tuple, Union
 
 from ._errors import NotLawful, TextError, shown
 from ._labels import Labels, Unit, read_labels
@@ -60,6 +60,14 @@ def text_of(given: Text) -> bytes:
         with open(given, "rb") as file:
             return file.read()
     raise TypeError(f"a text is bytes, a str, a path or a Certificate, and this is {shown(given)}")
+
+
+def two_ended_text(
+    jobs: int, machines: int, lower: int, upper: int, sequence: Iterable[int], directions: bytes
+) -> bytes:
+    """The two-ended certificate of bounds."""
+    head = f"flowshop two-ended 1\n{jobs} {machines}\n{lower} {upper}\n{' '.join(map(str, sequence))}\n"
+    return b"".join([head.encode(), directions, b"\nend\n"])
 
 
 _CHANGED = "the text was cut off or changed, or is of another shop"

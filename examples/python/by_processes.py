@@ -1,0 +1,11 @@
+"""Certifies a block of a benchmark text by processes, one for each processor of this machine: by_processes.py FILE INDEX"""
+
+import sys
+from concurrent.futures import ProcessPoolExecutor
+
+from flowshop import Shop
+
+if __name__ == "__main__":
+    shop = Shop.read(sys.argv[1])[int(sys.argv[2]) - 1].shop
+    with ProcessPoolExecutor() as pool:
+        print(shop.certify(map=pool.map, progress=True))

@@ -1,0 +1,150 @@
+"""Blocks of files that a command is given, the texts of their certificates, and tables of what these prove."""
+
+import argparse
+import csv
+import hashlib
+import json
+import os
+import re
+from dataclasses import asdict, dataclass, fields
+from pathlib import Path
+from typing import Any, List, NamedTuple, Optional, TextIO
+
+from ._results import Certificate
+from ._shop import Shop
+
+
+class WordError(Exception):
+    """What is wrong with the words of a command."""
+
+
+class Work(NamedTuple):
+    """A block of a file, and the path of its certificate."""
+
+    file: str
+    block: int
+    shop: Shop
+    path: Path
+
+
+@dataclass(frozen=True)
+class Row:
+    """What a certificate proves of a block; how many directions it has, in how many seconds it was found where that was
+    now, and the SHA-256 of its text."""
+
+    file: str
+    block: int
+    jobs: int
+    machines: int
+    lower: int
+    upper: int
+    directions: int
+    seconds: Optional[float]
+    sha256: str
+
+
+_NAMES = [field.name for field in fields(Row)]
+_WIDTHS = [len("directions") if name not in ("block", "jobs") else 5 for name in _NAMES[1:-1]]
+
+
+def row_of(work: Work, found: Certificate, seconds: Optional[float]) -> Row:
+    """The row of a certificate."""
+    directions = len(found.text.split(b"\n", 5)[4])
+    digest = hashlib.sha256(found.text).hexdigest()
+    sizes = work.shop.jobs, work.shop.machines
+    return Row(work.file, work.block, *sizes, found.lower, found.upper, directions, seconds, digest)
+
+
+def words_of_blocks(parser: argparse.ArgumentParser) -> None:
+    """The words of a command that takes blocks of files."""
+    parser.add_argument("files", metavar="FILE", nargs="+", help="a benchmark text")
+    parser.add_argument("--blocks", default="all", metavar="all|1,3-5", help="which blocks of each file; else all")
+    parser.add_argument("--out", default=".", metavar="DIR", help="the folder of the certificates; else this one")
+    table = parser.add_mutually_exclusive_group()
+    table.add_argument("--csv", metavar="FILE", help="write the table to a file, as CSV")
+    table.add_argument("--json", metavar="FILE", help="write the table to a file, as JSON")
+
+
+def _numbers(words: str, count: int, file: str) -> List[int]:
+    """The numbers of the blocks that words name, of a file with so many. WordError where it has no such block."""
+    if words == "all":
+        return list(range(1, count + 1))
+    numbers: List[int] = []
+    for word in words.split(","):
+        found = re.fullmatch(r"([0-9]{1,9})(?:-([0-9]{1,9}))?", word)
+        if not found:
+            raise WordError(f"--blocks is {words}, and has to be all, or numbers such as 1,3-5")
+        first, last = int(found[1]), int(found[2] or found[1])
+        if not 1 <= first <= last <= count:
+            raise WordError(f"--blocks has {word}, and {file} has the blocks 1 to {count}")
+        numbers += [number for number in range(first, last + 1) if number not in numbers]
+    return numbers
+
+
+def works_of(options: argparse.Namespace) -> List[Work]:
+    """The blocks that the words name, in their order. TextError or OSError where a file is not read."""
+    works = []
+    for file in options.files:
+        blocks = Shop.read(file)
+        for number in _numbers(options.blocks, len(blocks), file):
+            path = Path(options.out, f"{Path(file).name}.{number}.certificate")
+            works.append(Work(file, number, blocks[number - 1].shop, path))
+    names = [work.path for work in works]
+    for path in names:
+        if names.count(path) > 1:
+            raise WordError(f"two blocks would have the certificate {path}; give each folder a run of its own")
+    return works
+
+
+def save(path: Path, text: bytes) -> None:
+    """Writes a file that is there as a whole or not at all."""
+    new = path.with_name(f".{path.name}.{os.getpid()}.new")
+    try:
+        with open(new, "wb") as file:
+            file.write(text)
+            file.flush()
+            os.fsync(file.fileno())
+        os.replace(new, path)
+    finally:
+        new.unlink(missing_ok=True)
+
+
+class Table:
+    """Rows, which are printed as they come, and at the end are written to a file where the words name one."""
+
+    def __init__(self, works: List[Work], options: argparse.Namespace, stream: TextIO) -> None:
+        self._stream, self._csv, self._json = stream, options.csv, options.json
+        self._width = max(len("file"), *(len(work.file) for work in works)) if works else 4
+        self._rows: List[Row] = []
+        self._print(_NAMES)
+
+    def _print(self, cells: List[Any]) -> None:
+        """Prints a line of the table."""
+        numbers = " ".join(f"{cell:>{width}}" for cell, width in zip(cells[1:-1], _WIDTHS))
+        self._stream.write(f"{cells[0]:<{self._width}} {numbers} {cells[-1]}\n")
+        self._stream.flush()
+
+    def add(self, row: Row) -> None:
+        """Takes the next row."""
+        self._rows.append(row)
+        seconds = "-" if row.seconds is None else f"{row.seconds:.1f}"
+        self._print([seconds if name == "seconds" else getattr(row, name) for name in _NAMES])
+
+    def write(self) -> None:
+        """Writes the file."""
+        rows = [asdict(row) for row in self._rows]
+        if self._json:
+            save(Path(self._json), (json.dumps(rows, indent=1) + "\n").encode())
+        if self._csv:
+            lines: List[str] = []
+            writer = csv.DictWriter(_Lines(lines), _NAMES, lineterminator="\n")
+            writer.writeheader()
+            writer.writerows(rows)
+            save(Path(self._csv), "".join(lines).encode())
+
+
+class _Lines:
+    """A stream that keeps what is written."""
+
+    def __init__(self, lines: List[str]) -> None:
+        self.write = lines.append

@@ -1,0 +1,109 @@
+"""What a search for directions that prove a bound comes to. All of it is frozen, and can be compared and pickled."""
+
+from dataclasses import dataclass
+from typing import Iterator, Tuple
+
+from ._errors import counted
+from ._parts import FRONT, PackedPart
+from ._results import Start, listed
+
+Numbers = Tuple[int, ...]
+
+
+def numbers_of(jobs: bytes) -> Numbers:
+    """The numbers of a list as the library has it."""
+    return tuple(memoryview(jobs).cast("H"))
+
+
+@dataclass(frozen=True, repr=False)
+class Proved:
+    """A bound that is proved: no sequence has a smaller makespan. `directions` are those of line 5 of a two-ended
+    certificate.
+
+    >>> shop.prove(12).directions
+    b'++'
+    """
+
+    directions: bytes
+
+    def __repr__(self) -> str:
+        """How many directions there are."""
+        return f"Proved({counted(len(self.directions), 'direction')})"
+
+
+@dataclass(frozen=True, repr=False)
+class Below(Start):
+    """The first sequence of a search whose makespan, `value`, is below the bound. It is a Start. `directions` are those
+    that the search wrote before it.
+
+    >>> shop.prove(13)
+    Below(makespan 12: 3, 1, 2)
+    """
+
+    directions: bytes = b""
+
+    def __repr__(self) -> str:
+        """The makespan, and the first jobs by their names."""
+        return f"Below(makespan {self.value}: {listed(self.names or self.sequence)})"
+
+
+@dataclass(frozen=True, repr=False)
+class Part:
+    """A part of a search: the node of the jobs `front` that begin the sequence and the jobs `back` that end it. Or some
+    children of that node, where `end` is "front" or "back": those that put these `jobs`, one after the other, behind
+    the front or before the back.
+
+    >>> shop.prove(12, budget=1).parts
+    (Part(front next: 1, 2, 3),)
+    """
+
+    front: Numbers
+    back: Numbers
+    end: str = ""
+    jobs: Numbers = ()
+
+    def nodes(self) -> Iterator[Tuple[Numbers, Numbers]]:
+        """The front and the back of each node, in order.
+
+        >>> list(shop.prove(12, budget=1).parts[0].nodes())
+        [((1,), ()), ((2,), ()), ((3,), ())]
+        """
+        if not self.end:
+            yield self.front, self.back
+        for job in self.jobs:
+            yield (self.front + (job,), self.back) if self.end == "front" else (self.front, (job,) + self.back)
+
+    def __repr__(self) -> str:
+        """The lists, shortly."""
+        lists = [f"{name} {listed(jobs)}" for name, jobs in (("front", self.front), ("back", self.back)) if jobs]
+        if self.end:
+            lists.append(f"{self.end} next: {listed(self.jobs)}")
+        return f"Part({'; '.join(lists)})"
+
+
+def part_of(packed: PackedPart) -> Part:
+    """A part in numbers."""
+    end = "" if not packed.end else "front" if packed.end == FRONT else "back"
+    return Part(numbers_of(packed.first), numbers_of(packed.last), end, numbers_of(packed.jobs))
+
+
+@dataclass(frozen=True, repr=False)
+class Over:
+    """A search that is over its budget: its first directions, as many as the budget, and the parts that are left, in
+    order. What a search of a part comes to does not depend on the others. So the directions of the parts, one after
+    the other behind these, are those of the whole search, and a sequence below the bound is the first one that they
+    come to.
+
+    >>> found = shop.prove(12, budget=1)
+    >>> found
+    Over(1 direction, 1 part left)
+    >>> [shop.prove(12, front=front, back=back) for part in found.parts for front, back in part.nodes()]
+    [Proved(0 directions), Proved(0 directions), Proved(1 direction)]
+    """
+
+    directions: bytes
+    parts: Tuple[Part, ...]
+
+    def __repr__(self) -> str:
+        """How many directions there are, and how many parts."""
+        return f"Over({counted(len(self.directions), 'direction')}, {counted(len(self.parts), 'part')} left)"

@@ -1,0 +1,223 @@
+"""Parts of a search, and the calls of the library that do a part: of a search for directions, a beam, and rounds."""
+
+import ctypes
+import struct
+from typing import Any, Dict, Iterable, List, NamedTuple, Tuple
+
+from ._library import STATUSES, Refused, _path, byref, size, u8, u16, u32, u64
+
+# What a search comes to, as the library numbers it.
+PROVED, BELOW, OVER = 0, 1, 2
+# The ends at which the children of a node put a job; 0 is the node itself.
+FRONT, BACK = 1, 2
+_HEAD = struct.Struct("=4H")
+
+
+class PackedPart(NamedTuple):
+    """A part of a search: the node of two lists where `end` is 0; else those children of the node that put these jobs,
+    one after the other, at that end. Lists are 16-bit numbers, as the library takes them."""
+
+    first: bytes
+    last: bytes
+    end: int
+    jobs: bytes
+
+    def nodes(self) -> List[Tuple[bytes, bytes]]:
+        """The nodes of the part, in order."""
+        each = [self.jobs[at : at + 2] for at in range(0, len(self.jobs), 2)]
+        if self.end == FRONT:
+            return [(self.first + job, self.last) for job in each]
+        if self.end == BACK:
+            return [(self.first, job + self.last) for job in each]
+        return [(self.first, self.last)]
+
+    def size(self) -> int:
+        """How many nodes there are."""
+        return len(self.jobs) // 2 if self.end else 1
+
+    def before(self, count: int) -> "PackedPart":
+        """The part of the first nodes, so many, and at least one."""
+        return self._replace(jobs=self.jobs[: 2 * count])
+
+    def after(self, count: int) -> List["PackedPart"]:
+        """The part of the other nodes, where there are any."""
+        if count == 0:
+            return [self]
+        others = self.jobs[2 * count :]
+        return [self._replace(jobs=others)] if others else []
+
+
+def packed_parts(parts: Iterable[PackedPart]) -> bytes:
+    """Parts, one after the other, as the library writes them."""
+    texts = []
+    for first, last, end, jobs in parts:
+        texts += [_HEAD.pack(len(first) // 2, len(last) // 2, len(jobs) // 2, end), first, last, jobs]
+    return b"".join(texts)
+
+
+def parts_of(numbers: bytes) -> List[PackedPart]:
+    """The parts that the library wrote, one after the other, without those that are no node."""
+    parts, at = [], 0
+    while at < len(numbers):
+        *counts, end = _HEAD.unpack_from(numbers, at)
+        at += _HEAD.size
+        lists = []
+        for count in counts:
+            lists.append(numbers[at : at + 2 * count])
+            at += 2 * count
+        if lists[2] or not end:
+            parts.append(PackedPart(lists[0], lists[1], end, lists[2]))
+    return parts
+
+
+class _Outcome(ctypes.Structure):
+    """The status of a call, and the place of what is wrong."""
+
+    _fields_ = [("status", u32), ("place", size)]
+
+
+class _Shop(ctypes.Structure):
+    """A shop: times stand machine by machine."""
+
+    _fields_ = [("jobs", u32), ("machines", u32), ("times", ctypes.c_char_p), ("times_count", size)]
+
+
+class _Node(ctypes.Structure):
+    """A node: the list that begins its sequences, and the one that ends them."""
+
+    _fields_ = [("first", ctypes.c_char_p), ("first_count", size), ("last", ctypes.c_char_p), ("last_count", size)]
+
+
+class _Rooms(ctypes.Structure):
+    """Room for what a search for directions comes to, and what is said of it."""
+
+    _fields_ = [
+        ("sequence", ctypes.c_void_p),
+        ("sequence_count", size),
+        ("directions", ctypes.c_void_p),
+        ("directions_count", size),
+        ("rest", ctypes.c_void_p),
+        ("rest_count", size),
+        ("found", u32),
+        ("makespan", u64),
+        ("directions_length", size),
+        ("rest_length", size),
+    ]
+
+
+class _BeamOptions(ctypes.Structure):
+    """The options of a beam."""
+
+    _fields_ = [("number", u64), ("width", u32), ("steps", u64)]
+
+
+class _RoundsOptions(ctypes.Structure):
+    """The options of rounds."""
+
+    _fields_ = [("rounds", u32), ("seed", u32), ("steps", u64)]
+
+
+class _Reached(ctypes.Structure):
+    """Room for a sequence, and what is said of it."""
+
+    _fields_ = [("sequence", ctypes.c_void_p), ("sequence_count", size), ("makespan", u64), ("whole", u32)]
+
+
+_CALLS: Dict[str, Any] = {}
+
+
+def _call(name: str, *words: Any) -> None:
+    """Makes a call of the library. MemoryError where memory ran out, Refused on every other status but that of a call
+    that is done."""
+    if not _CALLS:
+        library = ctypes.CDLL(str(_path()))
+        for each in ("prove", "beam", "rounds"):
+            function = getattr(library, f"flowshop_{each}")
+            function.restype = _Outcome
+            _CALLS[each] = function
+    outcome = _CALLS[name](*words)
+    if outcome.status == 1:
+        raise MemoryError("flowshop: memory ran out")
+    if outcome.status:
+        raise Refused(STATUSES.get(outcome.status, f"STATUS_{outcome.status}"), outcome.place)
+
+
+class Reached(NamedTuple):
+    """What a beam or rounds came to: a sequence, its makespan, and whether the search ended as one that is whole."""
+
+    sequence: bytes
+    makespan: int
+    whole: bool
+
+
+class Instance:
+    """A shop as the calls of this module take it."""
+
+    def __init__(self, jobs: int, machines: int, times: bytes) -> None:
+        self.jobs, self.machines, self._times = jobs, machines, times
+        self.words = _Shop(jobs, machines, times, len(times) // 4)
+
+    def beam(self, start: bytes, number: int, width: int, steps: int) -> Reached:
+        """What a beam comes to from a start; one that looks for a sequence below a number, where it is not 0."""
+        return self._reached("beam", start, _BeamOptions(number, width, steps))
+
+    def rounds(self, start: bytes, rounds: int, seed: int, steps: int) -> Reached:
+        """What rounds of iterated greedy search come to from a start."""
+        return self._reached("rounds", start, _RoundsOptions(rounds, seed, steps))
+
+    def _reached(self, name: str, start: bytes, options: Any) -> Reached:
+        """What a search for better sequences comes to."""
+        sequence = (u16 * self.jobs)()
+        room = _Reached(ctypes.addressof(sequence), self.jobs, 0, 0)
+        _call(name, byref(self.words), ctypes.c_char_p(start), size(len(start) // 2), byref(options), byref(room))
+        return Reached(bytes(sequence), room.makespan, room.whole == 1)
+
+
+class Rooms:
+    """Room for so many directions, which searches of nodes write one after the other."""
+
+    def __init__(self, instance: Instance, budget: int) -> None:
+        self._instance, self._budget = instance, budget
+        jobs = instance.jobs
+        self._rest = (u16 * ((jobs + 4) * (jobs + 1)))()
+        self._sequence = (u16 * jobs)()
+        self._directions = (u8 * budget)()
+        self._begun = ctypes.addressof(self._directions)
+        self._rooms = _Rooms(ctypes.addressof(self._sequence), jobs, rest=ctypes.addressof(self._rest))
+        self._rooms.rest_count = len(self._rest)
+        self._node = _Node()
+        self.written = 0
+        self._words = byref(instance.words), byref(self._node), byref(self._rooms)
+
+    @property
+    def left(self) -> int:
+        """How many more directions there is room for."""
+        return self._budget - self.written
+
+    @property
+    def makespan(self) -> int:
+        """The makespan of the sequence that is reached."""
+        return int(self._rooms.makespan)
+
+    def search(self, first: bytes, last: bytes, number: int) -> int:
+        """Searches the node of two lists below a number: PROVED, BELOW or OVER. Refused where it is no node."""
+        shop, node, rooms = self._words
+        self._node.first, self._node.first_count = first, len(first) // 2
+        self._node.last, self._node.last_count = last, len(last) // 2
+        self._rooms.directions = self._begun + self.written
+        self._rooms.directions_count = self.left
+        _call("prove", shop, node, u64(number), rooms)
+        self.written += self._rooms.directions_length
+        return int(self._rooms.found)
+
+    def directions(self) -> bytes:
+        """The directions that were written."""
+        return ctypes.string_at(self._begun, self.written)
+
+    def rest(self) -> bytes:
+        """The parts that the last search has left."""
+        return bytes(memoryview(self._rest).cast("B")[: 2 * self._rooms.rest_length])
+
+    def reached(self) -> bytes:
+        """The sequence that the last search reached."""
+        return bytes(self._sequence)

@@ -1,0 +1,153 @@
+"""Waiting for a search that runs in a thread of its own, so that it can be stopped."""
+
+import sys
+import threading
+import time
+from dataclasses import dataclass
+from typing import Callable, Generic, Optional, TextIO, TypeVar, Union
+
+_T = TypeVar("_T")
+# How many seconds lie between two looks at a search, and between two lines where no terminal shows them.
+_LOOK, _BETWEEN_LINES = 0.25, 0.5
+
+
+@dataclass(frozen=True)
+class Progress:
+    """How far `certify` has come: the step, 1 to 8, that docs/manual.md counts; the bounds so far; how many directions
+    its searches have written; and how many seconds it has taken.
+
+    >>> reports = []
+    >>> certificate = shop.certify(progress=reports.append)
+    >>> reports[-1].lower, reports[-1].upper
+    (12, 12)
+    """
+
+    step: int
+    lower: int
+    upper: int
+    directions: int
+    seconds: float
+
+    def __str__(self) -> str:
+        """The same in words."""
+        bounds = f"optimal {self.upper}" if self.lower == self.upper else f"bounds {self.lower} to {self.upper}"
+        return f"step {self.step} of 8: {bounds}, {self.directions:,} directions, {self.seconds:.0f} s"
+
+
+class Stopped(Exception):
+    """Says to a search that nobody waits for it any more."""
+
+
+class Running(Generic[_T]):
+    """A call in a thread of its own, which does not keep the process from ending."""
+
+    def __init__(self, call: Callable[[], _T]) -> None:
+        self._call, self._ended = call, threading.Event()
+        self._result: Optional[_T] = None
+        self._error: Optional[BaseException] = None
+        self._thread = threading.Thread(target=self._run, daemon=True, name="flowshop")
+
+    def _run(self) -> None:
+        try:
+            self._result = self._call()
+        except BaseException as error:  # of any kind: it is raised where the call is waited for
+            self._error = error
+        finally:
+            self._ended.set()
+
+    def start(self) -> None:
+        """Starts the thread."""
+        self._thread.start()
+
+    def wait(self, seconds: Optional[float] = None) -> bool:
+        """Waits until the call has ended, or so many seconds have. A signal interrupts it. Whether the call has."""
+        return self._ended.wait(seconds)
+
+    def result(self) -> _T:
+        """What the call gave, or its error."""
+        if self._error is not None:
+            raise self._error
+        return self._result  # type: ignore[return-value]
+
+
+def waited(call: Callable[[], _T]) -> _T:
+    """What a call gives that runs in a thread of its own. A signal interrupts the wait, and leaves the call behind."""
+    running = Running(call)
+    running.start()
+    running.wait()
+    return running.result()
+
+
+class Lines:
+    """Lines on a stream that say how far something has come: one that is written anew where a terminal shows it, else
+    several, at most two in a second. Any thread may write them."""
+
+    def __init__(self, stream: TextIO) -> None:
+        self._stream, self._is_terminal = stream, stream.isatty()
+        self._lock = threading.Lock()
+        self._written = -_BETWEEN_LINES
+
+    def __call__(self, line: object) -> None:
+        """Writes a line, where the last one was not written just now."""
+        with self._lock:
+            now = time.monotonic()
+            if self._is_terminal or now - self._written >= _BETWEEN_LINES:
+                self._write(f"\r{line}\x1b[K" if self._is_terminal else f"{line}\n")
+                self._written = now
+
+    def end(self, line: object) -> None:
+        """Writes the last line."""
+        with self._lock:
+            self._write(f"\r{line}\x1b[K\n" if self._is_terminal else f"{line}\n")
+
+    def _write(self, text: str) -> None:
+        self._stream.write(text)
+        self._stream.flush()
+
+
+class Watch:
+    """When a search is to end, and who is told how far it has come."""
+
+    def __init__(self, time_limit: Optional[float], progress: Union[bool, Callable[[Progress], object], None]) -> None:
+        self._begun = time.monotonic()
+        self._limit = time_limit
+        self._stop = threading.Event()
+        self._lines = Lines(sys.stderr) if progress is True else None
+        self._tell = self._lines or (progress if callable(progress) else None)
+
+    def pause(self) -> None:
+        """Where a search may be stopped: it is, where nobody waits for it any more."""
+        if self._stop.is_set():
+            raise Stopped
+
+    def _seconds(self) -> float:
+        """How long the search has taken."""
+        return time.monotonic() - self._begun
+
+    def _look(self) -> Optional[float]:
+        """In how many seconds to look at the search; None where that need not be."""
+        looks = [] if self._tell is None else [_LOOK]
+        if self._limit is not None:
+            looks.append(self._limit - self._seconds())
+        return max(0.0, min(*looks, 3600.0)) if looks else None
+
+    def run(self, call: Callable[[], None], state: Callable[[float], Progress]) -> None:
+        """Runs a search until it ends, or time is up."""
+        running = Running(call)
+        try:
+            running.start()
+            while not running.wait(self._look()) and (self._limit is None or self._seconds() < self._limit):
+                if self._tell:
+                    self._tell(state(self._seconds()))
+            self._stop.set()
+            if running.wait(0):
+                running.result()
+        except BaseException:
+            self._stop.set()
+            if self._lines:
+                self._lines.end(state(self._seconds()))
+            raise
+        if self._lines:
+            self._lines.end(state(self._seconds()))
+        elif self._tell:
+            self._tell(state(self._seconds()))

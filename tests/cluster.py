@@ -1,0 +1,425 @@
+"""Searches that are shared by threads, by processes, by workers of dask and of MPI: they give the text of one call, can
+be stopped, and say what went wrong. With a word it runs one part: `local`, `dask` or `mpi`."""
+
+import concurrent.futures
+import hashlib
+import json
+import os
+import pathlib
+import random
+import signal
+import subprocess
+import sys
+import tempfile
+import threading
+import time
+from unittest import mock
+
+from counts import end, equal, refused
+from plain_search import PlainShop
+
+import flowshop
+from flowshop import Interrupted, Shop, _files, _spread
+
+TOP = pathlib.Path(__file__).resolve().parent.parent
+BLOCKS = TOP / "examples" / "several_blocks.txt"
+# A shop whose least makespan no search of a test proves.
+HARD = Shop.generate(30, 15, 7)
+FEW = {"width": 20, "rounds": 20, "seed": 3, "work": 7, "directions": 30_000}
+LONG = {"width": 16, "rounds": 10, "work": 1, "directions": 1_000_000_000}
+
+
+def shuffled(seed):
+    """A map that makes its calls in another order, and gives their results in order."""
+    draw = random.Random(seed)
+
+    def each(call, words):
+        words = list(words)
+        order = draw.sample(range(len(words)), len(words))
+        made = {place: call(words[place]) for place in order}
+        return (made[place] for place in range(len(words)))
+
+    return each
+
+
+def small_tasks(seconds=0.0005):
+    """Tasks that are as short as they can be, so that small searches have many."""
+    return mock.patch.multiple(_spread, _LONG=seconds, _SHORT=seconds / 4)
+
+
+def drawn_runs():
+    """Shops of all kinds, and numbers for their runs: few and many jobs and machines, small times, times of which many
+    are equal or 0, and times so great that makespans are above 65,535. The last four end in steps that are rare."""
+    draw = random.Random(9)
+    for number in range(116):
+        jobs, machines = draw.randint(5, 30), draw.choice([2, 3, 4, 5, 8, 12, 20])
+        kinds = [lambda: draw.randint(1, 99), lambda: draw.randint(1, 4), lambda: draw.choice([0, 0, 1, 50])]
+        kinds.append(lambda: draw.randint(5000, 20_000))
+        shop = Shop.from_machines([[kinds[number % 4]() for _ in range(jobs)] for _ in range(machines)])
+        choice = {"width": draw.choice([0, 5, 16, 37, 150]), "rounds": 20, "work": draw.choice([0, 1, 7, 30])}
+        choice.update(seed=draw.randint(1, 99), directions=draw.choice([1, 1000, 29_999, 200_000]))
+        if number < 36 or number in (38, 83, 104, 115):
+            yield shop, choice
+
+
+def compare_texts(pool):
+    """The text of a run whose searches are shared is that of one call."""
+    steps = set()
+    for shop, choice in drawn_runs():
+        wanted = shop.certify(**choice)
+        with small_tasks():
+            for name, words in [
+                ("one worker", {"time_limit": 1000}),
+                ("three threads", {"workers": 3}),
+                ("a map", {"map": shuffled(7)}),
+                ("processes", {"map": pool.map, "workers": 2}),
+            ]:
+                reports = []
+                got = shop.certify(**choice, **words, progress=reports.append)
+                equal(f"the text of {shop!r} by {name} with {choice}", got.text == wanted.text, True)
+                equal(f"what {name} say of it", (got, reports[-1].lower), (wanted, wanted.lower))
+                steps.add(reports[-1].step)
+    equal("that runs end in many steps", steps, {1, 2, 3, 8})
+
+
+def compare_searches():
+    """What a search comes to whose parts are shared is what plain code comes to, with each budget."""
+    draw = random.Random(7)
+    kinds = set()
+    for _ in range(8):
+        jobs, machines = draw.randint(4, 7), draw.randint(2, 5)
+        rows = [[draw.randint(1, 30) for _ in range(jobs)] for _ in range(machines)]
+        shop, plain = Shop.from_machines(rows), PlainShop(rows)
+        least = shop.certify(**FEW).upper
+        for number in (least - 1, least, least + 1):
+            text, reached = plain.search(number)
+            for budget in sorted({1, 2, 7, max(1, len(text) - 1), len(text), len(text) + 1, 1000}):
+                wanted = (2, budget, b"", ()) if len(text) > budget else (0, len(text), text, ())
+                if reached and len(text) <= budget:
+                    wanted = 1, len(text), b"", reached
+                workers = _spread.Workers(draw.choice([map, shuffled(budget)]), draw.randint(1, 5))
+                with small_tasks(draw.choice([1e-6, 1e-4])), _spread.Spread(shop._parts[:3], workers, int) as spread:
+                    spread.pace.speed, spread.pace.nodes = draw.choice([1e4, 1e6]), draw.randint(1, 30)
+                    found = spread.prove(number, budget)
+                got = *found[:3], tuple(memoryview(found.sequence).cast("H"))
+                equal(f"a search of {rows} below {number} with {budget}", got, wanted)
+                compare_parts(shop, number, budget, text, reached)
+                kinds.add(found.kind)
+    equal("that all comes out", kinds, {0, 1, 2})
+
+
+def compare_parts(shop, number, budget, text, reached):
+    """The directions of parts, one after the other, are those of plain code, and so is the first sequence."""
+    left, got, found = [((), ())], b"", None
+    while left:
+        (front, back), *left = left
+        found = shop.prove(number, front=front, back=back, budget=budget)
+        got += found.directions
+        if isinstance(found, flowshop.Below):
+            break
+        if isinstance(found, flowshop.Over):
+            equal("that the budget is used", len(found.directions), budget)
+            left = [node for part in found.parts for node in part.nodes()] + left
+    equal(f"the parts of a search below {number} by {budget}", got, text)
+    equal("what they come to", getattr(found, "sequence", None), reached)
+
+
+def first(number):
+    """A number, from another process."""
+    return number
+
+
+def lawful(shop, found):
+    """Whether a certificate is lawful, and says what it proves."""
+    return shop.check(found.text) == found and found.lower <= found.upper
+
+
+def keep_time(pool):
+    """A run ends soon after its time limit, with lawful bounds, and its pool is as before."""
+    for limit in (0, 0.1, 2):
+        for name, words in [("one", {}), ("threads", {"workers": 3}), ("processes", {"map": pool.map})]:
+            begun = time.monotonic()
+            reports = []
+            found = HARD.certify(**LONG, **words, time_limit=limit, progress=reports.append)
+            seconds = time.monotonic() - begun
+            equal(f"{name}: {seconds:.2f} s for {limit} s", limit <= seconds + 0.01 < limit + 1, True)
+            equal(f"what {name} give after {limit} s", lawful(HARD, found), True)
+            equal("the last report", (reports[-1].lower, reports[-1].upper), (found.lower, found.upper))
+            equal("that there are a few in a second", len(reports) <= 2 + 6 * limit, True)
+    equal("a pool after that", list(pool.map(first, range(9))), list(range(9)))
+    begun = time.monotonic()
+    better = HARD.improve(time_limit=0.3)
+    equal("improve in time", time.monotonic() - begun < 1.3, True)
+    equal("what it gives", HARD.makespan(better) == better.value <= HARD.neh().value, True)
+    equal("improve with time", HARD.improve(work=50, time_limit=1000), HARD.improve(work=50))
+
+
+def interrupt(seconds, call):
+    """The error of a call at an interrupt after so many seconds, and how long it went on. The process is interrupted as
+    a terminal does it."""
+    sent = []
+
+    def send():
+        sent.append(time.monotonic())
+        os.kill(os.getpid(), signal.SIGINT)
+
+    timer = threading.Timer(seconds, send)
+    try:
+        timer.start()
+        call()
+        error = None
+    except KeyboardInterrupt as stopped:
+        error = stopped
+    after = time.monotonic()
+    timer.join()
+    return error, after - sent[0]
+
+
+def interrupt_runs(pool):
+    """An interrupt at any moment ends a run within a second, with the best so far."""
+    draw = random.Random(8)
+    ways = [
+        ("one call", lambda: HARD.certify(**{**LONG, "width": 64})),
+        ("one", lambda: HARD.certify(**LONG, time_limit=100)),
+        ("threads", lambda: HARD.certify(**LONG, workers=3)),
+        ("processes", lambda: HARD.certify(**LONG, map=pool.map)),
+        ("improve", HARD.improve),
+    ]
+    for number in range(20):
+        name, call = ways[number % 5]
+        error, seconds = interrupt(0.001 if number < 5 else draw.uniform(0.1, 0.5), call)
+        equal(f"how soon {name} end: {seconds:.2f} s", seconds < 1, True)
+        if number < 5 and type(error) is KeyboardInterrupt:
+            continue  # it came before the search began
+        equal(f"an interrupt of {name}", type(error), Interrupted)
+        result = error.result
+        is_right = lawful(HARD, result) if name != "improve" else HARD.makespan(result) == result.value
+        equal(f"what {name} leave", is_right, True)
+    error, seconds = interrupt(0.2, lambda: HARD.solve(budget=100_000_000))
+    equal("an interrupt of solve", (type(error), seconds < 1), (KeyboardInterrupt, True))
+    error, seconds = interrupt(0.2, lambda: HARD.prove(HARD.neh().value - 60, budget=1_000_000_000))
+    equal("an interrupt of prove", (type(error), seconds < 1), (KeyboardInterrupt, True))
+    equal("a pool after that", list(pool.map(first, range(9))), list(range(9)))
+
+
+def stop_threads():
+    """Searches that are left behind do not keep a process from ending, nor does one in a thread that is a daemon."""
+    code = (
+        "import threading\nfrom flowshop import Shop\nshop = Shop.generate(30, 15, 7)\n"
+        "threading.Thread(target=shop.certify, daemon=True).start()\n"
+        "print(shop.certify(workers=3, time_limit=0.5, directions=1_000_000_000).optimal)"
+    )
+    begun = time.monotonic()
+    run = subprocess.run([sys.executable, "-c", code], capture_output=True, text=True, timeout=60, check=False)
+    equal("a process that ends", (run.returncode, run.stdout, run.stderr), (0, "False\n", ""))
+    equal("how soon it ends", time.monotonic() - begun < 3, True)
+
+
+def use_eight_threads():
+    """Eight threads at once, each of which has workers."""
+    shops = [Shop.generate(9, 6, seed) for seed in range(1, 9)]
+    wanted = [shop.certify(**FEW).text for shop in shops]
+    with small_tasks(), concurrent.futures.ThreadPoolExecutor(8) as pool:
+        got = list(pool.map(lambda shop: shop.certify(**FEW, workers=2).text, shops))
+    equal("eight threads", got, wanted)
+
+
+def lose_worker():
+    """A process of a pool that is killed: the error of the pool, in time."""
+    for seconds in (0.05, 0.5):
+        pool = concurrent.futures.ProcessPoolExecutor(2)
+        list(pool.map(first, range(4)))
+        victim = next(iter(pool._processes))
+        timer = threading.Timer(seconds, os.kill, [victim, signal.SIGKILL])
+        timer.start()
+        begun = time.monotonic()
+        try:
+            got = HARD.certify(**LONG, map=pool.map, time_limit=20)
+            got = "no error"
+        except concurrent.futures.BrokenExecutor as error:
+            got = type(error).__name__
+        equal("the error of a killed process", got, "BrokenProcessPool")
+        equal("how soon it comes", time.monotonic() - begun < seconds + 5, True)
+        pool.shutdown()
+
+
+def lose_results(pool):
+    """Maps that are none: results that are missing, or in another order; and errors of a map and of a caller."""
+
+    def fails(*_):
+        raise ZeroDivisionError
+
+    for name, each, wanted in [
+        ("no results", lambda call, words: [], RuntimeError),
+        ("another order", lambda call, words: [call(word) for word in list(words)][::-1], RuntimeError),
+        ("an error", lambda call, words: map(fails, words), ZeroDivisionError),
+    ]:
+        with small_tasks(), mock.patch.object(_spread, "_SHORT", 0.001):
+            try:
+                got = HARD.certify(**{**LONG, "directions": 100_000}, map=each, workers=4)
+            except (RuntimeError, ZeroDivisionError) as error:
+                got = type(error)
+        equal(f"a map with {name}", got, wanted)
+    try:
+        got = HARD.certify(**LONG, map=pool.map, progress=fails)
+    except ZeroDivisionError:
+        got = "raised"
+    equal("an error of who is told", got, "raised")
+    for name, value in [("workers", 0), ("workers", 10_001), ("time_limit", -1), ("time_limit", "x"), ("bound", -1)]:
+        call = HARD.prove if name == "bound" else HARD.certify
+        equal(f"{name} as {value}", refused(lambda: call(**{name: value}))[:2], ("OptionError", name.upper()))
+    for front, back, place, sentence in [
+        ([1, 21], [], 2, "place 2 of front is 21, and the jobs are 1 to 20"),
+        ([1], [2, 1], 3, "place 2 of back is 1, which stands before it in front or back"),
+    ]:
+        got = refused(lambda: HARD.prove(5000, front=front, back=back))
+        equal(f"the node {front}, {back}", got, ("NotASequence", "JOB" if place == 2 else "TWICE", place, sentence))
+
+
+def command(*words, **more):
+    """Runs the package as a command."""
+    run = [sys.executable, "-m", "flowshop", *map(str, words)]
+    return subprocess.run(run, capture_output=True, text=True, timeout=120, check=False, **more)
+
+
+def use_command():
+    """The commands: all blocks of files, tables, a run that goes on, and a certificate that is none."""
+    wanted = [block.shop.certify() for block in Shop.read(BLOCKS)]
+    digests = [hashlib.sha256(found.text).hexdigest() for found in wanted]
+    with tempfile.TemporaryDirectory() as folder:
+        out = pathlib.Path(folder, "out")
+        for executor in ("threads", "processes"):
+            run = command("certify", BLOCKS, "--out", out, "--executor", executor, "--workers", 2, "--json", out / "table")
+            equal(f"the status with {executor}", run.returncode, 0)
+            rows = json.loads((out / "table").read_text())
+            got = [(row["lower"], row["upper"], row["sha256"]) for row in rows]
+            equal(f"the table of {executor}", got, [(f.lower, f.upper, d) for f, d in zip(wanted, digests)])
+            lines = [line.split() for line in run.stdout.splitlines()]
+            equal("what is printed", [line[-1] for line in lines], ["sha256", *digests])
+            names = [f"several_blocks.txt.{number}.certificate" for number in (1, 2, 3)]
+            equal("the files", sorted(os.listdir(out)), [*names, "table"])
+            equal("the texts", [(out / name).read_bytes() for name in names], [found.text for found in wanted])
+            seconds = [row["seconds"] for row in rows]
+            equal(f"what is searched again by {executor}", [each is not None for each in seconds], [executor == "threads"] * 3)
+        # The text of another block, one that is cut off, and one that is not there.
+        (out / names[0]).write_bytes(wanted[1].text)
+        (out / names[1]).write_bytes(wanted[1].text[:-1])
+        os.remove(out / names[2])
+        run = command("check", BLOCKS, "--out", out)
+        equal("a check of these", (run.returncode, len(run.stdout.splitlines())), (1, 1))
+        said = [line.split(".certificate: ")[0].rsplit(".", 1)[1] for line in run.stderr.splitlines()]
+        equal("what is said of each", said, ["1", "2", "3"])
+        run = command("certify", BLOCKS, "--out", out, "--blocks", "1,2-2", "--csv", out / "table")
+        equal("two blocks", (run.returncode, len((out / "table").read_text().splitlines())), (0, 3))
+        equal("what is said of them", run.stderr.count("the block is searched again"), 2)
+        equal("the texts again", [(out / name).read_bytes() for name in names[:2]], [f.text for f in wanted[:2]])
+        equal("a check of two", command("check", BLOCKS, "--out", out, "--blocks", "1-2").returncode, 0)
+        for words, status, said in [
+            (["certify", BLOCKS, "--blocks", "4"], 2, "--blocks has 4, and "),
+            (["certify", BLOCKS, "--blocks", "x"], 2, "--blocks is x, and has to be all, or numbers such as 1,3-5"),
+            (["certify", BLOCKS, BLOCKS], 2, "two blocks would have the certificate "),
+            (["certify", BLOCKS, "--seed", "0"], 2, "seed is 0, and has to be a whole number from 1"),
+            (["certify", BLOCKS, "--executor", "none"], 2, "--executor is none, and has to be threads, processes, mpi"),
+            (["certify", BLOCKS, "--time-limit", "-1"], 2, "time_limit is -1.0, and has to be a number of seconds"),
+            (["certify", out / "nothing"], 3, "[Errno 2] No such file or directory"),
+            (["certify", out / names[0]], 1, "line 2 of "),
+        ]:
+            run = command(*words, cwd=folder)
+            equal(f"the status of {words}", run.returncode, status)
+            equal(f"what is said of {words}", run.stderr.startswith(f"flowshop: {said}"), True)
+        equal("the status of no command", command().returncode, 2)
+
+
+def stop_command():
+    """An interrupt of the command leaves whole files alone, and the next run goes on."""
+    with tempfile.TemporaryDirectory() as folder:
+        file, out = pathlib.Path(folder, "shops.txt"), pathlib.Path(folder, "out")
+        HARD.write(file)
+        file.write_bytes(BLOCKS.read_bytes() + file.read_bytes())
+        for executor in ("threads", "processes"):
+            words = ["certify", file, "--out", out, "--workers", 2, "--executor", executor, "--directions", 1_000_000_000]
+            run = subprocess.Popen(
+                [sys.executable, "-m", "flowshop", *map(str, words)],
+                stdout=subprocess.PIPE,
+                stderr=subprocess.PIPE,
+                start_new_session=True,
+            )
+            third = out / "shops.txt.3.certificate"
+            ends = time.monotonic() + 60
+            while not third.exists() and time.monotonic() < ends:
+                time.sleep(0.05)
+            time.sleep(0.5)
+            begun = time.monotonic()
+            os.killpg(run.pid, signal.SIGINT)
+            said = run.communicate(timeout=60)
+            equal(f"the status of {executor}", run.returncode, 130)
+            equal(f"how soon {executor} end", time.monotonic() - begun < 1, True)
+            equal("that no trace of an error is left", b"Traceback" in said[1], False)
+            equal("the files", sorted(os.listdir(out)), [f"shops.txt.{number}.certificate" for number in (1, 2, 3)])
+            try:
+                os.killpg(run.pid, 0)
+                equal("that no process is left", True, False)
+            except ProcessLookupError:
+                pass
+        run = command("certify", file, "--out", out, "--time-limit", 0.5)
+        equal("a run that goes on", [line.split()[-2] for line in run.stdout.splitlines()][1:4], ["-"] * 3)
+        equal("what it ends with", (run.returncode, command("check", file, "--out", out).returncode), (0, 0))
+
+
+def use_dask():
+    """Workers of dask, two processes on this machine: the same text, a limit of time, and the command."""
+    distributed = __import__("distributed")
+    with distributed.LocalCluster(n_workers=2, threads_per_worker=1, dashboard_address=None) as cluster:
+        with distributed.Client(cluster) as client:
+            compare_executor("dask", client.get_executor())
+        compare_command(f"dask:{cluster.scheduler_address}")
+
+
+def compare_executor(name, executor):
+    """The text by an executor is that of one call."""
+    for shop in (Shop.generate(12, 8, 5), Shop.from_jobs([[9000, 20_000, 7], [1, 60_000, 5], [8, 8, 8], [4, 70_000, 0]])):
+        with small_tasks(0.002):
+            equal(f"a text by {name}", shop.certify(**FEW, map=executor.map).text, shop.certify(**FEW).text)
+    begun = time.monotonic()
+    found = HARD.certify(**LONG, map=executor.map, time_limit=1)
+    equal(f"a limit of time with {name}", (lawful(HARD, found), time.monotonic() - begun < 2), (True, True))
+
+
+def compare_command(executor, *run):
+    """The command with an executor writes the texts of one call."""
+    with tempfile.TemporaryDirectory() as folder:
+        words = ["certify", str(BLOCKS), "--out", folder, "--executor", executor]
+        ran = subprocess.run(
+            [*(run or [sys.executable]), "-m", "flowshop", *words], capture_output=True, text=True, timeout=120, check=False
+        )
+        equal(f"the status with {executor}", (ran.returncode, ran.stderr if ran.returncode else ""), (0, ""))
+        got = [pathlib.Path(folder, f"several_blocks.txt.{number}.certificate").read_bytes() for number in (1, 2, 3)]
+        equal(f"the texts with {executor}", got, [block.shop.certify().text for block in Shop.read(BLOCKS)])
+
+
+def use_mpi():
+    """Workers of MPI: this is run by mpiexec."""
+    futures = __import__("mpi4py.futures").futures
+    with futures.MPIPoolExecutor() as pool:
+        compare_executor("MPI", pool)
+
+
+def use_local():
+    """All parts that need this machine alone. Pools come before threads, which a fork would not copy."""
+    with concurrent.futures.ProcessPoolExecutor(2, initializer=signal.signal, initargs=(signal.SIGINT, signal.SIG_IGN)) as pool:
+        list(pool.map(first, range(4)))
+        compare_searches()
+        compare_texts(pool)
+        keep_time(pool)
+        interrupt_runs(pool)
+        lose_results(pool)
+    lose_worker()
+    stop_threads()
+    use_eight_threads()
+    use_command()
+    stop_command()
+
+
+if __name__ == "__main__":
+    {"local": use_local, "dask": use_dask, "mpi": use_mpi, "command": lambda: compare_command(*sys.argv[2:])}[sys.argv[1]]()
+    end(f"searches that are shared, {sys.argv[1]}")
