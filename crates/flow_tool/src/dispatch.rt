@@ -103,7 +103,7 @@ fn obey<R: Threads + Wait + Sync, I: Inputs, K: Sink>(
             index,
             start,
             request,
-        } => { obey_certify(alloc, inputs, *file, *index, *start, *request, out) }
+        } => { obey_certify(rt, alloc, inputs, *file, *index, *start, *request, out) }
         Order::Check {
             file,
             index,

@@ -160,7 +160,8 @@ pub(crate) fn obey_improve<I: Inputs, K: Sink>(
 
 /// Writes a two-ended certificate of the least makespan, or of bounds of it.
 #[inline(never)]
-pub(crate) fn obey_certify<I: Inputs, K: Sink>(
+pub(crate) fn obey_certify<R: Threads + Wait + Sync, I: Inputs, K: Sink>(
+    rt: &R,
     alloc: Global,
     inputs: &I,
     file: &str,
@@ -180,7 +181,7 @@ pub(crate) fn obey_certify<I: Inputs, K: Sink>(
 {
     let mut text = open_text(inputs, file)?;
     let mut start = open_start(inputs, start)?;
-    Ok(run_certify(alloc, &mut text, index, &mut start, request, out)?)
+    Ok(run_certify(rt, alloc, &mut text, index, &mut start, request, out)?)
 }
 
 /// Prints the bounds that a certificate proves, or its sequence.

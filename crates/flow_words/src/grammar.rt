@@ -96,9 +96,18 @@ const WORK: Word = Word {
     help: "How many millions of steps of improvement there are at most, 0 to 1000000",
 };
 
+const WORKERS: Word = Word {
+    name: "workers",
+    kind: Kind::Option {
+        value: "K",
+        default: "1",
+    },
+    help: "How many workers there are, 1 to 64",
+};
+
 static NEH: [Word; 2] = [FILE, INDEX];
 
-static CERTIFY: [Word; 8] = [
+static CERTIFY: [Word; 9] = [
     FILE,
     INDEX,
     WIDTH,
@@ -113,6 +122,7 @@ static CERTIFY: [Word; 8] = [
         },
         help: "How many directions a proof has at most, 1 to 1000000000; fewer where the shop is large",
     },
+    WORKERS,
     START,
 ];
 
@@ -149,14 +159,7 @@ static GEN: [Word; 3] = [
 static SOLVE: [Word; 7] = [
     FILE,
     INDEX,
-    Word {
-        name: "workers",
-        kind: Kind::Option {
-            value: "K",
-            default: "1",
-        },
-        help: "How many workers there are, 1 to 64",
-    },
+    WORKERS,
     Word {
         name: "depth",
         kind: Kind::Option {

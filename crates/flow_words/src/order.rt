@@ -178,6 +178,7 @@ fn certify_order<'a>(given: &ArgMatches<'a>) -> Option<Order<'a>> {
         request: CertifyRequest {
             improve: improvement_of(given)?,
             directions: given.get_one::<u32>("directions")?,
+            workers: given.get_one::<u32>("workers")?,
         },
     })
 }

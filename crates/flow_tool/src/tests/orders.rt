@@ -122,12 +122,13 @@ const ORDERS: [(&str, Order); 8] = [
             request: CertifyRequest {
                 improve: USUAL,
                 directions: 100_000_000,
+                workers: 1,
             },
         },
     ),
     (
         "certify FILE 1 --directions 4294967295 --work 7 --width 65537 --seed 0 --rounds 4294967295 \
---start SEQUENCE",
+--workers 65 --start SEQUENCE",
         Order::Certify {
             file: "FILE",
             index: 1,
@@ -135,6 +136,7 @@ const ORDERS: [(&str, Order); 8] = [
             request: CertifyRequest {
                 improve: OTHER,
                 directions: 4_294_967_295,
+                workers: 65,
             },
         },
     ),

@@ -1,0 +1,3 @@
+pub mod Behind
+pub mod PieceSteps
+pub mod FoundByPieces
