@@ -12,7 +12,7 @@ ghost use Rattle.flow_certify.specs.internal.Runs.{IsLater, IsRun, IsSearched};
 use crate::certified::Certified;
 use crate::fund::Fund;
 use crate::task::Task;
-use flow_directions::{Found, Prover};
+use flow_directions::{Found, News, Prover};
 use flow_improve::Reached;
 use flow_nodes::Node;
 use flow_shop::{Instance, Sequence, makespan};
@@ -64,6 +64,20 @@ impl Run {
             fund,
             over: None,
         })
+    }
+
+    /// Tells the prover which bounds are known.
+    pub(crate) fn tell<P: Prover>(&self, task: &Task<P>) {
+        task.prover.tell(News::Bounds {
+            lower: self.known.lower,
+            upper: self.known.upper,
+        });
+    }
+
+    /// Tells the prover that a step begins, and which bounds are known.
+    pub(crate) fn begin<P: Prover>(&self, task: &Task<P>, step: u32) {
+        task.prover.tell(News::Step(step));
+        self.tell(task);
     }
 
     /// Whether the makespan of the sequence is proved.
@@ -158,6 +172,7 @@ impl Run {
         if self.is_over(number, budget) {
             return Ok(true);
         }
+        self.tell(task);
         match task
             .prover
             .prove(task.alloc, task.instance, number, budget)?

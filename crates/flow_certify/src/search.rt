@@ -13,7 +13,7 @@ use crate::certified::Certified;
 use crate::run::Run;
 use crate::task::Task;
 use flow_bound::taillard_bound;
-use flow_directions::Prover;
+use flow_directions::{News, Prover};
 use flow_improve::{Effort, Reached, beam, beam_below, rounds_of_both};
 use flow_shop::{Instance, Sequence};
 use std::alloc::{AllocError, Global};
@@ -49,6 +49,7 @@ fn prove_best<P: Prover>(
     ensures { IsLater task.now.instance.now run.old run.new }
 {
     let whole = run.whole;
+    run.begin(task, 1);
     if run.known.upper == taillard_bound(task.instance) {
         run.fund.release();
         return run.prove_upper(task, whole);
@@ -57,6 +58,7 @@ fn prove_best<P: Prover>(
     if run.is_proved() {
         return Ok(());
     }
+    run.begin(task, 2);
     let width = effort.width.min(NARROW);
     let narrow = beam(task.alloc, task.instance, start, width, effort.beam_work())?;
     run.take(task.alloc, &narrow)?;
@@ -68,6 +70,7 @@ fn prove_best<P: Prover>(
     if run.is_proved() {
         return Ok(());
     }
+    run.begin(task, 3);
     let beamed = widened(task.alloc, task.instance, start, narrow, effort)?;
     prove_on(task, start, effort, &beamed, run)
 }
@@ -99,6 +102,7 @@ fn prove_on<P: Prover>(
     if run.is_proved() {
         return Ok(());
     }
+    run.begin(task, 4);
     let best = run.best(task.alloc)?;
     let best = rounds_of_both(task.alloc, task.instance, start, &best, effort)?;
     run.take(task.alloc, &best)?;
@@ -189,11 +193,15 @@ fn prove_more<P: Prover>(task: &Task<P>, effort: &Effort, run: &mut Run) -> Resu
 {
     let whole = run.whole;
     run.fund.release();
+    run.begin(task, 5);
     run.raise(task, SMALL[0].min(whole / 10))?;
     run.raise(task, whole / 30)?;
+    run.begin(task, 6);
     aim(task, effort, run)?;
+    run.begin(task, 7);
     halve(task, effort, run)?;
     run.prove_upper(task, whole)?;
+    run.begin(task, 8);
     let proved = run.known.lower;
     run.raise(task, whole / 10)?;
     if run.known.lower == proved {
@@ -204,7 +212,8 @@ fn prove_more<P: Prover>(task: &Task<P>, effort: &Effort, run: &mut Run) -> Resu
 }
 
 /// Bounds of the least makespan, a sequence that has the upper one, and directions that prove the lower one. The prover
-/// searches for directions; what is found does not depend on which one it is.
+/// searches for directions, and is told which step begins, and which bounds are known before each search and at the end;
+/// what is found does not depend on which prover it is.
 pub fn certify<P: Prover>(
     alloc: Global,
     prover: &P,
@@ -234,6 +243,8 @@ pub fn certify<P: Prover>(
     if !run.is_proved() {
         prove_more(&task, effort, &mut run)?;
     }
+    run.tell(&task);
+    prover.tell(News::Ended);
     let Run { known, .. } = run;
     Ok(known)
 }

@@ -130,7 +130,7 @@ first_reached [] = None
 first_reached (opens end ∷ more) = first_reached more
 first_reached (reaches jobs ∷ more) = Some jobs
 
--- what is met begins with nodes that are opened by these signs, and goes on so
+-- what is met has these signs first; then come the signs, and the first sequence reached, of what is met further on
 abbrev pub Continues : List Visit → List ℕ → List Visit → Type 0
 Continues met text more = (signs met ≡ text ++ signs more) × (first_reached met ≡ first_reached more)
 

@@ -18,4 +18,4 @@ mod words;
 pub use directions::{advance, prove};
 pub use found::{Advanced, Found, Part, ProveFault};
 pub use laws::{directions_by_children, directions_prove, search_reaches_what_is_below};
-pub use prover::{Alone, Prover};
+pub use prover::{Alone, News, Prover};

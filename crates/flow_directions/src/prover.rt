@@ -5,6 +5,24 @@ use crate::found::Found;
 use flow_shop::Instance;
 use std::alloc::{AllocError, Global};
 
+/// What a run that asks for directions tells of itself.
+#[derive(Clone, Copy, Debug, PartialEq, Eq)]
+pub enum News {
+    /// The step that begins.
+    Step(u32),
+    /// The bounds that are known.
+    Bounds {
+        /// No sequence has a smaller makespan.
+        lower: u64,
+        /// Some sequence has this makespan.
+        upper: u64,
+    },
+    /// How many directions the search that goes on has written.
+    Directions(u64),
+    /// The run ended.
+    Ended,
+}
+
 /// Searches an instance for directions.
 pub trait Prover {
     ghost use Rattle.std.specs.Prelude.{[], IfOk};
@@ -25,6 +43,9 @@ pub trait Prover {
         requires { is_ready self.now }
         ensures found { IfOk result (λ found. IsFound instance.now number budget [] [] found) }
         ensures shown { IfOk result (λ found. Shows instance.now number [] [] found) };
+
+    /// Is told something new. It changes nothing of what is found.
+    fn tell(&self, news: News);
 }
 
 /// Searches on the calling thread.
@@ -47,4 +68,6 @@ impl Prover for Alone {
             Err(_) => Err(AllocError),
         }
     }
+
+    fn tell(&self, _news: News) {}
 }

@@ -381,7 +381,7 @@ fn ran_of_start<T: Threads + Wait + Sync>(
     match command {
         OfStart::Improve => run_improve(alloc, &mut file, 1, &mut start, NO_ROUND, out),
         OfStart::Certify(request) => {
-            run_certify(threads, alloc, &mut file, 1, &mut start, *request, out)
+            run_certify(threads, alloc, &mut file, 1, &mut start, *request, &Unwatched, out)
         }
         OfStart::SolveAs(request) => run_solve_as(
             threads, alloc, &mut file, 1, &mut start, *request, &Open, out,

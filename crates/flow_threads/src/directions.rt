@@ -2,9 +2,10 @@
 
 use flow_directions::{Found, prove};
 use flow_text::generate;
-use flow_workers::prove_by;
+use flow_workers::{News, Watch, Workers, prove_by};
 use sha2::{Digest, Sha256};
 use std::alloc::Global;
+use std::cell::Cell;
 use std::thread::Threads;
 
 /// Jobs, machines and seed of a published instance, its least makespan, how many directions prove it, and how the
@@ -55,27 +56,64 @@ static PUBLISHED: [Published; 5] = [
 ];
 
 /// How many workers there are.
-const WORKERS: [usize; 5] = [0, 1, 2, 3, 8];
+const WORKERS: [usize; 6] = [0, 1, 2, 3, 4, 64];
 
-/// Whether so many workers find these directions with a budget of as many, and none with one less; and below the next
-/// number what one thread finds.
+/// Keeps how many directions it was told of last, and whether they ever became fewer.
+#[derive(Drop)]
+struct Told {
+    last: Cell<u64>,
+    fell: Cell<bool>,
+}
+
+impl Watch for Told {
+    fn is_on(&self) -> bool {
+        true
+    }
+
+    fn tell(&self, news: News) {
+        if let News::Directions(directions) = news {
+            if directions < self.last.get() {
+                self.fell.set(true);
+            }
+            self.last.set(directions);
+        }
+    }
+}
+
+/// Whether so many workers find these directions with a budget of as many, and tell a watch of all of them; and below
+/// the next number what one thread finds. With a budget of one less, or next to nothing, they find none.
 fn is_published<R: Threads + Sync>(rt: &R, alloc: Global, row: &Published, workers: usize) -> bool {
     let (jobs, machines, seed, number, length, digest) = *row;
     let Ok(instance) = generate(alloc, jobs, machines, seed) else {
         return false;
     };
-    let Ok(Found::Proved(text)) = prove_by(rt, alloc, &instance, number, length, workers) else {
+    let told = Told {
+        last: Cell::new(0),
+        fell: Cell::new(false),
+    };
+    let workers = Workers {
+        rt,
+        count: workers,
+        watch: &told,
+    };
+    let Ok(Found::Proved(text)) = prove_by(&workers, alloc, &instance, number, length) else {
         return false;
     };
     let begins = Sha256::digest(text.as_slice()).starts_with(&digest);
-    let less = length.saturating_sub(1);
-    let over = prove_by(rt, alloc, &instance, number, less, workers);
+    if told.fell.get() || told.last.get() != length {
+        return false;
+    }
+    for budget in [0, 1, length.saturating_sub(1)] {
+        if prove_by(&workers, alloc, &instance, number, budget) != Ok(Found::Over) {
+            return false;
+        }
+    }
     let next = number.saturating_add(1);
-    let below = prove_by(rt, alloc, &instance, next, length, workers);
+    let below = prove_by(&workers, alloc, &instance, next, length);
     let Ok(alone) = prove(alloc, &instance, &[], &[], next, length) else {
         return false;
     };
-    begins && text.len() as u64 == length && over == Ok(Found::Over) && below == Ok(alone)
+    begins && text.len() as u64 == length && below == Ok(alone)
 }
 
 #[test]

@@ -107,7 +107,7 @@ const WORKERS: Word = Word {
 
 static NEH: [Word; 2] = [FILE, INDEX];
 
-static CERTIFY: [Word; 9] = [
+static CERTIFY: [Word; 10] = [
     FILE,
     INDEX,
     WIDTH,
@@ -123,6 +123,11 @@ static CERTIFY: [Word; 9] = [
         help: "How many directions a proof has at most, 1 to 1000000000; fewer where the shop is large",
     },
     WORKERS,
+    Word {
+        name: "progress",
+        kind: Kind::Flag,
+        help: "Writes lines to standard error that say how far the run is",
+    },
     START,
 ];
 

@@ -1,5 +1,7 @@
 -- What pieces stand for, where they are joined, and where a search made them.
-use Rattle.std.proofs.Common.{◌≡◌, ℕ, suc, ◌<◌, List, [], ◌∷◌, ◌++◌, length, slice_index_or, Some, None}
+use Rattle.std.proofs.Common.{◌≡◌, ◌≢◌, ℕ, suc, ◌<◌, List, [], ◌∷◌, ◌++◌, length, slice_index_or, slice_set, Some, None}
+use Rattle.std.proofs.lemmas.Bool.{cases_lt}
+use Rattle.std.proofs.lemmas.List.{get_or-set_other, get_or-set_same}
 use Rattle.std.proofs.Common.{refl, ap, sym, ◌∙◌, inl, inr, map, arith}
 use Rattle.flow_shop.specs.Shop.{Shop}
 use Rattle.flow_directions.specs.Search.{Visit, signs, first_reached, visits, part_visits, parts_visits}
@@ -14,10 +16,13 @@ use Rattle.flow_workers.specs.internal.Units.{IsNodeOf}
 use Rattle.flow_directions.specs.declared.found.Part.{Part}
 use Rattle.flow_directions.proofs.VisitSteps.{none-or-reached, signs-append, first_reached-append}
 use Rattle.flow_directions.proofs.VisitSteps.{signs-append-reached, first_reached-append-reached}
-use Rattle.flow_workers.specs.internal.Pieces.{Met, joined, behind, met, piece_met, pieces_met, runs_met}
+use Rattle.flow_workers.specs.internal.Pieces.{Met, joined, behind, met, piece_met, pieces_met, dealt_met, all_met, written}
 use Rattle.flow_workers.specs.declared.piece.Piece.{Piece}
 use Rattle.flow_workers.specs.declared.piece.Piece.TheVariants.{Left}
-use Rattle.flow_workers.specs.declared.run.Run.{Run}
+use Rattle.flow_workers.specs.declared.piece.Dealt.{Dealt}
+use Rattle.flow_workers.specs.declared.piece.Dealt.TheVariants.{Searched}
+use Rattle.flow_workers.specs.declared.piece.Answer.{Answer}
+use Rattle.flow_workers.specs.internal.Answers.{HasPlace, StandsFor}
 use Rattle.flow_workers.proofs.Behind.{pair, behind-nil, behind-assoc}
 
 -- what two lists of visits meet
@@ -32,6 +37,11 @@ met-append xs ys = elim (none-or-reached (first_reached xs)) [
       (signs-append-reached xs ys found.0 found.1) (first_reached-append-reached xs ys found.0 found.1)
       ∙ sym (ap (λ r. joined (signs xs) r (met ys)) found.1)
 ]
+
+-- parts that are left have no directions yet
+pub none-written : (parts : List Part) → written (map Left parts) ≡ 0
+none-written [] = refl
+none-written (part ∷ parts) = none-written parts
 
 module _ (shop : Shop) (number : ℕ) where
   -- pieces that are joined
@@ -48,28 +58,65 @@ module _ (shop : Shop) (number : ℕ) where
   pieces-more xs x =
       pieces-append xs (x ∷ []) ∙ ap (behind (pieces_met shop number xs)) (behind-nil (piece_met shop number x))
 
-  -- one more run
-  pub runs-more : (xs : List Run) (x : Run) →
-      runs_met shop number (xs ++ x ∷ [])
-      ≡ behind (runs_met shop number xs) (pieces_met shop number x.pieces.items)
-  runs-more [] x = behind-nil (pieces_met shop number x.pieces.items)
-  runs-more (y ∷ xs) x =
-      ap (behind (pieces_met shop number y.pieces.items)) (runs-more xs x)
-      ∙ sym (behind-assoc (pieces_met shop number y.pieces.items) (runs_met shop number xs)
-      (pieces_met shop number x.pieces.items))
+  -- one more piece that was dealt
+  pub all-more : (xs : List Dealt) (x : Dealt) →
+      all_met shop number (xs ++ x ∷ []) ≡ behind (all_met shop number xs) (dealt_met shop number x)
+  all-more [] x = behind-nil (dealt_met shop number x)
+  all-more (y ∷ xs) x =
+      ap (behind (dealt_met shop number y)) (all-more xs x)
+      ∙ sym (behind-assoc (dealt_met shop number y) (all_met shop number xs) (dealt_met shop number x))
 
-  -- runs that stand for the same, one by one
-  pub runs-same : (xs ys : List Run) → length ys ≡ length xs →
-      ((k : ℕ) (d : Run) → k < length xs → pieces_met shop number (slice_index_or ys k d).pieces.items
-      ≡ pieces_met shop number (slice_index_or xs k d).pieces.items) →
-      runs_met shop number ys ≡ runs_met shop number xs
-  runs-same [] [] same each = refl
-  runs-same [] (y ∷ ys) same each = absurd (omega (arith, same))
-  runs-same (x ∷ xs) [] same each = absurd (omega (arith, same))
-  runs-same (x ∷ xs) (y ∷ ys) same each =
-      ap (λ m. behind m (runs_met shop number ys)) (each 0 x (omega arith))
-      ∙ ap (behind (pieces_met shop number x.pieces.items))
-      (runs-same xs ys (omega (arith, same)) (λ k d within. each (suc k) d (omega (arith, within))))
+  -- what was dealt last is put before the pieces
+  pub put-more : (xs : List Dealt) (x : Dealt) (one : Met) (pieces put : List Piece) (dealt : List Dealt) →
+      dealt ≡ xs ++ x ∷ [] → dealt_met shop number x ≡ one →
+      pieces_met shop number put ≡ behind one (pieces_met shop number pieces) →
+      behind (all_met shop number xs) (pieces_met shop number put)
+      ≡ behind (all_met shop number dealt) (pieces_met shop number pieces)
+  put-more xs x one pieces put dealt are is puts =
+      ap (behind (all_met shop number xs)) puts
+      ∙ sym (behind-assoc (all_met shop number xs) one (pieces_met shop number pieces))
+      ∙ ap (λ m. behind m (pieces_met shop number pieces))
+      (ap (behind (all_met shop number xs)) (sym is) ∙ sym (all-more xs x) ∙ sym (ap (all_met shop number) are))
+
+  -- pieces that stand for the same, one by one
+  pub all-same : (xs ys : List Dealt) → length ys ≡ length xs →
+      ((k : ℕ) (d : Dealt) → k < length xs → dealt_met shop number (slice_index_or ys k d)
+      ≡ dealt_met shop number (slice_index_or xs k d)) →
+      all_met shop number ys ≡ all_met shop number xs
+  all-same [] [] same each = refl
+  all-same [] (y ∷ ys) same each = absurd (omega (arith, same))
+  all-same (x ∷ xs) [] same each = absurd (omega (arith, same))
+  all-same (x ∷ xs) (y ∷ ys) same each =
+      ap (λ m. behind m (all_met shop number ys)) (each 0 x (omega arith))
+      ∙ ap (behind (dealt_met shop number x))
+      (all-same xs ys (omega (arith, same)) (λ k d within. each (suc k) d (omega (arith, within))))
+
+  -- an answer in the place of its piece
+  pub answer-put : (first now : List Dealt) (answer : Answer) (one : Dealt) → one ≡ Searched answer.pieces →
+      length now ≡ length first → HasPlace first answer → StandsFor shop number first answer →
+      ((k : ℕ) (d : Dealt) → k < length first → dealt_met shop number (slice_index_or now k d)
+      ≡ dealt_met shop number (slice_index_or first k d)) →
+      (k : ℕ) (d : Dealt) → k < length first →
+      dealt_met shop number (slice_index_or (slice_set now answer.place one) k d)
+      ≡ dealt_met shop number (slice_index_or first k d)
+  answer-put first now answer one is same place stands each k d within = elim (cases_lt k answer.place) [
+    | inl before ↦ apart (omega arith)
+    | inr not_before ↦ elim (cases_lt answer.place k) [
+      | inl after ↦ apart (omega arith)
+      | inr not_after ↦
+          let at : k ≡ answer.place = omega arith in
+          ap (λ i. dealt_met shop number (slice_index_or (slice_set now answer.place one) i d)) at
+          ∙ ap (dealt_met shop number) (get_or-set_same now answer.place one d (omega (arith, same, place)))
+          ∙ ap (dealt_met shop number) is ∙ stands d
+          ∙ sym (ap (λ i. dealt_met shop number (slice_index_or first i d)) at)
+    ]
+  ]
+    where
+      apart : k ≢ answer.place →
+          dealt_met shop number (slice_index_or (slice_set now answer.place one) k d)
+          ≡ dealt_met shop number (slice_index_or first k d)
+      apart other =
+          ap (dealt_met shop number) (get_or-set_other now answer.place k one d other) ∙ each k d within
 
   -- parts that are left
   pub parts-met : (parts : List Part) →

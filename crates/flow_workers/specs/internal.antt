@@ -1,3 +1,4 @@
 pub mod Pieces
+pub mod Answers
 pub mod Units
 pub mod Found

@@ -2,6 +2,7 @@
 
 use flow_directions::Part;
 use flow_shop::Sequence;
+use std::collections::VecDeque;
 
 /// A piece of a search.
 #[derive(Drop)]
@@ -17,4 +18,22 @@ pub(crate) enum Piece {
     },
     /// It is still to be searched.
     Left(Part),
+}
+
+/// A piece that is dealt in a round.
+#[derive(Drop)]
+pub(crate) enum Dealt {
+    /// It was not searched in this round.
+    Open(Piece),
+    /// It was searched: these stand for it.
+    Searched(VecDeque<Piece>),
+}
+
+/// What a worker found for a piece that was dealt.
+#[derive(Drop)]
+pub(crate) struct Answer {
+    /// The place of the piece among those that were dealt.
+    pub(crate) place: usize,
+    /// What stands for the piece.
+    pub(crate) pieces: VecDeque<Piece>,
 }

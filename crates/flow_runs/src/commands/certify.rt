@@ -11,8 +11,8 @@ use super::{
     improvement,
 };
 use flow_commands::{
-    CertifyRequest, CheckRequest, CommandFault, ImproveFault, ImproveRequest, run_certify,
-    run_check_as,
+    CertifyRequest, CheckRequest, CommandFault, ImproveFault, ImproveRequest, Unwatched,
+    run_certify, run_check_as,
 };
 use flow_core::{MemorySink, ReadFault, SequenceFault, StartFault, TextFault};
 use std::alloc::Global;
@@ -156,6 +156,7 @@ fn certifies<R: Threads + Sync>(
         texts.index,
         &mut start,
         request,
+        &Unwatched,
         &mut out,
     );
     ends(ran, &out, end)
@@ -275,6 +276,7 @@ fn proves<R: Threads + Sync>(rt: &R, alloc: Global, row: &Known) -> bool {
         1,
         &mut none,
         request,
+        &Unwatched,
         &mut out,
     );
     ran == Ok(()) && is_accepted(alloc, text, out.bytes(), wanted)
@@ -356,7 +358,7 @@ fn certify_stops_an_endless_start(rt: HostRuntime) {
     let mut out = MemorySink::new(rt.alloc(), ROOM);
     let mut start = Some(Endless::new());
     let mut file = all_of(THREE_MACHINES);
-    let ran = run_certify(&rt, rt.alloc(), &mut file, 1, &mut start, PLAIN, &mut out);
+    let ran = run_certify(&rt, rt.alloc(), &mut file, 1, &mut start, PLAIN, &Unwatched, &mut out);
     assert!(rt; comes_to(ran, &out, Err(CommandFault::Read(ReadFault::TooLong))));
 }
 
@@ -365,6 +367,6 @@ fn certify_stops_an_endless_text(rt: HostRuntime) {
     let mut out = MemorySink::new(rt.alloc(), ROOM);
     let mut none = OF_THREE.source_beside();
     let mut file = Endless::new();
-    let ran = run_certify(&rt, rt.alloc(), &mut file, 1, &mut none, PLAIN, &mut out);
+    let ran = run_certify(&rt, rt.alloc(), &mut file, 1, &mut none, PLAIN, &Unwatched, &mut out);
     assert!(rt; comes_to(ran, &out, Err(CommandFault::Read(ReadFault::TooLong))));
 }

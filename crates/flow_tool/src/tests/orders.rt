@@ -124,11 +124,12 @@ const ORDERS: [(&str, Order); 8] = [
                 directions: 100_000_000,
                 workers: 1,
             },
+            progress: false,
         },
     ),
     (
         "certify FILE 1 --directions 4294967295 --work 7 --width 65537 --seed 0 --rounds 4294967295 \
---workers 65 --start SEQUENCE",
+--workers 65 --progress --start SEQUENCE",
         Order::Certify {
             file: "FILE",
             index: 1,
@@ -138,6 +139,7 @@ const ORDERS: [(&str, Order); 8] = [
                 directions: 4_294_967_295,
                 workers: 65,
             },
+            progress: true,
         },
     ),
 ];
@@ -197,7 +199,7 @@ static REFUSED: [&str; 23] = [
     "improve FILE 1 --rounds -1",
     "improve FILE 1 --certificate 1",
     "certify FILE 1 --seed 4294967296",
-    "certify FILE 1 --workers 1",
+    "certify FILE 1 --workers -1",
     "certify FILE 1 --directions 4294967296",
     "certify FILE 1 --certificate 1",
     "certify FILE 1 --bounds",

@@ -1,10 +1,11 @@
 -- What the pieces of a search stand for.
-use Rattle.std.specs.Prelude.{ℕ, List, [], ◌∷◌, ◌++◌, Option, Some, None}
+use Rattle.std.specs.Prelude.{ℕ, ◌+◌, List, [], ◌∷◌, ◌++◌, length, Option, Some, None}
 use Rattle.flow_shop.specs.Shop.{Shop}
 use Rattle.flow_directions.specs.Search.{Visit, signs, first_reached, part_visits}
 use Rattle.flow_workers.specs.declared.piece.Piece.{Piece}
 use Rattle.flow_workers.specs.declared.piece.Piece.TheVariants.{Done, Reached, Left}
-use Rattle.flow_workers.specs.declared.run.Run.{Run}
+use Rattle.flow_workers.specs.declared.piece.Dealt.{Dealt}
+use Rattle.flow_workers.specs.declared.piece.Dealt.TheVariants.{Open, Searched}
 
 -- what a search meets: the signs of the nodes that it opens before a sequence is reached, and that sequence
 abbrev pub Met : Type 0
@@ -34,7 +35,19 @@ abbrev pub pieces_met : Shop → ℕ → List Piece → Met
 pieces_met shop number [] = ([], None)
 pieces_met shop number (piece ∷ pieces) = behind (piece_met shop number piece) (pieces_met shop number pieces)
 
--- what some runs of pieces stand for, one after the other
-abbrev pub runs_met : Shop → ℕ → List Run → Met
-runs_met shop number [] = ([], None)
-runs_met shop number (run ∷ runs) = behind (pieces_met shop number run.pieces.items) (runs_met shop number runs)
+-- what a piece that was dealt stands for
+abbrev pub dealt_met : Shop → ℕ → Dealt → Met
+dealt_met shop number (Open piece) = piece_met shop number piece
+dealt_met shop number (Searched pieces) = pieces_met shop number pieces.items
+
+-- what all pieces that were dealt stand for, one after the other
+abbrev pub all_met : Shop → ℕ → List Dealt → Met
+all_met shop number [] = ([], None)
+all_met shop number (one ∷ more) = behind (dealt_met shop number one) (all_met shop number more)
+
+-- how many directions pieces have that were searched
+abbrev pub written : List Piece → ℕ
+written [] = 0
+written (Done text ∷ pieces) = length text.items + written pieces
+written (Reached sequence text ∷ pieces) = length text.items + written pieces
+written (Left part ∷ pieces) = written pieces

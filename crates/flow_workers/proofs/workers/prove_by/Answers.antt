@@ -12,7 +12,7 @@ returns-in-None-clause-shown g c =
     found-shows shop number c.args.budget [] [] (Proved c.settle.new.text) (no-jobs shop.jobs)
     (none-left shop number c.args.budget c.settle.new.text c.settle.new.pieces.items none
     (c.in_ok-settle.ensures shop number ∙ c.rounds.invariant)
-    (omega (arith, c.if-len-budget.false, c.len.ensures, c.settle.new.text.ok.0)))
+    (omega (arith, c.if-written-budget.false, c.len-written.ensures, c.settle.new.text.ok.0)))
 
 pub reached-requires : goal.reached-requires
 reached-requires g c =
@@ -33,11 +33,11 @@ returns-in-Some-Reached-clause-found g c =
     c.in-Some-Reached.directions rest
     (c.in-Some-Reached.ensures.items ∙ ap (λ p. p ∷ rest) c.in-Some-Reached.field-0-is)
     (c.in_ok-settle.ensures shop number ∙ c.rounds.invariant)
-    (c.len-in-Some-Reached.result + c.len-in-Some-Reached-2.result) c.reached.result
+    (c.len.result + c.len-in-Some-Reached.result) c.reached.result
     (omega (
       arith,
+      c.len.ensures,
       c.len-in-Some-Reached.ensures,
-      c.len-in-Some-Reached-2.ensures,
       c.settle.new.text.ok.0,
       c.in-Some-Reached.directions.ok.0,
     ))
