@@ -22,6 +22,7 @@ use crate::solve::Room;
 use flow_cert::write_two_ended;
 use flow_certify::certify;
 use flow_check::Bounds;
+use flow_directions::Alone;
 use flow_improve::Effort;
 use flow_limits::MAX_DIRECTIONS;
 use flow_shop::{Instance, Sequence};
@@ -88,7 +89,7 @@ fn certify_from(
     ensures refused { IfErr result (λ fault. (number fault ≡ memory)
         ⊎ IsTextTooLong instance.now start.now directions room fault) }
 {
-    let found = certify(alloc, instance, start, effort, directions)?;
+    let found = certify(alloc, &Alone, instance, start, effort, directions)?;
     let bounds = Bounds {
         lower: found.lower,
         upper: found.upper,

@@ -1,7 +1,7 @@
 -- What is still to be searched of a node, while its children are.
 use Rattle.std.proofs.Common.{◌≡◌, ℕ, suc, ◌+◌, ◌-◌, ◌<◌, ◌≤◌, Bool, true, false, cond, nat_lt, List, [], ◌∷◌}
 use Rattle.std.proofs.Common.{◌++◌, length, drop, filter, Some, None, refl, ap, sym, ◌∙◌, subst, inl, inr, arith}
-use Rattle.std.proofs.Common.{append_assoc, length-append, slice_index_or}
+use Rattle.std.proofs.Common.{append_assoc, append-nil, length-append, slice_index_or}
 use Rattle.std.specs.List.{flat_map, AllByRecursion}
 use Rattle.std.proofs.lemmas.Bool.{cases_Bool, ltb-false, ltb-true}
 use Rattle.std.proofs.lemmas.List.{take-append-drop}
@@ -15,10 +15,11 @@ use Rattle.flow_shop.proofs.JobsLeft.{each-left}
 use Rattle.flow_nodes.specs.Nodes.{IsJob}
 use Rattle.flow_nodes.specs.Groups.{child_bound}
 use Rattle.flow_directions.specs.Search.{end_taken, Visit, opens, visits, signs, first_reached}
-use Rattle.flow_directions.specs.Search.{directions_of, first_below, jobs_below}
+use Rattle.flow_directions.specs.Search.{directions_of, first_below, jobs_below, child_visits, part_visits, parts_visits}
+use Rattle.flow_directions.specs.declared.found.Part.{Part}
 use Rattle.flow_directions.specs.internal.Lists.{HasLists}
 use Rattle.flow_directions.specs.declared.lists.Lists.{Lists}
-use Rattle.flow_directions.proofs.VisitSteps.{child_visits, visits-high, visits-open, none-or-reached}
+use Rattle.flow_directions.proofs.VisitSteps.{visits-high, visits-open, none-or-reached}
 use Rattle.flow_directions.proofs.VisitSteps.{signs-append, first_reached-append, signs-append-reached}
 use Rattle.flow_directions.proofs.VisitSteps.{first_reached-append-reached}
 
@@ -159,6 +160,43 @@ module _ (shop : Shop) (number : ℕ) (first last : List ℕ) where
           omega (arith, e)
     ]
 
+    -- where the search of the child goes on with some parts, that of the node does with these, and with the children
+    -- of the other jobs
+    module _ (new2 : List ℕ) (parts : List Part)
+        (written : new ++ directions_of shop number first2 last2 ≡ new2 ++ signs (parts_visits shop number parts))
+        (reached : first_below shop number first2 last2 ≡ first_reached (parts_visits shop number parts)) where
+      abbrev met : List Visit
+      met = parts_visits shop number parts
+
+      abbrev at_child : List Visit
+      at_child = visits shop number first2 last2
+
+      pub stands-left-written : old ++ directions_of shop number first last ≡ new2 ++ signs (met ++ rest)
+      stands-left-written = elim (none-or-reached (first_reached met)) [
+        | inl none ↦
+            stands.written
+            ∙ ap (λ xs. new ++ xs) (signs-append at_child rest (reached ∙ none))
+            ∙ sym (append_assoc new (signs at_child) (signs rest))
+            ∙ ap (λ xs. xs ++ signs rest) written
+            ∙ append_assoc new2 (signs met) (signs rest)
+            ∙ ap (λ xs. new2 ++ xs) (sym (signs-append met rest none))
+        | inr found ↦
+            stands-written found.0 (reached ∙ found.1)
+            ∙ written
+            ∙ ap (λ xs. new2 ++ xs) (sym (signs-append-reached met rest found.0 found.1))
+      ]
+
+      pub stands-left-reached : first_below shop number first last ≡ first_reached (met ++ rest)
+      stands-left-reached = elim (none-or-reached (first_reached met)) [
+        | inl none ↦
+            stands.reached
+            ∙ first_reached-append at_child rest (reached ∙ none)
+            ∙ sym (first_reached-append met rest none)
+        | inr found ↦
+            stands-reached found.0 (reached ∙ found.1)
+            ∙ sym (first_reached-append-reached met rest found.0 found.1)
+      ]
+
   -- at the end
   pub stands-done : (end : End) (old new : List ℕ) (lists : Lists) (jobs : List ℕ) →
       Stands shop number end first last old new lists jobs → jobs ≡ [] →
@@ -173,6 +211,14 @@ module _ (shop : Shop) (number : ℕ) (first last : List ℕ) where
       append-none : (xs : List ℕ) → xs ++ [] ≡ xs
       append-none [] = refl
       append-none (x ∷ xs) = ap (λ ys. x ∷ ys) (append-none xs)
+
+-- what is met at one more part
+pub parts-more : (shop : Shop) (number : ℕ) (parts : List Part) (part : Part) →
+    parts_visits shop number (parts ++ part ∷ []) ≡ parts_visits shop number parts ++ part_visits shop number part
+parts-more shop number [] part = append-nil (part_visits shop number part)
+parts-more shop number (p ∷ parts) part =
+    ap (λ v. part_visits shop number p ++ v) (parts-more shop number parts part)
+    ∙ sym (append_assoc (part_visits shop number p) (parts_visits shop number parts) (part_visits shop number part))
 
 -- the lists of a node, where no job is left
 pub whole-lists : (jobs : ℕ) (first last : List ℕ) (lists : Lists) → HasLists jobs first last lists →

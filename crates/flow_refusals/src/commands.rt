@@ -73,12 +73,14 @@ const SOME_ROUNDS: ImproveRequest = ImproveRequest {
 const PROVED: CertifyRequest = CertifyRequest {
     improve: NO_ROUND,
     directions: 1_000,
+    workers: 1,
 };
 
 /// Bounds by fifty directions, with a little of a beam and a few rounds.
 const BOUNDED: CertifyRequest = CertifyRequest {
     improve: SOME_ROUNDS,
     directions: 50,
+    workers: 1,
 };
 
 /// `solve` with two workers at depth 0.
@@ -378,7 +380,9 @@ fn ran_of_start<T: Threads + Wait + Sync>(
     let mut start = all_of_any(run.beside);
     match command {
         OfStart::Improve => run_improve(alloc, &mut file, 1, &mut start, NO_ROUND, out),
-        OfStart::Certify(request) => { run_certify(alloc, &mut file, 1, &mut start, *request, out) }
+        OfStart::Certify(request) => {
+            run_certify(threads, alloc, &mut file, 1, &mut start, *request, &Unwatched, out)
+        }
         OfStart::SolveAs(request) => run_solve_as(
             threads, alloc, &mut file, 1, &mut start, *request, &Open, out,
         ),
