@@ -212,6 +212,109 @@ uint32_t flowshop_certify(uint32_t jobs, uint32_t machines, const uint32_t *time
                           uint64_t *lower, uint64_t *upper, uint8_t *text, size_t text_count, size_t *length,
                           size_t *place);
 
+/* The outcome of flowshop_prove, flowshop_beam and flowshop_rounds: the status, and the place of the fault, which is 0
+ * where the status is FLOWSHOP_DONE or has no place. */
+typedef struct flowshop_outcome {
+    uint32_t status;
+    size_t place;
+} flowshop_outcome;
+
+/* A shop. */
+typedef struct flowshop_shop {
+    uint32_t jobs;
+    uint32_t machines;
+    const uint32_t *times; /* machine by machine */
+    size_t times_count;
+} flowshop_shop;
+
+/* A node of the two-ended tree: its sequences begin with the first list, and end with the last one. */
+typedef struct flowshop_node {
+    const uint16_t *first;
+    size_t first_count;
+    const uint16_t *last;
+    size_t last_count;
+} flowshop_node;
+
+/* What a search for directions came to. */
+enum flowshop_found {
+    FLOWSHOP_PROVED = 0, /* the directions prove the number */
+    FLOWSHOP_BELOW = 1, /* a sequence is below the number */
+    FLOWSHOP_OVER = 2 /* there are more directions than there is room for */
+};
+
+/* Room for what a search for directions comes to, and what is said of it. */
+typedef struct flowshop_part {
+    uint16_t *sequence; /* room for a sequence */
+    size_t sequence_count;
+    uint8_t *directions; /* room for directions: as many as there may be */
+    size_t directions_count;
+    uint16_t *rest; /* room for the parts that are left */
+    size_t rest_count;
+    uint32_t found; /* FLOWSHOP_PROVED, FLOWSHOP_BELOW or FLOWSHOP_OVER */
+    uint64_t makespan; /* that of the sequence; 0 where there is none */
+    size_t directions_length;
+    size_t rest_length;
+} flowshop_part;
+
+/* The options of a beam search. */
+typedef struct flowshop_beam_options {
+    uint64_t number; /* a sequence below it ends the search; 0: it is aimed at no number */
+    uint32_t width; /* the greatest width; 0: there is no pass */
+    uint64_t steps; /* the most steps of all passes */
+} flowshop_beam_options;
+
+/* The options of rounds of iterated greedy search. */
+typedef struct flowshop_rounds_options {
+    uint32_t rounds; /* the most rounds */
+    uint32_t seed; /* of the random numbers */
+    uint64_t steps; /* the round that reaches so many steps is the last */
+} flowshop_rounds_options;
+
+/* Room for a sequence, and what is said of it. */
+typedef struct flowshop_reached {
+    uint16_t *sequence;
+    size_t sequence_count;
+    uint64_t makespan;
+    uint32_t whole; /* 1 where the search ended because the makespan has Taillard's bound, or because a pass dropped
+                     * nothing; else 0. Nothing proves that no sequence has a smaller makespan then. */
+} flowshop_reached;
+
+/* A part of a search for directions that prove that no sequence of a node has a makespan below a number; the searches
+ * of a certificate begin at the node of two empty lists. It writes a direction for each node that it opens, `+` for the
+ * front or `-` for the back, at most as many as there is room for, and comes to one of three things:
+ *   FLOWSHOP_PROVED  the directions of the node, which prove the number.
+ *   FLOWSHOP_BELOW   the first sequence of the node, in the order of the search, whose makespan is below the number, in
+ *                    the first `jobs` entries of `sequence`; its makespan; and the directions before it.
+ *   FLOWSHOP_OVER    there are more directions than there is room for, in all or before such a sequence: the first
+ *                    ones, as many as there is room for, and the parts with which the search goes on, in order.
+ * Each part that is left is in `rest` these numbers: how many jobs its first list has, how many its last list, how many
+ * jobs follow, and an end; then the first list, the last list and the jobs. Where the end is 0 the part is the node of
+ * the two lists, and no jobs follow. Else it is some children of that node, one after the other: those that put these
+ * jobs at the front (1), behind the first list, or at the back (2), before the last list. No part needs more than
+ * jobs + 4 entries, and (jobs + 4) * (jobs + 1) entries have been enough for all parts; nothing proves this.
+ * The directions of a search are those of its parts, joined in order, up to the first part that has a sequence below
+ * the number; and what one of them comes to does not depend on the others. So parts can be searched at once, and
+ * elsewhere. What a call does not write stays as it was. `rest` is tested when the search has ended.
+ * Faults in order: JOBS, MACHINES, COUNT, TIME; JOB, TWICE (of the first list and then the last one, as one list); ROOM
+ * (of sequence); ROOM (of rest). */
+flowshop_outcome flowshop_prove(const flowshop_shop *shop, const flowshop_node *node, uint64_t number,
+                                flowshop_part *part);
+
+/* The best sequence of a two-ended beam search, its makespan, which is at most that of the sequence `start`, and how
+ * the search ended. It makes passes of the widths 1, 2, 4 and so on, up to the width, and none that might take more
+ * than so many steps in all. Where it is aimed at a number, it keeps only children whose bound is below it, and ends as
+ * soon as it comes to a sequence below it; so it may end with the start. The rest of the room stays as it was.
+ * Faults in order: JOBS, MACHINES, COUNT, TIME; LENGTH, JOB, TWICE (of start); WIDTH; ROOM. */
+flowshop_outcome flowshop_beam(const flowshop_shop *shop, const uint16_t *start, size_t start_count,
+                               const flowshop_beam_options *options, flowshop_reached *reached);
+
+/* The best sequence of rounds of iterated greedy search, its makespan, which is at most that of the sequence `start`,
+ * and how they ended. They end with the most rounds, with the round that reaches the steps, or where the makespan has
+ * Taillard's bound. The rest of the room stays as it was.
+ * Faults in order: JOBS, MACHINES, COUNT, TIME; LENGTH, JOB, TWICE (of start); ROUNDS, SEED; ROOM. */
+flowshop_outcome flowshop_rounds(const flowshop_shop *shop, const uint16_t *start, size_t start_count,
+                                 const flowshop_rounds_options *options, flowshop_reached *reached);
+
 #ifdef __cplusplus
 }
 #endif

@@ -17,8 +17,8 @@ import check_two_ended  # noqa: E402
 
 LIBRARY = ctypes.CDLL(os.environ.get("FLOWSHOP_LIBRARY", os.path.join(TOP, "out", "libflowshop.so")))
 HEADER = open(os.path.join(TOP, "library", "flowshop.h"), encoding="ascii").read()
-STATUS = {name: int(number) for name, number in re.findall(r"FLOWSHOP_(\w+) = (\d+)", HEADER)}
-NAMES = {number: name for name, number in STATUS.items() if not name.startswith(("MAX_", "MIN_"))}
+STATUSES = re.findall(r"FLOWSHOP_(\w+) = (\d+)", HEADER.partition("enum flowshop_status {")[2].partition("};")[0])
+NAMES = {int(number): name for name, number in STATUSES}
 PROGRAM = os.environ.get("FLOWSHOP_PROGRAM", os.path.join(TOP, "crates", "flow_tool", "out", "flow_tool"))
 SHOPS = int(sys.argv[1]) if len(sys.argv) > 1 else 2_000
 

@@ -115,7 +115,8 @@ def compare_header():
     equal("a library of another version", refused(lambda: _library.require("0.0.0")), ImportError)
     header = read(os.path.join(TOP, "library", "flowshop.h")).decode()
     numbers = {name: int(number) for name, number in re.findall(r"FLOWSHOP_(\w+) = (\d+)", header)}
-    statuses = {number: name for name, number in numbers.items() if not name.startswith(("MAX_", "MIN_"))}
+    listed = re.findall(r"FLOWSHOP_(\w+)", header.partition("enum flowshop_status {")[2].partition("};")[0])
+    statuses = {numbers[name]: name for name in listed}
     equal("the statuses", {0: "DONE", **_library.STATUSES}, statuses)
     for name, (least, most) in _options.LIMITS.items():
         equal(f"the most of {name}", most, numbers[f"MAX_{name.upper()}"])

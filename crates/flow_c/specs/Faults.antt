@@ -18,6 +18,7 @@ use Rattle.flow_search.specs.declared.verdict.RunFault.TheVariants.{OverBudget}
 use Rattle.flow_cert.specs.PlanCertificates.{certificate_of}
 use Rattle.flow_c.specs.Statuses.{number, done, memory}
 use Rattle.flow_c.specs.Places.{place_of}
+use Rattle.flow_c.specs.declared.shop.ShopNumbers.{ShopNumbers}
 use Rattle.flow_c.specs.declared.fault.EffortFault.{EffortFault}
 use Rattle.flow_c.specs.declared.fault.EffortFault.TheVariants.{Width, Rounds, Seed, Work}
 use Rattle.flow_c.specs.declared.fault.Fault.{Fault}
@@ -26,6 +27,10 @@ use Rattle.flow_c.specs.declared.fault.Fault.TheVariants.{Room, Instance, Sequen
 -- the instance of these numbers
 abbrev pub shop_of : ℕ → ℕ → List ℕ → Shop
 shop_of jobs machines times = record { jobs = jobs; machines = machines; times = times }
+
+-- the instance of the numbers that a caller lends
+abbrev pub shop_in : ShopNumbers → Shop
+shop_in numbers = shop_of numbers.jobs numbers.machines numbers.times.now
 
 -- a call answers a fault: the first one of what it was lent; or memory ran out
 abbrev pub IsFaultOf : Option Fault → Fault → Type 0
@@ -91,6 +96,25 @@ improve_fault jobs machines times start width rounds seed work entries = first_f
     makespan_fault jobs machines times start
     ∷ option_map Effort (effort_fault width rounds seed work)
     ∷ room_fault jobs entries
+    ∷ [])
+
+-- why no beam search is made: the numbers are no instance, the jobs no sequence of it, the width is above its limit, or a
+-- sequence has no room
+abbrev pub beam_fault : ShopNumbers → List ℕ → ℕ → ℕ → Option Fault
+beam_fault numbers start width entries = first_fault (
+    makespan_fault numbers.jobs numbers.machines numbers.times.now start
+    ∷ fault_unless (nat_le width most_width) (Effort Width)
+    ∷ room_fault numbers.jobs entries
+    ∷ [])
+
+-- why no rounds are made: the numbers are no instance, the jobs no sequence of it, rounds or seed not within their limits,
+-- or a sequence has no room
+abbrev pub rounds_fault : ShopNumbers → List ℕ → ℕ → ℕ → ℕ → Option Fault
+rounds_fault numbers start rounds seed entries = first_fault (
+    makespan_fault numbers.jobs numbers.machines numbers.times.now start
+    ∷ fault_unless (nat_le rounds most_rounds) (Effort Rounds)
+    ∷ fault_unless (is_in_range 1 greatest_seed seed) (Effort Seed)
+    ∷ room_fault numbers.jobs entries
     ∷ [])
 
 -- the options of a run on one thread

@@ -3,6 +3,7 @@
 //! a status. What a Rust caller proves of its arguments is tested here.
 #![tactic(auto)]
 
+mod beam;
 mod block;
 mod certify;
 mod check;
@@ -11,9 +12,16 @@ mod generate;
 mod improve;
 mod makespan;
 mod neh;
+mod node;
+mod outcome;
+mod part;
 mod picture;
+mod prove;
+mod reached;
 mod report;
 mod room;
+mod rounds;
+mod shop;
 mod solve;
 mod timetable;
 mod version;

@@ -195,11 +195,23 @@ module _ {V : Type 0} {list : V → List ℕ} {cap width : ℕ} {shop : Shop} {n
       each-child-is are jobs each.1,
     )
 
-    -- the children of the other jobs are a part
-    are-children : (begin behind named : Vec ℕ) → begin.items ≡ first → behind.items ≡ last →
+    each-job-is : (jobs : List ℕ) → AllByRecursion (IsOpen shop number end first last) jobs →
+        AllByRecursion (λ job. (1 ≤ job) × (job ≤ shop.jobs)) jobs
+    each-job-is [] each = tt
+    each-job-is (other ∷ jobs) each = (each.0.is_job, each-job-is jobs each.1)
+
+    -- the other jobs are distinct jobs
+    others-are : AreJobs shop.jobs others
+    others-are = record {
+      range = All-from_recursion (λ job. (1 ≤ job) × (job ≤ shop.jobs)) others (each-job-is others stands-job.each.1);
+      distinct = stands-job.distinct.1;
+    }
+
+    -- each of them is a node
+    each-are : (begin behind named : Vec ℕ) → begin.items ≡ first → behind.items ≡ last →
         named.items ≡ others → AreJobs shop.jobs (first ++ last) →
-        IsPart shop (Children begin behind end named)
-    are-children begin behind named first_is last_is named_is are =
+        All (λ job. AreJobs shop.jobs (first_with end begin.items job ++ last_with end behind.items job)) named.items
+    each-are begin behind named first_is last_is named_is are =
         let each = All-from_recursion
         (λ job. AreJobs shop.jobs (first_with end first job ++ last_with end last job))
         others
@@ -210,6 +222,17 @@ module _ {V : Type 0} {list : V → List ℕ} {cap width : ℕ} {shop : Shop} {n
         ++ last_with end behind.items job)) others) (sym first_is)
         (subst (λ ends. All (λ job. AreJobs shop.jobs (first_with end first job
         ++ last_with end ends job)) others) (sym last_is) each))
+
+    -- the children of the other jobs are a part
+    are-children : (begin behind named : Vec ℕ) → begin.items ≡ first → behind.items ≡ last →
+        named.items ≡ others → AreJobs shop.jobs (first ++ last) →
+        IsPart shop (Children begin behind end named)
+    are-children begin behind named first_is last_is named_is are = (
+      subst (λ xs. AreJobs shop.jobs (xs ++ behind.items)) (sym first_is)
+          (subst (λ xs. AreJobs shop.jobs (first ++ xs)) (sym last_is) are),
+      subst (AreJobs shop.jobs) (sym named_is) others-are,
+      each-are begin behind named first_is last_is named_is are,
+    )
 
     -- what is met there
     met-children : (begin behind named : Vec ℕ) → begin.items ≡ first → behind.items ≡ last →

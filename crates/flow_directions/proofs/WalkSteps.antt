@@ -1,17 +1,18 @@
 -- What is still to be searched of a node, while its children are.
-use Rattle.std.proofs.Common.{◌≡◌, ℕ, suc, ◌+◌, ◌-◌, ◌<◌, ◌≤◌, Bool, true, false, cond, nat_lt, List, [], ◌∷◌}
-use Rattle.std.proofs.Common.{◌++◌, length, drop, filter, Some, None, refl, ap, sym, ◌∙◌, subst, inl, inr, arith}
+use Rattle.std.proofs.Common.{◌≡◌, ℕ, suc, ◌+◌, ◌-◌, ◌<◌, ◌≤◌, Bool, true, false, cond, not, ◌||◌, nat_eq, nat_lt}
+use Rattle.std.proofs.Common.{List, [], ◌∷◌, ◌++◌, length, drop, filter, Some, None, refl, ap, sym, ◌∙◌, subst, inl, inr, arith}
 use Rattle.std.proofs.Common.{append_assoc, append-nil, length-append, slice_index_or}
 use Rattle.std.specs.List.{flat_map, AllByRecursion}
 use Rattle.std.proofs.lemmas.Bool.{cases_Bool, ltb-false, ltb-true}
 use Rattle.std.proofs.lemmas.List.{take-append-drop}
-use Rattle.flow_shop.specs.Shop.{Shop}
-use Rattle.flow_shop.specs.Sequences.{has, jobs_left}
+use Rattle.flow_shop.specs.Shop.{Shop, numbers}
+use Rattle.flow_shop.specs.Sequences.{has, jobs_left, AreDistinct}
 use Rattle.flow_shop.specs.Ends.{end_bound}
 use Rattle.flow_shop.specs.Directions.{sign, first_with, last_with}
 use Rattle.flow_shop.specs.declared.end.End.{End}
 use Rattle.flow_shop.specs.declared.end.End.TheVariants.{Front, Back}
 use Rattle.flow_shop.proofs.JobsLeft.{each-left}
+use Rattle.flow_shop.proofs.LeastFound.{in-order}
 use Rattle.flow_nodes.specs.Nodes.{IsJob}
 use Rattle.flow_nodes.specs.Groups.{child_bound}
 use Rattle.flow_directions.specs.Search.{end_taken, Visit, opens, visits, signs, first_reached}
@@ -48,6 +49,33 @@ each-kept P p (job ∷ jobs) each =
       | inr is ↦ subst (λ b. AllByRecursion P (cond b (job ∷ filter p jobs) (filter p jobs))) (sym is) more
     ]
 
+-- a job that a list lacks stands in no part of it that is kept
+kept-lacks : (p : ℕ → Bool) (jobs : List ℕ) (job : ℕ) → has jobs job ≡ false → has (filter p jobs) job ≡ false
+kept-lacks p [] job lacks = refl
+kept-lacks p (other ∷ jobs) job lacks =
+    let parts = none-of (nat_eq job other) (has jobs job) lacks in
+    let more : has (filter p jobs) job ≡ false = kept-lacks p jobs job parts.1 in
+    elim (cases_Bool (p other)) [
+      | inl is ↦ ap (λ b. has (cond b (other ∷ filter p jobs) (filter p jobs)) job) is
+          ∙ ap (λ b. b || has (filter p jobs) job) parts.0 ∙ more
+      | inr is ↦ ap (λ b. has (cond b (other ∷ filter p jobs) (filter p jobs)) job) is ∙ more
+    ]
+  where
+    none-of : (a b : Bool) → (a || b) ≡ false → (a ≡ false) × (b ≡ false)
+    none-of true b is = absurd (cc is)
+    none-of false b is = (refl, is)
+
+-- what is kept of distinct jobs is distinct
+kept-distinct : (p : ℕ → Bool) (jobs : List ℕ) → AreDistinct jobs → AreDistinct (filter p jobs)
+kept-distinct p [] are = tt
+kept-distinct p (job ∷ jobs) are =
+    let more : AreDistinct (filter p jobs) = kept-distinct p jobs are.1 in
+    elim (cases_Bool (p job)) [
+      | inl is ↦ subst (λ b. AreDistinct (cond b (job ∷ filter p jobs) (filter p jobs))) (sym is)
+          (kept-lacks p jobs job are.0, more)
+      | inr is ↦ subst (λ b. AreDistinct (cond b (job ∷ filter p jobs) (filter p jobs))) (sym is) more
+    ]
+
 -- a job left whose child at an end is below the number
 pub record IsOpen (shop : Shop) (number : ℕ) (end : End) (first last : List ℕ) (job : ℕ) : Type 0 where
   pub is_job : IsJob shop job
@@ -59,6 +87,7 @@ pub record Stands (shop : Shop) (number : ℕ) (end : End) (first last old new :
     (jobs : List ℕ) : Type 0 where
   pub has_lists : HasLists shop.jobs first last lists
   pub each : AllByRecursion (IsOpen shop number end first last) jobs
+  pub distinct : AreDistinct jobs
   pub reached : first_below shop number first last
       ≡ first_reached (flat_map (child_visits shop number end first last) jobs)
   pub written : old ++ directions_of shop number first last
@@ -86,6 +115,11 @@ module _ (shop : Shop) (number : ℕ) (first last : List ℕ) where
         below = ltb-true (child_bound shop end first last job) number under;
       }))
 
+  below-distinct : (end : End) → AreDistinct (jobs_below shop number end first last)
+  below-distinct end =
+      kept-distinct (λ job. nat_lt (child_bound shop end first last job) number) (jobs_left shop.jobs (first ++ last))
+      (kept-distinct (λ job. not (has (first ++ last) job)) (numbers 1 shop.jobs) (in-order shop.jobs).each.distinct)
+
   -- at first
   pub stands-first : (end : End) (old new : List ℕ) (lists : Lists) (jobs : List ℕ) →
       0 < length (jobs_left shop.jobs (first ++ last)) → end_bound shop first last < number →
@@ -104,6 +138,7 @@ module _ (shop : Shop) (number : ℕ) (first last : List ℕ) where
       record {
         has_lists = has_lists;
         each = subst (AllByRecursion (IsOpen shop number end first last)) (sym are) (below-each end);
+        distinct = subst AreDistinct (sym are) (below-distinct end);
         reached = ap first_reached opened ∙ ap first_reached same;
         written = ap (λ v. old ++ signs v) opened ∙ ap (λ v. old ++ sign end ∷ signs v) same
             ∙ sym (append_assoc old (sign end ∷ []) (signs kept))
@@ -128,6 +163,7 @@ module _ (shop : Shop) (number : ℕ) (first last : List ℕ) where
     stands-next new2 lists2 none written has_lists = record {
       has_lists = has_lists;
       each = stands.each.1;
+      distinct = stands.distinct.1;
       reached = stands.reached ∙ first_reached-append (visits shop number first2 last2) rest none;
       written = stands.written
           ∙ ap (λ xs. new ++ xs) (signs-append (visits shop number first2 last2) rest none)

@@ -112,11 +112,12 @@ part_visits shop number (Children first last end jobs) =
 abbrev pub parts_visits : Shop → ℕ → List Part → List Visit
 parts_visits shop number parts = flat_map (part_visits shop number) parts
 
--- a part of an instance: its lists have distinct jobs, and so have those of each of its children
+-- a part of an instance: its lists have distinct jobs; its children put distinct jobs, and none that its lists have
 abbrev pub IsPart : Shop → Part → Type 0
 IsPart shop (Node first last) = AreJobs shop.jobs (first.items ++ last.items)
 IsPart shop (Children first last end jobs) =
-    All (λ job. AreJobs shop.jobs (first_with end first.items job ++ last_with end last.items job)) jobs.items
+    AreJobs shop.jobs (first.items ++ last.items) × AreJobs shop.jobs jobs.items
+    × All (λ job. AreJobs shop.jobs (first_with end first.items job ++ last_with end last.items job)) jobs.items
 
 -- the signs of the nodes that are opened before a sequence is reached
 abbrev pub signs : List Visit → List ℕ

@@ -1,7 +1,7 @@
 use Rattle.std.proofs.Common.{◌≤◌}
 use Rattle.flow_shop.specs.Paths.{span}
 use Rattle.flow_improve.specs.internal.Rooms.{IsRunOf}
-use Rattle.flow_improve.proofs.rounds.rounds.Given as goal
+use Rattle.flow_improve.proofs.rounds.rounds_from.Given as goal
 
 -- the best so far is no worse than the start
 abbrev pub invariant-loop : goal.invariant-loop
