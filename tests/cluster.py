@@ -205,14 +205,14 @@ def interrupt_runs(pool):
 def stop_threads():
     """Searches that are left behind do not keep a process from ending, nor does one in a thread that is a daemon."""
     code = (
-        "import threading\nfrom flowshop import Shop\nshop = Shop.generate(30, 15, 7)\n"
+        "import threading, time\nfrom flowshop import Shop\nshop = Shop.generate(30, 15, 7)\n"
         "threading.Thread(target=shop.certify, daemon=True).start()\n"
-        "print(shop.certify(workers=3, time_limit=0.5, directions=1_000_000_000).optimal)"
+        "print(shop.certify(workers=3, time_limit=0.5, directions=1_000_000_000).optimal, time.time())"
     )
-    begun = time.monotonic()
     run = subprocess.run([sys.executable, "-c", code], capture_output=True, text=True, timeout=60, check=False)
-    equal("a process that ends", (run.returncode, run.stdout, run.stderr), (0, "False\n", ""))
-    equal("how soon it ends", time.monotonic() - begun < 3, True)
+    is_optimal, ended = run.stdout.split()
+    equal("a process that ends", (run.returncode, is_optimal, run.stderr), (0, "False", ""))
+    equal("how soon it ends", time.time() - float(ended) < 1, True)
 
 
 def use_eight_threads():
@@ -225,22 +225,19 @@ def use_eight_threads():
 
 
 def lose_worker():
-    """A process of a pool that is killed: the error of the pool, in time."""
+    """A process of a pool that is killed: the error of the pool, and no search that hangs."""
     for seconds in (0.05, 0.5):
-        pool = concurrent.futures.ProcessPoolExecutor(2)
-        list(pool.map(first, range(4)))
-        victim = next(iter(pool._processes))
-        timer = threading.Timer(seconds, os.kill, [victim, signal.SIGKILL])
-        timer.start()
-        begun = time.monotonic()
-        try:
-            got = HARD.certify(**LONG, map=pool.map, time_limit=20)
-            got = "no error"
-        except concurrent.futures.BrokenExecutor as error:
-            got = type(error).__name__
-        equal("the error of a killed process", got, "BrokenProcessPool")
-        equal("how soon it comes", time.monotonic() - begun < seconds + 5, True)
-        pool.shutdown()
+        with concurrent.futures.ProcessPoolExecutor(2) as pool, small_tasks(0.02):
+            list(pool.map(first, range(4)))
+            timer = threading.Timer(seconds, os.kill, [next(iter(pool._processes)), signal.SIGKILL])
+            timer.start()
+            begun = time.monotonic()
+            try:
+                got = HARD.certify(**LONG, map=pool.map, time_limit=60)
+            except concurrent.futures.BrokenExecutor as error:
+                got = type(error).__name__
+            equal("the error of a killed process", got, "BrokenProcessPool")
+            equal("how soon it comes", time.monotonic() - begun < seconds + 10, True)
 
 
 def lose_results(pool):
@@ -269,7 +266,7 @@ def lose_results(pool):
         call = HARD.prove if name == "bound" else HARD.certify
         equal(f"{name} as {value}", refused(lambda: call(**{name: value}))[:2], ("OptionError", name.upper()))
     for front, back, place, sentence in [
-        ([1, 21], [], 2, "place 2 of front is 21, and the jobs are 1 to 20"),
+        ([1, 31], [], 2, "place 2 of front is 31, and the jobs are 1 to 30"),
         ([1], [2, 1], 3, "place 2 of back is 1, which stands before it in front or back"),
     ]:
         got = refused(lambda: HARD.prove(5000, front=front, back=back))
@@ -322,7 +319,7 @@ def use_command():
             (["certify", BLOCKS, "--executor", "none"], 2, "--executor is none, and has to be threads, processes, mpi"),
             (["certify", BLOCKS, "--time-limit", "-1"], 2, "time_limit is -1.0, and has to be a number of seconds"),
             (["certify", out / "nothing"], 3, "[Errno 2] No such file or directory"),
-            (["certify", out / names[0]], 1, "line 2 of "),
+            (["certify", TOP / "VERSION"], 1, "line 1 of "),
         ]:
             run = command(*words, cwd=folder)
             equal(f"the status of {words}", run.returncode, status)

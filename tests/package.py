@@ -298,7 +298,8 @@ def use_results():
         equal("an improvement of it", SHOP.improve(result).value, 12)
     equal("many results", SHOP.makespans([start, found, timetable, (1, 2, 3)]).tolist(), [13, 12, 12, 15])
     equal("no sequences", SHOP.makespans([]).tolist(), [])
-    for result in (start, found, timetable, timetable[1], SHOP.gantt(start), SHOP.makespans([[1, 2, 3]])):
+    parts = [SHOP.prove(12), SHOP.prove(13), SHOP.prove(12, budget=1), flowshop.Progress(1, 10, 12, 3, 0.5)]
+    for result in (start, found, timetable, timetable[1], SHOP.gantt(start), SHOP.makespans([[1, 2, 3]]), *parts):
         kept = pickle.loads(pickle.dumps(result))
         equal("a result from elsewhere", (kept, type(kept), repr(kept)), (result, type(result), repr(result)))
     equal("results in a set", len({start, found, timetable, SHOP.neh(), SHOP.solve(), SHOP.schedule(found)}), 3)
@@ -677,6 +678,14 @@ def keep_errors():
         equal(f"the base of {name}", (isinstance(error, FlowshopError), isinstance(error, ValueError)), (True, True))
 
 
+def keep_interrupts():
+    """An interrupt with a result, which comes back from pickle."""
+    error = flowshop.Interrupted(SHOP.neh())
+    kept = pickle.loads(pickle.dumps(error))
+    got = type(kept), kept.result, str(kept), isinstance(kept, KeyboardInterrupt)
+    equal("an interrupt", got, (flowshop.Interrupted, SHOP.neh(), "Start(makespan 13: 2, 1, 3)", True))
+
+
 def main():
     """Runs all, and ends. A warning of the package is an error."""
     warnings.filterwarnings("error", module="flowshop")
@@ -701,6 +710,7 @@ def main():
     compare_page()
     keep_rooms()
     keep_errors()
+    keep_interrupts()
     compare_random_shops()
     end("the package for Python")
 

@@ -53,8 +53,8 @@ class Part:
     children of that node, where `end` is "front" or "back": those that put these `jobs`, one after the other, behind
     the front or before the back.
 
-    >>> shop.prove(12, budget=1).parts
-    (Part(front next: 1, 2, 3),)
+    >>> Part((3,), (2,), "back", (1, 4))
+    Part(front 3; back 2; back next: 1, 4)
     """
 
     front: Numbers
@@ -65,8 +65,8 @@ class Part:
     def nodes(self) -> Iterator[Tuple[Numbers, Numbers]]:
         """The front and the back of each node, in order.
 
-        >>> list(shop.prove(12, budget=1).parts[0].nodes())
-        [((1,), ()), ((2,), ()), ((3,), ())]
+        >>> list(Part((3,), (2,), "back", (1, 4)).nodes())
+        [((3,), (1, 2)), ((3,), (4, 2))]
         """
         if not self.end:
             yield self.front, self.back
@@ -95,10 +95,9 @@ class Over:
     come to.
 
     >>> found = shop.prove(12, budget=1)
-    >>> found
-    Over(1 direction, 1 part left)
-    >>> [shop.prove(12, front=front, back=back) for part in found.parts for front, back in part.nodes()]
-    [Proved(0 directions), Proved(0 directions), Proved(1 direction)]
+    >>> nodes = [node for part in found.parts for node in part.nodes()]
+    >>> found.directions + b"".join(shop.prove(12, front=front, back=back).directions for front, back in nodes)
+    b'++'
     """
 
     directions: bytes
