@@ -239,51 +239,55 @@ def plain_path(shop, starts, ends):
     return path
 
 
-def plain_frame(shop, value):
-    """A picture up to its bars, by docs/formats.md."""
+def plain_frame(shop, value, wide):
+    """A picture up to its bars, by docs/formats.md, where the makespan is so wide."""
     jobs, machines, _ = shop
-    bottom = 4_000 + 3_000 * machines
+    bottom, right = 5_900 + 3_000 * machines, 13_500 + wide
     heading = f"makespan {value}, jobs {jobs}, machines {machines}"
-    step = next(lead * 10**power for power in range(19) for lead in (1, 2, 5) if value <= 12 * lead * 10**power)
+    steps = wide // 8_000
+    step = next(lead * 10**power for power in range(19) for lead in (1, 2, 5) if value <= steps * lead * 10**power)
     text = (
-        f'<svg xmlns="http://www.w3.org/2000/svg" width="1095" height="{(bottom + 3_400) // 100}" '
-        f'viewBox="0 0 109500 {bottom + 3_400}" font-family="sans-serif" font-size="1200">\n<title>{heading}</title>\n'
-        f'<path d="M0 0H109500V{bottom + 3_400}H0z" fill="#ffffff"/>\n'
-        f'<text x="9000" y="2500" font-size="1600">{heading}</text>\n<text x="105000" y="2500" text-anchor="end">'
-        f"outlined: a heaviest path, whose times sum to the makespan</text>\n"
+        f'<svg xmlns="http://www.w3.org/2000/svg" width="{right // 100}" height="{(bottom + 3_400) // 100}" '
+        f'viewBox="0 0 {right} {bottom + 3_400}" font-family="sans-serif" font-size="1200">\n<title>{heading}</title>\n'
+        f'<path d="M0 0H{right}V{bottom + 3_400}H0z" fill="#ffffff"/>\n'
+        f'<text x="9000" y="2400" font-size="1600">{heading}</text>\n<text x="9000" y="4700">'
+        f"outlined: these operations leave no room; together they take the whole time</text>\n"
     )
     for time in range(0, value + 1, step):
-        x = 9_000 + time * 96_000 // max(1, value)
-        line = f'x1="{x}" y1="4000" x2="{x}" y2="{bottom + 500}" stroke="#bbbbbb" stroke-width="60"'
+        x = 9_000 + time * wide // max(1, value)
+        line = f'x1="{x}" y1="5900" x2="{x}" y2="{bottom + 500}" stroke="#bbbbbb" stroke-width="60"'
         text += f'<line {line}/><text x="{x}" y="{bottom + 2_000}" text-anchor="middle">{time}</text>\n'
     text += f'<text x="8000" y="{bottom + 2_000}" text-anchor="end">time</text>\n'
     for machine in range(1, machines + 1):
-        text += f'<text x="8000" y="{2_950 + 3_000 * machine}" text-anchor="end">machine {machine}</text>\n'
-    return text + '<g text-anchor="middle">\n'
+        text += f'<text x="8000" y="{4_850 + 3_000 * machine}" text-anchor="end">machine {machine}</text>\n'
+    return text + '<g text-anchor="middle" font-size="1000">\n'
 
 
-COLOURS = "#0072B2 #E69F00 #009E73 #F0E442 #D55E00 #56B4E9 #CC79A7".split()
+COLOURS = "#004C7F #F0C800 #8F2D00 #7CC4F0 #00594A #F2A65A #5B2A86 #F2B6D2".split()
 
 
 def plain_picture(shop, sequence):
     """The picture of a sequence, by docs/formats.md."""
-    _, machines, _ = shop
+    jobs, machines, _ = shop
     starts, ends = plain_timetable(shop, sequence)
     value, path = ends[-1], plain_path(shop, starts, ends)
-    text = plain_frame(shop, value)
+    wide = max(96_000, 3_600 * (jobs + machines))
+    text = plain_frame(shop, value, wide)
     for place, (start, end) in enumerate(zip(starts, ends)):
         if start == end:
             continue
         job, machine = sequence[place // machines], place % machines + 1
-        left, right = [9_000 + time * 96_000 // value for time in (start, end)]
-        outline = '" stroke="#000000" stroke-width="160' if place in path else ""
+        left, right = [9_000 + time * wide // value for time in (start, end)]
+        width = right - left - min(80, (right - left) // 4)
+        outline = f'" stroke="#000000" stroke-width="300" stroke-dasharray="{width} 2400' if place in path else ""
         text += (
-            f'<rect x="{left}" y="{1_300 + 3_000 * machine}" width="{right - left}" height="2400" '
-            f'fill="{COLOURS[place // machines % 7]}{outline}"><title>job {job}, machine {machine}, '
+            f'<rect x="{left}" y="{3_200 + 3_000 * machine}" width="{width}" height="2400" '
+            f'fill="{COLOURS[place // machines % 8]}{outline}"><title>job {job}, machine {machine}, '
             f"start {start}, end {end}</title></rect>\n"
         )
-        if right - left >= 700 * len(str(job)) + 200:
-            text += f'<text x="{left + (right - left) // 2}" y="{2_950 + 3_000 * machine}">{job}</text>\n'
+        if width >= 640 * len(str(job)) + 160:
+            ink = "" if place // machines % 2 else ' fill="#ffffff"'
+            text += f'<text x="{left + width // 2}" y="{4_760 + 3_000 * machine}"{ink}>{job}</text>\n'
     return (text + "</g></svg>\n").encode()
 
 
