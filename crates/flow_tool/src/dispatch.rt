@@ -10,10 +10,11 @@ use crate::orders::{
     obey_certify, obey_check, obey_gen, obey_improve, obey_neh, obey_schedule, obey_solve,
     obey_span,
 };
+use crate::progress::IfAsked;
 use crate::stop::Stop;
 use clap::Error;
 use clap::error::ErrorKind;
-use flow_commands::{CommandFault, Unwatched, Watch};
+use flow_commands::{CommandFault, Watch};
 use flow_core::{Sink, put_all};
 use flow_words::{Order, make_command, order_of};
 use std::alloc::Global;
@@ -106,17 +107,16 @@ fn obey<R: Threads + Wait + Sync, I: Inputs, W: Watch, K: Sink>(
             index,
             start,
             request,
-            progress: false,
+            progress,
         } => {
-            obey_certify(rt, alloc, inputs, *file, *index, *start, *request, &Unwatched, out)
+            let watch = IfAsked {
+                watch,
+                asked: *progress,
+            };
+            obey_certify(
+                rt, alloc, inputs, *file, *index, *start, *request, &watch, out,
+            )
         }
-        Order::Certify {
-            file,
-            index,
-            start,
-            request,
-            progress: true,
-        } => { obey_certify(rt, alloc, inputs, *file, *index, *start, *request, watch, out) }
         Order::Check {
             file,
             index,

@@ -41,5 +41,12 @@ fn run<T: Threads + Wait + Sync>(rt: &HostRuntime, threads: &T) -> Result<(), St
     };
     let mut out = StdSink::new(io::writer(rt));
     let progress = Progress::new(rt);
-    run_words(threads, alloc, &inputs, words.as_slice(), &progress, &mut out)
+    run_words(
+        threads,
+        alloc,
+        &inputs,
+        words.as_slice(),
+        &progress,
+        &mut out,
+    )
 }

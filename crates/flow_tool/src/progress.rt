@@ -4,6 +4,25 @@ use flow_commands::{News, Watch};
 use std::cell::Cell;
 use std::rt::Clock;
 
+/// A watch that is told where that was asked for.
+#[derive(Clone, Copy)]
+pub(crate) struct IfAsked<'a, W> {
+    pub(crate) watch: &'a W,
+    pub(crate) asked: bool,
+}
+
+impl<'a, W: Watch> Watch for IfAsked<'a, W> {
+    fn is_on(&self) -> bool {
+        self.asked && self.watch.is_on()
+    }
+
+    fn tell(&self, news: News) {
+        if self.asked {
+            self.watch.tell(news);
+        }
+    }
+}
+
 /// The least time between two lines, in milliseconds; only the last line may come sooner.
 const PAUSE: u64 = 1_000;
 
@@ -62,8 +81,7 @@ impl<'a, R: Eprint + Clock> Progress<'a, R> {
         let step = self.step.get();
         let (lower, upper) = self.bounds.get();
         let directions = self.before.get().saturating_add(self.directions.get());
-        drop(eprintln!(
-            self.rt;
+        drop(eprintln!(self.rt;
             "certify: {seconds} s, step {step}, bounds {lower} {upper}, {directions} directions"
         ));
     }

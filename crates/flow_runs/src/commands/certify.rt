@@ -1,5 +1,7 @@
 //! What `certify` writes and refuses.
 
+ghost use Rattle.std.specs.Prelude.{◌≡◌, false};
+
 use super::endless::Endless;
 use super::texts::{
     ABOVE_16_BITS, AIMED, BEST, FOUR_MACHINES, GENERATED, HALVED, LAST, LONG_JOBS, LONG_TOTAL,
@@ -259,15 +261,22 @@ fn is_accepted(alloc: Global, text: &[u8], certificate: &[u8], wanted: Wanted) -
     comes_to(ran, &out, wanted)
 }
 
-/// Whether `check` prints what a row says for what `certify` writes.
-fn proves<R: Threads + Sync>(rt: &R, alloc: Global, row: &Known) -> bool {
-    let (text, numbers, directions, wanted) = *row;
+/// Certifies the text of a row with so many workers. Returns whether it is not refused.
+fn is_certified<R: Threads + Sync>(
+    rt: &R,
+    alloc: Global,
+    row: &Known,
+    workers: u32,
+    out: &mut MemorySink,
+) -> bool
+    requires { out.old.failed ≡ false }
+{
+    let (text, numbers, directions, _) = *row;
     let request = CertifyRequest {
         improve: improvement(numbers),
         directions,
-        workers: 1,
+        workers,
     };
-    let mut out = MemorySink::new(alloc, ROOM);
     let mut none = OF_THREE.source_beside();
     let ran = run_certify(
         rt,
@@ -277,9 +286,25 @@ fn proves<R: Threads + Sync>(rt: &R, alloc: Global, row: &Known) -> bool {
         &mut none,
         request,
         &Unwatched,
-        &mut out,
+        out,
     );
-    ran == Ok(()) && is_accepted(alloc, text, out.bytes(), wanted)
+    ran == Ok(())
+}
+
+/// Whether `check` prints what a row says for what `certify` writes, and more workers write the same.
+fn proves<R: Threads + Sync>(rt: &R, alloc: Global, row: &Known) -> bool {
+    let (text, _, _, wanted) = *row;
+    let mut out = MemorySink::new(alloc, ROOM);
+    if !is_certified(rt, alloc, row, 1, &mut out) {
+        return false;
+    }
+    for workers in &[2, 64] {
+        let mut other = MemorySink::new(alloc, ROOM);
+        if !is_certified(rt, alloc, row, *workers, &mut other) || other.bytes() != out.bytes() {
+            return false;
+        }
+    }
+    is_accepted(alloc, text, out.bytes(), wanted)
 }
 
 #[test]
@@ -358,7 +383,16 @@ fn certify_stops_an_endless_start(rt: HostRuntime) {
     let mut out = MemorySink::new(rt.alloc(), ROOM);
     let mut start = Some(Endless::new());
     let mut file = all_of(THREE_MACHINES);
-    let ran = run_certify(&rt, rt.alloc(), &mut file, 1, &mut start, PLAIN, &Unwatched, &mut out);
+    let ran = run_certify(
+        &rt,
+        rt.alloc(),
+        &mut file,
+        1,
+        &mut start,
+        PLAIN,
+        &Unwatched,
+        &mut out,
+    );
     assert!(rt; comes_to(ran, &out, Err(CommandFault::Read(ReadFault::TooLong))));
 }
 
@@ -367,6 +401,15 @@ fn certify_stops_an_endless_text(rt: HostRuntime) {
     let mut out = MemorySink::new(rt.alloc(), ROOM);
     let mut none = OF_THREE.source_beside();
     let mut file = Endless::new();
-    let ran = run_certify(&rt, rt.alloc(), &mut file, 1, &mut none, PLAIN, &Unwatched, &mut out);
+    let ran = run_certify(
+        &rt,
+        rt.alloc(),
+        &mut file,
+        1,
+        &mut none,
+        PLAIN,
+        &Unwatched,
+        &mut out,
+    );
     assert!(rt; comes_to(ran, &out, Err(CommandFault::Read(ReadFault::TooLong))));
 }

@@ -45,7 +45,14 @@ fn says<R: Threads + Wait + Sync>(
     let Ok(words) = words_of(alloc, line) else {
         return false;
     };
-    match run_words(rt, alloc, &Named::new(of_stdin), words.as_slice(), &Unwatched, out) {
+    match run_words(
+        rt,
+        alloc,
+        &Named::new(of_stdin),
+        words.as_slice(),
+        &Unwatched,
+        out,
+    ) {
         Ok(()) => refusal.is_empty(),
         Err(stop) => is_line(alloc, stop, refusal),
     }
