@@ -1,5 +1,6 @@
 """Searches that are shared by threads, by processes, by workers of dask and of MPI: they give the text of one call, can
-be stopped, and say what went wrong. With a word it runs one part: `local`, `dask` or `mpi`."""
+be stopped, and say what went wrong. A word says which part is run: `local`, `dask` or `mpi`, or `command EXECUTOR
+RUN..`, the commands by an executor, where other words than python3 run them."""
 
 import concurrent.futures
 import hashlib
@@ -19,12 +20,13 @@ from counts import end, equal, refused
 from plain_search import PlainShop
 
 import flowshop
-from flowshop import Interrupted, Shop, _files, _spread
+from flowshop import Interrupted, Shop, _certify, _parts, _spread
 
 TOP = pathlib.Path(__file__).resolve().parent.parent
 BLOCKS = TOP / "examples" / "several_blocks.txt"
 # A shop whose least makespan no search of a test proves.
 HARD = Shop.generate(30, 15, 7)
+SOME = Shop.generate(20, 10, 1)
 FEW = {"width": 20, "rounds": 20, "seed": 3, "work": 7, "directions": 30_000}
 LONG = {"width": 16, "rounds": 10, "work": 1, "directions": 1_000_000_000}
 
@@ -49,7 +51,8 @@ def small_tasks(seconds=0.0005):
 
 def drawn_runs():
     """Shops of all kinds, and numbers for their runs: few and many jobs and machines, small times, times of which many
-    are equal or 0, and times so great that makespans are above 65,535. The last four end in steps that are rare."""
+    are equal or 0, and times so great that makespans are above 65,535. Of great times the number that a budget proves
+    depends on each direction of it. The last four end in steps that are rare."""
     draw = random.Random(9)
     for number in range(116):
         jobs, machines = draw.randint(5, 30), draw.choice([2, 3, 4, 5, 8, 12, 20])
@@ -58,28 +61,108 @@ def drawn_runs():
         shop = Shop.from_machines([[kinds[number % 4]() for _ in range(jobs)] for _ in range(machines)])
         choice = {"width": draw.choice([0, 5, 16, 37, 150]), "rounds": 20, "work": draw.choice([0, 1, 7, 30])}
         choice.update(seed=draw.randint(1, 99), directions=draw.choice([1, 1000, 29_999, 200_000]))
-        if number < 36 or number in (38, 83, 104, 115):
+        if number < 20 or number in (38, 83, 104, 115):
             yield shop, choice
+    for _ in range(20):
+        most = draw.choice([3000, 6000, 999_999])
+        jobs, machines = draw.randint(12, 20), draw.randint(6, 20)
+        shop = Shop.from_machines([[draw.randint(0, most) for _ in range(jobs)] for _ in range(machines)])
+        choice = {"width": draw.choice([0, 16, 24]), "rounds": 5, "work": 1, "seed": draw.randint(1, 99)}
+        yield shop, {**choice, "directions": draw.randint(3000, 40_000)}
+    for _ in range(4):
+        shop = Shop.from_machines([[draw.randint(0, 3000) for _ in range(14)] for _ in range(10)])
+        yield shop, {"width": 0, "rounds": 5, "work": 1, "seed": 1, "directions": draw.randint(1_000_000, 2_500_000)}
 
 
 def compare_texts(pool):
     """The text of a run whose searches are shared is that of one call."""
     steps = set()
+    ways = [
+        ("one worker", {"time_limit": 1000}),
+        ("three threads", {"workers": 3}),
+        ("a map", {"map": shuffled(7)}),
+        ("processes", {"map": pool.map, "workers": 2}),
+    ]
     for shop, choice in drawn_runs():
         wanted = shop.certify(**choice)
-        with small_tasks():
-            for name, words in [
-                ("one worker", {"time_limit": 1000}),
-                ("three threads", {"workers": 3}),
-                ("a map", {"map": shuffled(7)}),
-                ("processes", {"map": pool.map, "workers": 2}),
-            ]:
+        is_long = choice["directions"] > 200_000
+        with small_tasks(0.05 if is_long else 0.0005):
+            for name, words in ways[1:2] if is_long else ways:
                 reports = []
                 got = shop.certify(**choice, **words, progress=reports.append)
                 equal(f"the text of {shop!r} by {name} with {choice}", got.text == wanted.text, True)
                 equal(f"what {name} say of it", (got, reports[-1].lower), (wanted, wanted.lower))
                 steps.add(reports[-1].step)
     equal("that runs end in many steps", steps, {1, 2, 3, 8})
+
+
+class Traced:
+    """In the place of shared searches: what is asked of them. No search proves anything, and beams and rounds come to
+    nothing but what `given` has for their words."""
+
+    asked, given = [], {}
+    at_once = 1
+
+    def __init__(self, *_):
+        self.asked.clear()
+
+    def __enter__(self):
+        return self
+
+    def __exit__(self, *_):
+        pass
+
+    def prove(self, number, budget):
+        """A search that is over its budget."""
+        self.asked.append((number, budget))
+        return _spread.Found(2, budget)
+
+    def reached(self, name, start, *words):
+        """A beam, or rounds."""
+        self.asked.append((name, *words))
+        if self.asked[-1] in self.given:
+            return self.given[self.asked[-1]]
+        return _parts.Reached(start, SOME.neh().value, False)
+
+    def ahead(self, call):
+        """A call, later."""
+        return call
+
+
+def follow_manual():
+    """The searches of a run that comes to nothing, with their budgets, and its beams and rounds, with their steps, by
+    docs/manual.md. Some numbers, for 20 jobs on 10 machines and 10,000,000 directions: all searches have 850 of 650
+    parts of these, 13,076,923, of which each takes 20 x 20 / 3 = 133 more than it writes; of 17,000,000 steps beams have
+    12,000,000."""
+    upper, lower = SOME.neh().value, SOME.bound()
+    halves, missed = [], lower + 1
+    while upper - missed > 1:
+        missed += (upper - missed) // 2
+        halves.append(("beam", missed, 25, 6_000_000))
+    wanted = [
+        *[(upper, 10_000), (upper, 100_000), ("beam", 0, 16, 12_000_000), ("beam", 0, 100, 12_000_000)],
+        *[(upper, 1_000_000), ("rounds", 0, 3, 1_000_000), ("rounds", 30, 3, 4_000_000)],
+        *[(lower + 1, 10_000), (lower + 1, 333_333), ("beam", lower + 1, 800, 48_000_000), *halves],
+        *[(upper, 10_000_000), (lower + 1, 1_000_000)],
+    ]
+    choice = {"width": 100, "rounds": 30, "seed": 3, "work": 17, "directions": 10_000_000, "time_limit": 1000}
+    with mock.patch.object(_certify, "Spread", Traced):
+        SOME.certify(**choice)
+        equal("the searches of a run", Traced.asked, wanted)
+        # Of a million all searches have 1,307,693, and those of steps 1 to 4 half of them, which the third one uses up.
+        SOME.certify(**{**choice, "directions": 1_000_001})
+        budgets = [budget for _, budget, *more in Traced.asked if not more]
+        cut = [653_847 - 110_000 - 2 * 133, 653_846 - 43_333 - 2 * 133]
+        equal("budgets that are cut off", budgets, [10_000, 100_000, cut[0], 10_000, 33_333, cut[1], 0])
+        # The beam comes to a better sequence, and rounds from the start to one that has Taillard's bound.
+        better = [_parts.Reached(bytes(40), upper - place, place == 2) for place in (1, 2)]
+        given = {("beam", 0, 100, 12_000_000): better[0], ("rounds", 30, 3, 1_000_000): better[1]}
+        with mock.patch.object(Traced, "given", given):
+            equal("what is taken", SOME.certify(**choice).upper, upper - 2)
+        rounds = [words for words in Traced.asked if words[0] == "rounds"]
+        equal("rounds after that", rounds, [("rounds", 30, 3, 1_000_000), ("rounds", 0, 3, 4_000_000)])
+    long = Shop.from_jobs([[9, 9, 9], [1, 1, 1]])._parts[:3]
+    equal("bounds without a search", (_certify.root_bound(long), _certify.taillard_bound(long)), (12, 27))
 
 
 def compare_searches():
@@ -151,7 +234,9 @@ def keep_time(pool):
     better = HARD.improve(time_limit=0.3)
     equal("improve in time", time.monotonic() - begun < 1.3, True)
     equal("what it gives", HARD.makespan(better) == better.value <= HARD.neh().value, True)
-    equal("improve with time", HARD.improve(work=50, time_limit=1000), HARD.improve(work=50))
+    for rounds, seed in [(0, 1), (0, 2), (20, 3), (20, 4)]:
+        shop, choice = Shop.generate(40, 10, seed), {"width": 600, "rounds": rounds, "work": 100}
+        equal(f"improve {shop!r} with time", shop.improve(**choice, time_limit=1000), shop.improve(**choice))
 
 
 def interrupt(seconds, call):
@@ -286,7 +371,8 @@ def use_command():
     with tempfile.TemporaryDirectory() as folder:
         out = pathlib.Path(folder, "out")
         for executor in ("threads", "processes"):
-            run = command("certify", BLOCKS, "--out", out, "--executor", executor, "--workers", 2, "--json", out / "table")
+            words = ["certify", BLOCKS, "--out", out, "--executor", executor, "--workers", 2]
+            run = command(*words, "--json", out / "table")
             equal(f"the status with {executor}", run.returncode, 0)
             rows = json.loads((out / "table").read_text())
             got = [(row["lower"], row["upper"], row["sha256"]) for row in rows]
@@ -296,8 +382,8 @@ def use_command():
             names = [f"several_blocks.txt.{number}.certificate" for number in (1, 2, 3)]
             equal("the files", sorted(os.listdir(out)), [*names, "table"])
             equal("the texts", [(out / name).read_bytes() for name in names], [found.text for found in wanted])
-            seconds = [row["seconds"] for row in rows]
-            equal(f"what is searched again by {executor}", [each is not None for each in seconds], [executor == "threads"] * 3)
+            searched = [row["seconds"] is not None for row in rows]
+            equal(f"what is searched by {executor}", searched, [executor == "threads"] * 3)
         # The text of another block, one that is cut off, and one that is not there.
         (out / names[0]).write_bytes(wanted[1].text)
         (out / names[1]).write_bytes(wanted[1].text[:-1])
@@ -311,20 +397,26 @@ def use_command():
         equal("what is said of them", run.stderr.count("the block is searched again"), 2)
         equal("the texts again", [(out / name).read_bytes() for name in names[:2]], [f.text for f in wanted[:2]])
         equal("a check of two", command("check", BLOCKS, "--out", out, "--blocks", "1-2").returncode, 0)
+
+
+def refuse_words():
+    """Words that are none, and files that are not read."""
+    with tempfile.TemporaryDirectory() as folder:
         for words, status, said in [
-            (["certify", BLOCKS, "--blocks", "4"], 2, "--blocks has 4, and "),
-            (["certify", BLOCKS, "--blocks", "x"], 2, "--blocks is x, and has to be all, or numbers such as 1,3-5"),
-            (["certify", BLOCKS, BLOCKS], 2, "two blocks would have the certificate "),
-            (["certify", BLOCKS, "--seed", "0"], 2, "seed is 0, and has to be a whole number from 1"),
-            (["certify", BLOCKS, "--executor", "none"], 2, "--executor is none, and has to be threads, processes, mpi"),
-            (["certify", BLOCKS, "--time-limit", "-1"], 2, "time_limit is -1.0, and has to be a number of seconds"),
-            (["certify", out / "nothing"], 3, "[Errno 2] No such file or directory"),
-            (["certify", TOP / "VERSION"], 1, "line 1 of "),
+            ([BLOCKS, "--blocks", "4"], 2, "--blocks has 4, and "),
+            ([BLOCKS, "--blocks", "x"], 2, "--blocks is x, and has to be all, or numbers such as 1,3-5"),
+            ([BLOCKS, BLOCKS], 2, "two blocks would have the certificate "),
+            ([BLOCKS, "--seed", "0"], 2, "seed is 0, and has to be a whole number from 1"),
+            ([BLOCKS, "--executor", "none"], 2, "--executor is none, and has to be threads, processes, mpi"),
+            ([BLOCKS, "--time-limit", "-1"], 2, "time_limit is -1.0, and has to be a number of seconds"),
+            ([pathlib.Path(folder, "nothing")], 3, "[Errno 2] No such file or directory"),
+            ([TOP / "VERSION"], 1, "line 1 of "),
         ]:
-            run = command(*words, cwd=folder)
+            run = command("certify", *words, cwd=folder)
             equal(f"the status of {words}", run.returncode, status)
             equal(f"what is said of {words}", run.stderr.startswith(f"flowshop: {said}"), True)
         equal("the status of no command", command().returncode, 2)
+        equal("that no file is written", os.listdir(folder), [])
 
 
 def stop_command():
@@ -334,7 +426,7 @@ def stop_command():
         HARD.write(file)
         file.write_bytes(BLOCKS.read_bytes() + file.read_bytes())
         for executor in ("threads", "processes"):
-            words = ["certify", file, "--out", out, "--workers", 2, "--executor", executor, "--directions", 1_000_000_000]
+            words = ["certify", file, "--out", out, "--workers", 2, "--executor", executor, "--directions", 10**9]
             run = subprocess.Popen(
                 [sys.executable, "-m", "flowshop", *map(str, words)],
                 stdout=subprocess.PIPE,
@@ -363,6 +455,28 @@ def stop_command():
         equal("what it ends with", (run.returncode, command("check", file, "--out", out).returncode), (0, 0))
 
 
+def use_page():
+    """The commands of docs/cluster.md for one machine, and the examples of the two pages."""
+    page = (TOP / "docs" / "cluster.md").read_text()
+    with tempfile.TemporaryDirectory() as folder:
+        pathlib.Path(folder, "shops.txt").write_bytes(BLOCKS.read_bytes())
+        lines = [line.split()[3:] for line in page.splitlines() if line.startswith("    python3 -m flowshop ")]
+        lines = [words for words in lines if "HOST" not in words[-3]]
+        equal("that there are commands", [words[0] for words in lines], ["certify", "certify", "check"])
+        for words in lines:
+            run = command(*words, cwd=folder)
+            last = run.stdout.splitlines()[-1].split()[:6] if run.stdout else run.stderr
+            equal(f"{words}", (run.returncode, last), (0, ["shops.txt", "3", "10", "5", "708", "708"]))
+    for name in ("by_processes.py", "many_workers.py"):
+        equal(f"what {name} prints", example(name), "Certificate(optimal 303, 15 directions)\n")
+
+
+def example(name, *words):
+    """What an example prints of a shop."""
+    run = [sys.executable, TOP / "examples" / "python" / name, BLOCKS, "1", *words]
+    return subprocess.run(run, capture_output=True, text=True, timeout=120, check=False).stdout
+
+
 def use_dask():
     """Workers of dask, two processes on this machine: the same text, a limit of time, and the command."""
     distributed = __import__("distributed")
@@ -370,11 +484,14 @@ def use_dask():
         with distributed.Client(cluster) as client:
             compare_executor("dask", client.get_executor())
         compare_command(f"dask:{cluster.scheduler_address}")
+        printed = example("by_dask.py", cluster.scheduler_address)
+        equal("what by_dask.py prints", printed, "Certificate(optimal 303, 15 directions)\n")
 
 
 def compare_executor(name, executor):
     """The text by an executor is that of one call."""
-    for shop in (Shop.generate(12, 8, 5), Shop.from_jobs([[9000, 20_000, 7], [1, 60_000, 5], [8, 8, 8], [4, 70_000, 0]])):
+    great = Shop.from_jobs([[9000, 20_000, 7], [1, 60_000, 5], [8, 8, 8], [4, 70_000, 0]])
+    for shop in (Shop.generate(12, 8, 5), great):
         with small_tasks(0.002):
             equal(f"a text by {name}", shop.certify(**FEW, map=executor.map).text, shop.certify(**FEW).text)
     begun = time.monotonic()
@@ -386,9 +503,8 @@ def compare_command(executor, *run):
     """The command with an executor writes the texts of one call."""
     with tempfile.TemporaryDirectory() as folder:
         words = ["certify", str(BLOCKS), "--out", folder, "--executor", executor]
-        ran = subprocess.run(
-            [*(run or [sys.executable]), "-m", "flowshop", *words], capture_output=True, text=True, timeout=120, check=False
-        )
+        words = [*(run or [sys.executable]), "-m", "flowshop", *words]
+        ran = subprocess.run(words, capture_output=True, text=True, timeout=120, check=False)
         equal(f"the status with {executor}", (ran.returncode, ran.stderr if ran.returncode else ""), (0, ""))
         got = [pathlib.Path(folder, f"several_blocks.txt.{number}.certificate").read_bytes() for number in (1, 2, 3)]
         equal(f"the texts with {executor}", got, [block.shop.certify().text for block in Shop.read(BLOCKS)])
@@ -403,9 +519,11 @@ def use_mpi():
 
 def use_local():
     """All parts that need this machine alone. Pools come before threads, which a fork would not copy."""
-    with concurrent.futures.ProcessPoolExecutor(2, initializer=signal.signal, initargs=(signal.SIGINT, signal.SIG_IGN)) as pool:
+    deaf = {"initializer": signal.signal, "initargs": (signal.SIGINT, signal.SIG_IGN)}
+    with concurrent.futures.ProcessPoolExecutor(2, **deaf) as pool:
         list(pool.map(first, range(4)))
         compare_searches()
+        follow_manual()
         compare_texts(pool)
         keep_time(pool)
         interrupt_runs(pool)
@@ -414,9 +532,12 @@ def use_local():
     stop_threads()
     use_eight_threads()
     use_command()
+    refuse_words()
     stop_command()
+    use_page()
 
 
 if __name__ == "__main__":
-    {"local": use_local, "dask": use_dask, "mpi": use_mpi, "command": lambda: compare_command(*sys.argv[2:])}[sys.argv[1]]()
+    PARTS = {"local": use_local, "dask": use_dask, "mpi": use_mpi, "command": compare_command}
+    PARTS[sys.argv[1]](*sys.argv[2:])
     end(f"searches that are shared, {sys.argv[1]}")

@@ -1,7 +1,5 @@
-"""The search for directions in plain Python, from docs/formats.md alone, for shops of a few jobs. It uses nothing of the
-package."""
-
-from itertools import accumulate
+"""The search for directions in plain Python, from docs/formats.md alone, for shops of a few jobs. It uses nothing of
+the package."""
 
 
 class PlainShop:
@@ -59,7 +57,8 @@ class PlainShop:
     def takes_front(self, number, first, last):
         """Whether a node whose bound is below a number is opened at the front."""
         sides = [self.children(front, first, last) for front in (True, False)]
-        few, sums = ([len(self.below(number, side)) for side in sides], [sum(self.bound(*at) for at in side) for side in sides])
+        few = [len(self.below(number, side)) for side in sides]
+        sums = [sum(self.bound(*child) for child in side) for side in sides]
         plain = few[0] < few[1] or (few[0] == few[1] and sums[0] >= sums[1])
         if len(self.left(first, last)) < 3 or min(few) < 2 or 3 * min(few) < 2 * max(few):
             return plain

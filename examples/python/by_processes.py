@@ -1,4 +1,4 @@
-"""Certifies a block of a benchmark text by processes, one for each processor of this machine: by_processes.py FILE INDEX"""
+"""Certifies a block of a benchmark text by processes, one for each processor here: by_processes.py FILE INDEX"""
 
 import sys
 from concurrent.futures import ProcessPoolExecutor

@@ -13,8 +13,8 @@ _COMMANDS = (_command_certify, _command_check, _report)
 
 
 def main(words: Optional[List[str]] = None) -> int:
-    """Runs a command. The status is 1 where something is refused, 2 where it is the words, 3 where a file is not read or
-    written, and 130 at an interrupt."""
+    """Runs a command. The status is 1 where something is refused, 2 where it is the words, 3 where a file is not read
+    or written, and 130 at an interrupt."""
     about = "Exact permutation flow shops. Each command says with --help what its words are."
     parser = argparse.ArgumentParser(prog="python -m flowshop", description=about)
     parser.add_argument("--version", action="version", version=__version__)

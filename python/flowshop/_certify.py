@@ -95,20 +95,18 @@ class Better:
     def _search(self, pause: Callable[[], None]) -> None:
         """A beam, and then rounds from the start and from the best of the beam. Narrower beams come first, so that
         there is something to give where time is up."""
-        effort, steps = self._effort, self._effort.steps(12)
-        for width in (*(each for each in (NARROW, 16 * NARROW) if each < effort.width), effort.width):
-            beamed = self._instance.beam(self._start, 0, width, steps)
+        effort = self._effort
+        for width in [each for each in (NARROW, 16 * NARROW) if each < effort.width] + [effort.width]:
+            beamed = self._instance.beam(self._start, 0, width, effort.steps(12))
             self._take(beamed)
             pause()
         rounds = 0 if beamed.whole or beamed.makespan <= self._least else effort.rounds
-        of_start = self._instance.rounds(
-            self._start, 0 if beamed.sequence == self._start else rounds, effort.seed, effort.steps(1)
-        )
+        few = 0 if beamed.sequence == self._start else rounds
+        of_start = self._instance.rounds(self._start, few, effort.seed, effort.steps(1))
         self._take(of_start)
         pause()
-        of_beam = self._instance.rounds(
-            beamed.sequence, 0 if of_start.whole else rounds, effort.seed, effort.steps(4)
-        )
+        few = 0 if of_start.whole else rounds
+        of_beam = self._instance.rounds(beamed.sequence, few, effort.seed, effort.steps(4))
         self.best = of_start if of_start.makespan < of_beam.makespan else of_beam
 
     def _take(self, reached: Reached) -> None:
@@ -276,7 +274,7 @@ class Run:
     def _halvings(self, missed: int, top: int) -> Dict[int, Callable[[], Reached]]:
         """Beams that are aimed half of the way between two numbers: the next ones, where none comes to a sequence."""
         beams: Dict[int, Callable[[], Reached]] = {}
-        while top - missed > 1 and len(beams) < self._spread.most_ahead:
+        while top - missed > 1 and len(beams) < self._spread.at_once:
             missed += (top - missed) // 2
             beams[missed] = self._aimed(missed, self._effort.width // 4, self._effort.steps(12) // 2)
         return beams
@@ -308,7 +306,7 @@ class Run:
         self._raise(whole // 30)
         self._begin(6)
         known, take = self.known, self._aim()
-        beams = self._halvings(known.lower + 1, known.upper) if self._spread.most_ahead > 1 else {}
+        beams = self._halvings(known.lower + 1, known.upper) if self._spread.at_once > 1 else {}
         take()
         self._begin(7)
         self._halve(beams if self.known == known else {})

@@ -9,7 +9,7 @@ import sys
 import time
 from concurrent.futures import BrokenExecutor, ProcessPoolExecutor
 from contextlib import contextmanager
-from typing import Any, Callable, Iterator, List, NamedTuple, Optional
+from typing import Callable, Iterator, List, NamedTuple, Optional
 
 from ._certify import Effort
 from ._errors import NotLawful
@@ -20,14 +20,14 @@ from ._threads import Threads
 from ._waiting import Lines, Progress, Watch
 
 _EFFORT = {"width": 4096, "rounds": 10_000, "seed": 1, "work": 8500, "directions": 100_000_000}
-_ABOUT = """Certifies all blocks of files. Each certificate is written to a file of the folder --out, and a line says what
-it proves. A block whose certificate is there and lawful is not searched again, so that a run that was stopped goes on
-where it was."""
+_ABOUT = """Certifies all blocks of files. Each certificate is written to a file of the folder --out, and a line says
+what it proves. A block whose certificate is there and lawful is not searched again, so that a run that was stopped goes
+on where it was."""
 
 
-def words(parsers: Any) -> None:
+def words(parsers: "argparse._SubParsersAction[argparse.ArgumentParser]") -> None:
     """The words of the command."""
-    parser: argparse.ArgumentParser = parsers.add_parser("certify", help="certify shops", description=_ABOUT)
+    parser = parsers.add_parser("certify", help="certify shops", description=_ABOUT)
     words_of_blocks(parser)
     count = len(os.sched_getaffinity(0))
     parser.add_argument("--workers", type=int, metavar="K", help=f"how many share the searches; else {count}")
@@ -35,7 +35,8 @@ def words(parsers: Any) -> None:
     parser.add_argument("--executor", default="threads", metavar=executors, help="who they are; else threads")
     parser.add_argument("--time-limit", type=float, metavar="S", help="the most seconds of each block; else no limit")
     for name, default in _EFFORT.items():
-        parser.add_argument(f"--{name}", type=int, default=default, metavar="N", help=f"as of Shop.certify; else {default}")
+        about = f"as of Shop.certify; else {default}"
+        parser.add_argument(f"--{name}", type=int, default=default, metavar="N", help=about)
     parser.set_defaults(run=run)
 
 
@@ -66,14 +67,14 @@ def _workers(executor: str, count: Optional[int]) -> Iterator[Workers]:
     elif executor == "processes":
         with ProcessPoolExecutor(local, initializer=_be_deaf) as pool:
             list(pool.map(int, range(local)))  # they start before any thread does
-            yield Workers(pool.map, local, True)
+            yield Workers(pool.map, local, has_beams=True)
     elif executor == "mpi":
         futures, mpi = importlib.import_module("mpi4py.futures"), importlib.import_module("mpi4py.MPI")
         with futures.MPIPoolExecutor() as pool:
-            yield Workers(pool.map, count or max(1, mpi.COMM_WORLD.Get_size() - 1), True)
+            yield Workers(pool.map, count or max(1, mpi.COMM_WORLD.Get_size() - 1), has_beams=True)
     elif kind == "dask" and address:
         with importlib.import_module("distributed").Client(address) as client:
-            yield Workers(client.get_executor().map, count or max(1, sum(client.ncores().values())), True)
+            yield Workers(client.get_executor().map, count or max(1, sum(client.ncores().values())), has_beams=True)
     else:
         raise WordError(f"--executor is {executor}, and has to be threads, processes, mpi or dask:ADDRESS")
 
@@ -96,6 +97,8 @@ def _certified(work: Work, search: _Search) -> Row:
 def _all_certified(works: List[Work], table: Table, search: _Search) -> None:
     """Certifies blocks, as many at once as there are workers, and prints their rows in order."""
     threads = Threads(max(1, min(len(works), search.workers.size)))
+    at_once = max(1, min(4, search.workers.size // max(1, len(works))))
+    search = search._replace(workers=search.workers._replace(at_once=at_once))
     for row in threads.map(lambda work: _certified(work, search), works):
         table.add(row)
     threads.close()

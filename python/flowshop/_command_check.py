@@ -2,16 +2,15 @@
 
 import argparse
 import sys
-from typing import Any
 
 from ._errors import NotLawful
 from ._files import Table, row_of, words_of_blocks, works_of
 
 
-def words(parsers: Any) -> None:
+def words(parsers: "argparse._SubParsersAction[argparse.ArgumentParser]") -> None:
     """The words of the command."""
     about = "Tests the certificates of all blocks of files, as certify wrote them, and prints what each proves."
-    parser: argparse.ArgumentParser = parsers.add_parser("check", help="test certificates", description=about)
+    parser = parsers.add_parser("check", help="test certificates", description=about)
     words_of_blocks(parser)
     parser.set_defaults(run=run)
 

@@ -430,8 +430,8 @@ class Shop:
         trees = self._trees(choice[0])
         value = u64()
         try:
-            words = [byref(value)]
-            sequence, text = self._searched("solve", self._begun(start), choice, words, _BESIDE + trees * (choice[1] + 1))
+            begun, most = self._begun(start), _BESIDE + trees * (choice[1] + 1)
+            sequence, text = self._searched("solve", begun, choice, [byref(value)], most)
         except Refused as refused:
             raise _over_budget(refused, trees, choice[1]) from None
         return Certificate(value.value, value.value, sequence, text, self._named(sequence))
@@ -514,7 +514,8 @@ class Shop:
         most, count = option("directions", directions), option("workers", workers, OF_PARTS)
         limit, begun = time_limit_of(time_limit), self._begun(start)
         if (count, map, limit, progress or None) != (1, None, None, None):
-            return self._certify(begun, effort, most, Workers(map, count), Watch(limit, progress))
+            at_once = min(4, count) if map is None else 4
+            return self._certify(begun, effort, most, Workers(map, count, at_once), Watch(limit, progress))
         lower, upper = u64(), u64()
         words = [byref(lower), byref(upper)]
         try:

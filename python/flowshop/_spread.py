@@ -30,10 +30,12 @@ _TO_BITS, _TO_SIGNS = bytes.maketrans(b"+-", b"\0\1"), bytes.maketrans(b"01", b"
 
 
 class Workers(NamedTuple):
-    """Who searches parts: those of a map, or so many threads; and whether beams and rounds are given to them too."""
+    """Who searches parts: those of a map, or so many threads; how many beams and rounds may be made at once; and whether
+    these are given to them too."""
 
     map: Optional[Map]
     size: int
+    at_once: int = 1
     has_beams: bool = False
 
 
@@ -309,8 +311,7 @@ class Spread:
         self._map = map if workers.map is None and workers.size == 1 else workers.map
         self._threads: Optional[Threads] = None
         self._known: Set[int] = set()
-        # How many calls may be made beside each other.
-        self.most_ahead = 1 if self._map is map else max(2, min(4, workers.size))
+        self.at_once = workers.at_once
         # How many directions a worker writes in a second is about this, until it is measured.
         self.pace = Pace(1_500_000_000 / (shop[0] * shop[1] + 450))
 
@@ -352,13 +353,14 @@ class Spread:
         return shared.found()
 
     def _spread(self, shared: Shared) -> None:
-        """Gives parts to workers until the search is decided. While some are searched, about as many wait."""
+        """Gives parts to workers until the search is decided. While some are searched, others wait, some two for each
+        worker, so that none is idle while the first one of them is waited for."""
         flight: Deque[Tuple[_Given, Iterator[Answer]]] = deque()
         try:
             while not shared.is_decided():
                 self._pause(shared.written)
                 most = max(self._workers.size, len(self._known) + 1)
-                given = shared.give(most) if len(flight) <= most else []
+                given = shared.give(most) if len(flight) <= 2 * most else []
                 if given:
                     answers = self._mapped(work, [one.task for one in given])
                     flight.extend((one, answers) for one in given)
@@ -379,8 +381,8 @@ class Spread:
         return call_of(self._instance, name, words)
 
     def ahead(self, call: Callable[[], _T]) -> Callable[[], _T]:
-        """A call that is made beside others where there are more workers than one, and else when it is asked for."""
-        if self.most_ahead == 1:
+        """A call that is made beside others where several may be made at once, and else when it is asked for."""
+        if self.at_once == 1:
             return call
         running = Running(call)
         running.start()
