@@ -23,12 +23,12 @@ fn picture_from(
     room: usize,
 ) -> Result<Vec<u8>, Fault>
     requires { length sequence.now ≡ instance.now.jobs }
-    ensures picture { IfOk result (λ text. IsPicture instance.now sequence.now text.items) }
+    ensures picture { IfOk result (λ text. IsPicture instance.now sequence.now None text.items) }
     ensures enough { IfOk result (λ text. length text.items ≤ room) }
     ensures refused { IfErr result (λ fault. (number fault ≡ memory)
         ⊎ IsPictureTooLong instance.now sequence.now room fault) }
 {
-    let text = timetable_picture(alloc, instance, sequence)?;
+    let text = timetable_picture(alloc, instance, sequence, None)?;
     need(text.len(), room)?;
     Ok(text)
 }
@@ -43,7 +43,7 @@ fn picture_of(
     room: usize,
 ) -> Result<Vec<u8>, Fault>
     ensures picture { IfOk result
-        (λ text. IsPicture (shop_of jobs machines times.now) sequence.now text.items) }
+        (λ text. IsPicture (shop_of jobs machines times.now) sequence.now None text.items) }
     ensures enough { IfOk result (λ text. length text.items ≤ room) }
     ensures accepted { OnOk result (makespan_fault jobs machines times.now sequence.now ≡ None) }
     ensures refused { IfErr result (λ fault. (number fault ≡ memory)
@@ -75,7 +75,7 @@ pub extern "C" fn flowshop_picture(
         (IsPictureTooLong (shop_of jobs machines times.now) sequence.now (length text.old)) result place.new }
     ensures memory { result ≡ memory → instance_fault jobs machines times.now ≡ None }
     ensures picture { result ≡ done →
-        IsPicture (shop_of jobs machines times.now) sequence.now (take count.new text.new) }
+        IsPicture (shop_of jobs machines times.now) sequence.now None (take count.new text.new) }
     ensures within { result ≡ done → count.new ≤ length text.old }
     ensures beyond { result ≡ done → drop count.new text.new ≡ drop count.new text.old }
     ensures stays { result ≡ done → place.new ≡ place.old }

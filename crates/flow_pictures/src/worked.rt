@@ -17,16 +17,17 @@ fn table_of(
     Ok(timetable_csv(alloc, &instance, &sequence)?)
 }
 
-/// The picture of a sequence of an instance.
+/// The picture of a sequence of an instance, with a lower bound.
 fn picture_of(
     alloc: Global,
     sizes: (u32, u32),
     times: &[u32],
     jobs: &[u16],
+    lower: Option<u64>,
 ) -> Result<Vec<u8>, Fail> {
     let instance = Instance::new(alloc, sizes.0, sizes.1, times)?;
     let sequence = Sequence::new(alloc, &instance, jobs)?;
-    Ok(timetable_picture(alloc, &instance, &sequence)?)
+    Ok(timetable_picture(alloc, &instance, &sequence, lower)?)
 }
 
 /// Three jobs on three machines.
@@ -99,7 +100,7 @@ const BARS: &[u8] = b"<g text-anchor=\"middle\">\n\
 
 #[test]
 fn picture_has_the_bars(rt: HostRuntime) -> Result<(), Fail> {
-    let picture = picture_of(rt.alloc(), (3, 3), &THREE, &[3, 1, 2])?;
+    let picture = picture_of(rt.alloc(), (3, 3), &THREE, &[3, 1, 2], None)?;
     assert!(rt;
         picture.as_slice().starts_with(
             b"<svg xmlns=\"http://www.w3.org/2000/svg\" width=\"1095\" height=\"164\""
@@ -109,9 +110,39 @@ fn picture_has_the_bars(rt: HostRuntime) -> Result<(), Fail> {
     Ok(())
 }
 
+/// What the title says of the makespan 12, by the lower bound.
+const TITLES: [(Option<u64>, &[u8]); 5] = [
+    (None, b"<title>makespan 12, jobs 3, machines 3</title>\n"),
+    (
+        Some(0),
+        b"<title>makespan 12, lower bound 0, jobs 3, machines 3</title>\n",
+    ),
+    (
+        Some(11),
+        b"<title>makespan 12, lower bound 11, jobs 3, machines 3</title>\n",
+    ),
+    (Some(12), b"<title>optimal 12, jobs 3, machines 3</title>\n"),
+    (
+        Some(13),
+        b"<title>makespan 12, jobs 3, machines 3</title>\n",
+    ),
+];
+
+#[test]
+fn title_has_the_lower_bound(rt: HostRuntime) -> Result<(), Fail> {
+    let alloc = rt.alloc();
+    for (lower, title) in TITLES {
+        let picture = picture_of(alloc, (3, 3), &THREE, &[3, 1, 2], lower)?;
+        let mut lines = picture.as_slice().split_inclusive(|byte| *byte == b'\n');
+        lines.next();
+        assert_eq!(rt; lines.next(), Some(title));
+    }
+    Ok(())
+}
+
 #[test]
 fn picture_of_no_times_has_no_bars(rt: HostRuntime) -> Result<(), Fail> {
-    let picture = picture_of(rt.alloc(), (1, 1), &[0], &[1])?;
+    let picture = picture_of(rt.alloc(), (1, 1), &[0], &[1], Some(0))?;
     assert!(rt; picture.as_slice().starts_with(b"<svg "));
     assert!(rt;
         picture.as_slice().ends_with(b"machine 1</text>\n<g text-anchor=\"middle\">\n</g></svg>\n")

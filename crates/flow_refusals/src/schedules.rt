@@ -39,6 +39,6 @@ pub(crate) fn is_picture(bytes: &[u8]) -> bool {
 /// `timetable_picture` of the instance with three machines.
 pub(crate) fn picture_is_made(alloc: Global, three: &Instance) -> Result<bool, CommandFault> {
     let sequence = Sequence::new(alloc, three, &[3, 1, 2])?;
-    let picture = timetable_picture(alloc, three, &sequence)?;
+    let picture = timetable_picture(alloc, three, &sequence, None)?;
     Ok(is_picture(picture.as_slice()))
 }

@@ -1,5 +1,6 @@
 -- The head of a picture: all of its text before the first bar.
-use Rattle.std.specs.Prelude.{ℕ, ◌+◌, ◌*◌, ◌/◌, List, ◌++◌, codes, decimal}
+use Rattle.std.specs.Prelude.{ℕ, ◌+◌, ◌*◌, ◌/◌, Option, Some, None, nat_lt, nat_eq, if◌then◌else◌}
+use Rattle.std.specs.Prelude.{List, ◌++◌, codes, decimal}
 use Rattle.std.specs.List.{flat_map}
 use Rattle.flow_shop.specs.Shop.{Shop, numbers}
 use Rattle.flow_schedule.specs.Scale.{x_of, y_of, bottom_of}
@@ -13,15 +14,24 @@ svg_text height =
     ++ decimal (height / 100) ++ codes "\" viewBox=\"0 0 " ++ decimal 109500 ++ codes " " ++ decimal height
     ++ codes "\" font-family=\"sans-serif\" font-size=\"1200\">\n"
 
--- the makespan and the sizes of the shop
-abbrev pub sizes_text : Shop → ℕ → List ℕ
-sizes_text shop makespan =
-    codes "makespan " ++ decimal makespan ++ codes ", jobs " ++ decimal shop.jobs
-    ++ codes ", machines " ++ decimal shop.machines
+-- the makespan, and what a lower bound says of it: that it is optimal, or how far another sequence may be below it;
+-- a number above the makespan is no lower bound, and says nothing
+abbrev pub value_text : ℕ → Option ℕ → List ℕ
+value_text makespan None = codes "makespan " ++ decimal makespan
+value_text makespan (Some lower) =
+    if nat_eq lower makespan then codes "optimal " ++ decimal makespan
+    else if nat_lt lower makespan
+    then codes "makespan " ++ decimal makespan ++ codes ", lower bound " ++ decimal lower
+    else codes "makespan " ++ decimal makespan
+
+-- the makespan with its lower bound, and the sizes of the shop
+abbrev pub sizes_text : Shop → ℕ → Option ℕ → List ℕ
+sizes_text shop makespan lower =
+    value_text makespan lower ++ codes ", jobs " ++ decimal shop.jobs ++ codes ", machines " ++ decimal shop.machines
 
 -- the title, which a screen reader says
-abbrev pub title_text : Shop → ℕ → List ℕ
-title_text shop makespan = codes "<title>" ++ sizes_text shop makespan ++ codes "</title>\n"
+abbrev pub title_text : Shop → ℕ → Option ℕ → List ℕ
+title_text shop makespan lower = codes "<title>" ++ sizes_text shop makespan lower ++ codes "</title>\n"
 
 -- a white sheet as high and wide as the picture
 abbrev pub sheet_text : ℕ → List ℕ
@@ -29,9 +39,9 @@ sheet_text height =
     codes "<path d=\"M0 0H" ++ decimal 109500 ++ codes "V" ++ decimal height ++ codes "H0z\" fill=\"#ffffff\"/>\n"
 
 -- the heading above the rows
-abbrev pub heading_text : Shop → ℕ → List ℕ
-heading_text shop makespan =
-    codes "<text x=\"" ++ decimal 9000 ++ codes "\" y=\"2500\" font-size=\"1600\">" ++ sizes_text shop makespan
+abbrev pub heading_text : Shop → ℕ → Option ℕ → List ℕ
+heading_text shop makespan lower =
+    codes "<text x=\"" ++ decimal 9000 ++ codes "\" y=\"2500\" font-size=\"1600\">" ++ sizes_text shop makespan lower
     ++ codes "</text>\n"
 
 -- what the outline means, above the rows at the right
@@ -75,13 +85,15 @@ machine_name_text machine =
     ++ codes "\" text-anchor=\"end\">machine " ++ decimal machine ++ codes "</text>\n"
 
 -- what stands above the rows of a picture of some height
-abbrev pub top_text : Shop → ℕ → ℕ → List ℕ
-top_text shop makespan height =
-    svg_text height ++ title_text shop makespan ++ sheet_text height ++ heading_text shop makespan ++ legend_text
+abbrev pub top_text : Shop → ℕ → Option ℕ → ℕ → List ℕ
+top_text shop makespan lower height =
+    svg_text height ++ title_text shop makespan lower ++ sheet_text height ++ heading_text shop makespan lower
+    ++ legend_text
 
--- the head of a picture of the shop with a makespan, whose ticks are a step apart; the group of the bars opens last
-abbrev pub frame_text : Shop → ℕ → ℕ → List ℕ
-frame_text shop makespan step =
-    top_text shop makespan (bottom_of shop.machines + 3400)
+-- the head of a picture of the shop with a makespan and a lower bound, whose ticks are a step apart; the group of the
+-- bars opens last
+abbrev pub frame_text : Shop → ℕ → Option ℕ → ℕ → List ℕ
+frame_text shop makespan lower step =
+    top_text shop makespan lower (bottom_of shop.machines + 3400)
     ++ ticks_text makespan (bottom_of shop.machines) step ++ axis_name_text (bottom_of shop.machines)
     ++ flat_map machine_name_text (numbers 1 shop.machines) ++ codes "<g text-anchor=\"middle\">\n"

@@ -1,6 +1,6 @@
 -- The picture of a sequence: what its bars show, and where, and its whole text.
 use Rattle.std.specs.Prelude.{ℕ, ◌≡◌, ◌+◌, ◌-◌, ◌*◌, ◌/◌, ◌%◌, Bool, ◌&&◌, nat_lt, nat_le, if◌then◌else◌}
-use Rattle.std.specs.Prelude.{List, [], ◌∷◌, ◌++◌, length, slice_index, slice_range, codes, decimal}
+use Rattle.std.specs.Prelude.{Option, List, [], ◌∷◌, ◌++◌, length, slice_index, slice_range, codes, decimal}
 use Rattle.std.specs.List.{flat_map}
 use Rattle.flow_shop.specs.Shop.{Shop}
 use Rattle.flow_shop.specs.Paths.{span}
@@ -67,12 +67,12 @@ bar_text makespan path operation =
     then position_text makespan operation ++ style_text path operation ++ names_text operation ++ times_text operation
     ++ label_text makespan operation else []
 
--- a text is a picture of the sequence: after the head come the bars in the order of the timetable, and the outlined
--- ones are those of a heaviest path. Each byte is given but for which heaviest path it is
-pub record IsPicture (shop : Shop) (sequence text : List ℕ) : Type 0 where
+-- a text is a picture of the sequence with a lower bound: after the head come the bars in the order of the timetable,
+-- and the outlined ones are those of a heaviest path. Each byte is given but for which heaviest path it is
+pub record IsPicture (shop : Shop) (sequence : List ℕ) (lower : Option ℕ) (text : List ℕ) : Type 0 where
   pub step : ℕ
   pub path : List ℕ
   pub ticks : IsTickStep (span shop sequence) step
   pub heaviest : IsHeaviestPath shop sequence path
-  pub whole : text ≡ frame_text shop (span shop sequence) step
+  pub whole : text ≡ frame_text shop (span shop sequence) lower step
       ++ flat_map (bar_text (span shop sequence) path) (timetable shop sequence) ++ codes "</g></svg>\n"

@@ -4,7 +4,7 @@ ghost use Rattle.std.specs.Prelude.{◌≡◌, ◌≤◌, ◌++◌, OnOk, IfOk};
 ghost use Rattle.std.specs.List.{flat_map};
 ghost use Rattle.flow_limits.specs.Limits.{greatest_completion, most_machines};
 ghost use Rattle.flow_shop.specs.Shop.{numbers};
-ghost use Rattle.flow_schedule.specs.Frame.{svg_text, sizes_text, title_text, sheet_text, heading_text};
+ghost use Rattle.flow_schedule.specs.Frame.{svg_text, value_text, sizes_text, title_text, sheet_text, heading_text};
 ghost use Rattle.flow_schedule.specs.Frame.{legend_text, top_text, machine_name_text, frame_text};
 
 use crate::axis::{push_axis_name, push_ticks};
@@ -35,21 +35,48 @@ fn push_svg(out: &mut Vec<u8>, height: u64) -> Result<(), AllocError>
     Ok(())
 }
 
-/// Adds the makespan and the sizes.
-fn push_sizes(out: &mut Vec<u8>, instance: &Instance, makespan: u64) -> Result<(), AllocError>
-    ensures { OnOk result (out.new.items ≡ out.old.items ++ sizes_text instance.now makespan) }
+/// Adds the makespan, and what a lower bound says of it: nothing where it is above.
+fn push_value(out: &mut Vec<u8>, makespan: u64, lower: Option<u64>) -> Result<(), AllocError>
+    ensures { OnOk result (out.new.items ≡ out.old.items ++ value_text makespan lower) }
 {
+    let Some(lower) = lower else {
+        return push_words(out, b"makespan ", makespan);
+    };
+    if lower == makespan {
+        return push_words(out, b"optimal ", makespan);
+    }
     push_words(out, b"makespan ", makespan)?;
+    if lower < makespan {
+        push_words(out, b", lower bound ", lower)?;
+    }
+    Ok(())
+}
+
+/// Adds the makespan with its lower bound, and the sizes.
+fn push_sizes(
+    out: &mut Vec<u8>,
+    instance: &Instance,
+    makespan: u64,
+    lower: Option<u64>,
+) -> Result<(), AllocError>
+    ensures { OnOk result (out.new.items ≡ out.old.items ++ sizes_text instance.now makespan lower) }
+{
+    push_value(out, makespan, lower)?;
     push_words(out, b", jobs ", u64::from(instance.jobs()))?;
     push_words(out, b", machines ", u64::from(instance.machines()))
 }
 
 /// Adds the title that a screen reader says.
-fn push_title(out: &mut Vec<u8>, instance: &Instance, makespan: u64) -> Result<(), AllocError>
-    ensures { OnOk result (out.new.items ≡ out.old.items ++ title_text instance.now makespan) }
+fn push_title(
+    out: &mut Vec<u8>,
+    instance: &Instance,
+    makespan: u64,
+    lower: Option<u64>,
+) -> Result<(), AllocError>
+    ensures { OnOk result (out.new.items ≡ out.old.items ++ title_text instance.now makespan lower) }
 {
     out.extend_from_slice(b"<title>")?;
-    push_sizes(out, instance, makespan)?;
+    push_sizes(out, instance, makespan, lower)?;
     out.extend_from_slice(b"</title>\n")
 }
 
@@ -64,12 +91,17 @@ fn push_sheet(out: &mut Vec<u8>, height: u64) -> Result<(), AllocError>
 }
 
 /// Adds the heading: the makespan and the sizes.
-fn push_heading(out: &mut Vec<u8>, instance: &Instance, makespan: u64) -> Result<(), AllocError>
-    ensures { OnOk result (out.new.items ≡ out.old.items ++ heading_text instance.now makespan) }
+fn push_heading(
+    out: &mut Vec<u8>,
+    instance: &Instance,
+    makespan: u64,
+    lower: Option<u64>,
+) -> Result<(), AllocError>
+    ensures { OnOk result (out.new.items ≡ out.old.items ++ heading_text instance.now makespan lower) }
 {
     push_words(out, b"<text x=\"", LEFT)?;
     out.extend_from_slice(b"\" y=\"2500\" font-size=\"1600\">")?;
-    push_sizes(out, instance, makespan)?;
+    push_sizes(out, instance, makespan, lower)?;
     out.extend_from_slice(b"</text>\n")
 }
 
@@ -87,14 +119,15 @@ fn push_top(
     out: &mut Vec<u8>,
     instance: &Instance,
     makespan: u64,
+    lower: Option<u64>,
     height: u64,
 ) -> Result<(), AllocError>
-    ensures { OnOk result (out.new.items ≡ out.old.items ++ top_text instance.now makespan height) }
+    ensures { OnOk result (out.new.items ≡ out.old.items ++ top_text instance.now makespan lower height) }
 {
     push_svg(out, height)?;
-    push_title(out, instance, makespan)?;
+    push_title(out, instance, makespan, lower)?;
     push_sheet(out, height)?;
-    push_heading(out, instance, makespan)?;
+    push_heading(out, instance, makespan, lower)?;
     push_legend(out)
 }
 
@@ -127,16 +160,17 @@ pub(crate) fn frame(
     alloc: Global,
     instance: &Instance,
     makespan: u64,
+    lower: Option<u64>,
     step: u64,
 ) -> Result<Vec<u8>, AllocError>
     requires makespan { makespan ≤ greatest_completion }
     requires step { 1 ≤ step }
-    ensures { IfOk result (λ text. text.items ≡ frame_text instance.now makespan step) }
+    ensures { IfOk result (λ text. text.items ≡ frame_text instance.now makespan lower step) }
 {
     let machines = instance.machines();
     let bottom = TOP - 300 + u64::from(machines) * ROW;
     let mut out = Vec::new(alloc);
-    push_top(&mut out, instance, makespan, bottom + BELOW)?;
+    push_top(&mut out, instance, makespan, lower, bottom + BELOW)?;
     push_ticks(&mut out, makespan, bottom, step)?;
     push_axis_name(&mut out, bottom)?;
     push_machine_names(&mut out, machines)?;

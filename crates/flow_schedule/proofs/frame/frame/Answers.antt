@@ -7,7 +7,7 @@ use Rattle.flow_schedule.proofs.frame.frame.Goals as goal
 
 pub returns : goal.returns
 returns c =
-    let top : ℕ → List ℕ = λ bottom. top_text c.args.instance.now c.args.makespan (bottom + 3400) in
+    let top : ℕ → List ℕ = λ bottom. top_text c.args.instance.now c.args.makespan c.args.lower (bottom + 3400) in
     let text : ℕ → ℕ → List ℕ = λ machines bottom. top bottom ++ ticks_text c.args.makespan bottom c.args.step
     ++ axis_name_text bottom ++ flat_map machine_name_text (numbers 1 machines)
     ++ codes "<g text-anchor=\"middle\">\n" in

@@ -32,7 +32,7 @@ returns c =
           ∙ ap (λ list. c.in_ok-out.out.items
           ++ flat_map (bar_text c.makespan-makespan.result c.in_ok-path.path.items) list) (all ∙ items)
           ∙ ap (λ head. head ++ bars c.makespan-makespan.result) c.in_ok-out.ensures
-          ∙ ap (λ makespan. frame_text c.args.instance.now makespan c.tick_step.result ++ bars makespan) makespan);
+          ∙ ap (λ makespan. frame_text c.args.instance.now makespan c.args.lower c.tick_step.result ++ bars makespan) makespan);
     }
 
 pub loop-operation-preserved : goal.loop-operation-preserved
