@@ -17,7 +17,7 @@ from ._errors import FlowshopError, NotASequence, NotAShop, NotLawful, OptionErr
 from ._results import Certificate, Operation, Picture, Start, Timetable
 from ._shop import Block, Shop
 
-__version__ = "1.0.0"
+__version__ = "2.0.0"
 __all__ = [
     "Block",
     "Certificate",

@@ -3,16 +3,18 @@
 from __future__ import annotations
 
 from array import array
+from ctypes import pointer
 from math import perm
 from typing import Any, Hashable, Iterable, List, NamedTuple, NoReturn, Optional, Tuple
 
 from ._errors import NotASequence, NotLawful, OptionError, OverBudget, counted
-from ._library import Refused, byref, call, size, u16, u32, u64
+from ._library import BeamOptions, BoundsRoom, Effort, NodeLists, PartRooms, Plan, ReachedRoom, Refused, RoundsOptions
+from ._library import ShopNumbers, SpansRoom, byref, call, size, u8, u16, u32, u64
 from ._options import MOST_TREES, STATED, option
 from ._results import Certificate, Names, Path, Picture, Start, Timetable, listed, with_names
 from ._sequences import Jobs, Many, items_of, not_a_sequence, packed
 from ._tables import Table, read_table
-from ._texts import Text, block_text, blocks_of, not_lawful, text_of, written
+from ._texts import Text, block_text, blocks_of, not_lawful, room_for, text_of, written
 
 # The most bytes that a text has beside its trees or its directions.
 _BESIDE = 3300
@@ -32,10 +34,10 @@ class Shop:
     Shop(3 jobs, 3 machines)
     """
 
-    __slots__ = ("_parts", "_words")
-    # Jobs, machines, times, and the names of both; and what each call takes of them first.
+    __slots__ = ("_parts", "_lent")
+    # Jobs, machines, times, and the names of both; and what each call is lent of them.
     _parts: Tuple[int, int, bytes, Optional[Names], Optional[Names]]
-    _words: Tuple[Any, Any, bytes, Any]
+    _lent: Any
 
     def __init__(self, *_: object) -> None:
         raise TypeError(
@@ -50,7 +52,7 @@ class Shop:
         """The shop of these times, machine by machine, as 32-bit numbers. The calls of the library test them."""
         shop = object.__new__(cls)
         object.__setattr__(shop, "_parts", (jobs, machines, times, job_names, machine_names))
-        object.__setattr__(shop, "_words", (u32(jobs), u32(machines), times, size(len(times) // 4)))
+        object.__setattr__(shop, "_lent", byref(ShopNumbers(jobs, machines, times, len(times) // 4)))
         return shop
 
     @classmethod
@@ -204,7 +206,7 @@ class Shop:
     def _call(self, name: str, sequence: bytes, *words: Any) -> None:
         """Makes a call on the shop and a sequence. NotASequence where that is none."""
         try:
-            call(name, *self._words, sequence, size(len(sequence) // 2), *words)
+            call(name, self._lent, sequence, size(len(sequence) // 2), *words)
         except Refused as refused:
             if refused.name in ("LENGTH", "JOB", "TWICE"):
                 raise not_a_sequence(refused, sequence, self.jobs) from None
@@ -250,7 +252,7 @@ class Shop:
         """
         jobs, count = packed(sequence, self.jobs), self.jobs * self.machines
         starts, ends = (u64 * count)(), (u64 * count)()
-        self._call("timetable", jobs, starts, count, ends, count)
+        self._call("timetable", jobs, SpansRoom(starts, count, ends, count))
         numbers = tuple(memoryview(jobs).cast("H"))
         return Timetable(numbers, self._named(numbers), self.machine_names, bytes(starts), bytes(ends))
 
@@ -263,7 +265,7 @@ class Shop:
         '<svg'
         """
         jobs, room = packed(sequence, self.jobs), 16_384 + 400 * self.jobs * self.machines
-        picture = written(room, lambda *rest: self._call("picture", jobs, *rest)).decode("ascii")
+        picture = written(room, lambda text: self._call("picture", jobs, 0, text)).decode("ascii")
         if self._parts[3:] != (None, None):
             picture = with_names(picture, self.job_names, self.machine_names)
         return Picture(picture)
@@ -303,9 +305,10 @@ class Shop:
         >>> shop.neh().sequence
         (2, 1, 3)
         """
-        sequence, value = (u16 * self.jobs)(), u64()
-        call("neh", *self._words, sequence, self.jobs, byref(value))
-        return self._start(tuple(sequence), value.value)
+        sequence = (u16 * self.jobs)()
+        reached = ReachedRoom(sequence, self.jobs)
+        call("neh", self._lent, reached)
+        return self._start(tuple(sequence), reached.makespan)
 
     def _start(self, sequence: _Numbers, value: int) -> Start:
         return Start(sequence, value, self._named(sequence))
@@ -332,10 +335,11 @@ class Shop:
         >>> shop.improve([1, 2, 3]).value
         12
         """
-        choice = [option("width", width), option("rounds", rounds), option("seed", seed), option("work", work)]
-        sequence, value = (u16 * self.jobs)(), u64()
-        self._call("improve", self._begun(start), *choice, sequence, self.jobs, byref(value))
-        return self._start(tuple(sequence), value.value)
+        effort = Effort(option("width", width), option("rounds", rounds), option("seed", seed), option("work", work))
+        sequence = (u16 * self.jobs)()
+        reached = ReachedRoom(sequence, self.jobs)
+        self._call("improve", self._begun(start), effort, reached)
+        return self._start(tuple(sequence), reached.makespan)
 
     def solve(
         self,
@@ -353,15 +357,12 @@ class Shop:
         >>> shop.solve().upper
         12
         """
-        choice = [option("depth", depth), option("budget", budget), option("version", version)]
-        trees = self._trees(choice[0])
-        value = u64()
+        plan = Plan(option("depth", depth), option("budget", budget), option("version", version))
+        trees = self._trees(plan.depth)
         try:
-            words = [byref(value)]
-            sequence, text = self._searched("solve", start, choice, words, _BESIDE + trees * (choice[1] + 1))
+            return self._searched("solve", start, [plan], _BESIDE + trees * (plan.budget + 1))
         except Refused as refused:
-            raise _over_budget(refused, trees, choice[1]) from None
-        return Certificate(value.value, value.value, sequence, text, self._named(sequence))
+            raise _over_budget(refused, trees, plan.budget) from None
 
     def _trees(self, depth: int) -> int:
         """How many lists of so many jobs there are. OptionError where there are none, or too many."""
@@ -394,21 +395,46 @@ class Shop:
         >>> certificate.lower, certificate.upper
         (12, 12)
         """
-        choice = [option("width", width), option("rounds", rounds), option("seed", seed), option("work", work)]
-        choice.append(option("directions", directions))
-        lower, upper = u64(), u64()
-        words = [byref(lower), byref(upper)]
-        sequence, text = self._searched("certify", start, choice, words, _BESIDE + choice[-1])
-        return Certificate(lower.value, upper.value, sequence, text, self._named(sequence))
+        effort = Effort(option("width", width), option("rounds", rounds), option("seed", seed), option("work", work))
+        most = option("directions", directions)
+        return self._searched("certify", start, [effort, most], _BESIDE + most)
 
-    def _searched(
-        self, name: str, start: Optional[Jobs], choice: List[int], values: List[Any], most: int
-    ) -> Tuple[_Numbers, bytes]:
-        """The sequence and the text of a search, which has at most so many bytes."""
-        sequence = (u16 * self.jobs)()
-        words = [self._begun(start), *choice, sequence, self.jobs, *values]
-        text = written(most, lambda *rest: self._call(name, *words, *rest))
-        return tuple(sequence), text
+    def _searched(self, name: str, start: Optional[Jobs], choice: List[Any], most: int) -> Certificate:
+        """What a search gives whose text has at most so many bytes."""
+        jobs = (u16 * self.jobs)()
+        bounds = BoundsRoom(jobs, self.jobs)
+        words = [self._begun(start), *choice, bounds]
+        text = written(most, lambda room: self._call(name, *words, room))
+        sequence = tuple(jobs)
+        return Certificate(bounds.lower, bounds.upper, sequence, text, self._named(sequence))
+
+    def _prove(self, first: bytes, last: bytes, number: int, budget: int) -> Tuple[int, bytes, bytes, int, bytes]:
+        """A part of a search for directions that prove a number for the node of two lists: what it came to, 0 that they
+        prove it, 1 that a sequence is below the number, or 2 that it is over the budget; the directions; the sequence
+        and its makespan; and the numbers of the parts that are left. Lists and numbers are of 16 bits, as bytes."""
+        jobs, rest = (u16 * self.jobs)(), (u16 * ((self.jobs + 4) * (self.jobs + 1)))()
+        directions = room_for(budget)
+        part = PartRooms(jobs, self.jobs, pointer(u8.from_buffer(directions)), budget, rest, len(rest))
+        call("prove", self._lent, NodeLists(first, len(first) // 2, last, len(last) // 2), number, part)
+        sequence = bytes(jobs) if part.found == 1 else b""
+        left = bytes(memoryview(rest).cast("B")[: 2 * part.rest_length])
+        return part.found, directions[: part.directions_length], sequence, part.makespan, left
+
+    def _beam(self, start: bytes, number: int, width: int, steps: int) -> Tuple[bytes, int, bool]:
+        """The sequence of a two-ended beam search, aimed at a number unless it is 0, its makespan, and whether the
+        search was whole."""
+        return self._reached("beam", start, BeamOptions(number, width, steps))
+
+    def _rounds(self, start: bytes, rounds: int, seed: int, steps: int) -> Tuple[bytes, int, bool]:
+        """The same of rounds of iterated greedy search."""
+        return self._reached("rounds", start, RoundsOptions(rounds, seed, steps))
+
+    def _reached(self, name: str, start: bytes, options: Any) -> Tuple[bytes, int, bool]:
+        """What a search reaches from a sequence."""
+        jobs = (u16 * self.jobs)()
+        reached = ReachedRoom(jobs, self.jobs)
+        self._call(name, start, options, reached)
+        return bytes(jobs), reached.makespan, bool(reached.whole)
 
     def check(self, text: Text) -> Certificate:
         """What a text proves, with the sequence that it states: a certificate of version 1 or 2, or a two-ended one;
@@ -420,13 +446,14 @@ class Shop:
         Certificate(bounds 11 to 13, 1 direction)
         """
         read = text_of(text)
-        sequence, lower, upper = (u16 * self.jobs)(), u64(), u64()
+        jobs = (u16 * self.jobs)()
+        bounds = BoundsRoom(jobs, self.jobs)
         try:
-            call("check", *self._words, read, len(read), sequence, self.jobs, byref(lower), byref(upper))
+            call("check", self._lent, read, len(read), bounds)
         except Refused as refused:
             raise not_lawful(refused, text, read, self.jobs, self.machines) from None
-        jobs = tuple(sequence)
-        return Certificate(lower.value, upper.value, jobs, read, self._named(jobs))
+        sequence = tuple(jobs)
+        return Certificate(bounds.lower, bounds.upper, sequence, read, self._named(sequence))
 
 
 def _over_budget(refused: Refused, trees: int, budget: int) -> OverBudget:
