@@ -165,7 +165,7 @@ def compare_shops():
         equal("a copy", (kept, kept.job_names, kept.makespan([3, 1, 2])), (named, named.job_names, 12))
     for name in ("jobs", "machines", "times", "job_names", "other"):
         equal("a shop that is changed", refused(lambda name=name: setattr(SHOP, name, 5)), AttributeError)
-    equal("a shop with less", refused(lambda: delattr(SHOP, "_words")), AttributeError)
+    equal("a shop with less", refused(lambda: delattr(SHOP, "_lent")), AttributeError)
     SHOP.times[0][0] = 9
     equal("its times", SHOP.times[0], [4, 0, 0])
     equal("what is shown of it", repr(Shop.generate(20, 5, 1)), "Shop(20 jobs, 5 machines)")
@@ -622,16 +622,16 @@ def keep_rooms():
     """A text is written once, whatever room there is for it, and uses memory for its bytes alone."""
     rooms = []
 
-    def fill(text, room, length):
-        rooms.append(room)
-        ctypes.memset(ctypes.addressof(text._obj) + 70_000_000, 65, 1)
-        length._obj.value = 70_000_001
+    def fill(room):
+        rooms.append(room.bytes_count)
+        ctypes.memset(ctypes.addressof(room.bytes.contents) + 70_000_000, 65, 1)
+        room.length = 70_000_001
 
     text = _texts.written(1 << 32, fill)
     equal("a long text", (len(text), text[-1:], rooms), (70_000_001, b"A", [1 << 32]))
 
-    def refuse(text, room, length):
-        rooms.append(room)
+    def refuse(room):
+        rooms.append(room.bytes_count)
         raise _library.Refused("ROOM", 1 << 50)
 
     equal("a text without room", refused(lambda: _texts.written(1 << 20, refuse)), MemoryError)
@@ -649,6 +649,20 @@ def keep_rooms():
         SHOP.solve(depth=1, budget=100_000)
     equal("the room of a text", (rooms[3] >= 103_300, rooms[4] >= 3200 + 3 * 100_001), (True, True))
     equal("room that no system has", len(_texts._room(1 << 60)) >= 1 << 24, True)
+
+
+def search_parts():
+    """A part of a search for directions, a beam and rounds, as the library gives them."""
+    start, best = [array.array("H", jobs).tobytes() for jobs in ([2, 1, 3], [3, 1, 2])]
+    signs = SHOP.certify().text.split(b"\n")[4]
+    equal("directions", SHOP._prove(b"", b"", 12, 100), (0, signs, b"", 0, b""))
+    equal("a sequence below the number", SHOP._prove(b"", b"", 13, 100)[2:], (best, 12, b""))
+    found, some, *none, left = SHOP._prove(b"", b"", 12, 1)
+    equal("a search over its budget", (found, some, none, len(left) > 0), (2, signs[:1], [b"", 0], True))
+    equal("a node of three jobs", SHOP._prove(start[:4], start[4:], 14, 0), (1, b"", start, 13, b""))
+    equal("a beam", SHOP._beam(start, 0, 16, 10**6)[:2], (best, 12))
+    equal("a beam that is aimed", SHOP._beam(start, 12, 16, 10**6)[:2], (start, 13))
+    equal("rounds", SHOP._rounds(start, 20, 1, 10**6), (best, 12, False))
 
 
 def compare_random_shops():
@@ -709,6 +723,7 @@ def main():
     refuse_options()
     compare_page()
     keep_rooms()
+    search_parts()
     keep_errors()
     keep_interrupts()
     compare_random_shops()

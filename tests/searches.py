@@ -7,7 +7,7 @@ import random
 import sys
 from ctypes import c_uint64
 
-from records import SIZE, U8, U16, BeamOptions, Node, Part, Reached, Room, RoundsOptions
+from records import SIZE, U8, U16, BeamOptions, Effort, Node, Part, Reached, Room, RoundsOptions
 from records import call, counts, equal, lent, shop_of
 
 MANY = 100_000
@@ -237,7 +237,7 @@ def compare_faults():
 
 
 def searched(name, shop, start, options, room=None):
-    """What a beam search or rounds give: a sequence, its makespan, and whether the search was whole."""
+    """What a beam search, rounds or both give: a sequence, its makespan, and whether the search was whole."""
     sequence = Room(U16, shop[0] if room is None else room)
     reached = Reached(*sequence.words(), 7, 7)
     refused = call(name, shop_of(shop), *lent_list(start), options, reached)
@@ -312,6 +312,12 @@ def compare_reached(draw):
             equal("whether it is no worse", (best <= reached <= value, whole in (0, 1)), (True, True))
             if aim:
                 equal("a beam that is aimed", reached, best if aim > best else value)
+        # An improvement is a beam with 12 of 17 parts of the steps, and rounds with 4 of 17 parts.
+        width, most, seed = draw.choice((1, 3, 64)), draw.randint(1, 30), draw.randint(1, 2_147_483_646)
+        wanted = searched("improve", shop, start, Effort(width, 0, 1, 1))
+        equal("a beam as in improve", beam(shop, start, 0, width, 1_000_000 * 12 // 17), wanted)
+        wanted = searched("improve", shop, start, Effort(0, most, seed, 1))
+        equal("rounds as in improve", rounds(shop, start, most, seed, 1_000_000 * 4 // 17), wanted)
 
 
 draw = random.Random(20_261_127)

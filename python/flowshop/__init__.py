@@ -28,7 +28,7 @@ from ._results import Certificate, Operation, Picture, Report, Start, Timetable
 from ._shop import Block, Shop
 from ._waiting import Progress
 
-__version__ = "1.0.0"
+__version__ = "2.0.0"
 __all__ = [
     "Below",
     "Block",

@@ -11,7 +11,8 @@ from ._clock import times_of
 from ._errors import Interrupted, NotASequence, NotLawful, OptionError, OverBudget, counted
 from ._found import Below, Over, Proved, numbers_of, part_of
 from ._labels import Unit, label_lines
-from ._library import Refused, byref, call, size, u16, u32, u64
+from ._library import BoundsRoom, EffortNumbers, Plan, ReachedRoom, Refused, ShopNumbers, SpansRoom
+from ._library import byref, call, size, u16, u32, u64
 from ._options import MOST_TREES, OF_PARTS, STATED, option, time_limit_of
 from ._page import MOST_BARS, Facts, page
 from ._parts import BELOW, PROVED, Instance, Rooms, parts_of
@@ -40,10 +41,10 @@ class Shop:
     Shop(3 jobs, 3 machines)
     """
 
-    __slots__ = ("_parts", "_words")
-    # Jobs, machines, times, the names of both, and the unit of the times; and what each call takes of them first.
+    __slots__ = ("_parts", "_lent")
+    # Jobs, machines, times, the names of both, and the unit of the times; and what each call is lent of them.
     _parts: Tuple[int, int, bytes, Optional[Names], Optional[Names], Unit]
-    _words: Tuple[Any, Any, bytes, Any]
+    _lent: Any
 
     def __init__(self, *_: object) -> None:
         raise TypeError(
@@ -64,7 +65,7 @@ class Shop:
         """The shop of these times, machine by machine, as 32-bit numbers. The calls of the library test them."""
         shop = object.__new__(cls)
         object.__setattr__(shop, "_parts", (jobs, machines, times, job_names, machine_names, unit))
-        object.__setattr__(shop, "_words", (u32(jobs), u32(machines), times, size(len(times) // 4)))
+        object.__setattr__(shop, "_lent", byref(ShopNumbers(jobs, machines, times, len(times) // 4)))
         return shop
 
     @classmethod
@@ -232,7 +233,7 @@ class Shop:
     def _call(self, name: str, sequence: bytes, *words: Any) -> None:
         """Makes a call on the shop and a sequence. NotASequence where that is none."""
         try:
-            call(name, *self._words, sequence, size(len(sequence) // 2), *words)
+            call(name, self._lent, sequence, size(len(sequence) // 2), *words)
         except Refused as refused:
             if refused.name in ("LENGTH", "JOB", "TWICE"):
                 raise not_a_sequence(refused, sequence, self.jobs) from None
@@ -278,7 +279,7 @@ class Shop:
         """
         jobs, count = packed(sequence, self.jobs), self.jobs * self.machines
         starts, ends = (u64 * count)(), (u64 * count)()
-        self._call("timetable", jobs, starts, count, ends, count)
+        self._call("timetable", jobs, SpansRoom(starts, count, ends, count))
         numbers = tuple(memoryview(jobs).cast("H"))
         return Timetable(numbers, self._named(numbers), self.machine_names, bytes(starts), bytes(ends))
 
@@ -291,7 +292,7 @@ class Shop:
         '<svg'
         """
         jobs, room = packed(sequence, self.jobs), 16_384 + 400 * self.jobs * self.machines
-        picture = written(room, lambda *rest: self._call("picture", jobs, *rest)).decode("ascii")
+        picture = written(room, lambda text: self._call("picture", jobs, 0, text)).decode("ascii")
         if self._parts[3:5] != (None, None):
             picture = with_names(picture, self.job_names, self.machine_names)
         return Picture(picture)
@@ -362,9 +363,10 @@ class Shop:
         >>> shop.neh().sequence
         (2, 1, 3)
         """
-        sequence, value = (u16 * self.jobs)(), u64()
-        call("neh", *self._words, sequence, self.jobs, byref(value))
-        return self._start(tuple(sequence), value.value)
+        sequence = (u16 * self.jobs)()
+        reached = ReachedRoom(sequence, self.jobs)
+        call("neh", self._lent, reached)
+        return self._start(tuple(sequence), reached.makespan)
 
     def _start(self, sequence: _Numbers, value: int) -> Start:
         return Start(sequence, value, self._named(sequence))
@@ -395,13 +397,14 @@ class Shop:
         """
         effort = Effort(option("width", width), option("rounds", rounds), option("seed", seed), option("work", work))
         limit, begun = time_limit_of(time_limit), self._begun(start)
-        sequence, value = (u16 * self.jobs)(), u64()
         if limit is None:
+            sequence = (u16 * self.jobs)()
+            reached = ReachedRoom(sequence, self.jobs)
             try:
-                waited(lambda: self._call("improve", begun, *effort, sequence, self.jobs, byref(value)))
+                waited(lambda: self._call("improve", begun, EffortNumbers(*effort), reached))
             except KeyboardInterrupt:
                 raise Interrupted(self._start(numbers_of(begun), self.makespan(numbers_of(begun)))) from None
-            return self._start(tuple(sequence), value.value)
+            return self._start(tuple(sequence), reached.makespan)
         search = Better(self._parts[:3], begun, self.makespan(numbers_of(begun)), effort)
         try:
             search.search_until(Watch(limit, None))
@@ -426,15 +429,12 @@ class Shop:
         >>> shop.solve().upper
         12
         """
-        choice = [option("depth", depth), option("budget", budget), option("version", version)]
-        trees = self._trees(choice[0])
-        value = u64()
+        plan = Plan(option("depth", depth), option("budget", budget), option("version", version))
+        trees = self._trees(plan.depth)
         try:
-            begun, most = self._begun(start), _BESIDE + trees * (choice[1] + 1)
-            sequence, text = self._searched("solve", begun, choice, [byref(value)], most)
+            return self._searched("solve", self._begun(start), [plan], _BESIDE + trees * (plan.budget + 1))
         except Refused as refused:
-            raise _over_budget(refused, trees, choice[1]) from None
-        return Certificate(value.value, value.value, sequence, text, self._named(sequence))
+            raise _over_budget(refused, trees, plan.budget) from None
 
     def _trees(self, depth: int) -> int:
         """How many lists of so many jobs there are. OptionError where there are none, or too many."""
@@ -516,13 +516,10 @@ class Shop:
         if (count, map, limit, progress or None) != (1, None, None, None):
             at_once = min(4, count) if map is None else 4
             return self._certify(begun, effort, most, Workers(map, count, at_once), Watch(limit, progress))
-        lower, upper = u64(), u64()
-        words = [byref(lower), byref(upper)]
         try:
-            sequence, text = self._searched("certify", begun, [*effort, most], words, _BESIDE + most)
+            return self._searched("certify", begun, [EffortNumbers(*effort), most], _BESIDE + most)
         except KeyboardInterrupt:
             raise Interrupted(self._certificate(self._run(begun, effort, most).known)) from None
-        return Certificate(lower.value, upper.value, sequence, text, self._named(sequence))
 
     def _run(self, start: bytes, effort: Effort, directions: int) -> Run:
         """The run of certify from a sequence."""
@@ -545,14 +542,13 @@ class Shop:
         text = two_ended_text(self.jobs, self.machines, known.lower, known.upper, jobs, known.directions)
         return Certificate(known.lower, known.upper, jobs, text, self._named(jobs))
 
-    def _searched(
-        self, name: str, start: bytes, choice: List[int], values: List[Any], most: int
-    ) -> Tuple[_Numbers, bytes]:
-        """The sequence and the text of a search, which has at most so many bytes."""
-        sequence = (u16 * self.jobs)()
-        words = [start, *choice, sequence, self.jobs, *values]
-        text = waited(lambda: written(most, lambda *rest: self._call(name, *words, *rest)))
-        return tuple(sequence), text
+    def _searched(self, name: str, start: bytes, choice: List[Any], most: int) -> Certificate:
+        """What a search gives whose text has at most so many bytes."""
+        jobs = (u16 * self.jobs)()
+        bounds = BoundsRoom(jobs, self.jobs)
+        text = waited(lambda: written(most, lambda room: self._call(name, start, *choice, bounds, room)))
+        sequence = tuple(jobs)
+        return Certificate(bounds.lower, bounds.upper, sequence, text, self._named(sequence))
 
     def check(self, text: Text) -> Certificate:
         """What a text proves, with the sequence that it states: a certificate of version 1 or 2, or a two-ended one;
@@ -564,13 +560,14 @@ class Shop:
         Certificate(bounds 11 to 13, 1 direction)
         """
         read = text_of(text)
-        sequence, lower, upper = (u16 * self.jobs)(), u64(), u64()
+        jobs = (u16 * self.jobs)()
+        bounds = BoundsRoom(jobs, self.jobs)
         try:
-            call("check", *self._words, read, len(read), sequence, self.jobs, byref(lower), byref(upper))
+            call("check", self._lent, read, len(read), bounds)
         except Refused as refused:
             raise not_lawful(refused, text, read, self.jobs, self.machines) from None
-        jobs = tuple(sequence)
-        return Certificate(lower.value, upper.value, jobs, read, self._named(jobs))
+        sequence = tuple(jobs)
+        return Certificate(bounds.lower, bounds.upper, sequence, read, self._named(sequence))
 
 
 def _over_budget(refused: Refused, trees: int, budget: int) -> OverBudget:

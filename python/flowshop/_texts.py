@@ -1,5 +1,6 @@
 """Texts as they are given and written: certificates, and files of shops."""
 
+import ctypes
 import mmap
 import os
 import re
@@ -8,7 +9,7 @@ from typing import Callable, Dict, Iterable, Iterator, List, Optional, Tuple, Un
 
 from ._errors import NotLawful, TextError, shown
 from ._labels import Labels, Unit, read_labels
-from ._library import MOST_TIMES, Refused, byref, call, size, u8, u32
+from ._library import MOST_TIMES, BlockRoom, Refused, TextRoom, call, u8, u32
 from ._results import Certificate, Names, Path
 
 # What is taken for a text. A str is the text itself, and no path.
@@ -33,17 +34,25 @@ def _room(wanted: int) -> mmap.mmap:
     raise MemoryError("flowshop: memory ran out")
 
 
-def written(most: int, write: Callable[..., None]) -> bytes:
+def room_for(count: int) -> mmap.mmap:
+    """Memory for so many bytes or more, of which none is used before it is written. MemoryError where there is none."""
+    memory = _room(max(count, _LEAST_ROOM))
+    if len(memory) < count:
+        raise MemoryError("flowshop: memory ran out")
+    return memory
+
+
+def written(most: int, write: Callable[[TextRoom], None]) -> bytes:
     """The text that a call writes, which has at most so many bytes. MemoryError where there is no room for it."""
     memory = _room(max(most, _LEAST_ROOM))
-    length = size()
+    text = TextRoom(ctypes.pointer(u8.from_buffer(memory)), len(memory))
     try:
-        write(byref(u8.from_buffer(memory)), len(memory), byref(length))
+        write(text)
     except Refused as refused:
         if refused.name != "ROOM":
             raise
         raise MemoryError(f"flowshop: there is no room for a text of {refused.place:,} bytes") from None
-    return memory[: length.value]
+    return memory[: text.length]
 
 
 def text_of(given: Text) -> bytes:
@@ -168,12 +177,11 @@ def blocks_of(
 
 def _block(text: bytes, number: int) -> Tuple[int, int, bytes, int, int, int]:
     """A block of a benchmark text, counted from 1."""
-    numbers = [u32() for _ in range(5)]
-    jobs, machines, *stated = [byref(number) for number in numbers]
     times = (u32 * MOST_TIMES)()
-    call("block", text, len(text), number, jobs, machines, times, MOST_TIMES, *stated)
-    found = [number.value for number in numbers]
-    return found[0], found[1], bytes(times)[: 4 * found[0] * found[1]], found[2], found[3], found[4]
+    block = BlockRoom(times=times, times_count=MOST_TIMES)
+    call("block", text, len(text), number, block)
+    used = bytes(times)[: 4 * block.jobs * block.machines]
+    return block.jobs, block.machines, used, block.seed, block.upper, block.lower
 
 
 def block_text(labels: Labels, rows: List[List[int]], seed: int, upper: int, lower: int) -> str:

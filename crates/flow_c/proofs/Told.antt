@@ -4,7 +4,6 @@ use Rattle.std.proofs.Common.{refl, None, drop, arith, length-append}
 use Rattle.std.specs.Global.{Vec}
 use Rattle.std.proofs.lemmas.List.Elements.{All-weaker}
 use Rattle.flow_shop.specs.Shop.{Shop, IsWithinLimits}
-use Rattle.flow_shop.specs.InstanceFaults.{instance_fault}
 use Rattle.flow_shop.specs.SequenceFaults.{place_fault}
 use Rattle.flow_shop.specs.Sequences.{AreJobs}
 use Rattle.flow_shop.specs.Directions.{ProvesFrom}
@@ -16,7 +15,7 @@ use Rattle.flow_directions.specs.declared.found.Part.{Part}
 use Rattle.flow_directions.specs.declared.found.Part.TheVariants.{Node, Children}
 use Rattle.flow_directions.proofs.FoundSteps.{found-shows}
 use Rattle.flow_directions.proofs.NodeLists.{left-length}
-use Rattle.flow_c.specs.Faults.{room_fault}
+use Rattle.flow_c.specs.Faults.{numbers_fault, room_fault}
 use Rattle.flow_c.specs.Searches.{proved, below, IsTold, IsSearched, IsBelow, IsRestTooLong, prove_fault}
 use Rattle.flow_c.specs.internal.Parts.{IsShort, LeavesShort, IsToldBy, IsComeTo, sequence_of}
 use Rattle.flow_c.specs.declared.shop.ShopNumbers.{ShopNumbers}
@@ -33,7 +32,8 @@ few-jobs n jobs are = omega (arith, left-length n jobs are)
 short-part : (shop : Shop) → IsWithinLimits shop → (part : Part) → IsPart shop part → IsShort part
 short-part shop limits (Node first last) is =
     let all : length first.items + length last.items ≤ shop.jobs =
-    subst (λ n. n ≤ shop.jobs) (length-append first.items last.items) (few-jobs shop.jobs (first.items ++ last.items) is) in
+    subst (λ n. n ≤ shop.jobs) (length-append first.items last.items)
+    (few-jobs shop.jobs (first.items ++ last.items) is) in
     (omega (arith, all, limits.jobs), omega (arith, all, limits.jobs))
 short-part shop limits (Children first last end jobs) is =
     let all : length first.items + length last.items ≤ shop.jobs =
@@ -145,61 +145,61 @@ kept-behind n jobs old new (inl none) kept =
     ap (drop n) (subst (λ xs. drop (length xs) new ≡ drop (length xs) old) none kept)
 kept-behind n jobs old new (inr whole) kept = subst (λ k. drop k new ≡ drop k old) whole kept
 
-module _ (shop : Shop) (number budget : ℕ) (node : NodeLists) (are : AreJobs shop.jobs (node.first.now ++ node.last.now))
-  where
-    -- what is told has room
-    pub come-fits : (told : Searched) → IsComeTo shop number budget node told → length told.sequence.items ≤ shop.jobs
-    come-fits told (advanced, is, (by, same)) =
-        subst (λ xs. length xs ≤ shop.jobs) (sym same)
-        (sequence-fits shop number budget node.first.now node.last.now are advanced is)
+module _ (shop : Shop) (number budget : ℕ) (node : NodeLists)
+    (are : AreJobs shop.jobs (node.first.now ++ node.last.now)) where
+  -- what is told has room
+  pub come-fits : (told : Searched) → IsComeTo shop number budget node told → length told.sequence.items ≤ shop.jobs
+  come-fits told (advanced, is, (by, same)) =
+      subst (λ xs. length xs ≤ shop.jobs) (sym same)
+      (sequence-fits shop number budget node.first.now node.last.now are advanced is)
 
-    -- there are no more directions than the budget
-    pub come-few : (told : Searched) → IsComeTo shop number budget node told → length told.directions.items ≤ budget
-    come-few told (advanced, is, (by, same)) =
-        directions-fit shop number budget node.first.now node.last.now are advanced is told.found told.makespan
-        told.sequence.items told.directions.items told.rest.items by
+  -- there are no more directions than the budget
+  pub come-few : (told : Searched) → IsComeTo shop number budget node told → length told.directions.items ≤ budget
+  come-few told (advanced, is, (by, same)) =
+      directions-fit shop number budget node.first.now node.last.now are advanced is told.found told.makespan
+      told.sequence.items told.directions.items told.rest.items by
 
-    -- it has no sequence, or a whole one
-    pub come-whole : (told : Searched) → IsComeTo shop number budget node told →
-        (told.sequence.items ≡ []) ⊎ (length told.sequence.items ≡ shop.jobs)
-    come-whole told (Proved text, is, (by, same)) = inl same
-    come-whole told (Below sequence makespan text, is, (by, same)) =
-        inr (ap length same
-        ∙ sequence-whole shop number budget node.first.now node.last.now are sequence makespan text is)
-    come-whole told (Rest text parts, is, (by, same)) = inl same
+  -- it has no sequence, or a whole one
+  pub come-whole : (told : Searched) → IsComeTo shop number budget node told →
+      (told.sequence.items ≡ []) ⊎ (length told.sequence.items ≡ shop.jobs)
+  come-whole told (Proved text, is, (by, same)) = inl same
+  come-whole told (Below sequence makespan text, is, (by, same)) =
+      inr (ap length same
+      ∙ sequence-whole shop number budget node.first.now node.last.now are sequence makespan text is)
+  come-whole told (Rest text parts, is, (by, same)) = inl same
 
-    -- where the sequence is put in room, and these are the directions and the numbers of the parts, it is told so
-    pub come-searched : (told : Searched) (room directions rest : List ℕ) → IsComeTo shop number budget node told →
-        take (length told.sequence.items) room ≡ told.sequence.items → directions ≡ told.directions.items →
-        rest ≡ told.rest.items →
-        IsSearched shop number budget node told.found room told.makespan directions rest
-    come-searched told room directions rest (advanced, is, (by, same)) put one two = (
-      advanced,
-      is,
-      subst (IsTold advanced told.found room told.makespan directions) (sym two)
-          (subst (λ xs. IsTold advanced told.found room told.makespan xs told.rest.items) (sym one)
-          (told-in-room advanced told.found told.makespan told.sequence.items told.directions.items told.rest.items room
-          by same put)),
-    )
+  -- where the sequence is put in room, and these are the directions and the numbers of the parts, it is told so
+  pub come-searched : (told : Searched) (room directions rest : List ℕ) → IsComeTo shop number budget node told →
+      take (length told.sequence.items) room ≡ told.sequence.items → directions ≡ told.directions.items →
+      rest ≡ told.rest.items →
+      IsSearched shop number budget node told.found room told.makespan directions rest
+  come-searched told room directions rest (advanced, is, (by, same)) put one two = (
+    advanced,
+    is,
+    subst (IsTold advanced told.found room told.makespan directions) (sym two)
+        (subst (λ xs. IsTold advanced told.found room told.makespan xs told.rest.items) (sym one)
+        (told-in-room advanced told.found told.makespan told.sequence.items told.directions.items told.rest.items room
+        by same put)),
+  )
 
-    -- its directions prove the number where it says so
-    pub come-proved : (told : Searched) (directions : List ℕ) → IsComeTo shop number budget node told →
-        directions ≡ told.directions.items → told.found ≡ proved →
-        ProvesFrom shop number node.first.now node.last.now directions
-    come-proved told directions (advanced, is, (by, same)) one says =
-        subst (ProvesFrom shop number node.first.now node.last.now) (sym one)
-        (proved-shown shop number budget node.first.now node.last.now are advanced is told.found told.makespan
-        told.sequence.items told.directions.items told.rest.items by says)
+  -- its directions prove the number where it says so
+  pub come-proved : (told : Searched) (directions : List ℕ) → IsComeTo shop number budget node told →
+      directions ≡ told.directions.items → told.found ≡ proved →
+      ProvesFrom shop number node.first.now node.last.now directions
+  come-proved told directions (advanced, is, (by, same)) one says =
+      subst (ProvesFrom shop number node.first.now node.last.now) (sym one)
+      (proved-shown shop number budget node.first.now node.last.now are advanced is told.found told.makespan
+      told.sequence.items told.directions.items told.rest.items by says)
 
-    -- its sequence is below the number where it says so
-    pub come-below : (told : Searched) (room : List ℕ) → IsComeTo shop number budget node told →
-        take (length told.sequence.items) room ≡ told.sequence.items → told.found ≡ below →
-        IsBelow shop number node (take shop.jobs room) told.makespan
-    come-below told room (advanced, is, (by, same)) put says =
-        below-shown shop number budget node are advanced is told.found told.makespan room told.directions.items
-        told.rest.items
-        (told-in-room advanced told.found told.makespan told.sequence.items told.directions.items told.rest.items room by
-        same put) says
+  -- its sequence is below the number where it says so
+  pub come-below : (told : Searched) (room : List ℕ) → IsComeTo shop number budget node told →
+      take (length told.sequence.items) room ≡ told.sequence.items → told.found ≡ below →
+      IsBelow shop number node (take shop.jobs room) told.makespan
+  come-below told room (advanced, is, (by, same)) put says =
+      below-shown shop number budget node are advanced is told.found told.makespan room told.directions.items
+      told.rest.items
+      (told-in-room advanced told.found told.makespan told.sequence.items told.directions.items told.rest.items room by
+      same put) says
 
 -- parts that have no room are left
 pub come-too-long : (shop : Shop) (number budget : ℕ) (node : NodeLists) (entries : ℕ) (fault : Fault)
@@ -212,7 +212,7 @@ come-too-long shop number budget node entries fault advanced told is (by, same) 
 
 -- the arguments of a search have no fault
 pub no-prove-fault : (numbers : ShopNumbers) (node : NodeLists) (entries : ℕ) →
-    instance_fault numbers.jobs numbers.machines numbers.times.now ≡ None →
+    numbers_fault numbers ≡ None →
     place_fault numbers.jobs [] (node.first.now ++ node.last.now) ≡ None → room_fault numbers.jobs entries ≡ None →
     prove_fault numbers node entries ≡ None
 no-prove-fault numbers node entries one two three = rw (prove_fault, one, two, three) refl

@@ -6,7 +6,6 @@ use Rattle.std.specs.Option.{option_map}
 use Rattle.flow_shop.specs.Paths.{span}
 use Rattle.flow_shop.specs.Refusals.{first_fault}
 use Rattle.flow_shop.specs.Shop.{Shop}
-use Rattle.flow_shop.specs.InstanceFaults.{instance_fault}
 use Rattle.flow_shop.specs.SequenceFaults.{place_fault}
 use Rattle.flow_shop.specs.declared.end.End.{End}
 use Rattle.flow_shop.specs.declared.end.End.TheVariants.{Front, Back}
@@ -15,7 +14,7 @@ use Rattle.flow_directions.specs.declared.found.Advanced.{Advanced}
 use Rattle.flow_directions.specs.declared.found.Advanced.TheVariants.{Proved, Below, Rest}
 use Rattle.flow_directions.specs.declared.found.Part.{Part}
 use Rattle.flow_directions.specs.declared.found.Part.TheVariants.{Node, Children}
-use Rattle.flow_c.specs.Faults.{room_fault}
+use Rattle.flow_c.specs.Faults.{numbers_fault, room_fault}
 use Rattle.flow_c.specs.declared.shop.ShopNumbers.{ShopNumbers}
 use Rattle.flow_c.specs.declared.node.NodeLists.{NodeLists}
 use Rattle.flow_c.specs.declared.fault.Fault.{Fault}
@@ -47,13 +46,14 @@ abbrev pub numbers_of : Part → List ℕ
 numbers_of (Node first last) = listed first.items last.items [] 0
 numbers_of (Children first last end jobs) = listed first.items last.items jobs.items (number_of end)
 
--- what a search came to, as it is told: what it is, the jobs of a sequence, its makespan, the directions, and the numbers
--- of the parts that are left
+-- what a search came to, as it is told: what it is, the jobs of a sequence, its makespan, the directions, and the
+-- numbers of the parts that are left
 abbrev pub IsTold : Advanced → ℕ → List ℕ → ℕ → List ℕ → List ℕ → Type 0
 IsTold (Proved text) found jobs makespan directions rest =
     (found ≡ proved) × (makespan ≡ 0) × (directions ≡ text.items) × (rest ≡ [])
 IsTold (Below sequence value text) found jobs makespan directions rest =
-    (found ≡ below) × (makespan ≡ value) × (directions ≡ text.items) × (rest ≡ []) × (take (length sequence) jobs ≡ sequence)
+    (found ≡ below) × (makespan ≡ value) × (directions ≡ text.items) × (rest ≡ [])
+    × (take (length sequence) jobs ≡ sequence)
 IsTold (Rest text parts) found jobs makespan directions rest =
     (found ≡ over) × (makespan ≡ 0) × (directions ≡ text.items) × (rest ≡ flat_map numbers_of parts.items)
 
@@ -71,7 +71,7 @@ IsBelow shop number node sequence makespan =
 -- why nothing is searched: the numbers are no instance, the lists no node of it, or a sequence has no room
 abbrev pub prove_fault : ShopNumbers → NodeLists → ℕ → Option Fault
 prove_fault numbers node entries = first_fault (
-    option_map Instance (instance_fault numbers.jobs numbers.machines numbers.times.now)
+    option_map Instance (numbers_fault numbers)
     ∷ option_map Sequence (place_fault numbers.jobs [] (node.first.now ++ node.last.now))
     ∷ room_fault numbers.jobs entries
     ∷ [])

@@ -1,11 +1,10 @@
 //! The outcome of a call.
 
 ghost use Rattle.std.specs.Prelude.{◌≡◌, ◌<◌};
-ghost use Rattle.flow_c.specs.Statuses.{number, done, memory};
-ghost use Rattle.flow_c.specs.Places.{place_of};
+ghost use Rattle.flow_c.specs.Statuses.{memory};
+ghost use Rattle.flow_c.specs.Faults.{HasFault, IsDone};
 
 use crate::fault::Fault;
-use crate::report::{DONE, report};
 
 /// The outcome of a call.
 #[repr(C)]
@@ -20,24 +19,21 @@ pub struct Outcome {
 impl Outcome {
     /// The call was done.
     pub(crate) fn done() -> Outcome
-        ensures status { result.status ≡ done }
-        ensures place { result.place ≡ 0 }
+        ensures { IsDone result }
     {
         Outcome {
-            status: DONE,
+            status: 0,
             place: 0,
         }
     }
 
     /// The call refused.
     pub(crate) fn refused(fault: Fault) -> Outcome
-        ensures status { result.status ≡ number fault }
-        ensures place { result.place ≡ place_of fault }
+        ensures fault { HasFault fault result }
         ensures refused { 0 < result.status }
         ensures memory { result.status ≡ memory → result.place ≡ 0 }
     {
-        let mut place = 0;
-        let status = report(fault, &mut place);
+        let (status, place) = fault.status();
         Outcome { status, place }
     }
 }

@@ -2,12 +2,11 @@
 
 ghost use Rattle.std.specs.Prelude.{◌≡◌, ◌⊎◌, ◌++◌, ◌≤◌, ◌<◌, [], None, Some, IfOk, OnOk, IfErr, length, take, drop};
 ghost use Rattle.flow_shop.specs.Shop.{IsWithinLimits};
-ghost use Rattle.flow_shop.specs.InstanceFaults.{instance_fault};
 ghost use Rattle.flow_shop.specs.Sequences.{AreJobs};
 ghost use Rattle.flow_shop.specs.Directions.{ProvesFrom};
 ghost use Rattle.flow_c.specs.Statuses as statuses;
 ghost use Rattle.flow_c.specs.Statuses.{done, memory};
-ghost use Rattle.flow_c.specs.Faults.{shop_in};
+ghost use Rattle.flow_c.specs.Faults.{shop_of, numbers_fault};
 ghost use Rattle.flow_c.specs.Checks.{ReportsCheck};
 ghost use Rattle.flow_c.specs.Searches.{proved, below, IsBelow, IsSearched, IsRestTooLong, prove_fault};
 ghost use Rattle.flow_c.specs.Rooms.{IsSameRoom};
@@ -131,7 +130,7 @@ fn search_numbers(
     number: u64,
     part: &PartRooms,
 ) -> Result<Searched, Fault>
-    ensures found { IfOk result (IsComeTo (shop_in shop.now) number (length part.now.directions.now) node.now) }
+    ensures found { IfOk result (IsComeTo (shop_of shop.now) number (length part.now.directions.now) node.now) }
     ensures jobs { OnOk result (AreJobs shop.now.jobs (node.now.first.now ++ node.now.last.now)) }
     ensures room { OnOk result (shop.now.jobs ≤ length part.now.sequence.now) }
     ensures enough { IfOk result (λ found. length found.rest.items ≤ length part.now.rest.now) }
@@ -139,10 +138,9 @@ fn search_numbers(
     ensures refused { IfErr result (λ fault. (statuses.number fault ≡ memory)
         ⊎ (prove_fault shop.now node.now (length part.now.sequence.now) ≡ Some fault)
         ⊎ ((prove_fault shop.now node.now (length part.now.sequence.now) ≡ None)
-        × IsRestTooLong (shop_in shop.now) number (length part.now.directions.now) node.now (length part.now.rest.now)
+        × IsRestTooLong (shop_of shop.now) number (length part.now.directions.now) node.now (length part.now.rest.now)
         fault)) }
-    ensures memory { IfErr result (λ fault. statuses.number fault ≡ memory →
-        instance_fault shop.now.jobs shop.now.machines shop.now.times.now ≡ None) }
+    ensures memory { IfErr result (λ fault. statuses.number fault ≡ memory → numbers_fault shop.now ≡ None) }
 {
     let instance = shop.instance(alloc)?;
     node.test(alloc, instance.jobs())?;
@@ -170,19 +168,18 @@ pub extern "C" fn flowshop_prove(
     part: &mut PartRooms,
 ) -> Outcome
     ensures status { ReportsCheck (prove_fault shop.now node.now (length part.old.sequence.now))
-        (IsRestTooLong (shop_in shop.now) number (length part.old.directions.now) node.now (length part.old.rest.now))
-        result.status result.place }
-    ensures memory { result.status ≡ memory →
-        instance_fault shop.now.jobs shop.now.machines shop.now.times.now ≡ None }
+        (IsRestTooLong (shop_of shop.now) number (length part.old.directions.now) node.now (length part.old.rest.now))
+        result }
+    ensures memory { result.status ≡ memory → numbers_fault shop.now ≡ None }
     ensures searched { result.status ≡ done →
-        IsSearched (shop_in shop.now) number (length part.old.directions.now) node.now
+        IsSearched (shop_of shop.now) number (length part.old.directions.now) node.now
         part.new.found part.new.sequence.now part.new.makespan
         (take part.new.directions_length part.new.directions.now) (take part.new.rest_length part.new.rest.now) }
     ensures proved { result.status ≡ done → part.new.found ≡ proved →
-        ProvesFrom (shop_in shop.now) number node.now.first.now node.now.last.now
+        ProvesFrom (shop_of shop.now) number node.now.first.now node.now.last.now
         (take part.new.directions_length part.new.directions.now) }
     ensures below { result.status ≡ done → part.new.found ≡ below →
-        IsBelow (shop_in shop.now) number node.now (take shop.now.jobs part.new.sequence.now) part.new.makespan }
+        IsBelow (shop_of shop.now) number node.now (take shop.now.jobs part.new.sequence.now) part.new.makespan }
     ensures none { result.status ≡ done →
         (part.new.found ≡ below) ⊎ (part.new.sequence.now ≡ part.old.sequence.now) }
     ensures within { result.status ≡ done → (part.new.directions_length ≤ length part.old.directions.now)

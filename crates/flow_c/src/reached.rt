@@ -13,8 +13,8 @@ pub struct ReachedRoom<'a> {
     pub sequence: &'a mut [u16],
     /// The makespan.
     pub makespan: u64,
-    /// 1 where the search ended because the makespan has Taillard's bound, or because a pass dropped nothing; else 0. No
-    /// contract says that no sequence has a smaller makespan then.
+    /// 1 where the search ended because the makespan has Taillard's bound, or because a pass dropped nothing; else 0.
+    /// No contract says that no sequence has a smaller makespan then.
     pub whole: u32,
 }
 

@@ -1,12 +1,11 @@
 //! Rounds of iterated greedy search.
 
 ghost use Rattle.std.specs.Prelude.{◌≡◌, ◌⊎◌, ◌≤◌, None, IfOk, OnOk, IfErr, length, take, drop};
-ghost use Rattle.flow_shop.specs.InstanceFaults.{instance_fault};
 ghost use Rattle.flow_shop.specs.Paths.{span};
 ghost use Rattle.flow_shop.specs.Sequences.{IsSequence};
 ghost use Rattle.flow_c.specs.Statuses as statuses;
 ghost use Rattle.flow_c.specs.Statuses.{done, memory};
-ghost use Rattle.flow_c.specs.Faults.{shop_in, rounds_fault, IsFaultOf, Reports};
+ghost use Rattle.flow_c.specs.Faults.{shop_of, numbers_fault, rounds_fault, IsFaultOf, Reports};
 ghost use Rattle.flow_c.specs.Rooms.{IsSameRoom};
 
 use crate::fault::{EffortFault, Fault};
@@ -39,15 +38,14 @@ fn rounds_of(
     entries: usize,
 ) -> Result<Reached, Fault>
     ensures each { IfOk result (λ reached. IsSequence shop.now.jobs reached.sequence) }
-    ensures value { IfOk result (λ reached. reached.value ≡ span (shop_in shop.now) reached.sequence) }
-    ensures least { IfOk result (λ reached. reached.value ≤ span (shop_in shop.now) start.now) }
+    ensures value { IfOk result (λ reached. reached.value ≡ span (shop_of shop.now) reached.sequence) }
+    ensures least { IfOk result (λ reached. reached.value ≤ span (shop_of shop.now) start.now) }
     ensures accepted { OnOk result
-        (rounds_fault shop.now start.now options.now.rounds options.now.seed entries ≡ None) }
+        (rounds_fault shop.now start.now options.now entries ≡ None) }
     ensures enough { OnOk result (shop.now.jobs ≤ entries) }
     ensures refused { IfErr result
-        (IsFaultOf (rounds_fault shop.now start.now options.now.rounds options.now.seed entries)) }
-    ensures memory { IfErr result (λ fault. statuses.number fault ≡ memory →
-        instance_fault shop.now.jobs shop.now.machines shop.now.times.now ≡ None) }
+        (IsFaultOf (rounds_fault shop.now start.now options.now entries)) }
+    ensures memory { IfErr result (λ fault. statuses.number fault ≡ memory → numbers_fault shop.now ≡ None) }
 {
     let instance = shop.instance(alloc)?;
     let start = Sequence::new(alloc, &instance, start)?;
@@ -76,14 +74,12 @@ pub extern "C" fn flowshop_rounds(
     options: &RoundsOptions,
     reached: &mut ReachedRoom,
 ) -> Outcome
-    ensures status { Reports (rounds_fault shop.now start.now options.now.rounds options.now.seed
-        (length reached.old.sequence.now)) result.status result.place }
-    ensures memory { result.status ≡ memory →
-        instance_fault shop.now.jobs shop.now.machines shop.now.times.now ≡ None }
+    ensures status { Reports (rounds_fault shop.now start.now options.now (length reached.old.sequence.now)) result }
+    ensures memory { result.status ≡ memory → numbers_fault shop.now ≡ None }
     ensures each { result.status ≡ done → IsSequence shop.now.jobs (take shop.now.jobs reached.new.sequence.now) }
     ensures makespan { result.status ≡ done →
-        reached.new.makespan ≡ span (shop_in shop.now) (take shop.now.jobs reached.new.sequence.now) }
-    ensures least { result.status ≡ done → reached.new.makespan ≤ span (shop_in shop.now) start.now }
+        reached.new.makespan ≡ span (shop_of shop.now) (take shop.now.jobs reached.new.sequence.now) }
+    ensures least { result.status ≡ done → reached.new.makespan ≤ span (shop_of shop.now) start.now }
     ensures whole { result.status ≡ done → reached.new.whole ≤ 1 }
     ensures rest { drop shop.now.jobs reached.new.sequence.now ≡ drop shop.now.jobs reached.old.sequence.now }
     ensures room { IsSameRoom reached.new.sequence reached.old.sequence }

@@ -1,8 +1,8 @@
 //! The numbers of a shop, as a caller lends them.
 
 ghost use Rattle.std.specs.Prelude.{◌≡◌, IfOk, OnOk, IfErr, None};
-ghost use Rattle.flow_shop.specs.InstanceFaults.{instance_fault, but_memory};
-ghost use Rattle.flow_c.specs.Faults.{shop_of};
+ghost use Rattle.flow_shop.specs.InstanceFaults.{but_memory};
+ghost use Rattle.flow_c.specs.Faults.{numbers_fault, shop_of};
 
 use flow_shop::{Instance, InstanceFault};
 use std::alloc::Global;
@@ -21,10 +21,9 @@ pub struct ShopNumbers<'a> {
 impl ShopNumbers<'_> {
     /// The instance of the numbers.
     pub(crate) fn instance(&self, alloc: Global) -> Result<Instance, InstanceFault>
-        ensures value { IfOk result (λ instance. instance ≡ shop_of self.now.jobs self.now.machines self.now.times.now) }
-        ensures accepted { OnOk result (instance_fault self.now.jobs self.now.machines self.now.times.now ≡ None) }
-        ensures refused { IfErr result
-            (λ fault. instance_fault self.now.jobs self.now.machines self.now.times.now ≡ but_memory fault) }
+        ensures value { IfOk result (λ instance. instance ≡ shop_of self.now) }
+        ensures accepted { OnOk result (numbers_fault self.now ≡ None) }
+        ensures refused { IfErr result (λ fault. numbers_fault self.now ≡ but_memory fault) }
     {
         Instance::new(alloc, self.jobs, self.machines, self.times)
     }

@@ -6,7 +6,7 @@ use std::alloc::{AllocError, Global};
 /// The version of the program, those of the texts that it writes and reads, and the line of the kit. The first is that
 /// of the file VERSION at the top of the repository, and the last that of `rt version`; `build` refuses others.
 const VERSION: &str =
-    "1.0.0, certificates of versions 1 and 2, two-ended certificates of version 1, \
+    "2.0.0, certificates of versions 1 and 2, two-ended certificates of version 1, \
 proved and built with rattle-kit-13f logic dac8208d650f15bf";
 
 /// A word of a command: its name, how it is read, and what the help says of it.
