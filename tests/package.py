@@ -21,7 +21,7 @@ from unittest import mock
 from counts import end, equal, refused
 
 import flowshop
-from flowshop import Certificate, FlowshopError, Operation, Shop, _library, _options, _texts
+from flowshop import Certificate, FlowshopError, Operation, Shop, _library, _options, _parts, _texts
 
 try:
     import numpy
@@ -555,7 +555,7 @@ def refuse_texts():
 
 
 def pass_options():
-    """Each number comes to the argument that the header names as the option is named."""
+    """Each number comes to the argument, or to the field of a record, that is named as the option is."""
     header = read(os.path.join(TOP, "library", "flowshop.h")).decode()
     numbers = {"jobs": 2, "machines": 3, "width": 4, "rounds": 5, "seed": 6, "work": 1, "directions": 7, "depth": 1}
     numbers.update(budget=1000, version=2)
@@ -566,8 +566,15 @@ def pass_options():
         with mock.patch.dict(_library._CALLS, {name: keep}):
             call(**{option: numbers[option] for option in options})
         given = keep.call_args[0]
+        records = [word for word in given if isinstance(word, ctypes.Structure)]
+
+        def came(option):
+            if option in words:
+                return given[words.index(option)]
+            return next(getattr(record, option) for record in records if hasattr(record, option))
+
         wanted = [numbers[option] for option in options]
-        equal(f"the numbers of {name}", [given[words.index(option)] for option in options], wanted)
+        equal(f"the numbers of {name}", [came(option) for option in options], wanted)
         equal(f"the arguments of {name}", len(given), len(words))
 
 
@@ -653,16 +660,19 @@ def keep_rooms():
 
 def search_parts():
     """A part of a search for directions, a beam and rounds, as the library gives them."""
-    start, best = [array.array("H", jobs).tobytes() for jobs in ([2, 1, 3], [3, 1, 2])]
     signs = SHOP.certify().text.split(b"\n")[4]
-    equal("directions", SHOP._prove(b"", b"", 12, 100), (0, signs, b"", 0, b""))
-    equal("a sequence below the number", SHOP._prove(b"", b"", 13, 100)[2:], (best, 12, b""))
-    found, some, *none, left = SHOP._prove(b"", b"", 12, 1)
-    equal("a search over its budget", (found, some, none, len(left) > 0), (2, signs[:1], [b"", 0], True))
-    equal("a node of three jobs", SHOP._prove(start[:4], start[4:], 14, 0), (1, b"", start, 13, b""))
-    equal("a beam", SHOP._beam(start, 0, 16, 10**6)[:2], (best, 12))
-    equal("a beam that is aimed", SHOP._beam(start, 12, 16, 10**6)[:2], (start, 13))
-    equal("rounds", SHOP._rounds(start, 20, 1, 10**6), (best, 12, False))
+    equal("directions", SHOP.prove(12, budget=2).directions, signs)
+    below = SHOP.prove(13, budget=100)
+    equal("a sequence below the number", (below.sequence, below.value, below.directions), ((3, 1, 2), 12, b""))
+    over = SHOP.prove(12, budget=1)
+    equal("a search over its budget", (over.directions, len(over.parts) > 0), (signs[:1], True))
+    node = SHOP.prove(14, front=[2, 1], back=[3], budget=0)
+    equal("a node of three jobs", (node.sequence, node.value, node.directions), ((2, 1, 3), 13, b""))
+    shop = _parts.Instance(*SHOP._parts[:3])
+    start, best = (array.array("H", jobs).tobytes() for jobs in ([2, 1, 3], [3, 1, 2]))
+    equal("a beam", shop.beam(start, 0, 16, 10**6)[:2], (best, 12))
+    equal("a beam that is aimed", shop.beam(start, 12, 16, 10**6)[:2], (start, 13))
+    equal("rounds", shop.rounds(start, 20, 1, 10**6), (best, 12, False))
 
 
 def compare_random_shops():
