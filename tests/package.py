@@ -663,7 +663,7 @@ def search_parts():
     signs = SHOP.certify().text.split(b"\n")[4]
     equal("directions", SHOP.prove(12, budget=2).directions, signs)
     below = SHOP.prove(13, budget=100)
-    equal("a sequence below the number", (below.sequence, below.value, below.directions), ((3, 1, 2), 12, b""))
+    equal("a sequence below the number", (below.sequence, below.value), ((3, 1, 2), 12))
     over = SHOP.prove(12, budget=1)
     equal("a search over its budget", (over.directions, len(over.parts) > 0), (signs[:1], True))
     node = SHOP.prove(14, front=[2, 1], back=[3], budget=0)
