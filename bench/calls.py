@@ -20,10 +20,8 @@ def measured(call, batches=300, calls=50):
 
 def bare_makespan(shop, sequence):
     """The call of the makespan with arguments that are there, by ctypes alone."""
-    times = array("I", [time for row in shop.times for time in row]).tobytes()
-    u32, size, byref = _library.u32, _library.size, _library.byref
-    words = [u32(shop.jobs), u32(shop.machines), times, size(shop.jobs * shop.machines)]
-    words += [array("H", sequence).tobytes(), size(shop.jobs), byref(_library.u64()), byref(size())]
+    order = array("H", sequence).tobytes()
+    words = [shop._lent, order, _library.size(shop.jobs), _library.byref(_library.u64())]
     call = _library._CALLS["makespan"]
     return lambda: call(*words)
 

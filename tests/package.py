@@ -21,7 +21,7 @@ from unittest import mock
 from counts import end, equal, refused
 
 import flowshop
-from flowshop import Certificate, FlowshopError, Operation, Shop, _library, _options, _texts
+from flowshop import Certificate, FlowshopError, Operation, Shop, _library, _options, _parts, _texts
 
 try:
     import numpy
@@ -115,7 +115,8 @@ def compare_header():
     equal("a library of another version", refused(lambda: _library.require("0.0.0")), ImportError)
     header = read(os.path.join(TOP, "library", "flowshop.h")).decode()
     numbers = {name: int(number) for name, number in re.findall(r"FLOWSHOP_(\w+) = (\d+)", header)}
-    statuses = {number: name for name, number in numbers.items() if not name.startswith(("MAX_", "MIN_"))}
+    listed = re.findall(r"FLOWSHOP_(\w+)", header.partition("enum flowshop_status {")[2].partition("};")[0])
+    statuses = {numbers[name]: name for name in listed}
     equal("the statuses", {0: "DONE", **_library.STATUSES}, statuses)
     for name, (least, most) in _options.LIMITS.items():
         equal(f"the most of {name}", most, numbers[f"MAX_{name.upper()}"])
@@ -164,7 +165,7 @@ def compare_shops():
         equal("a copy", (kept, kept.job_names, kept.makespan([3, 1, 2])), (named, named.job_names, 12))
     for name in ("jobs", "machines", "times", "job_names", "other"):
         equal("a shop that is changed", refused(lambda name=name: setattr(SHOP, name, 5)), AttributeError)
-    equal("a shop with less", refused(lambda: delattr(SHOP, "_words")), AttributeError)
+    equal("a shop with less", refused(lambda: delattr(SHOP, "_lent")), AttributeError)
     SHOP.times[0][0] = 9
     equal("its times", SHOP.times[0], [4, 0, 0])
     equal("what is shown of it", repr(Shop.generate(20, 5, 1)), "Shop(20 jobs, 5 machines)")
@@ -196,19 +197,27 @@ def use_names():
     equal("an operation with names", timetable[7], Operation("Table", "Weld", 8, 10))
     equal("a column of names", timetable.columns()["job"], ["Door"] * 3 + ["Shelf"] * 3 + ["Table"] * 3)
     equal("the other column", timetable.columns()["machine"], ["Cut", "Weld", "Paint"] * 3)
-    picture = Shop.from_jobs(ROWS, job_names=["Shelf", "D", "<T&>\n"], machine_names=["Paint shop", "Wë", "Paint shops"])
+    picture = Shop.from_jobs(ROWS, job_names=["Shelf", "D", "<T&>\n"], machine_names=["Cut", "Wë", "Painting shop"])
     drawing = xml.etree.ElementTree.fromstring(picture.gantt([2, 1, 3]))
     titles = [element.text for element in drawing.iter("{http://www.w3.org/2000/svg}title")]
     equal("the names in a picture", (titles[1], titles[4]), ("D, Wë, start 0, end 8", "<T&> , Wë, start 8, end 10"))
     labels = [element.text for element in drawing.iter("{http://www.w3.org/2000/svg}text")]
-    named = [label in labels for label in ("Paint shop", "Wë", "Paint sh..", "machine 1")]
+    named = [label in labels for label in ("Cut", "Wë", "Painting shop", "machine 1")]
     equal("before its rows", named, [True, True, True, False])
+    # Three jobs on three machines are 109,500 wide, of which 8,000 are before the rows; a character there has 700.
+    ground = drawing.find("{http://www.w3.org/2000/svg}path").get("d")
+    size = (drawing.get("width"), drawing.get("viewBox"), ground)
+    equal("room for a long name", size, ("1106", "-1100 0 110600 18300", "M-1100 0H109500V18300H-1100z"))
+    rows = [("a" * 11, "a" * 11, "0"), ("b" * 40, "b" * 40, "-20000"), ("c" * 41, "c" * 38 + "..", "-20000")]
+    for name, shown, left in rows:
+        text = Shop.from_jobs([[1]], machine_names=[name]).gantt([1])
+        equal("a name of a row", (f'text-anchor="end">{shown}<' in text, f'viewBox="{left} 0 ' in text), (True, True))
     equal("in its bars", ["D" in labels, "Shelf" in labels, "3" in labels], [True, True, False])
-    # The bars of job 3 are 14,770 and 7,385 wide, and a sign 800.
-    for length, bars in ((9, 2), (10, 1), (18, 1), (19, 0)):
+    # The bars of job 3 are 14,770 and 7,385 wide, and a character 670.
+    for length, bars in ((11, 2), (12, 1), (22, 1), (23, 0)):
         name = "T" * length
         drawing = Shop.from_jobs(ROWS, job_names=["Shelf", "Door", name]).gantt([2, 1, 3])
-        equal(f"bars with a name of {length} signs", drawing.count(f">{name}</text>"), bars)
+        equal(f"bars with a name of {length} characters", drawing.count(f">{name}</text>"), bars)
     with tempfile.TemporaryDirectory() as folder:
         picture.gantt([2, 1, 3]).save(os.path.join(folder, "picture.svg"))
         equal("one that is saved", "Wë" in read(os.path.join(folder, "picture.svg")).decode(), True)
@@ -379,6 +388,61 @@ def use_files():
     equal("a file that is not there", refused(lambda: Shop.read("/nothing")), FileNotFoundError)
 
 
+def use_labels():
+    """Names and unit in the label lines of a block, in the form of docs/formats.md, and in others."""
+    lines = ["jobs\tShelf\tDoor", "2 1 0 0 0", "machines, times in 1/4, decimal comma, separator tab\tCut, saw", "5 7"]
+    wanted = ("Shelf", "Door"), ("Cut, saw",), 4
+    none = (1, 2), (1,), 1
+    with tempfile.TemporaryDirectory() as folder:
+        path = pathlib.Path(folder, "shop.txt")
+        for at, old, new, names in [
+            (0, "", "", wanted),
+            (0, "Shelf", " Schränke ", ((" Schränke ", "Door"), *wanted[1:])),
+            (0, "Shelf\tDoor", "1\t2", ((1, 2), *wanted[1:])),
+            (0, "Shelf\tDoor", "2\t1", (("2", "1"), *wanted[1:])),
+            (2, "Cut, saw", "1", (wanted[0], (1,), 4)),
+            (2, "1/4", "1/1000000", (*wanted[:2], 1_000_000)),
+            (0, "\tDoor", "", none),
+            (0, "Door", "Door\tBed", none),
+            (0, "Door", "", none),
+            (0, "jobs", "Jobs", none),
+            (0, "jobs", " jobs", none),
+            (2, "\tCut, saw", "", none),
+            (2, "Cut, saw", "Cut\tsaw", none),
+            (2, "1/4", "1/3", none),
+            (2, "1/4", "1/04", none),
+            (2, "1/4", "1/2000000", none),
+            (2, "comma,", "point comma,", none),
+            (2, "separator tab", "separator |", none),
+        ]:
+            text = [line.replace(old, new, 1) if at == number else line for number, line in enumerate(lines)]
+            for encoding, end_of_line in (("utf-8", "\n"), ("cp1252", "\r\n")):
+                path.write_bytes(end_of_line.join([*text, ""]).encode(encoding))
+                (shop,) = (block.shop for block in Shop.read(path))
+                equal(f"the labels {text[::2]}", (shop.job_names, shop.machine_names, shop.scale), names)
+                shop.write(path)
+                equal("a shop that is written and read", [block.shop for block in Shop.read(path)], [shop])
+                equal("the scale of a copy", pickle.loads(pickle.dumps(shop)).scale, names[2])
+        path.write_bytes("\n".join([*lines, "jobs\tBed", "1 1 0 0 0", lines[2].replace("/4", "/2"), "3"]).encode())
+        shops = [block.shop for block in Shop.read(path)]
+        equal("the names of two blocks", [shop.job_names for shop in shops], [("Shelf", "Door"), ("Bed",)])
+        equal("their scales", [shop.scale for shop in shops], [4, 2])
+        whole = Shop.from_machines([[5, 7]], job_names=["Shelf", "Door"], machine_names=["Cut, saw"])
+        equal("that the scale tells shops apart", (shops[0] == whole, shops[0].times == whole.times), (False, True))
+        shops[0].write(path)
+        equal("label lines that are written", read(path).decode().split("\n")[:3:2], [lines[0], lines[2]])
+        named = Shop.from_jobs(ROWS, **NAMES)
+        named.write(path, seed=3)
+        equal("names of a table", Shop.read(path), [(named, 3, 13, 10)])
+        Shop.from_jobs([[1], [2]], job_names=["Shelf", 7]).write(path)
+        equal("names that are no text", Shop.read(path)[0].shop.job_names, ("Shelf", "7"))
+        for name in ("", "a\tb", "a\n", "a\r"):
+            sentence = f"the name of job 2 is {name!r}, and has to have a sign, no tab and no end of a line"
+            got = refused(lambda name=name: Shop.from_jobs([[1], [2]], job_names=["a", name]).write(path))
+            equal(f"the name {name!r}", got, ("TextError", "LABEL", 2, sentence))
+        equal("that the file is as it was", Shop.read(path)[0].shop.jobs, 2)
+
+
 def refuse_files():
     """The first fault of a benchmark text, with its line."""
     wanted = {
@@ -491,7 +555,7 @@ def refuse_texts():
 
 
 def pass_options():
-    """Each number comes to the argument that the header names as the option is named."""
+    """Each number comes to the argument, or to the field of a record, that is named as the option is."""
     header = read(os.path.join(TOP, "library", "flowshop.h")).decode()
     numbers = {"jobs": 2, "machines": 3, "width": 4, "rounds": 5, "seed": 6, "work": 1, "directions": 7, "depth": 1}
     numbers.update(budget=1000, version=2)
@@ -502,8 +566,15 @@ def pass_options():
         with mock.patch.dict(_library._CALLS, {name: keep}):
             call(**{option: numbers[option] for option in options})
         given = keep.call_args[0]
+        records = [word for word in given if isinstance(word, ctypes.Structure)]
+
+        def came(option):
+            if option in words:
+                return given[words.index(option)]
+            return next(getattr(record, option) for record in records if hasattr(record, option))
+
         wanted = [numbers[option] for option in options]
-        equal(f"the numbers of {name}", [given[words.index(option)] for option in options], wanted)
+        equal(f"the numbers of {name}", [came(option) for option in options], wanted)
         equal(f"the arguments of {name}", len(given), len(words))
 
 
@@ -558,16 +629,16 @@ def keep_rooms():
     """A text is written once, whatever room there is for it, and uses memory for its bytes alone."""
     rooms = []
 
-    def fill(text, room, length):
-        rooms.append(room)
-        ctypes.memset(ctypes.addressof(text._obj) + 70_000_000, 65, 1)
-        length._obj.value = 70_000_001
+    def fill(room):
+        rooms.append(room.bytes_count)
+        ctypes.memset(ctypes.addressof(room.bytes.contents) + 70_000_000, 65, 1)
+        room.length = 70_000_001
 
     text = _texts.written(1 << 32, fill)
     equal("a long text", (len(text), text[-1:], rooms), (70_000_001, b"A", [1 << 32]))
 
-    def refuse(text, room, length):
-        rooms.append(room)
+    def refuse(room):
+        rooms.append(room.bytes_count)
         raise _library.Refused("ROOM", 1 << 50)
 
     equal("a text without room", refused(lambda: _texts.written(1 << 20, refuse)), MemoryError)
@@ -585,6 +656,23 @@ def keep_rooms():
         SHOP.solve(depth=1, budget=100_000)
     equal("the room of a text", (rooms[3] >= 103_300, rooms[4] >= 3200 + 3 * 100_001), (True, True))
     equal("room that no system has", len(_texts._room(1 << 60)) >= 1 << 24, True)
+
+
+def search_parts():
+    """A part of a search for directions, a beam and rounds, as the library gives them."""
+    signs = SHOP.certify().text.split(b"\n")[4]
+    equal("directions", SHOP.prove(12, budget=2).directions, signs)
+    below = SHOP.prove(13, budget=100)
+    equal("a sequence below the number", (below.sequence, below.value), ((3, 1, 2), 12))
+    over = SHOP.prove(12, budget=1)
+    equal("a search over its budget", (over.directions, len(over.parts) > 0), (signs[:1], True))
+    node = SHOP.prove(14, front=[2, 1], back=[3], budget=0)
+    equal("a node of three jobs", (node.sequence, node.value, node.directions), ((2, 1, 3), 13, b""))
+    shop = _parts.Instance(*SHOP._parts[:3])
+    start, best = (array.array("H", jobs).tobytes() for jobs in ([2, 1, 3], [3, 1, 2]))
+    equal("a beam", shop.beam(start, 0, 16, 10**6)[:2], (best, 12))
+    equal("a beam that is aimed", shop.beam(start, 12, 16, 10**6)[:2], (start, 13))
+    equal("rounds", shop.rounds(start, 20, 1, 10**6), (best, 12, False))
 
 
 def compare_random_shops():
@@ -636,6 +724,7 @@ def main():
     use_texts()
     draw_timetables()
     use_files()
+    use_labels()
     refuse_files()
     refuse_tables()
     refuse_sequences()
@@ -644,6 +733,7 @@ def main():
     refuse_options()
     compare_page()
     keep_rooms()
+    search_parts()
     keep_errors()
     keep_interrupts()
     compare_random_shops()

@@ -4,14 +4,17 @@
 
 int main(void) {
     const uint32_t times[9] = {4, 0, 0, 0, 8, 2, 4, 0, 1}; /* three machines, each with the times of three jobs */
+    const flowshop_shop shop = {3, 3, times, 9};
+    const flowshop_effort effort = {16, 100, 1, 1};
     uint16_t start[3], best[3];
-    uint8_t text[4096];
-    uint64_t value, lower, upper;
-    size_t length, place;
-    uint32_t status = flowshop_neh(3, 3, times, 9, start, 3, &value, &place);
-    if (!status)
-        status = flowshop_solve(3, 3, times, 9, start, 3, 0, 800, 1, best, 3, &value, text, 4096, &length, &place);
-    if (!status) status = flowshop_check(3, 3, times, 9, text, length, best, 3, &lower, &upper, &place);
-    if (status) return printf("refused %u at %zu\n", status, place), 1;
-    printf("least makespan %llu: %d %d %d\n", (unsigned long long)lower, best[0], best[1], best[2]);
+    uint8_t bytes[1000 + 3300];
+    flowshop_reached begun = {start, 3, 0, 0};
+    flowshop_bounds bounds = {best, 3, 0, 0};
+    flowshop_text text = {bytes, sizeof bytes, 0};
+    flowshop_outcome outcome = flowshop_neh(&shop, &begun);
+    if (!outcome.status) outcome = flowshop_certify(&shop, start, 3, &effort, 1000, &bounds, &text);
+    if (!outcome.status) outcome = flowshop_check(&shop, bytes, text.length, &bounds);
+    if (outcome.status) return printf("%s at %zu\n", flowshop_status_name(outcome.status), outcome.place), 1;
+    printf("least makespan %llu: %d %d %d\n", (unsigned long long)bounds.lower, best[0], best[1], best[2]);
+    return 0;
 }

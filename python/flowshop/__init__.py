@@ -24,11 +24,11 @@ from ._errors import (
     TextError,
 )
 from ._found import Below, Over, Part, Proved
-from ._results import Certificate, Operation, Picture, Start, Timetable
+from ._results import Certificate, Operation, Picture, Report, Start, Timetable
 from ._shop import Block, Shop
 from ._waiting import Progress
 
-__version__ = "1.0.0"
+__version__ = "2.0.0"
 __all__ = [
     "Below",
     "Block",
@@ -46,6 +46,7 @@ __all__ = [
     "Picture",
     "Progress",
     "Proved",
+    "Report",
     "Shop",
     "Start",
     "TextError",

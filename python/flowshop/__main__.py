@@ -1,15 +1,15 @@
-"""The commands for many shops: python -m flowshop certify FILE.., python -m flowshop check FILE.."""
+"""The commands of the package: python -m flowshop COMMAND .."""
 
 import argparse
 import os
 import sys
 from typing import List, Optional
 
-from . import __version__, _command_certify, _command_check
+from . import __version__, _command_certify, _command_check, _report
 from ._errors import FlowshopError, OptionError
 from ._files import WordError
 
-_COMMANDS = (_command_certify, _command_check)
+_COMMANDS = (_command_certify, _command_check, _report)
 
 
 def main(words: Optional[List[str]] = None) -> int:

@@ -10,8 +10,9 @@ class FlowshopError(ValueError):
     """What was refused, and why: the base of all errors of this package.
 
     `str` of it is a sentence with the value at fault and its limit. `name` is that of a status of library/flowshop.h,
-    without FLOWSHOP_. `place` is where the fault is: (row, column) of a table; the place in a sequence, or (number of
-    the sequence, place) where there are many; the line of a text; which tree, counted from 0; else 0.
+    without FLOWSHOP_, or START or UNIT of a report. `place` is where the fault is: (row, column) of a table; the place
+    in a sequence, or (number of the sequence, place) where there are many; the line of a text; which tree, counted from
+    0; else 0.
 
     >>> try:
     ...     shop.makespan([2, 4, 3])
@@ -46,13 +47,14 @@ class NotLawful(FlowshopError):
 
 
 class TextError(FlowshopError):
-    """A file that is no benchmark text: NO_BLOCK, LABEL, BYTE, NUMBER, HEAD, LIMITS or TIMES."""
+    """A file that is no benchmark text: NO_BLOCK, LABEL, BYTE, NUMBER, HEAD, LIMITS or TIMES; a name that has no place
+    in one: LABEL; or, to the command `report`, a text of a sequence: SEQUENCE or NOT_ATTAINED."""
 
 
 class OptionError(FlowshopError):
     """A number that a call does not take: JOBS, MACHINES, SEED, DEPTH, BUDGET, VERSION, WIDTH, ROUNDS, WORK,
     DIRECTIONS, UPPER, LOWER, BOUND, WORKERS or TIME_LIMIT; or PLAN_DEPTH or PLAN_PREFIXES, where the shop has no lists
-    of so many jobs, or too many."""
+    of so many jobs, or too many; START or UNIT of a report, and to the command `report` INDEX."""
 
 
 class OverBudget(FlowshopError):

@@ -3,7 +3,7 @@
 import ctypes
 import os
 from pathlib import Path
-from typing import Any, Dict, List
+from typing import Any, Dict, List, Tuple
 
 STATUSES: Dict[int, str] = {
     1: "MEMORY",
@@ -53,22 +53,117 @@ u16, u32, u64, u8 = ctypes.c_uint16, ctypes.c_uint32, ctypes.c_uint64, ctypes.c_
 size, out, byref = ctypes.c_size_t, ctypes.POINTER, ctypes.byref
 # Numbers or text that a call reads, as bytes. They are not copied, and where there are none the pointer is not null.
 data = ctypes.c_char_p
-SHOP = [u32, u32, data, size]
+
+
+def _slice(name: str, kind: Any) -> List[Tuple[str, Any]]:
+    """The fields of a slice: a pointer, and how many entries there are."""
+    return [(name, kind), (f"{name}_count", size)]
+
+
+class Outcome(ctypes.Structure):
+    """What a call returns."""
+
+    _fields_ = [("status", u32), ("place", size)]
+
+
+class ShopNumbers(ctypes.Structure):
+    """A shop, of which the times are machine by machine."""
+
+    _fields_ = [("jobs", u32), ("machines", u32), *_slice("times", data)]
+
+
+class BlockRoom(ctypes.Structure):
+    """Room for a block of a benchmark text, and what it states."""
+
+    _fields_ = [("jobs", u32), ("machines", u32), *_slice("times", out(u32))] + [
+        ("seed", u32),
+        ("upper", u32),
+        ("lower", u32),
+    ]
+
+
+class SpansRoom(ctypes.Structure):
+    """Room for the times at which operations start and end."""
+
+    _fields_ = [*_slice("starts", out(u64)), *_slice("ends", out(u64))]
+
+
+class TextRoom(ctypes.Structure):
+    """Room for a text, and its length."""
+
+    _fields_ = [*_slice("bytes", out(u8)), ("length", size)]
+
+
+class ReachedRoom(ctypes.Structure):
+    """Room for a sequence, its makespan, and how the search for it ended."""
+
+    _fields_ = [*_slice("sequence", out(u16)), ("makespan", u64), ("whole", u32)]
+
+
+class BoundsRoom(ctypes.Structure):
+    """Room for a sequence, and bounds of the least makespan."""
+
+    _fields_ = [*_slice("sequence", out(u16)), ("lower", u64), ("upper", u64)]
+
+
+class EffortNumbers(ctypes.Structure):
+    """How much a search of better sequences may do."""
+
+    _fields_ = [("width", u32), ("rounds", u32), ("seed", u32), ("work", u32)]
+
+
+class Plan(ctypes.Structure):
+    """The options of a search for a certificate of version 1 or 2."""
+
+    _fields_ = [("depth", u32), ("budget", u32), ("version", u32)]
+
+
+class BeamOptions(ctypes.Structure):
+    """The options of a beam search."""
+
+    _fields_ = [("number", u64), ("width", u32), ("steps", u64)]
+
+
+class RoundsOptions(ctypes.Structure):
+    """The options of rounds of iterated greedy search."""
+
+    _fields_ = [("rounds", u32), ("seed", u32), ("steps", u64)]
+
+
+class NodeLists(ctypes.Structure):
+    """The lists of a node."""
+
+    _fields_ = [*_slice("first", data), *_slice("last", data)]
+
+
+class PartRooms(ctypes.Structure):
+    """Room for what a search for directions comes to."""
+
+    _fields_ = [*_slice("sequence", out(u16)), *_slice("directions", out(u8)), *_slice("rest", out(u16))] + [
+        ("found", u32),
+        ("makespan", u64),
+        ("directions_length", size),
+        ("rest_length", size),
+    ]
+
+
+# A shop and a sequence come first in most calls.
+_ON_SHOP: List[Any] = [out(ShopNumbers), data, size]
 CALLS: Dict[str, List[Any]] = {
     "version": [],
-    "generate": [u32, u32, u32, out(u32), size, out(size)],
-    "block": [data, size, u32, out(u32), out(u32), out(u32), size] + 3 * [out(u32)] + [out(size)],
-    "makespan": SHOP + [data, size, out(u64), out(size)],
-    "timetable": SHOP + [data, size, out(u64), size, out(u64), size, out(size)],
-    "picture": SHOP + [data, size, out(u8), size, out(size), out(size)],
-    "neh": SHOP + [out(u16), size, out(u64), out(size)],
-    "improve": SHOP + [data, size, u32, u32, u32, u32, out(u16), size, out(u64), out(size)],
-    "check": SHOP + [data, size, out(u16), size, out(u64), out(u64), out(size)],
-    "solve": SHOP
-    + [data, size, u32, u32, u32, out(u16), size, out(u64), out(u8), size, out(size), out(size)],
-    "certify": SHOP
-    + [data, size, u32, u32, u32, u32, u32, out(u16), size]
-    + [out(u64), out(u64), out(u8), size, out(size), out(size)],
+    "generate": [u32, u32, u32, out(u32), size],
+    "block": [data, size, u32, out(BlockRoom)],
+    "makespan": [*_ON_SHOP, out(u64)],
+    "timetable": [*_ON_SHOP, out(SpansRoom)],
+    "picture": [*_ON_SHOP, u64, out(TextRoom)],
+    "neh": [out(ShopNumbers), out(ReachedRoom)],
+    "improve": [*_ON_SHOP, out(EffortNumbers), out(ReachedRoom)],
+    "check": [*_ON_SHOP, out(BoundsRoom)],
+    "solve": [*_ON_SHOP, out(Plan), out(BoundsRoom), out(TextRoom)],
+    "certify": [*_ON_SHOP, out(EffortNumbers), u32, out(BoundsRoom), out(TextRoom)],
+    "prove": [out(ShopNumbers), out(NodeLists), u64, out(PartRooms)],
+    "beam": [*_ON_SHOP, out(BeamOptions), out(ReachedRoom)],
+    "rounds": [*_ON_SHOP, out(RoundsOptions), out(ReachedRoom)],
 }
 # Of these calls each argument is given as an object of ctypes or as bytes, so that ctypes has nothing to convert, which
 # takes longer than the call does on a small shop.
@@ -109,7 +204,7 @@ def _load(path: Path) -> Dict[str, Any]:
         for name, types in CALLS.items():
             calls[name] = getattr(library, f"flowshop_{name}")
             calls[name].argtypes = None if name in AS_GIVEN else types
-            calls[name].restype = u32
+            calls[name].restype = u32 if name == "version" else Outcome
     except (OSError, AttributeError) as error:
         raise ImportError(f"flowshop: {path} is not the library that this package calls: {error}") from error
     return calls
@@ -131,11 +226,9 @@ def require(wanted: str) -> None:
 
 
 def call(name: str, *words: Any) -> None:
-    """Makes a call, whose last argument is the place. MemoryError where memory ran out; Refused on every other status
-    but that of a call that is done."""
-    place = size()
-    status = _CALLS[name](*words, byref(place))
-    if status == 1:
+    """Makes a call. MemoryError where memory ran out; Refused on every other status but that of a call that is done."""
+    outcome = _CALLS[name](*words)
+    if outcome.status == 1:
         raise MemoryError("flowshop: memory ran out")
-    if status:
-        raise Refused(STATUSES.get(status, f"STATUS_{status}"), place.value)
+    if outcome.status:
+        raise Refused(STATUSES.get(outcome.status, f"STATUS_{outcome.status}"), outcome.place)

@@ -2,9 +2,10 @@
 
 import ctypes
 import struct
-from typing import Any, Dict, Iterable, List, NamedTuple, Tuple
+from typing import Any, Iterable, List, NamedTuple, Tuple
 
-from ._library import STATUSES, Refused, _path, byref, size, u8, u16, u32, u64
+from ._library import BeamOptions, NodeLists, PartRooms, ReachedRoom, RoundsOptions, ShopNumbers
+from ._library import call, out, u8, u16
 
 # What a search comes to, as the library numbers it.
 PROVED, BELOW, OVER = 0, 1, 2
@@ -70,78 +71,6 @@ def parts_of(numbers: bytes) -> List[PackedPart]:
     return parts
 
 
-class _Outcome(ctypes.Structure):
-    """The status of a call, and the place of what is wrong."""
-
-    _fields_ = [("status", u32), ("place", size)]
-
-
-class _Shop(ctypes.Structure):
-    """A shop: times stand machine by machine."""
-
-    _fields_ = [("jobs", u32), ("machines", u32), ("times", ctypes.c_char_p), ("times_count", size)]
-
-
-class _Node(ctypes.Structure):
-    """A node: the list that begins its sequences, and the one that ends them."""
-
-    _fields_ = [("first", ctypes.c_char_p), ("first_count", size), ("last", ctypes.c_char_p), ("last_count", size)]
-
-
-class _Rooms(ctypes.Structure):
-    """Room for what a search for directions comes to, and what is said of it."""
-
-    _fields_ = [
-        ("sequence", ctypes.c_void_p),
-        ("sequence_count", size),
-        ("directions", ctypes.c_void_p),
-        ("directions_count", size),
-        ("rest", ctypes.c_void_p),
-        ("rest_count", size),
-        ("found", u32),
-        ("makespan", u64),
-        ("directions_length", size),
-        ("rest_length", size),
-    ]
-
-
-class _BeamOptions(ctypes.Structure):
-    """The options of a beam."""
-
-    _fields_ = [("number", u64), ("width", u32), ("steps", u64)]
-
-
-class _RoundsOptions(ctypes.Structure):
-    """The options of rounds."""
-
-    _fields_ = [("rounds", u32), ("seed", u32), ("steps", u64)]
-
-
-class _Reached(ctypes.Structure):
-    """Room for a sequence, and what is said of it."""
-
-    _fields_ = [("sequence", ctypes.c_void_p), ("sequence_count", size), ("makespan", u64), ("whole", u32)]
-
-
-_CALLS: Dict[str, Any] = {}
-
-
-def _call(name: str, *words: Any) -> None:
-    """Makes a call of the library. MemoryError where memory ran out, Refused on every other status but that of a call
-    that is done."""
-    if not _CALLS:
-        library = ctypes.CDLL(str(_path()))
-        for each in ("prove", "beam", "rounds"):
-            function = getattr(library, f"flowshop_{each}")
-            function.restype = _Outcome
-            _CALLS[each] = function
-    outcome = _CALLS[name](*words)
-    if outcome.status == 1:
-        raise MemoryError("flowshop: memory ran out")
-    if outcome.status:
-        raise Refused(STATUSES.get(outcome.status, f"STATUS_{outcome.status}"), outcome.place)
-
-
 class Reached(NamedTuple):
     """What a beam or rounds came to: a sequence, its makespan, and whether the search ended as one that is whole."""
 
@@ -155,21 +84,21 @@ class Instance:
 
     def __init__(self, jobs: int, machines: int, times: bytes) -> None:
         self.jobs, self.machines, self._times = jobs, machines, times
-        self.words = _Shop(jobs, machines, times, len(times) // 4)
+        self.words = ShopNumbers(jobs, machines, times, len(times) // 4)
 
     def beam(self, start: bytes, number: int, width: int, steps: int) -> Reached:
         """What a beam comes to from a start; one that looks for a sequence below a number, where it is not 0."""
-        return self._reached("beam", start, _BeamOptions(number, width, steps))
+        return self._reached("beam", start, BeamOptions(number, width, steps))
 
     def rounds(self, start: bytes, rounds: int, seed: int, steps: int) -> Reached:
         """What rounds of iterated greedy search come to from a start."""
-        return self._reached("rounds", start, _RoundsOptions(rounds, seed, steps))
+        return self._reached("rounds", start, RoundsOptions(rounds, seed, steps))
 
     def _reached(self, name: str, start: bytes, options: Any) -> Reached:
         """What a search for better sequences comes to."""
         sequence = (u16 * self.jobs)()
-        room = _Reached(ctypes.addressof(sequence), self.jobs, 0, 0)
-        _call(name, byref(self.words), ctypes.c_char_p(start), size(len(start) // 2), byref(options), byref(room))
+        room = ReachedRoom(sequence, self.jobs)
+        call(name, self.words, start, len(start) // 2, options, room)
         return Reached(bytes(sequence), room.makespan, room.whole == 1)
 
 
@@ -183,11 +112,9 @@ class Rooms:
         self._sequence = (u16 * jobs)()
         self._directions = (u8 * budget)()
         self._begun = ctypes.addressof(self._directions)
-        self._rooms = _Rooms(ctypes.addressof(self._sequence), jobs, rest=ctypes.addressof(self._rest))
-        self._rooms.rest_count = len(self._rest)
-        self._node = _Node()
+        self._rooms = PartRooms(self._sequence, jobs, rest=self._rest, rest_count=len(self._rest))
+        self._node = NodeLists()
         self.written = 0
-        self._words = byref(instance.words), byref(self._node), byref(self._rooms)
 
     @property
     def left(self) -> int:
@@ -201,12 +128,11 @@ class Rooms:
 
     def search(self, first: bytes, last: bytes, number: int) -> int:
         """Searches the node of two lists below a number: PROVED, BELOW or OVER. Refused where it is no node."""
-        shop, node, rooms = self._words
         self._node.first, self._node.first_count = first, len(first) // 2
         self._node.last, self._node.last_count = last, len(last) // 2
-        self._rooms.directions = self._begun + self.written
+        self._rooms.directions = ctypes.cast(self._begun + self.written, out(u8))
         self._rooms.directions_count = self.left
-        _call("prove", shop, node, u64(number), rooms)
+        call("prove", self._instance.words, self._node, number, self._rooms)
         self.written += self._rooms.directions_length
         return int(self._rooms.found)
 

@@ -180,14 +180,46 @@ class Picture(str):
             file.write(self.encode())
 
 
-# Of a picture: the label of a row; a bar with its title, and the number in it, which stands only where it has room.
+class Report(str):
+    """A schedule on one page of HTML, for screen and paper. A notebook shows it in a frame.
+
+    >>> shop.report([2, 1, 3])
+    Report(Schedule of 3 jobs on 3 machines)
+    """
+
+    def _repr_html_(self) -> str:
+        """The page in a frame of its own, for a notebook."""
+        style = "width: 100%; height: 40em; border: 0"
+        return f'<iframe title="{self._title()}" srcdoc="{html.escape(self)}" style="{style}"></iframe>'
+
+    def _title(self) -> str:
+        """The title of the page, as it stands there."""
+        return self.partition("<title>")[2].partition("</title>")[0]
+
+    def __repr__(self) -> str:
+        """The title of the page."""
+        return f"Report({html.unescape(self._title())})"
+
+    def save(self, path: Path) -> None:
+        """Writes the page to a file. OSError where that fails.
+
+        >>> shop.report([2, 1, 3]).save("schedule.html")
+        """
+        with open(path, "wb") as file:
+            file.write(self.encode("utf-8", "replace"))
+
+
+# Of a picture: its size and its ground, where the left side is 0; the label of a row; a bar with its title, and the
+# number in it, which stands only where it has room.
+_HEAD = re.compile(r'(<svg [^>]* width=")(\d+)("[^>]* viewBox=")0 0 (\d+)([^>]*>.*?<path d="M)0( [^"]*H)0z', re.DOTALL)
 _ROW = re.compile(r'(text-anchor="end">)machine (\d+)(?=</text>)')
 _BAR = re.compile(
     r'(<rect x="\d+" y="\d+" width="(\d+)"[^>]*><title>)job (\d+), machine (\d+)([^<]*</title></rect>)'
     r"(?:(\n<text [^>]*>)\d+(</text>))?"
 )
-# How wide a character is at most, in the unit of the picture, and how many have room before a row.
-_CHARACTER, _MOST_BEFORE = 800, 10
+# In the unit of the picture: how wide a character is, in a bar and before a row, and how much room a row has before it.
+# How many characters of a long name stand there.
+_IN_BAR, _BEFORE_ROW, _ROOM_BEFORE, _MOST_BEFORE = 670, 700, 8000, 40
 
 
 def _escaped(name: Hashable) -> str:
@@ -196,19 +228,25 @@ def _escaped(name: Hashable) -> str:
 
 
 def with_names(picture: str, jobs: Names, machines: Names) -> str:
-    """A picture with the names of jobs and machines in the place of their numbers. A long name of a machine is cut; the
-    name of a job stands in a bar where it has room."""
+    """A picture with the names of jobs and machines in the place of their numbers. It is wider where the name of a
+    machine is long, and a very long one is cut; the name of a job stands in a bar where it has room."""
+    labels = [name if len(name) <= _MOST_BEFORE else f"{name[: _MOST_BEFORE - 2]}.." for name in map(str, machines)]
+    more = max(0, _BEFORE_ROW * max(map(len, labels)) - _ROOM_BEFORE)
+
+    def head(found: "re.Match[str]") -> str:
+        size = f"{found[1]}{int(found[2]) + more // 100}{found[3]}-{more} 0 {int(found[4]) + more}"
+        return f"{size}{found[5]}-{more}{found[6]}-{more}z"
 
     def row(found: "re.Match[str]") -> str:
-        name = str(machines[int(found[2]) - 1])
-        return found[1] + _escaped(name if len(name) <= _MOST_BEFORE else f"{name[: _MOST_BEFORE - 2]}..")
+        return found[1] + _escaped(labels[int(found[2]) - 1])
 
     def bar(found: "re.Match[str]") -> str:
         name, machine = jobs[int(found[3]) - 1], machines[int(found[4]) - 1]
         titled = f"{found[1]}{_escaped(name)}, {_escaped(machine)}{found[5]}"
-        has_room = found[6] and _CHARACTER * len(str(name)) <= int(found[2])
+        has_room = found[6] and _IN_BAR * len(str(name)) <= int(found[2])
         return f"{titled}{found[6]}{_escaped(name)}{found[7]}" if has_room else titled
 
+    picture = _HEAD.sub(head, picture, count=1) if more else picture
     return _BAR.sub(bar, _ROW.sub(row, picture))
 
 

@@ -7,12 +7,16 @@ from math import perm
 from typing import Any, Callable, Hashable, Iterable, List, NamedTuple, NoReturn, Optional, Tuple, Union
 
 from ._certify import Better, Effort, Known, Run
+from ._clock import times_of
 from ._errors import Interrupted, NotASequence, NotLawful, OptionError, OverBudget, counted
 from ._found import Below, Over, Proved, numbers_of, part_of
-from ._library import Refused, byref, call, size, u16, u32, u64
+from ._labels import Unit, label_lines
+from ._library import BoundsRoom, EffortNumbers, Plan, ReachedRoom, Refused, ShopNumbers, SpansRoom
+from ._library import byref, call, size, u16, u32, u64
 from ._options import MOST_TREES, OF_PARTS, STATED, option, time_limit_of
+from ._page import MOST_BARS, Facts, page
 from ._parts import BELOW, PROVED, Instance, Rooms, parts_of
-from ._results import Certificate, Names, Path, Picture, Start, Timetable, listed, with_names
+from ._results import Certificate, Names, Path, Picture, Report, Start, Timetable, listed, with_names
 from ._sequences import Jobs, Many, items_of, not_a_node, not_a_sequence, packed
 from ._spread import Map, Workers
 from ._tables import Table, read_table
@@ -37,10 +41,10 @@ class Shop:
     Shop(3 jobs, 3 machines)
     """
 
-    __slots__ = ("_parts", "_words")
-    # Jobs, machines, times, and the names of both; and what each call takes of them first.
-    _parts: Tuple[int, int, bytes, Optional[Names], Optional[Names]]
-    _words: Tuple[Any, Any, bytes, Any]
+    __slots__ = ("_parts", "_lent")
+    # Jobs, machines, times, the names of both, and the unit of the times; and what each call is lent of them.
+    _parts: Tuple[int, int, bytes, Optional[Names], Optional[Names], Unit]
+    _lent: Any
 
     def __init__(self, *_: object) -> None:
         raise TypeError(
@@ -50,12 +54,18 @@ class Shop:
 
     @classmethod
     def _of(
-        cls, jobs: int, machines: int, times: bytes, job_names: Optional[Names], machine_names: Optional[Names]
+        cls,
+        jobs: int,
+        machines: int,
+        times: bytes,
+        job_names: Optional[Names],
+        machine_names: Optional[Names],
+        unit: Unit = Unit(),
     ) -> Shop:
         """The shop of these times, machine by machine, as 32-bit numbers. The calls of the library test them."""
         shop = object.__new__(cls)
-        object.__setattr__(shop, "_parts", (jobs, machines, times, job_names, machine_names))
-        object.__setattr__(shop, "_words", (u32(jobs), u32(machines), times, size(len(times) // 4)))
+        object.__setattr__(shop, "_parts", (jobs, machines, times, job_names, machine_names, unit))
+        object.__setattr__(shop, "_lent", byref(ShopNumbers(jobs, machines, times, len(times) // 4)))
         return shop
 
     @classmethod
@@ -109,19 +119,22 @@ class Shop:
 
     @classmethod
     def read(cls, path: Path) -> List[Block]:
-        """All blocks of a benchmark text in a file, in their order. OSError where the file is not read, TextError with
-        the first fault of the text and its line.
+        """All blocks of a benchmark text in a file, in their order. A shop has the names and the unit that the label
+        lines of its block have in the form of docs/formats.md, as examples/from_csv.awk writes them. OSError where the
+        file is not read, TextError with the first fault of the text and its line.
 
         >>> shop.write("shop.txt")
         >>> Shop.read("shop.txt")[0].shop == shop
         True
         """
-        return [Block(cls._of(*block[:3], None, None), *block[3:]) for block in blocks_of(path)]
+        return [Block(cls._of(*block[:6]), *block[6:]) for block in blocks_of(path)]
 
     def write(self, path: Path, *, seed: int = 0, upper: Optional[int] = None, lower: Optional[int] = None) -> None:
-        """Writes the shop to a file, as a benchmark text of one block, which has no place for names. Its head states a
-        seed and bounds of the least makespan, which nothing tests: where they are left out, the makespan of `neh` and
-        the bound of `bound`. OSError where the file is not written, OptionError where a number is not of 32 bits.
+        """Writes the shop to a file, as a benchmark text of one block. Its label lines have the names and the unit,
+        where the shop has any; names come back as text. Its head states a seed and bounds of the least makespan, which
+        nothing tests: where they are left out, the makespan of `neh` and the bound of `bound`. OSError where the file
+        is not written, OptionError where a number is not of 32 bits, TextError where a name is empty, or has a tab or
+        an end of a line.
 
         >>> shop.write("shop.txt")
         """
@@ -130,8 +143,10 @@ class Shop:
             option("upper", self.neh().value if upper is None else upper, STATED),
             option("lower", self.bound() if lower is None else lower, STATED),
         ]
-        with open(path, "w", encoding="ascii") as file:
-            file.write(block_text(self.times, *stated))
+        labels = label_lines(self.jobs, self.machines, *self._parts[3:])
+        text = block_text(labels, self.times, *stated).encode("utf-8", "replace")
+        with open(path, "wb") as file:
+            file.write(text)
 
     @property
     def jobs(self) -> int:
@@ -179,6 +194,15 @@ class Shop:
         """
         return self._parts[4] or tuple(range(1, self.machines + 1))
 
+    @property
+    def scale(self) -> int:
+        """By what the times of a table were multiplied, so that all are whole: 1, or what the file of the shop says.
+
+        >>> shop.scale
+        1
+        """
+        return self._parts[5].scale
+
     def __setattr__(self, name: str, value: object) -> NoReturn:
         raise AttributeError(f"a Shop is frozen: {name} can not be set")
 
@@ -186,7 +210,7 @@ class Shop:
         raise AttributeError(f"a Shop is frozen: {name} can not be deleted")
 
     def __eq__(self, other: object) -> bool:
-        """Whether times and names are the same."""
+        """Whether times, names and scale are the same."""
         if not isinstance(other, Shop):
             return NotImplemented
         return self._parts == other._parts
@@ -200,7 +224,7 @@ class Shop:
 
     def __repr__(self) -> str:
         """The sizes, and the first names where there are any."""
-        jobs, machines = (listed(names, 3) if names else "" for names in self._parts[3:])
+        jobs, machines = (listed(names, 3) if names else "" for names in self._parts[3:5])
         if not jobs and not machines:
             return f"Shop({counted(self.jobs, 'job')}, {counted(self.machines, 'machine')})"
         named = f"{counted(self.jobs, 'job')}: {jobs}" if jobs else counted(self.jobs, "job")
@@ -209,7 +233,7 @@ class Shop:
     def _call(self, name: str, sequence: bytes, *words: Any) -> None:
         """Makes a call on the shop and a sequence. NotASequence where that is none."""
         try:
-            call(name, *self._words, sequence, size(len(sequence) // 2), *words)
+            call(name, self._lent, sequence, size(len(sequence) // 2), *words)
         except Refused as refused:
             if refused.name in ("LENGTH", "JOB", "TWICE"):
                 raise not_a_sequence(refused, sequence, self.jobs) from None
@@ -255,23 +279,54 @@ class Shop:
         """
         jobs, count = packed(sequence, self.jobs), self.jobs * self.machines
         starts, ends = (u64 * count)(), (u64 * count)()
-        self._call("timetable", jobs, starts, count, ends, count)
+        self._call("timetable", jobs, SpansRoom(starts, count, ends, count))
         numbers = tuple(memoryview(jobs).cast("H"))
         return Timetable(numbers, self._named(numbers), self.machine_names, bytes(starts), bytes(ends))
 
     def gantt(self, sequence: Jobs) -> Picture:
         """The picture of the timetable of a sequence, as SVG text: a row for each machine, and a bar for each job and
-        machine where the time is not 0. The outlined bars are those of a heaviest path, whose times sum to the
-        makespan. Errors are those of `makespan`.
+        machine where the time is not 0. The outlined operations leave no room: together they take the whole time.
+        Errors are those of `makespan`.
 
         >>> shop.gantt(shop.neh())[:4]
         '<svg'
         """
         jobs, room = packed(sequence, self.jobs), 16_384 + 400 * self.jobs * self.machines
-        picture = written(room, lambda *rest: self._call("picture", jobs, *rest)).decode("ascii")
-        if self._parts[3:] != (None, None):
+        picture = written(room, lambda text: self._call("picture", jobs, 0, text)).decode("ascii")
+        if self._parts[3:5] != (None, None):
             picture = with_names(picture, self.job_names, self.machine_names)
         return Picture(picture)
+
+    def report(
+        self,
+        order: Jobs,
+        *,
+        start: Optional[str] = None,
+        unit: Optional[str] = None,
+        title: Optional[str] = None,
+    ) -> Report:
+        """A page of HTML for whoever carries the schedule out: the order, a picture, a table of the machines, and a
+        sheet for each of them with start and end of each job. It says what is proved: of a Certificate, which is
+        checked, its lower bound, and of another sequence that of `bound`. Times are in the unit of the table; or by the
+        clock, where `start` is the time of day when the first job starts, and `unit` how long one unit of the table is,
+        as `15min`, `1h` or `30s`. NotLawful where a certificate is none of the shop, OptionError where start or unit
+        has another form, or one is given alone; the other errors are those of `makespan`.
+
+        >>> shop.report(shop.certify(), start="07:30", unit="15min").save("schedule.html")
+        """
+        times = times_of(self._parts[5], start, unit)
+        certificate = self.check(order) if isinstance(order, Certificate) else None
+        timetable = self.schedule(certificate or order)
+        facts = Facts(
+            title=title or f"Schedule of {counted(self.jobs, 'job')} on {counted(self.machines, 'machine')}",
+            timetable=timetable,
+            lower=certificate.lower if certificate else self.bound(),
+            is_certified=certificate is not None,
+            listed=self.makespan(range(1, self.jobs + 1)),
+            picture=self.gantt(certificate or timetable) if self.jobs * self.machines <= MOST_BARS else "",
+            times=times,
+        )
+        return Report(page(facts))
 
     def bound(self) -> int:
         """A number below which no sequence has a makespan: the bound of the two-ended certificate with no directions.
@@ -308,9 +363,10 @@ class Shop:
         >>> shop.neh().sequence
         (2, 1, 3)
         """
-        sequence, value = (u16 * self.jobs)(), u64()
-        call("neh", *self._words, sequence, self.jobs, byref(value))
-        return self._start(tuple(sequence), value.value)
+        sequence = (u16 * self.jobs)()
+        reached = ReachedRoom(sequence, self.jobs)
+        call("neh", self._lent, reached)
+        return self._start(tuple(sequence), reached.makespan)
 
     def _start(self, sequence: _Numbers, value: int) -> Start:
         return Start(sequence, value, self._named(sequence))
@@ -341,13 +397,14 @@ class Shop:
         """
         effort = Effort(option("width", width), option("rounds", rounds), option("seed", seed), option("work", work))
         limit, begun = time_limit_of(time_limit), self._begun(start)
-        sequence, value = (u16 * self.jobs)(), u64()
         if limit is None:
+            sequence = (u16 * self.jobs)()
+            reached = ReachedRoom(sequence, self.jobs)
             try:
-                waited(lambda: self._call("improve", begun, *effort, sequence, self.jobs, byref(value)))
+                waited(lambda: self._call("improve", begun, EffortNumbers(*effort), reached))
             except KeyboardInterrupt:
                 raise Interrupted(self._start(numbers_of(begun), self.makespan(numbers_of(begun)))) from None
-            return self._start(tuple(sequence), value.value)
+            return self._start(tuple(sequence), reached.makespan)
         search = Better(self._parts[:3], begun, self.makespan(numbers_of(begun)), effort)
         try:
             search.search_until(Watch(limit, None))
@@ -372,15 +429,12 @@ class Shop:
         >>> shop.solve().upper
         12
         """
-        choice = [option("depth", depth), option("budget", budget), option("version", version)]
-        trees = self._trees(choice[0])
-        value = u64()
+        plan = Plan(option("depth", depth), option("budget", budget), option("version", version))
+        trees = self._trees(plan.depth)
         try:
-            begun, most = self._begun(start), _BESIDE + trees * (choice[1] + 1)
-            sequence, text = self._searched("solve", begun, choice, [byref(value)], most)
+            return self._searched("solve", self._begun(start), [plan], _BESIDE + trees * (plan.budget + 1))
         except Refused as refused:
-            raise _over_budget(refused, trees, choice[1]) from None
-        return Certificate(value.value, value.value, sequence, text, self._named(sequence))
+            raise _over_budget(refused, trees, plan.budget) from None
 
     def _trees(self, depth: int) -> int:
         """How many lists of so many jobs there are. OptionError where there are none, or too many."""
@@ -463,13 +517,10 @@ class Shop:
         if (count, map, limit, progress or None) != (1, None, None, None):
             at_once = min(4, count) if map is None else 4
             return self._certify(begun, effort, most, Workers(map, count, at_once), Watch(limit, progress))
-        lower, upper = u64(), u64()
-        words = [byref(lower), byref(upper)]
         try:
-            sequence, text = self._searched("certify", begun, [*effort, most], words, _BESIDE + most)
+            return self._searched("certify", begun, [EffortNumbers(*effort), most], _BESIDE + most)
         except KeyboardInterrupt:
             raise Interrupted(self._certificate(self._run(begun, effort, most).known)) from None
-        return Certificate(lower.value, upper.value, sequence, text, self._named(sequence))
 
     def _run(self, start: bytes, effort: Effort, directions: int) -> Run:
         """The run of certify from a sequence."""
@@ -492,14 +543,13 @@ class Shop:
         text = two_ended_text(self.jobs, self.machines, known.lower, known.upper, jobs, known.directions)
         return Certificate(known.lower, known.upper, jobs, text, self._named(jobs))
 
-    def _searched(
-        self, name: str, start: bytes, choice: List[int], values: List[Any], most: int
-    ) -> Tuple[_Numbers, bytes]:
-        """The sequence and the text of a search, which has at most so many bytes."""
-        sequence = (u16 * self.jobs)()
-        words = [start, *choice, sequence, self.jobs, *values]
-        text = waited(lambda: written(most, lambda *rest: self._call(name, *words, *rest)))
-        return tuple(sequence), text
+    def _searched(self, name: str, start: bytes, choice: List[Any], most: int) -> Certificate:
+        """What a search gives whose text has at most so many bytes."""
+        jobs = (u16 * self.jobs)()
+        bounds = BoundsRoom(jobs, self.jobs)
+        text = waited(lambda: written(most, lambda room: self._call(name, start, *choice, bounds, room)))
+        sequence = tuple(jobs)
+        return Certificate(bounds.lower, bounds.upper, sequence, text, self._named(sequence))
 
     def check(self, text: Text) -> Certificate:
         """What a text proves, with the sequence that it states: a certificate of version 1 or 2, or a two-ended one;
@@ -511,13 +561,14 @@ class Shop:
         Certificate(bounds 11 to 13, 1 direction)
         """
         read = text_of(text)
-        sequence, lower, upper = (u16 * self.jobs)(), u64(), u64()
+        jobs = (u16 * self.jobs)()
+        bounds = BoundsRoom(jobs, self.jobs)
         try:
-            call("check", *self._words, read, len(read), sequence, self.jobs, byref(lower), byref(upper))
+            call("check", self._lent, read, len(read), bounds)
         except Refused as refused:
             raise not_lawful(refused, text, read, self.jobs, self.machines) from None
-        jobs = tuple(sequence)
-        return Certificate(lower.value, upper.value, jobs, read, self._named(jobs))
+        sequence = tuple(jobs)
+        return Certificate(bounds.lower, bounds.upper, sequence, read, self._named(sequence))
 
 
 def _over_budget(refused: Refused, trees: int, budget: int) -> OverBudget:

@@ -6,7 +6,7 @@ from operator import index, itemgetter
 from typing import Any, Hashable, Iterable, List, NamedTuple, Optional, Protocol, SupportsIndex, Tuple, Union
 
 from ._errors import NotAShop, counted, shown
-from ._library import MOST_JOBS, MOST_MACHINES, MOST_TIME, Refused, byref, call, size, u32, u64
+from ._library import MOST_JOBS, MOST_MACHINES, MOST_TIME, Refused, ShopNumbers, byref, call, size, u64
 from ._results import Names
 
 
@@ -231,7 +231,8 @@ def _tested(kind: str, count: int, names: Optional[Names]) -> Optional[Names]:
 def _test_times(given: _Given, jobs: int, machines: int, times: bytes) -> None:
     """Refuses times that are no shop, by a call of the library, which tests the list of jobs after them."""
     try:
-        call("makespan", u32(jobs), u32(machines), times, size(len(times) // 4), b"", size(0), byref(u64()))
+        shop = ShopNumbers(jobs, machines, times, len(times) // 4)
+        call("makespan", byref(shop), b"", size(0), byref(u64()))
     except Refused as refused:
         if refused.name != "LENGTH":
             raise _first_fault(given, _rows_of(given)) from None

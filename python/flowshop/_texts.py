@@ -1,14 +1,16 @@
 """Texts as they are given and written: certificates, and files of shops."""
 
+import ctypes
 import mmap
 import os
 import re
 import resource
-from typing import Callable, Dict, Iterable, Iterator, List, Tuple, Union
+from typing import Callable, Dict, Iterable, Iterator, List, Optional, Tuple, Union
 
 from ._errors import NotLawful, TextError, shown
-from ._library import MOST_TIMES, Refused, byref, call, size, u8, u32
-from ._results import Certificate, Path
+from ._labels import Labels, Unit, read_labels
+from ._library import MOST_TIMES, BlockRoom, Refused, TextRoom, call, u8, u32
+from ._results import Certificate, Names, Path
 
 # What is taken for a text. A str is the text itself, and no path.
 Text = Union[bytes, bytearray, memoryview, str, "os.PathLike[str]", Certificate]
@@ -32,17 +34,25 @@ def _room(wanted: int) -> mmap.mmap:
     raise MemoryError("flowshop: memory ran out")
 
 
-def written(most: int, write: Callable[..., None]) -> bytes:
+def room_for(count: int) -> mmap.mmap:
+    """Memory for so many bytes or more, of which none is used before it is written. MemoryError where there is none."""
+    memory = _room(max(count, _LEAST_ROOM))
+    if len(memory) < count:
+        raise MemoryError("flowshop: memory ran out")
+    return memory
+
+
+def written(most: int, write: Callable[[TextRoom], None]) -> bytes:
     """The text that a call writes, which has at most so many bytes. MemoryError where there is no room for it."""
     memory = _room(max(most, _LEAST_ROOM))
-    length = size()
+    text = TextRoom(ctypes.pointer(u8.from_buffer(memory)), len(memory))
     try:
-        write(byref(u8.from_buffer(memory)), len(memory), byref(length))
+        write(text)
     except Refused as refused:
         if refused.name != "ROOM":
             raise
         raise MemoryError(f"flowshop: there is no room for a text of {refused.place:,} bytes") from None
-    return memory[: length.value]
+    return memory[: text.length]
 
 
 def text_of(given: Text) -> bytes:
@@ -101,6 +111,31 @@ def not_lawful(refused: Refused, given: Text, text: bytes, jobs: int, machines: 
     return NotLawful(refused.name, line, sentence)
 
 
+# The lines of a sequence, as the program prints them, and what each has to be.
+_SEQUENCE = re.compile(rb"[ \t\r]*sequence((?:[ \t\r]+[0-9]{1,20})+)[ \t\r]*")
+_MAKESPAN = re.compile(rb"[ \t\r]*makespan[ \t\r]+([0-9]{1,20})[ \t\r]*")
+_NOTHING = re.compile(rb"()")
+_SEQUENCE_LINES = [
+    (_SEQUENCE, "the word sequence and the numbers of the jobs"),
+    (_MAKESPAN, "the word makespan and a number"),
+]
+
+
+def sequence_of(text: bytes) -> Tuple[List[int], Optional[int], int]:
+    """The jobs that a text of a sequence has; and the makespan that it states, if it does, with its line. TextError
+    with the first line that has another form."""
+    found, number = [], 0
+    lines = [(number, line) for number, line in enumerate(text.split(b"\n"), 1) if line.strip(b" \t\r")]
+    for at, (number, line) in enumerate(lines):
+        form, wanted = _SEQUENCE_LINES[at] if at < 2 else (_NOTHING, "blank")
+        match = form.fullmatch(line)
+        if not match:
+            sentence = f"line {number} is {_line(text, number)}, and has to be {wanted}"
+            raise TextError("SEQUENCE", number, sentence)
+        found.append([int(word) for word in match[1].split()])
+    return found[0], found[1][0] if len(found) == 2 else None, number
+
+
 # What is wrong with a line of a benchmark text, by the name of the status.
 _MISREAD: Dict[str, str] = {
     "LABEL": "a line of words is wanted before the head of a block, and before its times",
@@ -121,8 +156,11 @@ def _misread(refused: Refused, path: Path, text: bytes) -> TextError:
     return TextError(refused.name, line, sentence)
 
 
-def blocks_of(path: Path) -> Iterator[Tuple[int, int, bytes, int, int, int]]:
-    """Each block of a benchmark text in a file: its jobs, machines and times, seed, upper and lower bound."""
+def blocks_of(
+    path: Path,
+) -> Iterator[Tuple[int, int, bytes, Optional[Names], Optional[Names], Unit, int, int, int]]:
+    """Each block of a benchmark text in a file: its jobs, machines and times, the names of both, the unit of the times,
+    and seed, upper and lower bound."""
     with open(path, "rb") as file:
         text = file.read()
     try:
@@ -130,27 +168,28 @@ def blocks_of(path: Path) -> Iterator[Tuple[int, int, bytes, int, int, int]]:
     except Refused as refused:
         raise _misread(refused, path, text) from None
     # The text has no fault, so it has two label lines for each block.
-    begun = [found.start() for found in _LABEL_LINE.finditer(text)][::2]
-    for start, end in zip(begun, [*begun[1:], len(text)]):
-        yield _block(text[start:end], 1)
+    begun = [found.start() for found in _LABEL_LINE.finditer(text)]
+    lines = [text[start : text.find(b"\n", start)] for start in begun]
+    for at, end in zip(range(0, len(begun), 2), [*begun[2::2], len(text)]):
+        jobs, machines, times, seed, upper, lower = _block(text[begun[at] : end], 1)
+        yield (jobs, machines, times, *read_labels(lines[at], lines[at + 1], jobs, machines), seed, upper, lower)
 
 
 def _block(text: bytes, number: int) -> Tuple[int, int, bytes, int, int, int]:
     """A block of a benchmark text, counted from 1."""
-    numbers = [u32() for _ in range(5)]
-    jobs, machines, *stated = [byref(number) for number in numbers]
     times = (u32 * MOST_TIMES)()
-    call("block", text, len(text), number, jobs, machines, times, MOST_TIMES, *stated)
-    found = [number.value for number in numbers]
-    return found[0], found[1], bytes(times)[: 4 * found[0] * found[1]], found[2], found[3], found[4]
+    block = BlockRoom(times=times, times_count=MOST_TIMES)
+    call("block", text, len(text), number, block)
+    used = bytes(times)[: 4 * block.jobs * block.machines]
+    return block.jobs, block.machines, used, block.seed, block.upper, block.lower
 
 
-def block_text(rows: List[List[int]], seed: int, upper: int, lower: int) -> str:
-    """The benchmark text of a shop, of which the rows are those of its machines."""
+def block_text(labels: Labels, rows: List[List[int]], seed: int, upper: int, lower: int) -> str:
+    """The benchmark text of a shop with these label lines, of which the rows are those of its machines."""
     lines = [
-        "number of jobs, number of machines, initial seed, upper bound and lower bound :",
+        labels[0],
         f"{len(rows[0])} {len(rows)} {seed} {upper} {lower}",
-        "processing times :",
+        labels[1],
         *(" ".join(map(str, row)) for row in rows),
     ]
     return "".join(f"{line}\n" for line in lines)

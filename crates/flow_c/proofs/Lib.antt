@@ -4,3 +4,5 @@ mod TextSize
 mod Puts
 mod Asked
 mod Ended
+mod Nodes
+mod Told

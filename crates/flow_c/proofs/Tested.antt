@@ -2,9 +2,9 @@
 use Rattle.std.proofs.Common.{◌≡◌, ◌⊎◌, refl, inl, inr, ℕ, List, [], ◌∷◌, Option, Some, None, subst, sym}
 use Rattle.std.specs.Option.{option_or}
 use Rattle.flow_shop.specs.Refusals.{first_fault}
-use Rattle.flow_shop.specs.InstanceFaults.{instance_fault}
 use Rattle.flow_shop.specs.SequenceFaults.{sequence_fault}
-use Rattle.flow_c.specs.Faults.{IsFaultOf, makespan_fault}
+use Rattle.flow_c.specs.Faults.{IsFaultOf, numbers_fault, makespan_fault}
+use Rattle.flow_c.specs.declared.shop.ShopNumbers.{ShopNumbers}
 use Rattle.flow_c.specs.declared.fault.Fault.{Fault}
 
 -- a test alone
@@ -29,6 +29,6 @@ pub of-four : (first second third fourth : Option Fault) (fault : Fault) → fir
 of-four first second third fourth fault one two is = rw (one, two) (of-last third fourth fault is)
 
 -- numbers that are an instance, and jobs that are a sequence of it
-pub no-makespan-fault : (jobs machines : ℕ) (times sequence : List ℕ) → instance_fault jobs machines times ≡ None →
-    sequence_fault jobs sequence ≡ None → makespan_fault jobs machines times sequence ≡ None
-no-makespan-fault jobs machines times sequence one two = rw (one, two) refl
+pub no-makespan-fault : (numbers : ShopNumbers) (sequence : List ℕ) → numbers_fault numbers ≡ None →
+    sequence_fault numbers.jobs sequence ≡ None → makespan_fault numbers sequence ≡ None
+no-makespan-fault numbers sequence one two = rw (one, two) refl

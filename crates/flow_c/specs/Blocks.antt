@@ -1,11 +1,11 @@
 -- The block of a benchmark text that an index names, and why none is given.
-use Rattle.std.specs.Prelude.{ℕ, ◌≡◌, ◌-◌, ◌*◌, ◌<◌, ◌≤◌, ◌⊎◌, List, length, slice_get, Some}
+use Rattle.std.specs.Prelude.{ℕ, ◌≡◌, ◌-◌, ◌*◌, ◌<◌, ◌≤◌, ◌⊎◌, List, length, take, slice_get, Some}
 use Rattle.flow_text.specs.Text.{Reads}
 use Rattle.flow_text.specs.TextFaults.{text_fault}
 use Rattle.flow_text.specs.declared.text.block.Block.{Block}
-use Rattle.flow_c.specs.Statuses.{number, done}
-use Rattle.flow_c.specs.Places.{place_of}
-use Rattle.flow_c.specs.Faults.{RanOut}
+use Rattle.flow_c.specs.Faults.{HasFault, IsDone, RanOut}
+use Rattle.flow_c.specs.declared.block.BlockRoom.{BlockRoom}
+use Rattle.flow_c.specs.declared.outcome.Outcome.{Outcome}
 use Rattle.flow_c.specs.declared.fault.Fault.{Fault}
 use Rattle.flow_c.specs.declared.fault.Fault.TheVariants.{Index, Room, Text}
 
@@ -13,6 +13,19 @@ use Rattle.flow_c.specs.declared.fault.Fault.TheVariants.{Index, Room, Text}
 abbrev pub Names : List ℕ → ℕ → Block → Type 0
 Names text index block =
     (blocks : List Block) × Reads text blocks × (1 ≤ index) × (slice_get blocks (index - 1) ≡ Some block)
+
+-- the block that stands in a record
+abbrev pub block_in : BlockRoom → Block
+block_in room = record {
+  seed = room.seed;
+  upper = room.upper;
+  lower = room.lower;
+  instance = record {
+    jobs = room.jobs;
+    machines = room.machines;
+    times = take (room.jobs * room.machines) room.times.now;
+  };
+}
 
 -- why an index names no block of a text: the first fault of the text, or that it has no such block, but so many
 abbrev pub IsPickFault : List ℕ → ℕ → Fault → Type 0
@@ -29,7 +42,6 @@ IsBlockFault text index entries (Room needed) =
 IsBlockFault text index entries fault = IsPickFault text index fault
 
 -- What is reported for a block: that it is given, that memory ran out, or why it is not given.
-abbrev pub ReportsBlock : List ℕ → ℕ → ℕ → ℕ → ℕ → Type 0
-ReportsBlock text index entries status place =
-    (status ≡ done) ⊎ RanOut status place
-    ⊎ ((fault : Fault) × IsBlockFault text index entries fault × (status ≡ number fault) × (place ≡ place_of fault))
+abbrev pub ReportsBlock : List ℕ → ℕ → ℕ → Outcome → Type 0
+ReportsBlock text index entries outcome =
+    IsDone outcome ⊎ RanOut outcome ⊎ ((fault : Fault) × IsBlockFault text index entries fault × HasFault fault outcome)

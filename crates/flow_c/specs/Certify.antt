@@ -10,6 +10,8 @@ use Rattle.flow_shop.specs.Paths.{span}
 use Rattle.flow_check.specs.TwoEnded.{IsTwoEnded}
 use Rattle.flow_check.specs.declared.bounds.Bounds.{Bounds}
 use Rattle.flow_c.specs.Faults.{makespan_fault, effort_fault, room_fault}
+use Rattle.flow_c.specs.declared.shop.ShopNumbers.{ShopNumbers}
+use Rattle.flow_c.specs.declared.effort.EffortNumbers.{EffortNumbers}
 use Rattle.flow_c.specs.declared.fault.Fault.{Fault}
 use Rattle.flow_c.specs.declared.fault.Fault.TheVariants.{Room, Effort, Directions}
 
@@ -19,12 +21,12 @@ directions_fault directions = fault_unless (is_in_range 1 most_directions direct
 
 -- why nothing is searched: the numbers are no instance, the jobs no sequence of it, the other numbers not within their
 -- limits, or a sequence has no room
-abbrev pub certify_fault : ℕ → ℕ → List ℕ → List ℕ → ℕ → ℕ → ℕ → ℕ → ℕ → ℕ → Option Fault
-certify_fault jobs machines times start width rounds seed work directions entries = first_fault (
-    makespan_fault jobs machines times start
-    ∷ option_map Effort (effort_fault width rounds seed work)
+abbrev pub certify_fault : ShopNumbers → List ℕ → EffortNumbers → ℕ → ℕ → Option Fault
+certify_fault numbers start effort directions entries = first_fault (
+    makespan_fault numbers start
+    ∷ option_map Effort (effort_fault effort)
     ∷ directions_fault directions
-    ∷ room_fault jobs entries
+    ∷ room_fault numbers.jobs entries
     ∷ [])
 
 -- the most bytes of a two-ended certificate beside its directions

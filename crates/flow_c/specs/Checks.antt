@@ -7,9 +7,8 @@ use Rattle.flow_check.specs.Stated.{GivesAs}
 use Rattle.flow_check.specs.declared.bounds.Bounds.{Bounds}
 use Rattle.flow_check.specs.declared.fault.CheckFault.{CheckFault}
 use Rattle.flow_check.specs.declared.kind.TextKind.{TextKind}
-use Rattle.flow_c.specs.Statuses.{number, done}
-use Rattle.flow_c.specs.Places.{place_of}
-use Rattle.flow_c.specs.Faults.{RanOut}
+use Rattle.flow_c.specs.Faults.{HasFault, IsDone, RanOut}
+use Rattle.flow_c.specs.declared.outcome.Outcome.{Outcome}
 use Rattle.flow_c.specs.declared.fault.Fault.{Fault}
 use Rattle.flow_c.specs.declared.fault.Fault.TheVariants.{Certificate}
 
@@ -26,9 +25,7 @@ IsRefusedText shop bytes fault =
 
 -- What a check reports that was lent arguments with this first fault, and bytes of which another fault may be true: the
 -- number of the fault and its place, that it was done, or that memory ran out. A fault of the arguments comes first.
-abbrev pub ReportsCheck : Option Fault → (Fault → Type 0) → ℕ → ℕ → Type 0
-ReportsCheck (Some fault) IsOfBytes status place =
-    ((status ≡ number fault) × (place ≡ place_of fault)) ⊎ RanOut status place
-ReportsCheck None IsOfBytes status place =
-    (status ≡ done) ⊎ RanOut status place
-    ⊎ ((fault : Fault) × IsOfBytes fault × (status ≡ number fault) × (place ≡ place_of fault))
+abbrev pub ReportsCheck : Option Fault → (Fault → Type 0) → Outcome → Type 0
+ReportsCheck (Some fault) IsOfBytes outcome = HasFault fault outcome ⊎ RanOut outcome
+ReportsCheck None IsOfBytes outcome =
+    IsDone outcome ⊎ RanOut outcome ⊎ ((fault : Fault) × IsOfBytes fault × HasFault fault outcome)

@@ -8,6 +8,7 @@ use Rattle.flow_shop.specs.Refusals.{fault_unless, first_fault}
 use Rattle.flow_shop.specs.Shop.{Shop}
 use Rattle.flow_shop.specs.Paths.{span}
 use Rattle.flow_shop.specs.InstanceFaults.{instance_fault}
+use Rattle.flow_shop.specs.declared.instance.InstanceFault.{InstanceFault}
 use Rattle.flow_shop.specs.SequenceFaults.{sequence_fault}
 use Rattle.flow_text.specs.Generator.{generator_fault}
 use Rattle.flow_search.specs.Choices.{Choices, option_fault}
@@ -18,45 +19,63 @@ use Rattle.flow_search.specs.declared.verdict.RunFault.TheVariants.{OverBudget}
 use Rattle.flow_cert.specs.PlanCertificates.{certificate_of}
 use Rattle.flow_c.specs.Statuses.{number, done, memory}
 use Rattle.flow_c.specs.Places.{place_of}
+use Rattle.flow_c.specs.declared.outcome.Outcome.{Outcome}
+use Rattle.flow_c.specs.declared.shop.ShopNumbers.{ShopNumbers}
+use Rattle.flow_c.specs.declared.effort.EffortNumbers.{EffortNumbers}
+use Rattle.flow_c.specs.declared.beam.BeamOptions.{BeamOptions}
+use Rattle.flow_c.specs.declared.rounds.RoundsOptions.{RoundsOptions}
+use Rattle.flow_c.specs.declared.solve.PlanNumbers.{PlanNumbers}
 use Rattle.flow_c.specs.declared.fault.EffortFault.{EffortFault}
 use Rattle.flow_c.specs.declared.fault.EffortFault.TheVariants.{Width, Rounds, Seed, Work}
 use Rattle.flow_c.specs.declared.fault.Fault.{Fault}
 use Rattle.flow_c.specs.declared.fault.Fault.TheVariants.{Room, Instance, Sequence, Choice, Effort, Plan, Run}
 
 -- the instance of these numbers
-abbrev pub shop_of : ℕ → ℕ → List ℕ → Shop
-shop_of jobs machines times = record { jobs = jobs; machines = machines; times = times }
+abbrev pub shop_of : ShopNumbers → Shop
+shop_of numbers = record { jobs = numbers.jobs; machines = numbers.machines; times = numbers.times.now }
+
+-- why numbers are no instance
+abbrev pub numbers_fault : ShopNumbers → Option InstanceFault
+numbers_fault numbers = instance_fault numbers.jobs numbers.machines numbers.times.now
 
 -- a call answers a fault: the first one of what it was lent; or memory ran out
 abbrev pub IsFaultOf : Option Fault → Fault → Type 0
 IsFaultOf first fault = (first ≡ Some fault) ⊎ (number fault ≡ memory)
 
--- a call reports that memory ran out, which has no place
-abbrev pub RanOut : ℕ → ℕ → Type 0
-RanOut status place = (status ≡ memory) × (place ≡ 0)
+-- the outcome of a call that is done, which has no place
+abbrev pub IsDone : Outcome → Type 0
+IsDone outcome = (outcome.status ≡ done) × (outcome.place ≡ 0)
+
+-- that of a call for which memory ran out, which has no place
+abbrev pub RanOut : Outcome → Type 0
+RanOut outcome = (outcome.status ≡ memory) × (outcome.place ≡ 0)
+
+-- that of a call with a fault
+abbrev pub HasFault : Fault → Outcome → Type 0
+HasFault fault outcome = (outcome.status ≡ number fault) × (outcome.place ≡ place_of fault)
 
 -- What a call reports that was lent arguments with this first fault: the number of the fault and its place, or that
 -- memory ran out. Where there is no fault it reports that it was done, or that memory ran out.
-abbrev pub Reports : Option Fault → ℕ → ℕ → Type 0
-Reports (Some fault) status place = ((status ≡ number fault) × (place ≡ place_of fault)) ⊎ RanOut status place
-Reports None status place = (status ≡ done) ⊎ RanOut status place
+abbrev pub Reports : Option Fault → Outcome → Type 0
+Reports (Some fault) outcome = HasFault fault outcome ⊎ RanOut outcome
+Reports None outcome = IsDone outcome ⊎ RanOut outcome
 
 -- the fault of a slice for results that has fewer entries than are needed
 abbrev pub room_fault : ℕ → ℕ → Option Fault
 room_fault needed entries = fault_unless (nat_le needed entries) (Room needed)
 
 -- why numbers are no instance, or jobs no sequence of it
-abbrev pub makespan_fault : ℕ → ℕ → List ℕ → List ℕ → Option Fault
-makespan_fault jobs machines times sequence = first_fault (
-    option_map Instance (instance_fault jobs machines times)
-    ∷ option_map Sequence (sequence_fault jobs sequence)
+abbrev pub makespan_fault : ShopNumbers → List ℕ → Option Fault
+makespan_fault numbers sequence = first_fault (
+    option_map Instance (numbers_fault numbers)
+    ∷ option_map Sequence (sequence_fault numbers.jobs sequence)
     ∷ [])
 
 -- why numbers are no instance, or why a sequence of it has no room
-abbrev pub instance_room_fault : ℕ → ℕ → List ℕ → ℕ → Option Fault
-instance_room_fault jobs machines times entries = first_fault (
-    option_map Instance (instance_fault jobs machines times)
-    ∷ room_fault jobs entries
+abbrev pub instance_room_fault : ShopNumbers → ℕ → Option Fault
+instance_room_fault numbers entries = first_fault (
+    option_map Instance (numbers_fault numbers)
+    ∷ room_fault numbers.jobs entries
     ∷ [])
 
 -- why no instance is generated, or why its times have no room
@@ -68,34 +87,53 @@ generate_fault jobs machines seed entries = first_fault (
 
 -- why there is no timetable: the numbers are no instance, the jobs no sequence of it, or the starts or the ends have no
 -- room
-abbrev pub timetable_fault : ℕ → ℕ → List ℕ → List ℕ → ℕ → ℕ → Option Fault
-timetable_fault jobs machines times sequence starts ends = first_fault (
-    makespan_fault jobs machines times sequence
-    ∷ room_fault (jobs * machines) starts
-    ∷ room_fault (jobs * machines) ends
+abbrev pub timetable_fault : ShopNumbers → List ℕ → ℕ → ℕ → Option Fault
+timetable_fault numbers sequence starts ends = first_fault (
+    makespan_fault numbers sequence
+    ∷ room_fault (numbers.jobs * numbers.machines) starts
+    ∷ room_fault (numbers.jobs * numbers.machines) ends
     ∷ [])
 
 -- why the numbers of an improvement are refused
-abbrev pub effort_fault : ℕ → ℕ → ℕ → ℕ → Option EffortFault
-effort_fault width rounds seed work = first_fault (
-    fault_unless (nat_le width most_width) Width
-    ∷ fault_unless (nat_le rounds most_rounds) Rounds
-    ∷ fault_unless (is_in_range 1 greatest_seed seed) Seed
-    ∷ fault_unless (nat_le work most_work) Work
+abbrev pub effort_fault : EffortNumbers → Option EffortFault
+effort_fault effort = first_fault (
+    fault_unless (nat_le effort.width most_width) Width
+    ∷ fault_unless (nat_le effort.rounds most_rounds) Rounds
+    ∷ fault_unless (is_in_range 1 greatest_seed effort.seed) Seed
+    ∷ fault_unless (nat_le effort.work most_work) Work
     ∷ [])
 
 -- why nothing is improved: the numbers are no instance, the jobs no sequence of it, the other numbers not within their
 -- limits, or a sequence has no room
-abbrev pub improve_fault : ℕ → ℕ → List ℕ → List ℕ → ℕ → ℕ → ℕ → ℕ → ℕ → Option Fault
-improve_fault jobs machines times start width rounds seed work entries = first_fault (
-    makespan_fault jobs machines times start
-    ∷ option_map Effort (effort_fault width rounds seed work)
-    ∷ room_fault jobs entries
+abbrev pub improve_fault : ShopNumbers → List ℕ → EffortNumbers → ℕ → Option Fault
+improve_fault numbers start effort entries = first_fault (
+    makespan_fault numbers start
+    ∷ option_map Effort (effort_fault effort)
+    ∷ room_fault numbers.jobs entries
+    ∷ [])
+
+-- why no beam search is made: the numbers are no instance, the jobs no sequence of it, the width is above its limit, or
+-- a sequence has no room
+abbrev pub beam_fault : ShopNumbers → List ℕ → BeamOptions → ℕ → Option Fault
+beam_fault numbers start options entries = first_fault (
+    makespan_fault numbers start
+    ∷ fault_unless (nat_le options.width most_width) (Effort Width)
+    ∷ room_fault numbers.jobs entries
+    ∷ [])
+
+-- why no rounds are made: the numbers are no instance, the jobs no sequence of it, rounds or seed not within their
+-- limits, or a sequence has no room
+abbrev pub rounds_fault : ShopNumbers → List ℕ → RoundsOptions → ℕ → Option Fault
+rounds_fault numbers start options entries = first_fault (
+    makespan_fault numbers start
+    ∷ fault_unless (nat_le options.rounds most_rounds) (Effort Rounds)
+    ∷ fault_unless (is_in_range 1 greatest_seed options.seed) (Effort Seed)
+    ∷ room_fault numbers.jobs entries
     ∷ [])
 
 -- the options of a run on one thread
-abbrev pub options_of : ℕ → ℕ → ℕ → Choices
-options_of depth budget version = record { workers = 1; depth = depth; budget = budget; version = version }
+abbrev pub options_of : PlanNumbers → Choices
+options_of plan = record { workers = 1; depth = plan.depth; budget = plan.budget; version = plan.version }
 
 -- the plan of an instance, from a sequence of it
 abbrev pub plan_of : Shop → List ℕ → Choices → Planned
@@ -103,10 +141,10 @@ plan_of shop start options =
     record { shop = shop; start = record { value = span shop start; sequence = start }; options = options }
 
 -- why numbers are no options
-abbrev pub choice_fault : ℕ → ℕ → ℕ → Option Fault
-choice_fault depth budget version = first_fault (
-    option_map Choice (option_fault 1 depth budget)
-    ∷ fault_unless (is_in_range least_version greatest_version version) (Choice Version)
+abbrev pub choice_fault : PlanNumbers → Option Fault
+choice_fault plan = first_fault (
+    option_map Choice (option_fault 1 plan.depth plan.budget)
+    ∷ fault_unless (is_in_range least_version greatest_version plan.version) (Choice Version)
     ∷ [])
 
 -- why a plan has no certificate within its budget: the first prefix whose tree is too long
@@ -129,13 +167,10 @@ planning_fault shop options entries = first_fault (
 
 -- why no certificate is written: the numbers are no instance, the jobs no sequence, the numbers no options, there is no
 -- plan, a sequence has no room, a tree is longer than the budget, or the certificate has no room
-abbrev pub certificate_fault : ℕ → ℕ → List ℕ → List ℕ → ℕ → ℕ → ℕ → ℕ → ℕ → Option Fault
-certificate_fault jobs machines times start depth budget version entries bytes =
-    let shop = shop_of jobs machines times in
-    let options = options_of depth budget version in
-    first_fault (
-    makespan_fault jobs machines times start
-    ∷ choice_fault depth budget version
-    ∷ planning_fault shop options entries
-    ∷ solve_fault (plan_of shop start options) bytes
+abbrev pub certificate_fault : ShopNumbers → List ℕ → PlanNumbers → ℕ → ℕ → Option Fault
+certificate_fault numbers start plan entries bytes = first_fault (
+    makespan_fault numbers start
+    ∷ choice_fault plan
+    ∷ planning_fault (shop_of numbers) (options_of plan) entries
+    ∷ solve_fault (plan_of (shop_of numbers) start (options_of plan)) bytes
     ∷ [])

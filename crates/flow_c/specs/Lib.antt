@@ -5,5 +5,7 @@ pub mod Checks
 pub mod Blocks
 pub mod Certify
 pub mod Pictures
+pub mod Rooms
+pub mod Searches
 pub mod Versions
 pub mod internal

@@ -1,16 +1,33 @@
 //! The block of a benchmark text that an index names.
 
-ghost use Rattle.std.specs.Prelude.{◌≡◌, ◌⊎◌, ◌*◌, ◌≤◌, IfOk, IfErr, length, take, drop};
+ghost use Rattle.std.specs.Prelude.{◌≡◌, ◌⊎◌, ◌*◌, ◌≤◌, IfOk, IfErr, length, drop};
 ghost use Rattle.flow_shop.specs.Shop.{IsWithinLimits};
 ghost use Rattle.flow_c.specs.Statuses.{number, done, memory};
-ghost use Rattle.flow_c.specs.Faults.{shop_of};
-ghost use Rattle.flow_c.specs.Blocks.{Names, IsBlockFault, IsPickFault, ReportsBlock};
+ghost use Rattle.flow_c.specs.Blocks.{Names, IsBlockFault, IsPickFault, ReportsBlock, block_in};
+ghost use Rattle.flow_c.specs.Rooms.{IsSameRoom};
 
 use crate::fault::Fault;
-use crate::report::{DONE, report};
+use crate::outcome::Outcome;
 use crate::room::{fill, need};
 use flow_text::{Block, read_blocks};
 use std::alloc::Global;
+
+/// Room for the times of a block, and what it states.
+#[repr(C)]
+pub struct BlockRoom<'a> {
+    /// How many jobs there are.
+    pub jobs: u32,
+    /// How many machines there are.
+    pub machines: u32,
+    /// Room for the times, machine by machine.
+    pub times: &'a mut [u32],
+    /// The seed.
+    pub seed: u32,
+    /// The upper bound.
+    pub upper: u32,
+    /// The lower bound.
+    pub lower: u32,
+}
 
 /// The block of a text that an index names.
 fn pick(alloc: Global, text: &[u8], index: u32) -> Result<Block, Fault>
@@ -45,43 +62,33 @@ fn times_of_block(
     Ok((block, times))
 }
 
-/// The block of a benchmark text that an index names, counted from 1: its jobs and machines, and the seed and the
-/// bounds that the text states. The first entries of `times` become the times, machine by machine.
+/// The block of a benchmark text that an index names, counted from 1: its jobs and machines, its times, and the seed
+/// and the bounds that the text states. The times become the first entries of their room, machine by machine.
 #[unsafe(no_mangle)]
 pub extern "C" fn flowshop_block(
     alloc: Global,
     text: &[u8],
     index: u32,
-    jobs: &mut u32,
-    machines: &mut u32,
-    times: &mut [u32],
-    seed: &mut u32,
-    upper: &mut u32,
-    lower: &mut u32,
-    place: &mut usize,
-) -> u32
-    ensures status { ReportsBlock text.now index (length times.old) result place.new }
-    ensures block { result ≡ done → Names text.now index (record {
-      seed = seed.new;
-      upper = upper.new;
-      lower = lower.new;
-      instance = shop_of jobs.new machines.new (take (jobs.new * machines.new) times.new);
-    }) }
-    ensures rest { drop (jobs.new * machines.new) times.new ≡ drop (jobs.new * machines.new) times.old }
-    ensures stays { result ≡ done → place.new ≡ place.old }
-    ensures kept { (result ≡ done) ⊎ ((jobs.new ≡ jobs.old) × (machines.new ≡ machines.old)
-        × (times.new ≡ times.old) × (seed.new ≡ seed.old) × (upper.new ≡ upper.old) × (lower.new ≡ lower.old)) }
+    block: &mut BlockRoom,
+) -> Outcome
+    ensures status { ReportsBlock text.now index (length block.old.times.now) result }
+    ensures block { result.status ≡ done → Names text.now index (block_in block.new) }
+    ensures rest { drop (block.new.jobs * block.new.machines) block.new.times.now
+        ≡ drop (block.new.jobs * block.new.machines) block.old.times.now }
+    ensures room { IsSameRoom block.new.times block.old.times }
+    ensures stays { result.status ≡ done → result.place ≡ 0 }
+    ensures kept { (result.status ≡ done) ⊎ (block.new ≡ block.old) }
 {
-    match times_of_block(alloc, text, index, times.len()) {
-        Ok((block, read)) => {
-            fill(read.as_slice(), times);
-            *jobs = u32::from(block.instance.jobs());
-            *machines = u32::from(block.instance.machines());
-            *seed = block.seed;
-            *upper = block.upper;
-            *lower = block.lower;
-            DONE
+    match times_of_block(alloc, text, index, block.times.len()) {
+        Ok((found, times)) => {
+            fill(times.as_slice(), block.times);
+            block.jobs = u32::from(found.instance.jobs());
+            block.machines = u32::from(found.instance.machines());
+            block.seed = found.seed;
+            block.upper = found.upper;
+            block.lower = found.lower;
+            Outcome::done()
         }
-        Err(fault) => report(fault, place),
+        Err(fault) => Outcome::refused(fault),
     }
 }

@@ -1,7 +1,6 @@
 //! The search for bounds, and the text that proves them.
 
 ghost use Rattle.std.specs.Prelude.{◌≡◌, ◌⊎◌, ◌+◌, ◌≤◌, ◌<◌, None, Some, IfOk, OnOk, IfErr, length, take, drop, []};
-ghost use Rattle.flow_shop.specs.InstanceFaults.{instance_fault};
 ghost use Rattle.flow_shop.specs.Shop.{IsWithinLimits};
 ghost use Rattle.flow_shop.specs.Paths.{span};
 ghost use Rattle.flow_shop.specs.Sequences.{IsSequence, IsLeastMakespan};
@@ -9,19 +8,23 @@ ghost use Rattle.flow_text.specs.Generator.{modulus};
 ghost use Rattle.flow_check.specs.Certificate.{AreBounds};
 ghost use Rattle.flow_check.specs.TwoEnded.{two_ended_text};
 ghost use Rattle.flow_c.specs.Statuses.{number, done, memory};
-ghost use Rattle.flow_c.specs.Faults.{shop_of};
+ghost use Rattle.flow_c.specs.Faults.{shop_of, numbers_fault};
 ghost use Rattle.flow_c.specs.Certify.{IsTextFrom, IsTextTooLong, certify_fault, directions_fault, most_beside};
 ghost use Rattle.flow_c.specs.Checks.{ReportsCheck};
+ghost use Rattle.flow_c.specs.Rooms.{IsSameRoom, bounds_in, text_in};
 ghost use Rattle.flow_c.specs.internal.Frames.{behind, with_directions};
 
+use crate::bounds::BoundsRoom;
+use crate::effort::EffortNumbers;
 use crate::fault::Fault;
-use crate::improve::test;
-use crate::report::{DONE, report};
-use crate::room::{fill, need};
-use crate::solve::Room;
+use crate::outcome::Outcome;
+use crate::room::{Entries, fill, need};
+use crate::shop::ShopNumbers;
+use crate::text::TextRoom;
 use flow_cert::write_two_ended;
 use flow_certify::certify;
 use flow_check::Bounds;
+use flow_directions::Alone;
 use flow_improve::Effort;
 use flow_limits::MAX_DIRECTIONS;
 use flow_shop::{Instance, Sequence};
@@ -88,7 +91,7 @@ fn certify_from(
     ensures refused { IfErr result (λ fault. (number fault ≡ memory)
         ⊎ IsTextTooLong instance.now start.now directions room fault) }
 {
-    let found = certify(alloc, instance, start, effort, directions)?;
+    let found = certify(alloc, &Alone, instance, start, effort, directions)?;
     let bounds = Bounds {
         lower: found.lower,
         upper: found.upper,
@@ -106,38 +109,35 @@ fn certify_from(
 /// Searches for bounds of the instance of these numbers, from a sequence of it.
 fn certify_numbers(
     alloc: Global,
-    jobs: u32,
-    machines: u32,
-    times: &[u32],
+    shop: &ShopNumbers,
     start: &[u16],
-    effort: Effort,
+    effort: &EffortNumbers,
     directions: u32,
-    room: Room,
+    entries: Entries,
 ) -> Result<Written, Fault>
-    ensures text { IfOk result (λ found. IsTextFrom (shop_of jobs machines times.now) start.now directions
+    ensures text { IfOk result (λ found. IsTextFrom (shop_of shop.now) start.now directions
         (with_directions found.frame.bytes found.directions.items) found.bounds found.sequence) }
     ensures framed { IfOk result (λ found. behind ≤ length found.frame.bytes) }
-    ensures bounds { IfOk result (λ found. AreBounds (shop_of jobs machines times.now) found.bounds) }
-    ensures each { IfOk result (λ found. IsSequence jobs found.sequence) }
-    ensures upper { IfOk result
-        (λ found. span (shop_of jobs machines times.now) found.sequence ≡ found.bounds.upper) }
-    ensures enough { IfOk result (λ found. length found.frame.bytes + length found.directions.items ≤ room.text) }
-    ensures accepted { OnOk result (certify_fault jobs machines times.now start.now effort.width effort.rounds
-        effort.seed effort.work directions room.sequence ≡ None) }
+    ensures bounds { IfOk result (λ found. AreBounds (shop_of shop.now) found.bounds) }
+    ensures each { IfOk result (λ found. IsSequence shop.now.jobs found.sequence) }
+    ensures upper { IfOk result (λ found. span (shop_of shop.now) found.sequence ≡ found.bounds.upper) }
+    ensures room { OnOk result (shop.now.jobs ≤ entries.sequence) }
+    ensures enough { IfOk result
+        (λ found. length found.frame.bytes + length found.directions.items ≤ entries.text) }
+    ensures accepted { OnOk result
+        (certify_fault shop.now start.now effort.now directions entries.sequence ≡ None) }
     ensures refused { IfErr result (λ fault. (number fault ≡ memory)
-        ⊎ (certify_fault jobs machines times.now start.now effort.width effort.rounds
-        effort.seed effort.work directions room.sequence ≡ Some fault)
-        ⊎ ((certify_fault jobs machines times.now start.now effort.width effort.rounds
-        effort.seed effort.work directions room.sequence ≡ None)
-        × IsTextTooLong (shop_of jobs machines times.now) start.now directions room.text fault)) }
-    ensures memory { IfErr result (λ fault. number fault ≡ memory → instance_fault jobs machines times.now ≡ None) }
+        ⊎ (certify_fault shop.now start.now effort.now directions entries.sequence ≡ Some fault)
+        ⊎ ((certify_fault shop.now start.now effort.now directions entries.sequence ≡ None)
+        × IsTextTooLong (shop_of shop.now) start.now directions entries.text fault)) }
+    ensures memory { IfErr result (λ fault. number fault ≡ memory → numbers_fault shop.now ≡ None) }
 {
-    let instance = Instance::new(alloc, jobs, machines, times)?;
+    let instance = shop.instance(alloc)?;
     let start = Sequence::new(alloc, &instance, start)?;
-    let effort = test(effort)?;
+    let effort = effort.effort()?;
     let directions = most(directions)?;
-    need(jobs as usize, room.sequence)?;
-    certify_from(alloc, &instance, &start, &effort, directions, room.text)
+    need(shop.jobs as usize, entries.sequence)?;
+    certify_from(alloc, &instance, &start, &effort, directions, entries.text)
 }
 
 /// Puts a text with these directions at the front of a slice that has room for it, and returns its length.
@@ -157,69 +157,50 @@ fn put(frame: &[u8], directions: &[u8], room: &mut [u8]) -> usize
 }
 
 /// Searches for the least makespan of an instance, or for bounds of it, from a starting sequence and from better ones,
-/// on one thread, and gives the two-ended certificate that proves them, with at most so many directions. Its bytes
-/// become the first `count` entries of `text`. The times are machine by machine. The first entries of `sequence` become
-/// the jobs.
+/// on one thread, and gives the two-ended certificate that proves them, with at most so many directions. Its bytes and
+/// the jobs of the sequence become the first entries of their rooms.
 #[unsafe(no_mangle)]
 pub extern "C" fn flowshop_certify(
     alloc: Global,
-    jobs: u32,
-    machines: u32,
-    times: &[u32],
+    shop: &ShopNumbers,
     start: &[u16],
-    width: u32,
-    rounds: u32,
-    seed: u32,
-    work: u32,
+    effort: &EffortNumbers,
     directions: u32,
-    sequence: &mut [u16],
-    lower: &mut u64,
-    upper: &mut u64,
-    text: &mut [u8],
-    count: &mut usize,
-    place: &mut usize,
-) -> u32
-    ensures status { ReportsCheck (certify_fault jobs machines times.now start.now width rounds seed work directions
-        (length sequence.old))
-        (IsTextTooLong (shop_of jobs machines times.now) start.now directions (length text.old)) result place.new }
-    ensures memory { result ≡ memory → instance_fault jobs machines times.now ≡ None }
-    ensures text { result ≡ done → IsTextFrom (shop_of jobs machines times.now) start.now directions
-        (take count.new text.new) (record { lower = lower.new; upper = upper.new }) (take jobs sequence.new) }
-    ensures bounds { result ≡ done →
-        AreBounds (shop_of jobs machines times.now) (record { lower = lower.new; upper = upper.new }) }
-    ensures least { result ≡ done → lower.new ≡ upper.new →
-        IsLeastMakespan (shop_of jobs machines times.now) lower.new }
-    ensures each { result ≡ done → IsSequence jobs (take jobs sequence.new) }
-    ensures upper { result ≡ done → span (shop_of jobs machines times.now) (take jobs sequence.new) ≡ upper.new }
-    ensures no_worse { result ≡ done → upper.new ≤ span (shop_of jobs machines times.now) start.now }
-    ensures rest { drop jobs sequence.new ≡ drop jobs sequence.old }
-    ensures within { result ≡ done → count.new ≤ length text.old }
-    ensures short { result ≡ done → count.new ≤ directions + most_beside }
-    ensures beyond { result ≡ done → drop count.new text.new ≡ drop count.new text.old }
-    ensures stays { result ≡ done → place.new ≡ place.old }
-    ensures kept { (result ≡ done) ⊎ ((lower.new ≡ lower.old) × (upper.new ≡ upper.old)
-        × (sequence.new ≡ sequence.old) × (count.new ≡ count.old) × (text.new ≡ text.old)) }
+    bounds: &mut BoundsRoom,
+    text: &mut TextRoom,
+) -> Outcome
+    ensures status { ReportsCheck
+        (certify_fault shop.now start.now effort.now directions (length bounds.old.sequence.now))
+        (IsTextTooLong (shop_of shop.now) start.now directions (length text.old.bytes.now)) result }
+    ensures memory { result.status ≡ memory → numbers_fault shop.now ≡ None }
+    ensures text { result.status ≡ done → IsTextFrom (shop_of shop.now) start.now directions (text_in text.new)
+        (bounds_in bounds.new) (take shop.now.jobs bounds.new.sequence.now) }
+    ensures bounds { result.status ≡ done → AreBounds (shop_of shop.now) (bounds_in bounds.new) }
+    ensures least { result.status ≡ done → bounds.new.lower ≡ bounds.new.upper →
+        IsLeastMakespan (shop_of shop.now) bounds.new.lower }
+    ensures each { result.status ≡ done → IsSequence shop.now.jobs (take shop.now.jobs bounds.new.sequence.now) }
+    ensures upper { result.status ≡ done →
+        span (shop_of shop.now) (take shop.now.jobs bounds.new.sequence.now) ≡ bounds.new.upper }
+    ensures no_worse { result.status ≡ done → bounds.new.upper ≤ span (shop_of shop.now) start.now }
+    ensures rest { drop shop.now.jobs bounds.new.sequence.now ≡ drop shop.now.jobs bounds.old.sequence.now }
+    ensures within { result.status ≡ done → text.new.length ≤ length text.old.bytes.now }
+    ensures short { result.status ≡ done → text.new.length ≤ directions + most_beside }
+    ensures beyond { result.status ≡ done →
+        drop text.new.length text.new.bytes.now ≡ drop text.new.length text.old.bytes.now }
+    ensures rooms { IsSameRoom bounds.new.sequence bounds.old.sequence × IsSameRoom text.new.bytes text.old.bytes }
+    ensures stays { result.status ≡ done → result.place ≡ 0 }
+    ensures kept { (result.status ≡ done) ⊎ ((bounds.new ≡ bounds.old) × (text.new ≡ text.old)) }
 {
-    let effort = Effort {
-        width,
-        rounds,
-        seed,
-        work,
+    let entries = Entries {
+        sequence: bounds.sequence.len(),
+        text: text.bytes.len(),
     };
-    let room = Room {
-        sequence: sequence.len(),
-        text: text.len(),
-    };
-    match certify_numbers(
-        alloc, jobs, machines, times, start, effort, directions, room,
-    ) {
+    match certify_numbers(alloc, shop, start, effort, directions, entries) {
         Ok(found) => {
-            fill(found.sequence.jobs(), sequence);
-            *count = put(found.frame.bytes(), found.directions.as_slice(), text);
-            *lower = found.bounds.lower;
-            *upper = found.bounds.upper;
-            DONE
+            bounds.put(&found.sequence, found.bounds);
+            text.length = put(found.frame.bytes(), found.directions.as_slice(), text.bytes);
+            Outcome::done()
         }
-        Err(fault) => report(fault, place),
+        Err(fault) => Outcome::refused(fault),
     }
 }

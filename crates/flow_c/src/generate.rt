@@ -6,7 +6,7 @@ ghost use Rattle.flow_c.specs.Statuses.{number, done, memory};
 ghost use Rattle.flow_c.specs.Faults.{generate_fault, IsFaultOf, Reports};
 
 use crate::fault::Fault;
-use crate::report::{DONE, report};
+use crate::outcome::Outcome;
 use crate::room::{fill, need};
 use flow_text::generate;
 use std::alloc::Global;
@@ -42,20 +42,19 @@ pub extern "C" fn flowshop_generate(
     machines: u32,
     seed: u32,
     times: &mut [u32],
-    place: &mut usize,
-) -> u32
-    ensures status { Reports (generate_fault jobs machines seed (length times.old)) result place.new }
-    ensures memory { result ≡ memory → generator_fault jobs machines seed ≡ None }
-    ensures times { result ≡ done → take (jobs * machines) times.new ≡ (generated jobs machines seed).times }
+) -> Outcome
+    ensures status { Reports (generate_fault jobs machines seed (length times.old)) result }
+    ensures memory { result.status ≡ memory → generator_fault jobs machines seed ≡ None }
+    ensures times { result.status ≡ done → take (jobs * machines) times.new ≡ (generated jobs machines seed).times }
     ensures rest { drop (jobs * machines) times.new ≡ drop (jobs * machines) times.old }
-    ensures stays { result ≡ done → place.new ≡ place.old }
-    ensures kept { (result ≡ done) ⊎ (times.new ≡ times.old) }
+    ensures stays { result.status ≡ done → result.place ≡ 0 }
+    ensures kept { (result.status ≡ done) ⊎ (times.new ≡ times.old) }
 {
     match times_of_seed(alloc, jobs, machines, seed, times.len()) {
         Ok(drawn) => {
             fill(drawn.as_slice(), times);
-            DONE
+            Outcome::done()
         }
-        Err(fault) => report(fault, place),
+        Err(fault) => Outcome::refused(fault),
     }
 }

@@ -6,6 +6,13 @@ ghost use Rattle.flow_c.specs.declared.fault.Fault.TheVariants.{Room};
 
 use crate::fault::Fault;
 
+/// The entries of the slices for a sequence and for a text.
+#[derive(Clone, Copy, Debug)]
+pub(crate) struct Entries {
+    pub(crate) sequence: usize,
+    pub(crate) text: usize,
+}
+
 /// Refuses a slice that has fewer entries than are needed.
 pub(crate) fn need(needed: usize, entries: usize) -> Result<(), Fault>
     ensures accepted { OnOk result (room_fault needed entries ≡ None) }

@@ -1,7 +1,6 @@
 //! The solver, on one thread.
 
 ghost use Rattle.std.specs.Prelude.{◌≡◌, ◌⊎◌, ◌≤◌, None, Some, IfOk, OnOk, IfErr, length, take, drop};
-ghost use Rattle.flow_shop.specs.InstanceFaults.{instance_fault};
 ghost use Rattle.flow_shop.specs.Paths.{span};
 ghost use Rattle.flow_shop.specs.Sequences.{IsSequence, IsLeastMakespan};
 ghost use Rattle.flow_search.specs.Plans.{IsPlan, plan_fault, but_memory};
@@ -10,13 +9,18 @@ ghost use Rattle.flow_check.specs.Certificate.{IsCertificate};
 ghost use Rattle.flow_check.specs.Stated.{GivesSequence};
 ghost use Rattle.flow_cert.specs.PlanCertificates.{certificate_of};
 ghost use Rattle.flow_c.specs.Statuses.{number, done, memory};
-ghost use Rattle.flow_c.specs.Faults.{shop_of, options_of, plan_of, choice_fault, planning_fault, solve_fault};
-ghost use Rattle.flow_c.specs.Faults.{certificate_fault, IsFaultOf, Reports};
+ghost use Rattle.flow_c.specs.Faults.{shop_of, numbers_fault, options_of, plan_of, choice_fault};
+ghost use Rattle.flow_c.specs.Faults.{planning_fault, solve_fault, certificate_fault, IsFaultOf, Reports};
+ghost use Rattle.flow_c.specs.Rooms.{IsSameRoom, text_in};
 
+use crate::bounds::BoundsRoom;
 use crate::fault::Fault;
-use crate::report::{DONE, report};
-use crate::room::{fill, need};
+use crate::outcome::Outcome;
+use crate::room::{Entries, need};
+use crate::shop::ShopNumbers;
+use crate::text::TextRoom;
 use flow_cert::write_certificate;
+use flow_check::Bounds;
 use flow_search::{Options, Plan, PlanFault, Verdict, prepare_from, solve_plain};
 use flow_shop::{Instance, Sequence};
 use flow_text::MemorySink;
@@ -31,28 +35,24 @@ struct Solved {
 }
 
 /// What the caller chooses of a run on one thread.
-#[derive(Clone, Copy, Debug)]
-struct Choice {
-    depth: u32,
-    budget: u32,
-    version: u32,
-}
-
-/// The entries of the slices for the sequence and for the text.
-#[derive(Clone, Copy, Debug)]
-pub(crate) struct Room {
-    pub(crate) sequence: usize,
-    pub(crate) text: usize,
+#[repr(C)]
+pub struct PlanNumbers {
+    /// How many jobs each prefix has; each has a tree.
+    pub depth: u32,
+    /// How many bytes each tree may have.
+    pub budget: u32,
+    /// The version of the certificate.
+    pub version: u32,
 }
 
 /// The options of a run on one thread.
-fn options(choice: Choice) -> Result<Options, Fault>
-    ensures value { IfOk result (λ options. options ≡ options_of choice.depth choice.budget choice.version) }
-    ensures accepted { OnOk result (choice_fault choice.depth choice.budget choice.version ≡ None) }
-    ensures refused { IfErr result (λ fault. choice_fault choice.depth choice.budget choice.version ≡ Some fault) }
+fn options(plan: &PlanNumbers) -> Result<Options, Fault>
+    ensures value { IfOk result (λ options. options ≡ options_of plan.now) }
+    ensures accepted { OnOk result (choice_fault plan.now ≡ None) }
+    ensures refused { IfErr result (λ fault. choice_fault plan.now ≡ Some fault) }
 {
-    let options = Options::new(1, choice.depth, choice.budget)?;
-    Ok(options.with_version(choice.version)?)
+    let options = Options::new(1, plan.depth, plan.budget)?;
+    Ok(options.with_version(plan.version)?)
 }
 
 /// The plan of an instance and options, from a sequence.
@@ -112,7 +112,7 @@ fn solve_from(
     instance: &Instance,
     start: Sequence,
     options: Options,
-    room: Room,
+    entries: Entries,
 ) -> Result<Solved, Fault>
     requires { IsSequence instance.now.jobs start }
     ensures text { IfOk result (λ solved. solved.text.bytes ≡ certificate_of (plan_of instance.now start options)) }
@@ -121,104 +121,95 @@ fn solve_from(
     ensures least { IfOk result (λ solved. IsLeastMakespan instance.now solved.value) }
     ensures each { IfOk result (λ solved. IsSequence instance.now.jobs solved.sequence) }
     ensures attained { IfOk result (λ solved. span instance.now solved.sequence ≡ solved.value) }
-    ensures enough { IfOk result (λ solved. length solved.text.bytes ≤ room.text) }
-    ensures planned { OnOk result (planning_fault instance.now options room.sequence ≡ None) }
-    ensures accepted { OnOk result (solve_fault (plan_of instance.now start options) room.text ≡ None) }
-    ensures refused { IfErr result (λ fault. IsFaultOf (planning_fault instance.now options room.sequence) fault
-        ⊎ ((planning_fault instance.now options room.sequence ≡ None)
-        × IsFaultOf (solve_fault (plan_of instance.now start options) room.text) fault)) }
+    ensures enough { IfOk result (λ solved. length solved.text.bytes ≤ entries.text) }
+    ensures room { OnOk result (instance.now.jobs ≤ entries.sequence) }
+    ensures planned { OnOk result (planning_fault instance.now options entries.sequence ≡ None) }
+    ensures accepted { OnOk result (solve_fault (plan_of instance.now start options) entries.text ≡ None) }
+    ensures refused { IfErr result (λ fault. IsFaultOf (planning_fault instance.now options entries.sequence) fault
+        ⊎ ((planning_fault instance.now options entries.sequence ≡ None)
+        × IsFaultOf (solve_fault (plan_of instance.now start options) entries.text) fault)) }
 {
     let plan = plan(alloc, instance, start, options)?;
-    need(usize::from(instance.jobs()), room.sequence)?;
-    solve_plan(alloc, &plan, room.text)
+    need(usize::from(instance.jobs()), entries.sequence)?;
+    solve_plan(alloc, &plan, entries.text)
 }
 
 /// Solves the instance of these numbers, from a sequence of it.
 fn solve_numbers(
     alloc: Global,
-    jobs: u32,
-    machines: u32,
-    times: &[u32],
+    shop: &ShopNumbers,
     start: &[u16],
-    choice: Choice,
-    room: Room,
+    plan: &PlanNumbers,
+    entries: Entries,
 ) -> Result<Solved, Fault>
-    ensures text { IfOk result (λ solved. solved.text.bytes ≡ certificate_of (plan_of (shop_of jobs machines times.now)
-        start.now (options_of choice.depth choice.budget choice.version))) }
-    ensures lawful { IfOk result (λ solved. IsCertificate (shop_of jobs machines times.now) solved.text.bytes
-        solved.value) }
-    ensures gives { IfOk result (λ solved. GivesSequence (shop_of jobs machines times.now) solved.text.bytes
-        solved.sequence) }
-    ensures least { IfOk result (λ solved. IsLeastMakespan (shop_of jobs machines times.now) solved.value) }
-    ensures each { IfOk result (λ solved. IsSequence jobs solved.sequence) }
-    ensures attained { IfOk result (λ solved. span (shop_of jobs machines times.now) solved.sequence ≡ solved.value) }
-    ensures enough { IfOk result (λ solved. length solved.text.bytes ≤ room.text) }
-    ensures accepted { OnOk result (certificate_fault jobs machines times.now start.now
-        choice.depth choice.budget choice.version room.sequence room.text ≡ None) }
-    ensures refused { IfErr result (IsFaultOf (certificate_fault jobs machines times.now start.now
-        choice.depth choice.budget choice.version room.sequence room.text)) }
-    ensures memory { IfErr result (λ fault. number fault ≡ memory → instance_fault jobs machines times.now ≡ None) }
+    ensures text { IfOk result (λ solved. solved.text.bytes
+        ≡ certificate_of (plan_of (shop_of shop.now) start.now (options_of plan.now))) }
+    ensures lawful { IfOk result (λ solved. IsCertificate (shop_of shop.now) solved.text.bytes solved.value) }
+    ensures gives { IfOk result (λ solved. GivesSequence (shop_of shop.now) solved.text.bytes solved.sequence) }
+    ensures least { IfOk result (λ solved. IsLeastMakespan (shop_of shop.now) solved.value) }
+    ensures each { IfOk result (λ solved. IsSequence shop.now.jobs solved.sequence) }
+    ensures attained { IfOk result (λ solved. span (shop_of shop.now) solved.sequence ≡ solved.value) }
+    ensures room { OnOk result (shop.now.jobs ≤ entries.sequence) }
+    ensures enough { IfOk result (λ solved. length solved.text.bytes ≤ entries.text) }
+    ensures accepted { OnOk result
+        (certificate_fault shop.now start.now plan.now entries.sequence entries.text ≡ None) }
+    ensures refused { IfErr result
+        (IsFaultOf (certificate_fault shop.now start.now plan.now entries.sequence entries.text)) }
+    ensures memory { IfErr result (λ fault. number fault ≡ memory → numbers_fault shop.now ≡ None) }
 {
-    let instance = Instance::new(alloc, jobs, machines, times)?;
+    let instance = shop.instance(alloc)?;
     let start = Sequence::new(alloc, &instance, start)?;
-    solve_from(alloc, &instance, start, options(choice)?, room)
+    solve_from(alloc, &instance, start, options(plan)?, entries)
 }
 
-/// Solves an instance from a starting sequence, on one thread: the least makespan, a sequence that has it, and a
-/// certificate, whose bytes become the first `count` entries of `certificate`. The times are machine by machine. The
-/// first entries of `sequence` become the jobs.
+/// Solves an instance from a starting sequence, on one thread: the least makespan, which both bounds become, a sequence
+/// that has it, and a certificate. Its bytes and the jobs become the first entries of their rooms.
 #[unsafe(no_mangle)]
 pub extern "C" fn flowshop_solve(
     alloc: Global,
-    jobs: u32,
-    machines: u32,
-    times: &[u32],
+    shop: &ShopNumbers,
     start: &[u16],
-    depth: u32,
-    budget: u32,
-    version: u32,
-    sequence: &mut [u16],
-    value: &mut u64,
-    certificate: &mut [u8],
-    count: &mut usize,
-    place: &mut usize,
-) -> u32
-    ensures status { Reports (certificate_fault jobs machines times.now start.now depth budget version
-        (length sequence.old) (length certificate.old)) result place.new }
-    ensures memory { result ≡ memory → instance_fault jobs machines times.now ≡ None }
-    ensures text { result ≡ done → take count.new certificate.new
-        ≡ certificate_of (plan_of (shop_of jobs machines times.now) start.now (options_of depth budget version)) }
-    ensures lawful { result ≡ done →
-        IsCertificate (shop_of jobs machines times.now) (take count.new certificate.new) value.new }
-    ensures gives { result ≡ done → GivesSequence (shop_of jobs machines times.now) (take count.new certificate.new)
-        (take jobs sequence.new) }
-    ensures least { result ≡ done → IsLeastMakespan (shop_of jobs machines times.now) value.new }
-    ensures each { result ≡ done → IsSequence jobs (take jobs sequence.new) }
-    ensures attained { result ≡ done → span (shop_of jobs machines times.now) (take jobs sequence.new) ≡ value.new }
-    ensures rest { drop jobs sequence.new ≡ drop jobs sequence.old }
-    ensures within { result ≡ done → count.new ≤ length certificate.old }
-    ensures beyond { result ≡ done → drop count.new certificate.new ≡ drop count.new certificate.old }
-    ensures stays { result ≡ done → place.new ≡ place.old }
-    ensures kept { (result ≡ done) ⊎ ((value.new ≡ value.old) × (sequence.new ≡ sequence.old)
-        × (count.new ≡ count.old) × (certificate.new ≡ certificate.old)) }
+    plan: &PlanNumbers,
+    bounds: &mut BoundsRoom,
+    certificate: &mut TextRoom,
+) -> Outcome
+    ensures status { Reports (certificate_fault shop.now start.now plan.now
+        (length bounds.old.sequence.now) (length certificate.old.bytes.now)) result }
+    ensures memory { result.status ≡ memory → numbers_fault shop.now ≡ None }
+    ensures text { result.status ≡ done → text_in certificate.new
+        ≡ certificate_of (plan_of (shop_of shop.now) start.now (options_of plan.now)) }
+    ensures lawful { result.status ≡ done →
+        IsCertificate (shop_of shop.now) (text_in certificate.new) bounds.new.upper }
+    ensures gives { result.status ≡ done →
+        GivesSequence (shop_of shop.now) (text_in certificate.new) (take shop.now.jobs bounds.new.sequence.now) }
+    ensures least { result.status ≡ done → IsLeastMakespan (shop_of shop.now) bounds.new.upper }
+    ensures lower { result.status ≡ done → bounds.new.lower ≡ bounds.new.upper }
+    ensures each { result.status ≡ done → IsSequence shop.now.jobs (take shop.now.jobs bounds.new.sequence.now) }
+    ensures attained { result.status ≡ done →
+        span (shop_of shop.now) (take shop.now.jobs bounds.new.sequence.now) ≡ bounds.new.upper }
+    ensures rest { drop shop.now.jobs bounds.new.sequence.now ≡ drop shop.now.jobs bounds.old.sequence.now }
+    ensures within { result.status ≡ done → certificate.new.length ≤ length certificate.old.bytes.now }
+    ensures beyond { result.status ≡ done → drop certificate.new.length certificate.new.bytes.now
+        ≡ drop certificate.new.length certificate.old.bytes.now }
+    ensures rooms { IsSameRoom bounds.new.sequence bounds.old.sequence
+        × IsSameRoom certificate.new.bytes certificate.old.bytes }
+    ensures stays { result.status ≡ done → result.place ≡ 0 }
+    ensures kept { (result.status ≡ done) ⊎ ((bounds.new ≡ bounds.old) × (certificate.new ≡ certificate.old)) }
 {
-    let choice = Choice {
-        depth,
-        budget,
-        version,
+    let entries = Entries {
+        sequence: bounds.sequence.len(),
+        text: certificate.bytes.len(),
     };
-    let room = Room {
-        sequence: sequence.len(),
-        text: certificate.len(),
-    };
-    match solve_numbers(alloc, jobs, machines, times, start, choice, room) {
+    match solve_numbers(alloc, shop, start, plan, entries) {
         Ok(solved) => {
-            fill(solved.sequence.jobs(), sequence);
-            fill(solved.text.bytes(), certificate);
-            *count = solved.text.bytes().len();
-            *value = solved.value;
-            DONE
+            let value = Bounds {
+                lower: solved.value,
+                upper: solved.value,
+            };
+            bounds.put(&solved.sequence, value);
+            certificate.put(solved.text.bytes());
+            Outcome::done()
         }
-        Err(fault) => report(fault, place),
+        Err(fault) => Outcome::refused(fault),
     }
 }

@@ -4,7 +4,7 @@
 ghost use Rattle.std.specs.Prelude.{◌≡◌};
 ghost use Rattle.flow_c.specs.Versions.{version_number};
 
-const MAJOR: u32 = 1;
+const MAJOR: u32 = 2;
 
 const MINOR: u32 = 0;
 

@@ -5,6 +5,7 @@ mod certified;
 mod fund;
 mod run;
 mod search;
+mod task;
 
 pub use certified::Certified;
 pub use search::certify;

@@ -11,7 +11,8 @@ ghost use Rattle.flow_certify.specs.internal.Runs.{IsLater, IsRun, IsSearched};
 
 use crate::certified::Certified;
 use crate::fund::Fund;
-use flow_directions::{Found, prove};
+use crate::task::Task;
+use flow_directions::{Found, News, Prover};
 use flow_improve::Reached;
 use flow_nodes::Node;
 use flow_shop::{Instance, Sequence, makespan};
@@ -63,6 +64,20 @@ impl Run {
             fund,
             over: None,
         })
+    }
+
+    /// Tells the prover which bounds are known.
+    pub(crate) fn tell<P: Prover>(&self, task: &Task<P>) {
+        task.prover.tell(News::Bounds {
+            lower: self.known.lower,
+            upper: self.known.upper,
+        });
+    }
+
+    /// Tells the prover that a step begins, and which bounds are known.
+    pub(crate) fn begin<P: Prover>(&self, task: &Task<P>, step: u32) {
+        task.prover.tell(News::Step(step));
+        self.tell(task);
     }
 
     /// Whether the makespan of the sequence is proved.
@@ -140,62 +155,62 @@ impl Run {
     }
 
     /// Searches below a number with a budget, and keeps what it finds. Returns whether the search is over.
-    fn search(
+    fn search<P: Prover>(
         &mut self,
-        alloc: Global,
-        instance: &Instance,
+        task: &Task<P>,
         number: u64,
         budget: u64,
     ) -> Result<bool, AllocError>
-        requires run { IsRun instance.now self.old }
+        requires ready { P.is_ready task.now.prover.now }
+        requires run { IsRun task.now.instance.now self.old }
         requires from { self.old.known.lower ≤ number }
         requires to { number ≤ self.old.known.upper }
-        ensures later { IsLater instance.now self.old self.new }
+        ensures later { IsLater task.now.instance.now self.old self.new }
         ensures searched { IfOk result (IsSearched number self.old self.new) }
     {
         let budget = budget.min(self.whole).min(self.fund.left);
         if self.is_over(number, budget) {
             return Ok(true);
         }
-        match prove(alloc, instance, &[], &[], number, budget) {
-            Ok(Found::Proved(directions)) => {
+        self.tell(task);
+        match task
+            .prover
+            .prove(task.alloc, task.instance, number, budget)?
+        {
+            Found::Proved(directions) => {
                 self.hold(number, directions);
                 Ok(false)
             }
-            Ok(
-                Found::Below {
-                    sequence,
-                    makespan,
-                    directions,
-                },
-            ) => {
+            Found::Below {
+                sequence,
+                makespan,
+                directions,
+            } => {
                 self.fund.spend(directions);
                 self.become_better(sequence, makespan);
                 Ok(false)
             }
-            Ok(Found::Over) => {
+            Found::Over => {
                 self.note_over(number, budget);
                 Ok(true)
             }
-            // Two empty lists are a node, so a fault is that memory ran out.
-            Err(_) => Err(AllocError),
         }
     }
 
     /// Searches below the makespan of the sequence with a budget, and with the same one from each better sequence,
     /// until the makespan is proved or a search is over.
-    pub(crate) fn prove_upper(
+    pub(crate) fn prove_upper<P: Prover>(
         &mut self,
-        alloc: Global,
-        instance: &Instance,
+        task: &Task<P>,
         budget: u64,
     ) -> Result<(), AllocError>
-        requires { IsRun instance.now self.old }
-        ensures { IsLater instance.now self.old self.new }
+        requires ready { P.is_ready task.now.prover.now }
+        requires run { IsRun task.now.instance.now self.old }
+        ensures { IsLater task.now.instance.now self.old self.new }
     {
         'better: while !self.is_proved() {
             let upper = self.known.upper;
-            if self.search(alloc, instance, upper, budget)? {
+            if self.search(task, upper, budget)? {
                 break;
             }
         }
@@ -203,37 +218,33 @@ impl Run {
     }
 
     /// The same with each of some budgets, the least first.
-    pub(crate) fn prove_with(
+    pub(crate) fn prove_with<P: Prover>(
         &mut self,
-        alloc: Global,
-        instance: &Instance,
+        task: &Task<P>,
         budgets: &[u64],
     ) -> Result<(), AllocError>
-        requires { IsRun instance.now self.old }
-        ensures { IsLater instance.now self.old self.new }
+        requires ready { P.is_ready task.now.prover.now }
+        requires run { IsRun task.now.instance.now self.old }
+        ensures { IsLater task.now.instance.now self.old self.new }
     {
         'budgets: for budget in budgets {
-            self.prove_upper(alloc, instance, *budget)?;
+            self.prove_upper(task, *budget)?;
         }
         Ok(())
     }
 
     /// Raises the proved number with a budget: by 1, 2, 4 and so on, but by no more than half of the way to the least
     /// number whose search was over.
-    pub(crate) fn raise(
-        &mut self,
-        alloc: Global,
-        instance: &Instance,
-        budget: u64,
-    ) -> Result<(), AllocError>
-        requires { IsRun instance.now self.old }
-        ensures { IsLater instance.now self.old self.new }
+    pub(crate) fn raise<P: Prover>(&mut self, task: &Task<P>, budget: u64) -> Result<(), AllocError>
+        requires ready { P.is_ready task.now.prover.now }
+        requires run { IsRun task.now.instance.now self.old }
+        ensures { IsLater task.now.instance.now self.old self.new }
     {
         let mut step = 1u64;
         let mut top = self.known.upper.saturating_add(1);
         'raised: while top.saturating_sub(self.known.lower) > 1 {
             let number = self.known.lower + step.min((top - self.known.lower) / 2);
-            if self.search(alloc, instance, number, budget)? {
+            if self.search(task, number, budget)? {
                 top = number;
             } else {
                 step = step.saturating_mul(2);

@@ -11,7 +11,9 @@ ghost use Rattle.flow_certify.specs.internal.Runs.{IsLater, IsRun};
 
 use crate::certified::Certified;
 use crate::run::Run;
+use crate::task::Task;
 use flow_bound::taillard_bound;
+use flow_directions::{News, Prover};
 use flow_improve::{Effort, Reached, beam, beam_below, rounds_of_both};
 use flow_shop::{Instance, Sequence};
 use std::alloc::{AllocError, Global};
@@ -33,75 +35,79 @@ const MIDDLE: [u64; 3] = [10_000, 100_000, 1_000_000];
 
 /// Searches from the start, and from the best of a narrow beam, with small budgets; and then further. Where no better
 /// sequence exists, the whole budget is used at once.
-fn prove_best(
-    alloc: Global,
-    instance: &Instance,
+fn prove_best<P: Prover>(
+    task: &Task<P>,
     start: &Sequence,
     effort: &Effort,
     run: &mut Run,
 ) -> Result<(), AllocError>
-    requires start { length start.now ≡ instance.now.jobs }
+    requires ready { P.is_ready task.now.prover.now }
+    requires start { length start.now ≡ task.now.instance.now.jobs }
     requires seed_from { 1 ≤ effort.now.seed }
     requires seed_to { effort.now.seed < modulus }
-    requires run { IsRun instance.now run.old }
-    ensures { IsLater instance.now run.old run.new }
+    requires run { IsRun task.now.instance.now run.old }
+    ensures { IsLater task.now.instance.now run.old run.new }
 {
     let whole = run.whole;
-    if run.known.upper == taillard_bound(instance) {
+    run.begin(task, 1);
+    if run.known.upper == taillard_bound(task.instance) {
         run.fund.release();
-        return run.prove_upper(alloc, instance, whole);
+        return run.prove_upper(task, whole);
     }
-    run.prove_with(alloc, instance, &SMALL)?;
+    run.prove_with(task, &SMALL)?;
     if run.is_proved() {
         return Ok(());
     }
+    run.begin(task, 2);
     let width = effort.width.min(NARROW);
-    let narrow = beam(alloc, instance, start, width, effort.beam_work())?;
-    run.take(alloc, &narrow)?;
+    let narrow = beam(task.alloc, task.instance, start, width, effort.beam_work())?;
+    run.take(task.alloc, &narrow)?;
     if narrow.whole {
         run.fund.release();
-        return run.prove_upper(alloc, instance, whole);
+        return run.prove_upper(task, whole);
     }
-    run.prove_with(alloc, instance, &SMALL)?;
+    run.prove_with(task, &SMALL)?;
     if run.is_proved() {
         return Ok(());
     }
-    let beamed = widened(alloc, instance, start, narrow, effort)?;
-    prove_on(alloc, instance, start, effort, &beamed, run)
+    run.begin(task, 3);
+    let beamed = widened(task.alloc, task.instance, start, narrow, effort)?;
+    prove_on(task, start, effort, &beamed, run)
 }
 
 /// The same from the best of the whole beam, and of rounds, with greater budgets.
-fn prove_on(
-    alloc: Global,
-    instance: &Instance,
+fn prove_on<P: Prover>(
+    task: &Task<P>,
     start: &Sequence,
     effort: &Effort,
     beamed: &Reached,
     run: &mut Run,
 ) -> Result<(), AllocError>
-    requires start { length start.now ≡ instance.now.jobs }
+    requires ready { P.is_ready task.now.prover.now }
+    requires start { length start.now ≡ task.now.instance.now.jobs }
     requires seed_from { 1 ≤ effort.now.seed }
     requires seed_to { effort.now.seed < modulus }
-    requires sequence { IsSequence instance.now.jobs beamed.now.sequence }
-    requires value { beamed.now.value ≡ span instance.now beamed.now.sequence }
-    requires run { IsRun instance.now run.old }
-    ensures { IsLater instance.now run.old run.new }
+    requires sequence { IsSequence task.now.instance.now.jobs beamed.now.sequence }
+    requires value { beamed.now.value ≡ span task.now.instance.now beamed.now.sequence }
+    requires run { IsRun task.now.instance.now run.old }
+    ensures { IsLater task.now.instance.now run.old run.new }
 {
     let whole = run.whole;
-    run.take(alloc, beamed)?;
+    run.take(task.alloc, beamed)?;
     if beamed.whole {
         run.fund.release();
-        return run.prove_upper(alloc, instance, whole);
+        return run.prove_upper(task, whole);
     }
-    run.prove_with(alloc, instance, &MIDDLE)?;
+    run.prove_with(task, &MIDDLE)?;
     if run.is_proved() {
         return Ok(());
     }
-    let best = run.best(alloc)?;
-    let best = rounds_of_both(alloc, instance, start, &best, effort)?;
-    run.take(alloc, &best)?;
-    run.prove_with(alloc, instance, &MIDDLE)?;
-    run.prove_upper(alloc, instance, whole / 10)
+    run.begin(task, 4);
+    let best = run.best(task.alloc)?;
+    let best = rounds_of_both(task.alloc, task.instance, start, &best, effort)?;
+    run.take(task.alloc, &best)?;
+    run.prove_with(task, &MIDDLE)?;
+    run.prove_upper(task, whole / 10)
 }
 
 /// What the whole beam reaches: what the narrow one did, where it is no wider.
@@ -125,9 +131,10 @@ fn widened(
 }
 
 /// Looks for a sequence that has the proved number as its makespan, by a beam that is aimed at the next number.
-fn aim(alloc: Global, instance: &Instance, effort: &Effort, run: &mut Run) -> Result<(), AllocError>
-    requires { IsRun instance.now run.old }
-    ensures { IsLater instance.now run.old run.new }
+fn aim<P: Prover>(task: &Task<P>, effort: &Effort, run: &mut Run) -> Result<(), AllocError>
+    requires ready { P.is_ready task.now.prover.now }
+    requires run { IsRun task.now.instance.now run.old }
+    ensures { IsLater task.now.instance.now run.old run.new }
 {
     if run.is_proved() {
         return Ok(());
@@ -135,20 +142,23 @@ fn aim(alloc: Global, instance: &Instance, effort: &Effort, run: &mut Run) -> Re
     let number = run.known.lower.saturating_add(1);
     let width = effort.width.saturating_mul(8).min(AIMED);
     let work = effort.beam_work().saturating_mul(AIMED_SHARE);
-    let aimed = beam_below(alloc, instance, &run.known.sequence, number, width, work)?;
-    run.take(alloc, &aimed)
+    let aimed = beam_below(
+        task.alloc,
+        task.instance,
+        &run.known.sequence,
+        number,
+        width,
+        work,
+    )?;
+    run.take(task.alloc, &aimed)
 }
 
 /// Looks for better sequences by narrower beams, each aimed half of the way between the proved number, or the greatest
 /// one that such a beam came to no sequence below, and the best makespan.
-fn halve(
-    alloc: Global,
-    instance: &Instance,
-    effort: &Effort,
-    run: &mut Run,
-) -> Result<(), AllocError>
-    requires { IsRun instance.now run.old }
-    ensures { IsLater instance.now run.old run.new }
+fn halve<P: Prover>(task: &Task<P>, effort: &Effort, run: &mut Run) -> Result<(), AllocError>
+    requires ready { P.is_ready task.now.prover.now }
+    requires run { IsRun task.now.instance.now run.old }
+    ensures { IsLater task.now.instance.now run.old run.new }
 {
     let width = effort.width / 4;
     let work = effort.beam_work() / 2;
@@ -156,10 +166,17 @@ fn halve(
     let mut top = run.known.upper;
     'halved: while top.saturating_sub(missed) > 1 {
         let number = missed + (top - missed) / 2;
-        let aimed = beam_below(alloc, instance, &run.known.sequence, number, width, work)?;
+        let aimed = beam_below(
+            task.alloc,
+            task.instance,
+            &run.known.sequence,
+            number,
+            width,
+            work,
+        )?;
         if aimed.value < number {
             top = aimed.value;
-            run.take(alloc, &aimed)?;
+            run.take(task.alloc, &aimed)?;
         } else {
             missed = number;
         }
@@ -169,39 +186,43 @@ fn halve(
 
 /// Raises the proved number with greater and greater budgets, looks for a sequence that has it as its makespan, and for
 /// better ones, and searches below the makespan of the best sequence with the whole budget.
-fn prove_more(
-    alloc: Global,
-    instance: &Instance,
-    effort: &Effort,
-    run: &mut Run,
-) -> Result<(), AllocError>
-    requires { IsRun instance.now run.old }
-    ensures { IsLater instance.now run.old run.new }
+fn prove_more<P: Prover>(task: &Task<P>, effort: &Effort, run: &mut Run) -> Result<(), AllocError>
+    requires ready { P.is_ready task.now.prover.now }
+    requires run { IsRun task.now.instance.now run.old }
+    ensures { IsLater task.now.instance.now run.old run.new }
 {
     let whole = run.whole;
     run.fund.release();
-    run.raise(alloc, instance, SMALL[0].min(whole / 10))?;
-    run.raise(alloc, instance, whole / 30)?;
-    aim(alloc, instance, effort, run)?;
-    halve(alloc, instance, effort, run)?;
-    run.prove_upper(alloc, instance, whole)?;
+    run.begin(task, 5);
+    run.raise(task, SMALL[0].min(whole / 10))?;
+    run.raise(task, whole / 30)?;
+    run.begin(task, 6);
+    aim(task, effort, run)?;
+    run.begin(task, 7);
+    halve(task, effort, run)?;
+    run.prove_upper(task, whole)?;
+    run.begin(task, 8);
     let proved = run.known.lower;
-    run.raise(alloc, instance, whole / 10)?;
+    run.raise(task, whole / 10)?;
     if run.known.lower == proved {
         return Ok(());
     }
-    aim(alloc, instance, effort, run)?;
-    run.prove_upper(alloc, instance, whole)
+    aim(task, effort, run)?;
+    run.prove_upper(task, whole)
 }
 
-/// Bounds of the least makespan, a sequence that has the upper one, and directions that prove the lower one.
-pub fn certify(
+/// Bounds of the least makespan, a sequence that has the upper one, and directions that prove the lower one. The prover
+/// searches for directions, and is told which step begins, and which bounds are known before each search and at the end;
+/// what is found does not depend on which prover it is.
+pub fn certify<P: Prover>(
     alloc: Global,
+    prover: &P,
     instance: &Instance,
     start: &Sequence,
     effort: &Effort,
     directions: u32,
 ) -> Result<Certified, AllocError>
+    requires ready { P.is_ready prover.now }
     requires start { length start.now ≡ instance.now.jobs }
     requires seed_from { 1 ≤ effort.now.seed }
     requires seed_to { effort.now.seed < modulus }
@@ -212,11 +233,18 @@ pub fn certify(
     ensures floor { IfOk result (λ found. end_bound instance.now [] [] ≤ found.lower) }
     ensures few { IfOk result (λ found. length found.directions.items ≤ min directions most_signs) }
 {
+    let task = Task {
+        alloc,
+        instance,
+        prover,
+    };
     let mut run = Run::new(alloc, instance, start, directions)?;
-    prove_best(alloc, instance, start, effort, &mut run)?;
+    prove_best(&task, start, effort, &mut run)?;
     if !run.is_proved() {
-        prove_more(alloc, instance, effort, &mut run)?;
+        prove_more(&task, effort, &mut run)?;
     }
+    run.tell(&task);
+    prover.tell(News::Ended);
     let Run { known, .. } = run;
     Ok(known)
 }

@@ -3,7 +3,7 @@ use Rattle.std.specs.Prelude.{◌≡◌, ℕ, ◌≤◌, List, [], ◌∷◌, le
 use Rattle.std.specs.Int.{is_in_range}
 use Rattle.flow_core.specs.Shop.{Shop}
 use Rattle.flow_core.specs.Ends.{end_bound}
-use Rattle.flow_core.specs.Limits.{most_certificate, most_directions}
+use Rattle.flow_core.specs.Limits.{most_certificate, most_directions, most_workers}
 use Rattle.flow_core.specs.Refusals.{fault_unless, first_fault}
 use Rattle.flow_check.specs.TwoEnded.{AreProved, IsTwoEnded}
 use Rattle.flow_check.specs.declared.bounds.Bounds.{Bounds}
@@ -12,13 +12,14 @@ use Rattle.flow_commands.specs.Answer.{Answer}
 use Rattle.flow_commands.specs.Improve.{IsImproved, improve_fault}
 use Rattle.flow_commands.specs.Runs.{SinkRun, Took}
 use Rattle.flow_commands.specs.declared.fault.CommandFault.{CommandFault}
-use Rattle.flow_commands.specs.declared.fault.CommandFault.TheVariants.{Directions}
+use Rattle.flow_commands.specs.declared.fault.CommandFault.TheVariants.{Directions, Workers}
 
 -- why `certify` refuses its numbers, if it does
 abbrev pub certify_fault : CertifyRequest → Option CommandFault
 certify_fault request = first_fault (
     improve_fault request.improve
     ∷ fault_unless (is_in_range 1 most_directions request.directions) Directions
+    ∷ fault_unless (is_in_range 1 most_workers request.workers) Workers
     ∷ [])
 
 -- a lawful two-ended certificate, short enough for `check`: its sequence is no worse than the one to start from, its

@@ -1,5 +1,5 @@
 -- What `schedule` answers.
-use Rattle.std.specs.Prelude.{◌≡◌, ℕ, List, Ok}
+use Rattle.std.specs.Prelude.{◌≡◌, ℕ, None, List, Ok}
 use Rattle.flow_core.specs.Shop.{Shop}
 use Rattle.flow_schedule.specs.Table.{csv_text}
 use Rattle.flow_schedule.specs.Picture.{IsPicture}
@@ -8,10 +8,10 @@ use Rattle.flow_requests.specs.declared.ScheduleForm.TheVariants.{Csv, Svg}
 use Rattle.flow_commands.specs.Answer.{Answer}
 use Rattle.flow_commands.specs.Start.{FromText}
 
--- the schedule of a sequence in a form: its table, or a picture of it
+-- the schedule of a sequence in a form: its table, or a picture of it with no lower bound
 abbrev pub IsSchedule : ScheduleForm → Shop → List ℕ → List ℕ → Type 0
 IsSchedule Csv shop jobs text = text ≡ csv_text shop jobs
-IsSchedule Svg shop jobs text = IsPicture shop jobs text
+IsSchedule Svg shop jobs text = IsPicture shop jobs None text
 
 -- what `schedule` answers for a shop and a start text: the schedule of the sequence that the text gives, or the fault
 -- that it gives

@@ -18,10 +18,12 @@ use crate::start::{read_inputs, start_of};
 use flow_cert::write_two_ended;
 use flow_certify::certify;
 use flow_check::Bounds;
-use flow_core::{Instance, MAX_DIRECTIONS, Sequence, Sink, Source};
+use flow_core::{Instance, MAX_DIRECTIONS, MAX_WORKERS, Sequence, Sink, Source};
 use flow_improve::Effort;
 use flow_requests::CertifyRequest;
+use flow_workers::{Watch, Workers};
 use std::alloc::Global;
+use std::thread::Threads;
 
 /// The effort of a request, where its numbers are within their limits; else the first fault.
 fn tested(request: CertifyRequest) -> Result<Effort, CommandFault>
@@ -34,15 +36,20 @@ fn tested(request: CertifyRequest) -> Result<Effort, CommandFault>
     if request.directions < 1 || request.directions > MAX_DIRECTIONS {
         return Err(CommandFault::Directions);
     }
+    if request.workers < 1 || request.workers > MAX_WORKERS {
+        return Err(CommandFault::Workers);
+    }
     Ok(effort)
 }
 
 /// Certifies a block from a given sequence, if there is one, and writes the two-ended certificate.
-fn certify_block<K: Sink>(
+fn certify_block<R: Threads + Sync, W: Watch, K: Sink>(
+    rt: &R,
     alloc: Global,
     instance: Instance,
     given: Option<Sequence>,
     request: CertifyRequest,
+    watch: &W,
     out: &mut K,
 ) -> Result<(), CommandFault>
     requires out_works { K.has_failed out.old ≡ false }
@@ -56,7 +63,19 @@ fn certify_block<K: Sink>(
 {
     let effort = tested(request)?;
     let start = start_of(alloc, &instance, given)?;
-    let found = certify(alloc, &instance, &start, &effort, request.directions)?;
+    let workers = Workers {
+        rt,
+        count: request.workers as usize,
+        watch,
+    };
+    let found = certify(
+        alloc,
+        &workers,
+        &instance,
+        &start,
+        &effort,
+        request.directions,
+    )?;
     let bounds = Bounds {
         lower: found.lower,
         upper: found.upper,
@@ -73,13 +92,16 @@ fn certify_block<K: Sink>(
 
 /// Writes a two-ended certificate of the block that an index names: bounds of its least makespan, which are one number
 /// where that was proved. Its sequence is no worse than the one that a start text gives, or, where there is no such
-/// text, than that of Nawaz, Enscore and Ham.
-pub fn run_certify<S: Source, T: Source, K: Sink>(
+/// text, than that of Nawaz, Enscore and Ham. The workers search for directions, on threads where they are two or more.
+/// The watch is told how far the run is.
+pub fn run_certify<R: Threads + Sync, S: Source, T: Source, W: Watch, K: Sink>(
+    rt: &R,
     alloc: Global,
     file: &mut S,
     index: u32,
     start: &mut Option<T>,
     request: CertifyRequest,
+    watch: &W,
     out: &mut K,
 ) -> Result<(), CommandFault>
     requires file_works { S.has_failed file.old ≡ false }
@@ -101,5 +123,5 @@ pub fn run_certify<S: Source, T: Source, K: Sink>(
     ensures start_stays { is_some start.new ≡ is_some start.old }
 {
     let (block, given) = read_inputs(alloc, file, index, start)?;
-    certify_block(alloc, block.instance, given, request, out)
+    certify_block(rt, alloc, block.instance, given, request, watch, out)
 }

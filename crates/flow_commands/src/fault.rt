@@ -67,6 +67,9 @@ pub enum CommandFault {
     /// The directions of a proof are not from 1 to 1,000,000,000.
     #[error("refused option Directions")]
     Directions,
+    /// The workers of `certify` are not from 1 to 64.
+    #[error("refused option Workers")]
+    Workers,
     /// The numbers are no options.
     #[error("refused option {0}")]
     Choice(OptionFault),

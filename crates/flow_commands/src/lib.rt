@@ -23,6 +23,7 @@ pub use certify::run_certify;
 pub use check::{run_check, run_check_as};
 pub use fault::{CommandFault, ImproveFault, ToolFault};
 pub use flow_requests::{CertifyRequest, CheckRequest, ImproveRequest, ScheduleForm, SolveRequest};
+pub use flow_workers::{News, Unwatched, Watch};
 pub use generate::run_gen;
 pub use improve::run_improve;
 pub use laws::each_start_gives_one;

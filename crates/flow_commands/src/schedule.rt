@@ -28,7 +28,7 @@ fn schedule_text(
 {
     match form {
         ScheduleForm::Csv => timetable_csv(alloc, instance, sequence),
-        ScheduleForm::Svg => timetable_picture(alloc, instance, sequence),
+        ScheduleForm::Svg => timetable_picture(alloc, instance, sequence, None),
     }
 }
 

@@ -8,8 +8,10 @@ use Rattle.flow_shop.specs.Paths.{span}
 use Rattle.flow_shop.specs.Sequences.{jobs_left, AreJobs}
 use Rattle.flow_shop.specs.Ends.{end_bound}
 use Rattle.flow_shop.specs.Directions.{ProvesFrom}
-use Rattle.flow_directions.specs.Search.{signs, first_reached, directions_of, first_below, IsFound, Shows}
+use Rattle.flow_directions.specs.Search.{signs, first_reached, directions_of, first_below, IsAdvanced, IsFound, Shows}
 use Rattle.flow_directions.specs.declared.found.Found.{Found}
+use Rattle.flow_directions.specs.declared.found.Advanced.{Advanced}
+use Rattle.flow_directions.specs.declared.found.Advanced.TheVariants as advanced
 use Rattle.flow_directions.specs.declared.found.Found.TheVariants.{Proved, Below, Over}
 use Rattle.flow_directions.specs.declared.found.ProveFault.{ProveFault}
 use Rattle.flow_directions.specs.declared.found.ProveFault.TheVariants.{Jobs, Memory}
@@ -30,29 +32,38 @@ use Rattle.flow_directions.proofs.SearchProves.{directions_prove}
 use Rattle.flow_directions.proofs.SearchReaches.{reached_is_below}
 
 -- a sequence that is reached, with its makespan
-pub found-below : (shop : Shop) (number budget : ℕ) (first last jobs : List ℕ) (count : ℕ) (found : Found) →
-    first_below shop number first last ≡ Some jobs → count ≡ length (directions_of shop number first last) →
-    count ≤ budget → IsSequenceAfter shop jobs count found → IsFound shop number budget first last found
-found-below shop number budget first last jobs count (Proved text) reached written within is = absurd is
-found-below shop number budget first last jobs count (Below sequence makespan directions) reached written within is =
-    (reached ∙ ap Some (sym is.0), is.1 ∙ ap (span shop) (sym is.0), is.2 ∙ written, omega (arith, is.2, within))
-found-below shop number budget first last jobs count Over reached written within is = absurd is
+pub found-below : (shop : Shop) (number budget : ℕ) (first last jobs text : List ℕ) (found : Advanced) →
+    first_below shop number first last ≡ Some jobs → text ≡ directions_of shop number first last →
+    length text ≤ budget → IsSequenceAfter shop jobs text found → IsAdvanced shop number budget first last found
+found-below shop number budget first last jobs text (advanced.Proved directions) reached written within is = absurd is
+found-below shop number budget first last jobs text (advanced.Below sequence makespan directions) reached written
+    within is = (
+      (
+        reached ∙ ap Some (sym is.0),
+        is.1 ∙ ap (span shop) (sym is.0),
+        ap length (is.2 ∙ written),
+        omega (arith, ap length is.2, within),
+      ),
+      is.2 ∙ written,
+    )
+found-below shop number budget first last jobs text (advanced.Rest directions parts) reached written within is =
+    absurd is
 
 -- what is found at a node whose bound is at least the number
 pub found-high : (shop : Shop) (number budget : ℕ) (first last : List ℕ) (text : Vec ℕ) → text.items ≡ [] →
-    number ≤ end_bound shop first last → IsFound shop number budget first last (Proved text)
+    number ≤ end_bound shop first last → IsAdvanced shop number budget first last (advanced.Proved text)
 found-high shop number budget first last text none high =
     let nothing = visits-high shop number first last high in
     (ap first_reached nothing, none ∙ sym (ap signs nothing), omega (arith, ap length none))
 
 -- and at one below the number, without jobs left
-pub found-whole : (shop : Shop) (number budget : ℕ) (first last : List ℕ) (found : Found) →
+pub found-whole : (shop : Shop) (number budget : ℕ) (first last : List ℕ) (found : Advanced) →
     length (jobs_left shop.jobs (first ++ last)) ≡ 0 → end_bound shop first last < number →
-    IsSequenceAfter shop (first ++ last) 0 found → IsFound shop number budget first last found
+    IsSequenceAfter shop (first ++ last) [] found → IsAdvanced shop number budget first last found
 found-whole shop number budget first last found none low is =
     let one = visits-whole shop number first last none low in
-    found-below shop number budget first last (first ++ last) 0 found (ap first_reached one)
-    (sym (ap (λ v. length (signs v)) one)) (omega arith) is
+    found-below shop number budget first last (first ++ last) [] found (ap first_reached one)
+    (sym (ap signs one)) (omega arith) is
 
 -- what is found shows that the number is proved, or a sequence below it
 pub found-shows : (shop : Shop) (number budget : ℕ) (first last : List ℕ) (found : Found) →
@@ -66,7 +77,7 @@ found-shows shop number budget first last (Below sequence makespan directions) a
 found-shows shop number budget first last Over are is = tt
 
 -- of what is returned where something is found
-pub each-ok : (P Q : Found → Type 0) (result : Result Found ProveFault) → ((found : Found) → P found → Q found) →
+pub each-ok : {T : Type 0} (P Q : T → Type 0) (result : Result T ProveFault) → ((found : T) → P found → Q found) →
     IfOk result P → IfOk result Q
 each-ok P Q (Ok found) follows is = follows found is
 each-ok P Q (Err fault) follows is = tt
@@ -127,8 +138,14 @@ module _ (shop : Shop) (number budget : ℕ) (first last old : List ℕ) (new : 
   ends-below StopMemory is ends = absurd (cc)
 
   -- or past the budget
-  pub ends-over : (stop : Stop) → stop ≡ StopOver → Ends shop number budget first last old new (Err stop) →
-      budget < length (directions_of shop number first last)
-  ends-over StopBelow is ends = absurd (cc)
-  ends-over StopOver is ends = subst (λ xs. budget < length (xs ++ directions_of shop number first last)) none ends
-  ends-over StopMemory is ends = absurd (cc)
+  pub ends-over : (stop : Stop) → stop ≡ StopOver → AreJobs shop.jobs (first ++ last) →
+      Ends shop number budget first last old new (Err stop) →
+      IsAdvanced shop number budget first last (advanced.Rest new.directions new.rest)
+  ends-over StopBelow is are ends = absurd (cc)
+  ends-over StopOver is are ends = (
+    subst (λ xs. budget < length (xs ++ directions_of shop number first last)) none ends.0,
+    ends.1,
+    (sym (ap (λ xs. xs ++ directions_of shop number first last) none) ∙ ends.2, ends.3),
+    ends.4 are,
+  )
+  ends-over StopMemory is are ends = absurd (cc)

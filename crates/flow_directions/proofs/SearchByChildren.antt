@@ -10,8 +10,8 @@ use Rattle.flow_shop.specs.declared.end.End.{End}
 use Rattle.flow_shop.specs.Ends.{end_bound}
 use Rattle.flow_shop.specs.Directions.{sign, first_with, last_with}
 use Rattle.flow_directions.specs.Search.{end_taken, signs, first_reached, directions_of, first_below}
-use Rattle.flow_directions.specs.Search.{DirectionsByChildren}
-use Rattle.flow_directions.proofs.VisitSteps.{signs-flat_map, child_visits, visits-high, visits-whole, visits-open}
+use Rattle.flow_directions.specs.Search.{DirectionsByChildren, child_visits}
+use Rattle.flow_directions.proofs.VisitSteps.{signs-flat_map, visits-high, visits-whole, visits-open}
 
 module _ (shop : Shop) (number : ℕ) where
   -- the sign of a node that is opened, and the directions of its children

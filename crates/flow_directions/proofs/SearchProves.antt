@@ -10,8 +10,8 @@ use Rattle.flow_shop.specs.declared.end.End.{End}
 use Rattle.flow_shop.specs.Ends.{end_bound}
 use Rattle.flow_shop.specs.Directions.{sign, first_with, last_with, ProvesWith}
 use Rattle.flow_directions.specs.Search.{end_taken, signs, first_reached, directions_of, first_below}
-use Rattle.flow_directions.specs.Search.{DirectionsProve}
-use Rattle.flow_directions.proofs.VisitSteps.{none-each, signs-flat_map, child_visits}
+use Rattle.flow_directions.specs.Search.{DirectionsProve, child_visits}
+use Rattle.flow_directions.proofs.VisitSteps.{none-each, signs-flat_map}
 use Rattle.flow_directions.proofs.VisitSteps.{visits-high, visits-whole, visits-open}
 use Rattle.flow_directions.proofs.NodeLists.{IsChild, each-child}
 

@@ -13,9 +13,9 @@ use Rattle.flow_shop.specs.Ends.{end_bound}
 use Rattle.flow_shop.specs.Directions.{first_with, last_with}
 use Rattle.flow_shop.proofs.EndBounds.{end_bound_is_exact}
 use Rattle.flow_shop.proofs.DirectionsSound.{directions_are_sound}
-use Rattle.flow_directions.specs.Search.{end_taken, first_reached, directions_of, first_below, IsOfNode}
+use Rattle.flow_directions.specs.Search.{end_taken, first_reached, directions_of, first_below, IsOfNode, child_visits}
 use Rattle.flow_directions.specs.Search.{ReachedIsBelow, ReachesNoneBelow}
-use Rattle.flow_directions.proofs.VisitSteps.{none-or-reached, reached-flat_map, child_visits}
+use Rattle.flow_directions.proofs.VisitSteps.{none-or-reached, reached-flat_map}
 use Rattle.flow_directions.proofs.VisitSteps.{visits-high, visits-whole, visits-open}
 use Rattle.flow_directions.proofs.NodeLists.{IsChild, each-child, whole-node}
 use Rattle.flow_directions.proofs.SearchProves.{directions_prove}

@@ -12,6 +12,7 @@ use Rattle.flow_shop.specs.Directions.{sign, first_with, last_with}
 use Rattle.flow_shop.proofs.JobsLeft.{each-left}
 use Rattle.flow_shop.proofs.EndSteps.{count-child}
 use Rattle.flow_directions.specs.Search.{end_taken, Visit, opens, reaches, visits_with, visits, signs, first_reached}
+use Rattle.flow_directions.specs.Search.{child_visits}
 
 -- a first sequence is reached, or none
 pub none-or-reached : (reached : Option (List ℕ)) → (reached ≡ None) ⊎ ((jobs : List ℕ) × (reached ≡ Some jobs))
@@ -165,10 +166,6 @@ module _ (shop : Shop) (number : ℕ) where
       (λ job. visits_with shop number left (first_with end first job) (last_with end last job))
       (jobs_left shop.jobs (first ++ last)))) (lt-leb number (end_bound shop first last) low)
 
-  -- what is met at the children of a node at an end
-  abbrev pub child_visits : End → List ℕ → List ℕ → ℕ → List Visit
-  child_visits end first last job = visits shop number (first_with end first job) (last_with end last job)
-
   -- nothing is met at a node whose bound is at least the number
   pub visits-high : (first last : List ℕ) → number ≤ end_bound shop first last → visits shop number first last ≡ []
   visits-high first last high =
@@ -183,10 +180,10 @@ module _ (shop : Shop) (number : ℕ) where
   visits-child : (end : End) (first last : List ℕ) (left : ℕ) →
       length (jobs_left shop.jobs (first ++ last)) ≡ suc left →
       AllByRecursion (λ job. visits_with shop number left (first_with end first job) (last_with end last job)
-      ≡ child_visits end first last job) (jobs_left shop.jobs (first ++ last))
+      ≡ child_visits shop number end first last job) (jobs_left shop.jobs (first ++ last))
   visits-child end first last left some =
       each-left (λ job. visits_with shop number left (first_with end first job) (last_with end last job)
-      ≡ child_visits end first last job) (first ++ last) 1 (shop.jobs + 1 - 1) (λ job from to fresh.
+      ≡ child_visits shop number end first last job) (first ++ last) 1 (shop.jobs + 1 - 1) (λ job from to fresh.
       let high : job ≤ shop.jobs = omega (arith, to) in
       let same : left ≡ length (jobs_left shop.jobs (first_with end first job ++ last_with end last job)) =
       omega (arith, some, count-child shop.jobs end first last job from high fresh) in
@@ -196,7 +193,7 @@ module _ (shop : Shop) (number : ℕ) where
       end_bound shop first last < number →
       visits shop number first last
       ≡ opens (end_taken shop number first last) ∷ flat_map
-      (child_visits (end_taken shop number first last) first last) (jobs_left shop.jobs (first ++ last))
+      (child_visits shop number (end_taken shop number first last) first last) (jobs_left shop.jobs (first ++ last))
   opened first last zero is some low = absurd (omega arith)
   opened first last (suc left) is some low =
       let end : End = end_taken shop number first last in
@@ -204,13 +201,13 @@ module _ (shop : Shop) (number : ℕ) where
       ∙ visits_with-open left first last low
       ∙ ap (λ xs. opens end ∷ xs) (flat_map-same
       (λ job. visits_with shop number left (first_with end first job) (last_with end last job))
-      (child_visits end first last) (jobs_left shop.jobs (first ++ last)) (visits-child end first last left is))
+      (child_visits shop number end first last) (jobs_left shop.jobs (first ++ last)) (visits-child end first last left is))
 
   -- or else the node, and what is met at its children
   pub visits-open : (first last : List ℕ) → 0 < length (jobs_left shop.jobs (first ++ last)) →
       end_bound shop first last < number →
       visits shop number first last
       ≡ opens (end_taken shop number first last) ∷ flat_map
-      (child_visits (end_taken shop number first last) first last) (jobs_left shop.jobs (first ++ last))
+      (child_visits shop number (end_taken shop number first last) first last) (jobs_left shop.jobs (first ++ last))
   visits-open first last some low =
       opened first last (length (jobs_left shop.jobs (first ++ last))) refl some low

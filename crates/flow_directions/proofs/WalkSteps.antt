@@ -1,24 +1,26 @@
 -- What is still to be searched of a node, while its children are.
-use Rattle.std.proofs.Common.{◌≡◌, ℕ, suc, ◌+◌, ◌-◌, ◌<◌, ◌≤◌, Bool, true, false, cond, nat_lt, List, [], ◌∷◌}
-use Rattle.std.proofs.Common.{◌++◌, length, drop, filter, Some, None, refl, ap, sym, ◌∙◌, subst, inl, inr, arith}
-use Rattle.std.proofs.Common.{append_assoc, length-append, slice_index_or}
+use Rattle.std.proofs.Common.{◌≡◌, ℕ, suc, ◌+◌, ◌-◌, ◌<◌, ◌≤◌, Bool, true, false, cond, not, ◌||◌, nat_eq, nat_lt}
+use Rattle.std.proofs.Common.{List, [], ◌∷◌, ◌++◌, length, drop, filter, Some, None, refl, ap, sym, ◌∙◌, subst}
+use Rattle.std.proofs.Common.{inl, inr, arith, append_assoc, append-nil, length-append, slice_index_or}
 use Rattle.std.specs.List.{flat_map, AllByRecursion}
 use Rattle.std.proofs.lemmas.Bool.{cases_Bool, ltb-false, ltb-true}
 use Rattle.std.proofs.lemmas.List.{take-append-drop}
-use Rattle.flow_shop.specs.Shop.{Shop}
-use Rattle.flow_shop.specs.Sequences.{has, jobs_left}
+use Rattle.flow_shop.specs.Shop.{Shop, numbers}
+use Rattle.flow_shop.specs.Sequences.{has, jobs_left, AreDistinct}
 use Rattle.flow_shop.specs.Ends.{end_bound}
 use Rattle.flow_shop.specs.Directions.{sign, first_with, last_with}
 use Rattle.flow_shop.specs.declared.end.End.{End}
 use Rattle.flow_shop.specs.declared.end.End.TheVariants.{Front, Back}
 use Rattle.flow_shop.proofs.JobsLeft.{each-left}
+use Rattle.flow_shop.proofs.LeastFound.{in-order}
 use Rattle.flow_nodes.specs.Nodes.{IsJob}
 use Rattle.flow_nodes.specs.Groups.{child_bound}
 use Rattle.flow_directions.specs.Search.{end_taken, Visit, opens, visits, signs, first_reached}
-use Rattle.flow_directions.specs.Search.{directions_of, first_below, jobs_below}
+use Rattle.flow_directions.specs.Search.{directions_of, first_below, jobs_below, child_visits, part_visits, parts_visits}
+use Rattle.flow_directions.specs.declared.found.Part.{Part}
 use Rattle.flow_directions.specs.internal.Lists.{HasLists}
 use Rattle.flow_directions.specs.declared.lists.Lists.{Lists}
-use Rattle.flow_directions.proofs.VisitSteps.{child_visits, visits-high, visits-open, none-or-reached}
+use Rattle.flow_directions.proofs.VisitSteps.{visits-high, visits-open, none-or-reached}
 use Rattle.flow_directions.proofs.VisitSteps.{signs-append, first_reached-append, signs-append-reached}
 use Rattle.flow_directions.proofs.VisitSteps.{first_reached-append-reached}
 
@@ -47,6 +49,33 @@ each-kept P p (job ∷ jobs) each =
       | inr is ↦ subst (λ b. AllByRecursion P (cond b (job ∷ filter p jobs) (filter p jobs))) (sym is) more
     ]
 
+-- a job that a list lacks stands in no part of it that is kept
+kept-lacks : (p : ℕ → Bool) (jobs : List ℕ) (job : ℕ) → has jobs job ≡ false → has (filter p jobs) job ≡ false
+kept-lacks p [] job lacks = refl
+kept-lacks p (other ∷ jobs) job lacks =
+    let parts = none-of (nat_eq job other) (has jobs job) lacks in
+    let more : has (filter p jobs) job ≡ false = kept-lacks p jobs job parts.1 in
+    elim (cases_Bool (p other)) [
+      | inl is ↦ ap (λ b. has (cond b (other ∷ filter p jobs) (filter p jobs)) job) is
+          ∙ ap (λ b. b || has (filter p jobs) job) parts.0 ∙ more
+      | inr is ↦ ap (λ b. has (cond b (other ∷ filter p jobs) (filter p jobs)) job) is ∙ more
+    ]
+  where
+    none-of : (a b : Bool) → (a || b) ≡ false → (a ≡ false) × (b ≡ false)
+    none-of true b is = absurd (cc is)
+    none-of false b is = (refl, is)
+
+-- what is kept of distinct jobs is distinct
+kept-distinct : (p : ℕ → Bool) (jobs : List ℕ) → AreDistinct jobs → AreDistinct (filter p jobs)
+kept-distinct p [] are = tt
+kept-distinct p (job ∷ jobs) are =
+    let more : AreDistinct (filter p jobs) = kept-distinct p jobs are.1 in
+    elim (cases_Bool (p job)) [
+      | inl is ↦ subst (λ b. AreDistinct (cond b (job ∷ filter p jobs) (filter p jobs))) (sym is)
+          (kept-lacks p jobs job are.0, more)
+      | inr is ↦ subst (λ b. AreDistinct (cond b (job ∷ filter p jobs) (filter p jobs))) (sym is) more
+    ]
+
 -- a job left whose child at an end is below the number
 pub record IsOpen (shop : Shop) (number : ℕ) (end : End) (first last : List ℕ) (job : ℕ) : Type 0 where
   pub is_job : IsJob shop job
@@ -58,6 +87,7 @@ pub record Stands (shop : Shop) (number : ℕ) (end : End) (first last old new :
     (jobs : List ℕ) : Type 0 where
   pub has_lists : HasLists shop.jobs first last lists
   pub each : AllByRecursion (IsOpen shop number end first last) jobs
+  pub distinct : AreDistinct jobs
   pub reached : first_below shop number first last
       ≡ first_reached (flat_map (child_visits shop number end first last) jobs)
   pub written : old ++ directions_of shop number first last
@@ -85,6 +115,11 @@ module _ (shop : Shop) (number : ℕ) (first last : List ℕ) where
         below = ltb-true (child_bound shop end first last job) number under;
       }))
 
+  below-distinct : (end : End) → AreDistinct (jobs_below shop number end first last)
+  below-distinct end =
+      kept-distinct (λ job. nat_lt (child_bound shop end first last job) number) (jobs_left shop.jobs (first ++ last))
+      (kept-distinct (λ job. not (has (first ++ last) job)) (numbers 1 shop.jobs) (in-order shop.jobs).each.distinct)
+
   -- at first
   pub stands-first : (end : End) (old new : List ℕ) (lists : Lists) (jobs : List ℕ) →
       0 < length (jobs_left shop.jobs (first ++ last)) → end_bound shop first last < number →
@@ -103,6 +138,7 @@ module _ (shop : Shop) (number : ℕ) (first last : List ℕ) where
       record {
         has_lists = has_lists;
         each = subst (AllByRecursion (IsOpen shop number end first last)) (sym are) (below-each end);
+        distinct = subst AreDistinct (sym are) (below-distinct end);
         reached = ap first_reached opened ∙ ap first_reached same;
         written = ap (λ v. old ++ signs v) opened ∙ ap (λ v. old ++ sign end ∷ signs v) same
             ∙ sym (append_assoc old (sign end ∷ []) (signs kept))
@@ -127,6 +163,7 @@ module _ (shop : Shop) (number : ℕ) (first last : List ℕ) where
     stands-next new2 lists2 none written has_lists = record {
       has_lists = has_lists;
       each = stands.each.1;
+      distinct = stands.distinct.1;
       reached = stands.reached ∙ first_reached-append (visits shop number first2 last2) rest none;
       written = stands.written
           ∙ ap (λ xs. new ++ xs) (signs-append (visits shop number first2 last2) rest none)
@@ -159,6 +196,43 @@ module _ (shop : Shop) (number : ℕ) (first last : List ℕ) where
           omega (arith, e)
     ]
 
+    -- where the search of the child goes on with some parts, that of the node does with these, and with the children
+    -- of the other jobs
+    module _ (new2 : List ℕ) (parts : List Part)
+        (written : new ++ directions_of shop number first2 last2 ≡ new2 ++ signs (parts_visits shop number parts))
+        (reached : first_below shop number first2 last2 ≡ first_reached (parts_visits shop number parts)) where
+      abbrev met : List Visit
+      met = parts_visits shop number parts
+
+      abbrev at_child : List Visit
+      at_child = visits shop number first2 last2
+
+      pub stands-left-written : old ++ directions_of shop number first last ≡ new2 ++ signs (met ++ rest)
+      stands-left-written = elim (none-or-reached (first_reached met)) [
+        | inl none ↦
+            stands.written
+            ∙ ap (λ xs. new ++ xs) (signs-append at_child rest (reached ∙ none))
+            ∙ sym (append_assoc new (signs at_child) (signs rest))
+            ∙ ap (λ xs. xs ++ signs rest) written
+            ∙ append_assoc new2 (signs met) (signs rest)
+            ∙ ap (λ xs. new2 ++ xs) (sym (signs-append met rest none))
+        | inr found ↦
+            stands-written found.0 (reached ∙ found.1)
+            ∙ written
+            ∙ ap (λ xs. new2 ++ xs) (sym (signs-append-reached met rest found.0 found.1))
+      ]
+
+      pub stands-left-reached : first_below shop number first last ≡ first_reached (met ++ rest)
+      stands-left-reached = elim (none-or-reached (first_reached met)) [
+        | inl none ↦
+            stands.reached
+            ∙ first_reached-append at_child rest (reached ∙ none)
+            ∙ sym (first_reached-append met rest none)
+        | inr found ↦
+            stands-reached found.0 (reached ∙ found.1)
+            ∙ sym (first_reached-append-reached met rest found.0 found.1)
+      ]
+
   -- at the end
   pub stands-done : (end : End) (old new : List ℕ) (lists : Lists) (jobs : List ℕ) →
       Stands shop number end first last old new lists jobs → jobs ≡ [] →
@@ -173,6 +247,14 @@ module _ (shop : Shop) (number : ℕ) (first last : List ℕ) where
       append-none : (xs : List ℕ) → xs ++ [] ≡ xs
       append-none [] = refl
       append-none (x ∷ xs) = ap (λ ys. x ∷ ys) (append-none xs)
+
+-- what is met at one more part
+pub parts-more : (shop : Shop) (number : ℕ) (parts : List Part) (part : Part) →
+    parts_visits shop number (parts ++ part ∷ []) ≡ parts_visits shop number parts ++ part_visits shop number part
+parts-more shop number [] part = append-nil (part_visits shop number part)
+parts-more shop number (p ∷ parts) part =
+    ap (λ v. part_visits shop number p ++ v) (parts-more shop number parts part)
+    ∙ sym (append_assoc (part_visits shop number p) (parts_visits shop number parts) (part_visits shop number part))
 
 -- the lists of a node, where no job is left
 pub whole-lists : (jobs : ℕ) (first last : List ℕ) (lists : Lists) → HasLists jobs first last lists →

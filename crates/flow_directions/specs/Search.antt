@@ -1,5 +1,5 @@
 -- The search for directions that prove a number: at which end it opens a node, and what it meets.
-use Rattle.std.specs.Prelude.{ℕ, zero, suc, ◌≡◌, ◌*◌, ◌<◌, ◌≤◌, ◌↔◌, min, Bool, cond, ◌||◌, ◌&&◌}
+use Rattle.std.specs.Prelude.{ℕ, zero, suc, ◌≡◌, ◌*◌, ◌<◌, ◌≤◌, ◌↔◌, min, All, Bool, cond, ◌||◌, ◌&&◌}
 use Rattle.std.specs.Prelude.{nat_eq, nat_lt, nat_le, List, [], ◌∷◌, ◌++◌, length, filter, sum_by, Option, Some, None}
 use Rattle.std.specs.List.{flat_map}
 use Rattle.flow_shop.specs.Shop.{Shop}
@@ -12,6 +12,10 @@ use Rattle.flow_shop.specs.declared.end.End.TheVariants.{Front, Back}
 use Rattle.flow_nodes.specs.Groups.{child_bound}
 use Rattle.flow_directions.specs.declared.found.Found.{Found}
 use Rattle.flow_directions.specs.declared.found.Found.TheVariants.{Proved, Below, Over}
+use Rattle.flow_directions.specs.declared.found.Advanced.{Advanced}
+use Rattle.flow_directions.specs.declared.found.Advanced.TheVariants as advanced
+use Rattle.flow_directions.specs.declared.found.Part.{Part}
+use Rattle.flow_directions.specs.declared.found.Part.TheVariants.{Node, Children}
 
 -- the jobs left whose children at an end are below a number, in increasing order
 abbrev pub jobs_below : Shop → ℕ → End → List ℕ → List ℕ → List ℕ
@@ -94,6 +98,27 @@ abbrev pub visits : Shop → ℕ → List ℕ → List ℕ → List Visit
 visits shop number first last =
     visits_with shop number (length (jobs_left shop.jobs (first ++ last))) first last
 
+-- what the search meets at the child of a node that puts a job at an end
+abbrev pub child_visits : Shop → ℕ → End → List ℕ → List ℕ → ℕ → List Visit
+child_visits shop number end first last job = visits shop number (first_with end first job) (last_with end last job)
+
+-- what the search meets at a part: at its node, or at these children of its node, one after the other
+abbrev pub part_visits : Shop → ℕ → Part → List Visit
+part_visits shop number (Node first last) = visits shop number first.items last.items
+part_visits shop number (Children first last end jobs) =
+    flat_map (child_visits shop number end first.items last.items) jobs.items
+
+-- what it meets at some parts, one after the other
+abbrev pub parts_visits : Shop → ℕ → List Part → List Visit
+parts_visits shop number parts = flat_map (part_visits shop number) parts
+
+-- a part of an instance: its lists have distinct jobs; its children put distinct jobs, and none that its lists have
+abbrev pub IsPart : Shop → Part → Type 0
+IsPart shop (Node first last) = AreJobs shop.jobs (first.items ++ last.items)
+IsPart shop (Children first last end jobs) =
+    AreJobs shop.jobs (first.items ++ last.items) × AreJobs shop.jobs jobs.items
+    × All (λ job. AreJobs shop.jobs (first_with end first.items job ++ last_with end last.items job)) jobs.items
+
 -- the signs of the nodes that are opened before a sequence is reached
 abbrev pub signs : List Visit → List ℕ
 signs [] = []
@@ -105,6 +130,10 @@ abbrev pub first_reached : List Visit → Option (List ℕ)
 first_reached [] = None
 first_reached (opens end ∷ more) = first_reached more
 first_reached (reaches jobs ∷ more) = Some jobs
+
+-- what is met has these signs first; then come the signs, and the first sequence reached, of what is met further on
+abbrev pub Continues : List Visit → List ℕ → List Visit → Type 0
+Continues met text more = (signs met ≡ text ++ signs more) × (first_reached met ≡ first_reached more)
 
 -- the directions that the search writes for a node: all, or those before the first sequence below the number
 abbrev pub directions_of : Shop → ℕ → List ℕ → List ℕ → List ℕ
@@ -164,6 +193,19 @@ IsFound shop number budget first last (Below sequence makespan directions) =
     (first_below shop number first last ≡ Some sequence) × (makespan ≡ span shop sequence)
     × (directions ≡ length (directions_of shop number first last)) × (directions ≤ budget)
 IsFound shop number budget first last Over = budget < length (directions_of shop number first last)
+
+-- What a search of a node came to, with a budget of directions. `Proved` and `Below`: what it found, with the directions
+-- that it wrote. `Rest`: it is over its budget; these are the first directions, as many as the budget, and it goes on
+-- with these parts, one after the other.
+abbrev pub IsAdvanced : Shop → ℕ → ℕ → List ℕ → List ℕ → Advanced → Type 0
+IsAdvanced shop number budget first last (advanced.Proved text) = IsFound shop number budget first last (Proved text)
+IsAdvanced shop number budget first last (advanced.Below sequence makespan directions) =
+    IsFound shop number budget first last (Below sequence makespan (length directions.items))
+    × (directions.items ≡ directions_of shop number first last)
+IsAdvanced shop number budget first last (advanced.Rest text parts) =
+    IsFound shop number budget first last Over × (length text.items ≡ budget)
+    × Continues (visits shop number first last) text.items (parts_visits shop number parts.items)
+    × All (IsPart shop) parts.items
 
 -- what this shows: the directions prove the number for the node; or a sequence of the node is below the number
 abbrev pub Shows : Shop → ℕ → List ℕ → List ℕ → Found → Type 0

@@ -1,3 +1,4 @@
+pub mod Left
 pub mod Words
 pub mod Lists
 pub mod Packs

@@ -1,18 +1,18 @@
 //! The search for directions that prove a number for a node.
 
 ghost use Rattle.std.specs.Prelude.{◌≡◌, ◌↔◌, ℕ, ◌≤◌, ◌<◌, min, All, Err, List, ◌++◌, length, slice_index_or};
-ghost use Rattle.std.specs.Prelude.{IfOk, IfErr};
+ghost use Rattle.std.specs.Prelude.{IfOk, IfErr, OnOk};
 ghost use Rattle.flow_limits.specs.Limits.{most_jobs};
 ghost use Rattle.flow_shop.specs.Sequences.{AreJobs, IsSequence};
 ghost use Rattle.flow_shop.specs.Ends.{end_bound};
-ghost use Rattle.flow_directions.specs.Search.{IsFound, Shows};
+ghost use Rattle.flow_directions.specs.Search.{IsAdvanced, IsFound, Shows};
 ghost use Rattle.flow_directions.specs.internal.Packs.{HasRoom};
 ghost use Rattle.flow_directions.specs.internal.Reached.{IsSequenceAfter};
 ghost use Rattle.flow_directions.specs.internal.Start.{IsStart};
 ghost use Rattle.flow_directions.specs.declared.found.ProveFault.TheVariants.{Jobs, Memory};
 
 use crate::branch::Branch;
-use crate::found::{Found, ProveFault};
+use crate::found::{Advanced, Found, ProveFault};
 use crate::pack::Pack;
 use crate::start::Start;
 use crate::walk::{Aim, Stop, Written, search};
@@ -54,20 +54,20 @@ fn packs_for<V: Lanes>(
     Ok(packs)
 }
 
-/// The sequence of jobs that are known to be one, with its makespan; it was reached after so many directions.
+/// The sequence of jobs that are known to be one, with its makespan; it was reached after these directions.
 fn sequence_of(
     alloc: Global,
     instance: &Instance,
     jobs: &[u16],
-    directions: u64,
-) -> Result<Found, ProveFault>
+    directions: Vec<u8>,
+) -> Result<Advanced, ProveFault>
     requires { IsSequence instance.now.jobs jobs.now }
     ensures fault { IfErr result (λ fault. fault ≡ Memory) }
-    ensures found { IfOk result (λ found. IsSequenceAfter instance.now jobs.now directions found) }
+    ensures found { IfOk result (λ found. IsSequenceAfter instance.now jobs.now directions.items found) }
 {
     let sequence = Sequence::of_known(alloc, jobs)?;
     let makespan = makespan(instance, &sequence);
-    Ok(Found::Below {
+    Ok(Advanced::Below {
         sequence,
         makespan,
         directions,
@@ -81,7 +81,7 @@ fn run<V: Lanes>(
     start: Start,
     number: u64,
     budget: u64,
-) -> Result<Found, ProveFault>
+) -> Result<Advanced, ProveFault>
     requires wide { V.WIDTH ≡ 16 }
     requires cap { min number 4294967295 ≤ V.CAP }
     requires some { 1 ≤ start.left }
@@ -89,7 +89,7 @@ fn run<V: Lanes>(
         × (end_bound instance.now first last < number) }
     ensures found { (first last : List ℕ) → IsStart instance.now first last start →
         end_bound instance.now first last < number →
-        IfOk result (λ found. IsFound instance.now number budget first last found) }
+        IfOk result (λ found. IsAdvanced instance.now number budget first last found) }
     ensures fault { IfErr result (λ fault. fault ≡ Memory) }
 {
     let mut packs = packs_for::<V>(alloc, instance, start.left)?;
@@ -102,10 +102,12 @@ fn run<V: Lanes>(
         number,
         limit: number.min(ABOVE_BOUNDS) as u32,
         budget,
+        alloc,
     };
     let left = start.left;
     let mut written = Written {
         directions: Vec::new(alloc),
+        rest: Vec::new(alloc),
         lists: start.lists,
     };
     match search(
@@ -116,13 +118,49 @@ fn run<V: Lanes>(
         &branch,
         left,
     ) {
-        Ok(()) => Ok(Found::Proved(written.directions)),
+        Ok(()) => Ok(Advanced::Proved(written.directions)),
         Err(Stop::Below) => {
-            let count = written.directions.len() as u64;
-            sequence_of(alloc, instance, written.lists.all(), count)
+            let Written {
+                directions,
+                lists,
+                ..
+            } = written;
+            sequence_of(alloc, instance, lists.all(), directions)
         }
-        Err(Stop::Over) => Ok(Found::Over),
+        Err(Stop::Over) => Ok(Advanced::Rest {
+            directions: written.directions,
+            parts: written.rest,
+        }),
         Err(Stop::Memory) => Err(ProveFault::Memory),
+    }
+}
+
+/// Searches a node for directions that prove that none of its sequences has a makespan below a number, as `prove` does,
+/// and where it is over its budget says with which parts it goes on. `Jobs` where the lists have a job that is not one
+/// of the instance, or one twice; `Memory` where memory ran out.
+pub fn advance(
+    alloc: Global,
+    instance: &Instance,
+    first: &[u16],
+    last: &[u16],
+    number: u64,
+    budget: u64,
+) -> Result<Advanced, ProveFault>
+    ensures advanced { IfOk result (λ found. IsAdvanced instance.now number budget first.now last.now found) }
+    ensures jobs { OnOk result (AreJobs instance.now.jobs (first.now ++ last.now)) }
+    ensures refused { (result ≡ Err Jobs) ↔ (AreJobs instance.now.jobs (first.now ++ last.now) → ⊥) }
+{
+    let start = Start::new(alloc, instance, first, last)?;
+    if u64::from(start.node.bound(instance)) >= number {
+        return Ok(Advanced::Proved(Vec::new(alloc)));
+    }
+    if start.left == 0 {
+        return sequence_of(alloc, instance, start.lists.all(), Vec::new(alloc));
+    }
+    if number <= NARROW {
+        run::<u16x16>(alloc, instance, start, number, budget)
+    } else {
+        run::<u32x16>(alloc, instance, start, number, budget)
     }
 }
 
@@ -143,16 +181,17 @@ pub fn prove(
     ensures shown { IfOk result (λ found. Shows instance.now number first.now last.now found) }
     ensures refused { (result ≡ Err Jobs) ↔ (AreJobs instance.now.jobs (first.now ++ last.now) → ⊥) }
 {
-    let start = Start::new(alloc, instance, first, last)?;
-    if u64::from(start.node.bound(instance)) >= number {
-        return Ok(Found::Proved(Vec::new(alloc)));
-    }
-    if start.left == 0 {
-        return sequence_of(alloc, instance, start.lists.all(), 0);
-    }
-    if number <= NARROW {
-        run::<u16x16>(alloc, instance, start, number, budget)
-    } else {
-        run::<u32x16>(alloc, instance, start, number, budget)
+    match advance(alloc, instance, first, last, number, budget)? {
+        Advanced::Proved(directions) => Ok(Found::Proved(directions)),
+        Advanced::Below {
+            sequence,
+            makespan,
+            directions,
+        } => Ok(Found::Below {
+            sequence,
+            makespan,
+            directions: directions.len() as u64,
+        }),
+        Advanced::Rest { .. } => Ok(Found::Over),
     }
 }

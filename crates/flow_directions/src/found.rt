@@ -3,9 +3,32 @@
 ghost use Rattle.std.specs.Prelude.{◌≡◌};
 ghost use Rattle.flow_directions.specs.declared.found.ProveFault.TheVariants.{Memory};
 
-use flow_shop::Sequence;
+use flow_shop::{End, Sequence};
 use std::alloc::AllocError;
 use thiserror::Error;
+
+/// A part of a search.
+#[derive(Debug, PartialEq, Eq, Drop)]
+pub enum Part {
+    /// The node of two lists: its sequences begin with the first one, and end with the last one.
+    Node {
+        /// The first list.
+        first: Vec<u16>,
+        /// The last list.
+        last: Vec<u16>,
+    },
+    /// Some children of a node, one after the other.
+    Children {
+        /// The first list of the node.
+        first: Vec<u16>,
+        /// Its last list.
+        last: Vec<u16>,
+        /// The end at which each child puts a job.
+        end: End,
+        /// These jobs.
+        jobs: Vec<u16>,
+    },
+}
 
 /// What a search for directions found.
 #[derive(Debug, PartialEq, Eq, Drop)]
@@ -24,6 +47,29 @@ pub enum Found {
     },
     /// There are more directions than the budget, in all or before the first sequence below the number.
     Over,
+}
+
+/// What a search of a node came to.
+#[derive(Debug, PartialEq, Eq, Drop)]
+pub enum Advanced {
+    /// Directions that prove the number, as those of `Found`.
+    Proved(Vec<u8>),
+    /// The first sequence of the node, in the order of the search, whose makespan is below the number.
+    Below {
+        /// The sequence.
+        sequence: Sequence,
+        /// Its makespan.
+        makespan: u64,
+        /// The directions that the search wrote before it.
+        directions: Vec<u8>,
+    },
+    /// There are more directions than the budget, in all or before the first sequence below the number.
+    Rest {
+        /// The first directions, as many as the budget.
+        directions: Vec<u8>,
+        /// The parts with which the search goes on, one after the other.
+        parts: Vec<Part>,
+    },
 }
 
 /// Why nothing was found.

@@ -10,10 +10,12 @@ mod laws;
 mod lists;
 mod open;
 mod pack;
+mod prover;
 mod start;
 mod walk;
 mod words;
 
-pub use directions::prove;
-pub use found::{Found, ProveFault};
+pub use directions::{advance, prove};
+pub use found::{Advanced, Found, Part, ProveFault};
 pub use laws::{directions_by_children, directions_prove, search_reaches_what_is_below};
+pub use prover::{Alone, News, Prover};

@@ -1,6 +1,6 @@
 //! The lists of a node: the first one at the beginning of an array, and the last one at its end.
 
-ghost use Rattle.std.specs.Prelude.{◌≡◌, ℕ, ◌+◌, ◌<◌, List, [], ◌++◌, length, IfOk};
+ghost use Rattle.std.specs.Prelude.{◌≡◌, ℕ, ◌+◌, ◌<◌, ◌≤◌, List, [], ◌++◌, length, IfOk};
 ghost use Rattle.flow_shop.specs.Directions.{first_with, last_with};
 ghost use Rattle.flow_directions.specs.internal.Lists.{HasLists};
 
@@ -63,6 +63,22 @@ impl Lists {
             End::Front => self.first -= 1,
             End::Back => self.last -= 1,
         }
+    }
+
+    /// The first list.
+    pub(crate) fn begin(&self) -> &[u16]
+        requires { self.now.first ≤ length self.now.jobs.items }
+        ensures { (jobs : ℕ) (first last : List ℕ) → HasLists jobs first last self.now → result.now ≡ first }
+    {
+        &self.jobs[..self.first]
+    }
+
+    /// The last list.
+    pub(crate) fn end(&self) -> &[u16]
+        requires { self.now.last ≤ length self.now.jobs.items }
+        ensures { (jobs : ℕ) (first last : List ℕ) → HasLists jobs first last self.now → result.now ≡ last }
+    {
+        &self.jobs[self.jobs.len() - self.last..]
     }
 
     /// The jobs, where the lists have all of them.

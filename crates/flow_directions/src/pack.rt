@@ -37,6 +37,20 @@ impl<V: Lanes> Pack<V> {
         Ok(Pack { groups, names })
     }
 
+    /// The jobs at marked places, in order.
+    pub(crate) fn jobs(&self, alloc: Global, marks: &Words) -> Result<Vec<u16>, AllocError>
+        requires few { length self.now.groups.items ≤ 50 }
+        requires names { length self.now.names.items ≡ length self.now.groups.items * 16 }
+        ensures { IfOk result (λ jobs. jobs.items ≡ jobs_at self.now marks.now) }
+    {
+        let mut rest = *marks;
+        let mut jobs = Vec::new(alloc);
+        'places: while let Some(place) = rest.pop(self.groups.len()) {
+            jobs.push(self.names[place])?;
+        }
+        Ok(jobs)
+    }
+
     /// Writes the times of the jobs named.
     pub(crate) fn load(&mut self, instance: &Instance)
         requires wide { V.WIDTH ≡ 16 }

@@ -1,17 +1,22 @@
 //! The walk through the nodes that the search opens.
 
-ghost use Rattle.std.specs.Prelude.{◌≡◌, ℕ, ◌≤◌, List, length, min, All};
+ghost use Rattle.std.specs.Prelude.{◌≡◌, ℕ, ◌≤◌, List, [], length, min, All, IfOk};
 ghost use Rattle.flow_shop.specs.Directions.{sign};
+ghost use Rattle.flow_directions.specs.internal.Lists.{HasLists};
 ghost use Rattle.flow_directions.specs.internal.Packs.{HasRoom};
+ghost use Rattle.flow_directions.specs.internal.Left.{IsNodeLeft, AreChildrenLeft};
 ghost use Rattle.flow_directions.specs.internal.Walk.{Ends, IsAt, KeepsPacks};
+ghost use Rattle.flow_directions.specs.declared.walk.Stop.TheVariants.{Memory};
 
 use crate::branch::Branch;
+use crate::found::Part;
 use crate::lists::Lists;
 use crate::open::open;
 use crate::pack::Pack;
 use crate::words::Words;
 use flow_nodes::Lanes;
 use flow_shop::{End, Instance};
+use std::alloc::{AllocError, Global};
 
 /// What a search is to prove, and with how much.
 #[derive(Clone, Copy)]
@@ -22,13 +27,17 @@ pub(crate) struct Aim {
     pub(crate) limit: u32,
     /// The most directions.
     pub(crate) budget: u64,
+    /// Where the memory for what is left comes from.
+    pub(crate) alloc: Global,
 }
 
-/// What a search wrote, and where it stands.
+/// What a search wrote, where it stands, and what it left.
 #[derive(Drop)]
 pub(crate) struct Written {
     /// The directions.
     pub(crate) directions: Vec<u8>,
+    /// The parts with which the search goes on, where it is over its budget.
+    pub(crate) rest: Vec<Part>,
     /// The lists of the node at which it stands.
     pub(crate) lists: Lists,
 }
@@ -42,6 +51,51 @@ pub(crate) enum Stop {
     Over,
     /// Memory ran out.
     Memory,
+}
+
+impl From<AllocError> for Stop {
+    ghost from_gives = { λ _ stop. stop ≡ Memory };
+
+    fn from(_error: AllocError) -> Stop {
+        Stop::Memory
+    }
+}
+
+impl Written {
+    /// Leaves the node at which the search stands.
+    #[inline(never)]
+    fn leave_node(&mut self, alloc: Global) -> Result<(), AllocError>
+        requires { (jobs : ℕ) × (first : List ℕ) × (last : List ℕ) × HasLists jobs first last self.old.lists }
+        ensures directions { self.new.directions ≡ self.old.directions }
+        ensures lists { self.new.lists ≡ self.old.lists }
+        ensures rest { (jobs : ℕ) (first last : List ℕ) → HasLists jobs first last self.old.lists →
+            IfOk result (λ _. IsNodeLeft first last self.old.rest.items self.new.rest.items) }
+    {
+        let first = Vec::from_slice(alloc, self.lists.begin())?;
+        let last = Vec::from_slice(alloc, self.lists.end())?;
+        self.rest.push(Part::Node { first, last })?;
+        Ok(())
+    }
+
+    /// Leaves some children of the node at which the search stands.
+    #[inline(never)]
+    fn leave_children(&mut self, alloc: Global, end: End, jobs: Vec<u16>) -> Result<(), AllocError>
+        requires { (count : ℕ) × (first : List ℕ) × (last : List ℕ) × HasLists count first last self.old.lists }
+        ensures directions { self.new.directions ≡ self.old.directions }
+        ensures lists { self.new.lists ≡ self.old.lists }
+        ensures rest { (count : ℕ) (first last : List ℕ) → HasLists count first last self.old.lists →
+            IfOk result (λ _. AreChildrenLeft first last end jobs.items self.old.rest.items self.new.rest.items) }
+    {
+        let first = Vec::from_slice(alloc, self.lists.begin())?;
+        let last = Vec::from_slice(alloc, self.lists.end())?;
+        self.rest.push(Part::Children {
+            first,
+            last,
+            end,
+            jobs,
+        })?;
+        Ok(())
+    }
 }
 
 /// The sign of an end.
@@ -68,6 +122,8 @@ pub(crate) fn search<V: Lanes>(
     requires limit { aim.limit ≡ min aim.number 4294967295 }
     requires cap { aim.limit ≤ V.CAP }
     requires some { 1 ≤ left }
+    requires within { length written.old.directions.items ≤ aim.budget }
+    requires rest { written.old.rest.items ≡ [] }
     requires packs { All (λ pack. HasRoom instance.now pack) packs.old }
     requires few { 1 ≤ length packs.old }
     requires at { (first : List ℕ) × (last : List ℕ)
@@ -88,6 +144,7 @@ pub(crate) fn search<V: Lanes>(
         return search(instance, aim, written, deeper, &packed, left);
     }
     if written.directions.len() as u64 >= aim.budget {
+        written.leave_node(aim.alloc)?;
         return Err(Stop::Over);
     }
     let opened = open(instance, &packs[0], branch, aim.limit);
@@ -104,10 +161,16 @@ pub(crate) fn search<V: Lanes>(
         }
         let child = branch.child(instance, opened.end, place, job);
         match search(instance, aim, written, packs, &child, left - 1) {
-            Err(stop) => return Err(stop),
-            Ok(()) => {}
+            Ok(()) => written.lists.take(opened.end),
+            Err(Stop::Over) => {
+                written.lists.take(opened.end);
+                let jobs = packs[0].jobs(aim.alloc, &below)?;
+                written.leave_children(aim.alloc, opened.end, jobs)?;
+                return Err(Stop::Over);
+            }
+            Err(Stop::Below) => return Err(Stop::Below),
+            Err(Stop::Memory) => return Err(Stop::Memory),
         }
-        written.lists.take(opened.end);
     }
     Ok(())
 }

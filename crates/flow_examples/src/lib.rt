@@ -34,6 +34,8 @@ mod searches;
 #[cfg(test)]
 mod shops;
 #[cfg(test)]
+mod small_budgets;
+#[cfg(test)]
 mod start_text;
 #[cfg(test)]
 mod starts;

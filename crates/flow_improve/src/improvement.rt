@@ -7,7 +7,7 @@ ghost use Rattle.flow_shop.specs.Sequences.{IsSequence};
 
 use crate::effort::Effort;
 use crate::reached::Reached;
-use crate::rounds::rounds;
+use crate::rounds::rounds_from;
 use crate::two_ended::beam;
 use flow_bound::taillard_bound;
 use flow_shop::{Instance, Sequence, makespan};
@@ -36,9 +36,9 @@ pub fn rounds_of_both(
     let limits = effort
         .from_start()
         .none_if(is_done || beamed.sequence == *start);
-    let from_start = rounds(alloc, instance, start, &limits)?;
+    let from_start = rounds_from(alloc, instance, start, &limits)?;
     let limits = effort.from_beam().none_if(is_done || from_start.whole);
-    let from_beam = rounds(alloc, instance, &beamed.sequence, &limits)?;
+    let from_beam = rounds_from(alloc, instance, &beamed.sequence, &limits)?;
     let mut reached = from_beam.or_better(from_start);
     reached.whole = reached.whole || beamed.whole;
     Ok(reached)

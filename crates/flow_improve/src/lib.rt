@@ -14,4 +14,5 @@ mod two_ended;
 pub use effort::Effort;
 pub use improvement::{improve, rounds_of_both};
 pub use reached::Reached;
+pub use rounds::{RunLimits, rounds_from};
 pub use two_ended::{beam, beam_below};

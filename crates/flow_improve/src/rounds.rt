@@ -3,8 +3,8 @@
 ghost use Rattle.std.specs.Prelude.{◌≡◌, ◌<◌, ◌≤◌, length, IfOk};
 ghost use Rattle.flow_text.specs.Generator.{modulus};
 ghost use Rattle.flow_shop.specs.Paths.{span};
+ghost use Rattle.flow_shop.specs.Sequences.{IsSequence};
 ghost use Rattle.flow_improve.specs.internal.Rooms.{IsKnown, IsRunOf};
-ghost use Rattle.flow_improve.specs.internal.Reaches.{IsReached};
 
 use crate::reached::Reached;
 use crate::round::Rounds;
@@ -98,12 +98,13 @@ impl Run {
 
 /// When rounds end, and the seed of their random numbers.
 #[derive(Clone, Copy)]
-pub(crate) struct RunLimits {
+pub struct RunLimits {
     /// The most rounds.
-    pub(crate) rounds: u32,
-    pub(crate) seed: u32,
+    pub rounds: u32,
+    /// The seed of the random numbers.
+    pub seed: u32,
     /// How many steps end the rounds: the round that reaches them is the last.
-    pub(crate) work: u64,
+    pub work: u64,
 }
 
 impl RunLimits {
@@ -119,8 +120,9 @@ impl RunLimits {
     }
 }
 
-/// The best sequence of rounds from a start. They also end where one has Taillard's lower bound.
-pub(crate) fn rounds(
+/// The best sequence of rounds from a start, and its makespan, which is at most that of the start. The rounds also end
+/// where one has Taillard's lower bound.
+pub fn rounds_from(
     alloc: Global,
     instance: &Instance,
     start: &Sequence,
@@ -129,7 +131,8 @@ pub(crate) fn rounds(
     requires start { length start.now ≡ instance.now.jobs }
     requires seed_from { 1 ≤ limits.now.seed }
     requires seed_to { limits.now.seed < modulus }
-    ensures reached { IfOk result (IsReached instance.now) }
+    ensures each { IfOk result (λ reached. IsSequence instance.now.jobs reached.sequence) }
+    ensures value { IfOk result (λ reached. reached.value ≡ span instance.now reached.sequence) }
     ensures least { IfOk result (λ reached. reached.value ≤ span instance.now start.now) }
 {
     let least = taillard_bound(instance);

@@ -39,7 +39,7 @@ fn greatest_shop_is_shown(rt: HostRuntime) -> Result<(), Fail> {
             .count(),
         20_801
     );
-    let picture = timetable_picture(alloc, &instance, &sequence)?;
+    let picture = timetable_picture(alloc, &instance, &sequence, None)?;
     assert!(rt; picture.len() < 8_000_000);
     Ok(())
 }

@@ -8,8 +8,8 @@ use crate::schedules::{TABLE, is_picture};
 use flow_check::CheckFault;
 use flow_commands::{
     CertifyRequest, CheckRequest, CommandFault, ImproveRequest, ScheduleForm, SolveRequest,
-    run_certify, run_check, run_check_as, run_gen, run_improve, run_neh, run_schedule, run_solve,
-    run_solve_as, run_span,
+    Unwatched, run_certify, run_check, run_check_as, run_gen, run_improve, run_neh, run_schedule,
+    run_solve, run_solve_as, run_span,
 };
 use flow_core::{MemorySink, MemorySource, StartFault};
 use flow_examples::{
@@ -50,6 +50,16 @@ const TEN_JOBS_TEXT: &[u8] = b"a\n10 6 42 0 0\nb\n1 52 73 27 38 20 97 51 53 26\n
 const BOUNDS_OF_TEN_JOBS: &[u8] =
     b"flowshop two-ended 1\n10 6\n623 677\n6 1 5 10 8 3 4 7 9 2\n-\nend\n";
 
+/// Five jobs with the times 1 and 1, and one with 10 and 10.
+const ONE_LONG_JOB_TEXT: &[u8] = b"a\n6 2 0 0 0\nb\n1 1 1 1 1 10\n1 1 1 1 1 10\n";
+
+/// All its sequences have the makespan 25. The directions have a plus for each list of distinct short jobs.
+const BY_TWO_WORKERS: &[u8] = b"flowshop two-ended 1\n6 2\n25 25\n5 4 3 2 1 6\n\
+++++++++++++++++++++++++++++++++++++++++++++++++++++++++++++++++++++++++++++++++++++++++++++++++++++\
+++++++++++++++++++++++++++++++++++++++++++++++++++++++++++++++++++++++++++++++++++++++++++++++++++++\
+++++++++++++++++++++++++++++++++++++++++++++++++++++++++++++++++++++++++++++++++++++++++++++++++++++\
+++++++++++++++++++++++++++\nend\n";
+
 /// What is printed for a certificate whose sequence is asked for.
 const CHECKED_LINES: &[u8] = b"sequence 3 1 2\nmakespan 12\n";
 
@@ -73,12 +83,14 @@ const SOME_ROUNDS: ImproveRequest = ImproveRequest {
 const PROVED: CertifyRequest = CertifyRequest {
     improve: NO_ROUND,
     directions: 1_000,
+    workers: 1,
 };
 
 /// Bounds by fifty directions, with a little of a beam and a few rounds.
 const BOUNDED: CertifyRequest = CertifyRequest {
     improve: SOME_ROUNDS,
     directions: 50,
+    workers: 1,
 };
 
 /// `solve` with two workers at depth 0.
@@ -163,7 +175,7 @@ pub(crate) struct Run {
 }
 
 /// All runs.
-pub(crate) static RUNS: [Run; 22] = [
+pub(crate) static RUNS: [Run; 23] = [
     Run {
         name: "run_span",
         text: TWO_MACHINES_TEXT,
@@ -212,6 +224,16 @@ pub(crate) static RUNS: [Run; 22] = [
         beside: None,
         command: Command::OfStart(OfStart::Certify(BOUNDED)),
         wanted: Wanted::Text(BOUNDS_OF_TEN_JOBS),
+    },
+    Run {
+        name: "run_certify by two workers",
+        text: ONE_LONG_JOB_TEXT,
+        beside: None,
+        command: Command::OfStart(OfStart::Certify(CertifyRequest {
+            workers: 2,
+            ..PROVED
+        })),
+        wanted: Wanted::Text(BY_TWO_WORKERS),
     },
     Run {
         name: "run_solve",
@@ -378,7 +400,11 @@ fn ran_of_start<T: Threads + Wait + Sync>(
     let mut start = all_of_any(run.beside);
     match command {
         OfStart::Improve => run_improve(alloc, &mut file, 1, &mut start, NO_ROUND, out),
-        OfStart::Certify(request) => { run_certify(alloc, &mut file, 1, &mut start, *request, out) }
+        OfStart::Certify(request) => {
+            run_certify(
+                threads, alloc, &mut file, 1, &mut start, *request, &Unwatched, out,
+            )
+        }
         OfStart::SolveAs(request) => run_solve_as(
             threads, alloc, &mut file, 1, &mut start, *request, &Open, out,
         ),

@@ -10,8 +10,8 @@ pub(crate) const TABLE: &[u8] =
     b"job,machine,start,end\n2,1,0,1\n2,2,1,5\n3,1,1,3\n3,2,5,7\n1,1,3,6\n1,2,7,9\n";
 
 /// The end of the picture of the instance with three machines in the order 3 1 2.
-const LAST_BAR: &[u8] =
-    b"<title>job 2, machine 2, start 4, end 12</title></rect>\n<text x=\"73000\" y=\"8950\">2</text>\n</g></svg>\n";
+const LAST_BAR: &[u8] = b"<title>job 2, machine 2, start 4, end 12</title></rect>\n\
+<text x=\"72960\" y=\"10760\" fill=\"#ffffff\">2</text>\n</g></svg>\n";
 
 /// When the last of these operations ends.
 fn last_end(operations: &[Operation]) -> u64 {
@@ -39,6 +39,6 @@ pub(crate) fn is_picture(bytes: &[u8]) -> bool {
 /// `timetable_picture` of the instance with three machines.
 pub(crate) fn picture_is_made(alloc: Global, three: &Instance) -> Result<bool, CommandFault> {
     let sequence = Sequence::new(alloc, three, &[3, 1, 2])?;
-    let picture = timetable_picture(alloc, three, &sequence)?;
+    let picture = timetable_picture(alloc, three, &sequence, None)?;
     Ok(is_picture(picture.as_slice()))
 }

@@ -3,7 +3,7 @@
 use flow_certify::{Certified, certify};
 use flow_commands::CommandFault;
 use flow_core::{Instance, Sequence};
-use flow_directions::{Found, ProveFault, prove};
+use flow_directions::{Alone, Found, ProveFault, prove};
 use flow_examples::{AMPLE, TIGHT, TREES_AT_DEPTH_1, all_outcomes, is_verdict};
 use flow_improve::Effort;
 use flow_pool::SolveFault;
@@ -115,9 +115,9 @@ fn is_certified(found: &Certified, lower: u64, directions: &[u8]) -> bool {
 /// direction the bounds are 10, by no direction, and 12, by a sequence with that makespan.
 pub(crate) fn bounds_are_found(alloc: Global, three: &Instance) -> Result<bool, CommandFault> {
     let start = Sequence::new(alloc, three, &[2, 1, 3])?;
-    let least = certify(alloc, three, &start, &NO_EFFORT, 100)?;
+    let least = certify(alloc, &Alone, three, &start, &NO_EFFORT, 100)?;
     let start = Sequence::new(alloc, three, &[3, 1, 2])?;
-    let bounds = certify(alloc, three, &start, &NO_EFFORT, 1)?;
+    let bounds = certify(alloc, &Alone, three, &start, &NO_EFFORT, 1)?;
     Ok(is_certified(&least, 12, b"++") && is_certified(&bounds, 10, b""))
 }
 

@@ -35,6 +35,8 @@ pub struct CertifyRequest {
     pub improve: ImproveRequest,
     /// The most directions of a proof.
     pub directions: u32,
+    /// The number of workers.
+    pub workers: u32,
 }
 
 /// Which texts are accepted, and what is printed.

@@ -4,6 +4,7 @@
 use crate::searches::{ANY, start_of};
 use flow_certify::{Certified, certify};
 use flow_core::{Instance, generate};
+use flow_directions::Alone;
 use flow_improve::Effort;
 use std::alloc::Global;
 
@@ -89,7 +90,7 @@ fn holds(alloc: Global, row: &Row) -> bool {
     let Some(start) = start_of(alloc, &instance, start) else {
         return false;
     };
-    match certify(alloc, &instance, &start, &NO_EFFORT, most) {
+    match certify(alloc, &Alone, &instance, &start, &NO_EFFORT, most) {
         Ok(found) => comes_to(&found, lower, upper, directions),
         Err(_) => false,
     }
@@ -121,7 +122,7 @@ fn proves(alloc: Global, drawn: &Drawn) -> bool {
     let Some(start) = start_of(alloc, &instance, ANY) else {
         return false;
     };
-    match certify(alloc, &instance, &start, &SOME_EFFORT, 1_000_000) {
+    match certify(alloc, &Alone, &instance, &start, &SOME_EFFORT, 1_000_000) {
         Ok(found) => comes_to(&found, least, least, directions),
         Err(_) => false,
     }

@@ -1,9 +1,10 @@
 -- Round numbers, and the step of the ticks.
-use Rattle.std.proofs.Common.{◌≡◌, ◌∙◌, ◌⊎◌, inl, inr, ℕ, ◌+◌, ◌*◌, ◌^◌, ◌<◌, ◌≤◌, refl, ap, sym, arith}
-use Rattle.std.proofs.Math.Nat.{one-le-pow, pow-le-pow_right}
-use Rattle.std.proofs.lemmas.Grind.{pow_more}
+use Rattle.std.proofs.Common.{◌≡◌, ◌∙◌, ◌⊎◌, inl, inr, ℕ, ◌+◌, ◌*◌, ◌^◌, ◌<◌, ◌≤◌, ap, sym, arith}
+use Rattle.std.proofs.Math.Nat.{one-le-pow, pow-le-pow_right, mul-le-mul_right, lt_of_mul-lt-mul_right, le_trans}
+use Rattle.std.proofs.lemmas.Grind.{pow_more, div_ceil_times}
+use Rattle.std.specs.Int.{div_ceil}
 use Rattle.std.proofs.lemmas.Bool.{cases_lt}
-use Rattle.flow_schedule.specs.Scale.{IsRound, IsTickStep}
+use Rattle.flow_schedule.specs.Scale.{IsRound, IsRoundUp, IsTickStep}
 
 -- a greater exponent gives at least ten times the power
 power-up : (j k : ℕ) → j < k → 10 * 10 ^ j ≤ 10 ^ k
@@ -50,24 +51,24 @@ round-next number k round above = elim (powers round.exponent k) [
   ]
 ]
 
--- a power of ten of which twelve are below the makespan, or 1
-pub record IsUnit (makespan unit : ℕ) : Type 0 where
+-- a power of ten below the number, or 1
+pub record IsUnit (number unit : ℕ) : Type 0 where
   pub exponent : ℕ
   pub power : unit ≡ 10 ^ exponent
-  pub below : (unit ≡ 1) ⊎ (12 * unit < makespan)
+  pub below : (unit ≡ 1) ⊎ (unit < number)
 
 -- the next unit
-pub unit-more : (makespan unit : ℕ) → IsUnit makespan unit → 120 * unit < makespan → IsUnit makespan (unit * 10)
-unit-more makespan unit is low = record {
+pub unit-more : (number unit : ℕ) → IsUnit number unit → 10 * unit < number → IsUnit number (unit * 10)
+unit-more number unit is low = record {
   exponent = is.exponent + 1;
   power = ap (λ n. n * 10) is.power ∙ sym (pow_more 10 is.exponent);
   below = inr (omega arith);
 }
 
 -- the unit is the step
-pub step-one : (makespan unit : ℕ) → IsUnit makespan unit → makespan ≤ 12 * unit → IsTickStep makespan unit
-step-one makespan unit is enough = record {
-  round = record { exponent = is.exponent; leading = inl is.power };
+pub step-one : (number unit : ℕ) → IsUnit number unit → number ≤ unit → IsRoundUp number unit
+step-one number unit is enough = record {
+  is = record { exponent = is.exponent; leading = inl is.power };
   enough = enough;
   least = λ other round reaches. elim is.below [
     | inl one ↦ let some = round-some other round in omega arith
@@ -76,10 +77,10 @@ step-one makespan unit is enough = record {
 }
 
 -- twice the unit is the step
-pub step-two : (makespan unit : ℕ) → IsUnit makespan unit → 12 * unit < makespan → makespan ≤ 24 * unit →
-    IsTickStep makespan (2 * unit)
-step-two makespan unit is low enough = record {
-  round = record { exponent = is.exponent; leading = inr (inl (ap (λ n. 2 * n) is.power)) };
+pub step-two : (number unit : ℕ) → IsUnit number unit → unit < number → number ≤ 2 * unit →
+    IsRoundUp number (2 * unit)
+step-two number unit is low enough = record {
+  is = record { exponent = is.exponent; leading = inr (inl (ap (λ n. 2 * n) is.power)) };
   enough = omega arith;
   least = λ other round reaches. elim (round-next other is.exponent round (omega (arith, is.power))) [
     | inl two ↦ omega (arith, is.power)
@@ -88,10 +89,10 @@ step-two makespan unit is low enough = record {
 }
 
 -- five times the unit is the step
-pub step-five : (makespan unit : ℕ) → IsUnit makespan unit → 24 * unit < makespan → makespan ≤ 60 * unit →
-    IsTickStep makespan (5 * unit)
-step-five makespan unit is low enough = record {
-  round = record { exponent = is.exponent; leading = inr (inr (ap (λ n. 5 * n) is.power)) };
+pub step-five : (number unit : ℕ) → IsUnit number unit → 2 * unit < number → number ≤ 5 * unit →
+    IsRoundUp number (5 * unit)
+step-five number unit is low enough = record {
+  is = record { exponent = is.exponent; leading = inr (inr (ap (λ n. 5 * n) is.power)) };
   enough = omega arith;
   least = λ other round reaches. elim (round-next other is.exponent round (omega (arith, is.power))) [
     | inl two ↦ absurd (omega (arith, is.power))
@@ -100,10 +101,10 @@ step-five makespan unit is low enough = record {
 }
 
 -- ten times the unit is the step
-pub step-ten : (makespan unit : ℕ) → IsUnit makespan unit → 60 * unit < makespan → makespan ≤ 120 * unit →
-    IsTickStep makespan (10 * unit)
-step-ten makespan unit is low enough = record {
-  round = record {
+pub step-ten : (number unit : ℕ) → IsUnit number unit → 5 * unit < number → number ≤ 10 * unit →
+    IsRoundUp number (10 * unit)
+step-ten number unit is low enough = record {
+  is = record {
     exponent = is.exponent + 1;
     leading = inl (omega (arith, is.power, pow_more 10 is.exponent));
   };
@@ -113,3 +114,23 @@ step-ten makespan unit is low enough = record {
     | inr more ↦ elim more [ inl five ↦ absurd (omega (arith, is.power)) | inr ten ↦ omega (arith, is.power) ]
   ];
 }
+
+-- a number of which so many reach the makespan is no smaller than the makespan divided by them
+ceil-least : (makespan steps other : ℕ) → 0 < steps → makespan ≤ other * steps → div_ceil makespan steps ≤ other
+ceil-least makespan steps other some reaches =
+    let bounds = div_ceil_times makespan steps some in
+    let more : (other + 1) * steps ≡ other * steps + steps = grind arith in
+    let below : div_ceil makespan steps * steps < (other + 1) * steps = omega (arith, bounds.1, more, reaches) in
+    let low : div_ceil makespan steps < other + 1 = lt_of_mul-lt-mul_right steps below in
+    omega (arith, low)
+
+-- what is rounded up to a round number is the step, where so many steps reach the makespan
+pub step-of : (makespan steps step : ℕ) → 0 < steps → IsRoundUp (div_ceil makespan steps) step →
+    IsTickStep makespan steps step
+step-of makespan steps step some rounded =
+    let bounds = div_ceil_times makespan steps some in
+    record {
+      round = rounded.is;
+      enough = le_trans bounds.0 (mul-le-mul_right steps rounded.enough);
+      least = λ other round reaches. rounded.least other round (ceil-least makespan steps other some reaches);
+    }

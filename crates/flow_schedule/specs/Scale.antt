@@ -1,27 +1,40 @@
 -- Where times and machines stand on the picture, in hundredths of a pixel, and the ticks of its time axis.
 use Rattle.std.specs.Prelude.{ℕ, ◌≡◌, ◌≤◌, ◌+◌, ◌-◌, ◌*◌, ◌/◌, ◌^◌, ◌⊎◌, max}
+use Rattle.flow_shop.specs.Shop.{Shop}
 
--- The makespan is 96000 units wide, and time 0 stands at 9000.
+-- how wide the makespan is drawn: 3600 units for each job and each machine, and no less than 96000
+abbrev pub breadth_of : Shop → ℕ
+breadth_of shop = max 96000 ((shop.jobs + shop.machines) * 3600)
 
--- where a time stands
-abbrev pub x_of : ℕ → ℕ → ℕ
-x_of makespan time = 9000 + time * 96000 / max 1 makespan
+-- where a time stands: time 0 at 9000
+abbrev pub x_of : ℕ → ℕ → ℕ → ℕ
+x_of breadth makespan time = 9000 + time * breadth / max 1 makespan
 
 -- where the bars of a machine begin: each row has 3000 units, of which a bar has 2400
 abbrev pub y_of : ℕ → ℕ
-y_of machine = 4300 + (machine - 1) * 3000
+y_of machine = 6200 + (machine - 1) * 3000
 
 -- where the rows of so many machines end
 abbrev pub bottom_of : ℕ → ℕ
-bottom_of machines = 4000 + machines * 3000
+bottom_of machines = 5900 + machines * 3000
 
 -- 1, 2 or 5 times a power of ten
 pub record IsRound (number : ℕ) : Type 0 where
   pub exponent : ℕ
   pub leading : (number ≡ 10 ^ exponent) ⊎ (number ≡ 2 * 10 ^ exponent) ⊎ (number ≡ 5 * 10 ^ exponent)
 
--- the time between two ticks of the axis: the least round number of which twelve reach the makespan
-pub record IsTickStep (makespan step : ℕ) : Type 0 where
+-- the least round number that is no smaller
+pub record IsRoundUp (number round : ℕ) : Type 0 where
+  pub is : IsRound round
+  pub enough : number ≤ round
+  pub least : (other : ℕ) → IsRound other → number ≤ other → round ≤ other
+
+-- how many steps the axis has at most: one for each 8000 units
+abbrev pub steps_of : ℕ → ℕ
+steps_of breadth = breadth / 8000
+
+-- the time between two ticks of the axis: the least round number of which so many reach the makespan
+pub record IsTickStep (makespan steps step : ℕ) : Type 0 where
   pub round : IsRound step
-  pub enough : makespan ≤ 12 * step
-  pub least : (other : ℕ) → IsRound other → makespan ≤ 12 * other → step ≤ other
+  pub enough : makespan ≤ step * steps
+  pub least : (other : ℕ) → IsRound other → makespan ≤ other * steps → step ≤ other

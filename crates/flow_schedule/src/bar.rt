@@ -2,9 +2,8 @@
 
 ghost use Rattle.std.specs.Prelude.{◌≡◌, ◌≤◌, ◌+◌, ◌*◌, ◌↔◌, ◌++◌, IsTrue, length, decimal, OnOk};
 ghost use Rattle.flow_limits.specs.Limits.{greatest_completion};
-ghost use Rattle.flow_schedule.specs.Scale.{x_of};
-ghost use Rattle.flow_schedule.specs.Picture.{width_of, colour, is_on_path, position_text, style_text};
-ghost use Rattle.flow_schedule.specs.Picture.{names_text, times_text, label_text, bar_text};
+ghost use Rattle.flow_schedule.specs.Picture.{width_of, colour, ink, is_on_path, position_text, outline_text};
+ghost use Rattle.flow_schedule.specs.Picture.{style_text, names_text, times_text, label_text, drawn_text, bar_text};
 
 use crate::operations::Operation;
 use crate::scale::{x_of, y_of};
@@ -13,19 +12,29 @@ use itoa::Buffer;
 use std::alloc::AllocError;
 
 /// The colours of the jobs, seven bytes each.
-const PALETTE: &[u8] = b"#0072B2#E69F00#009E73#F0E442#D55E00#56B4E9#CC79A7";
+const PALETTE: &[u8] = b"#004C7F#F0C800#8F2D00#7CC4F0#00594A#F2A65A#5B2A86#F2B6D2";
 
 /// How many bytes a colour has.
 const COLOUR: usize = 7;
 
 /// How many colours there are.
-const COLOURS: usize = 7;
+const COLOURS: usize = 8;
+
+/// How much of the room of a bar stays white at its right end, at most.
+const EDGE: u64 = 80;
 
 /// How wide a digit is, in the font of the bars.
-const DIGIT: u64 = 700;
+const DIGIT: u64 = 640;
 
 /// How much room a number needs beside its digits.
-const MARGIN: u64 = 200;
+const MARGIN: u64 = 160;
+
+/// How wide the bar of an operation is in its room.
+fn width_of(room: u64) -> u64
+    ensures { result ≡ width_of room }
+{
+    room - EDGE.min(room / 4)
+}
 
 /// The colour of the job at a place.
 #[tactic(auto, unfolding(crate::specs::Picture::palette))]
@@ -36,6 +45,17 @@ fn colour(place: u16) -> &'static [u8]
     let from = (place as usize - 1) % COLOURS * COLOUR;
     let palette = PALETTE;
     &palette[from..from + COLOUR]
+}
+
+/// The end of the opening tag of a label: white on a dark colour, and else black.
+fn ink(place: u16) -> &'static [u8]
+    ensures { result.now ≡ ink place }
+{
+    if place % 2 == 1 {
+        b"\" fill=\"#ffffff\">"
+    } else {
+        b"\">"
+    }
 }
 
 /// Whether a path, given by the last machine of each job, goes over an operation.
@@ -52,31 +72,46 @@ fn is_on_path(path: &[u16], operation: &Operation) -> bool
 /// Adds where a bar stands, and how wide it is.
 fn push_position(
     out: &mut Vec<u8>,
-    makespan: u64,
     operation: &Operation,
     x: u64,
     width: u64,
 ) -> Result<(), AllocError>
-    requires machine { 1 ≤ operation.now.machine }
-    requires x { x ≡ x_of makespan operation.now.start }
-    requires width { width ≡ width_of makespan operation.now }
-    ensures { OnOk result (out.new.items ≡ out.old.items ++ position_text makespan operation.now) }
+    requires { 1 ≤ operation.now.machine }
+    ensures { OnOk result (out.new.items ≡ out.old.items ++ position_text x width operation.now) }
 {
     push_words(out, b"<rect x=\"", x)?;
     push_words(out, b"\" y=\"", y_of(operation.machine))?;
     push_words(out, b"\" width=\"", width)
 }
 
+/// Adds an outline of a bar.
+fn push_outline(out: &mut Vec<u8>, width: u64) -> Result<(), AllocError>
+    ensures { OnOk result (out.new.items ≡ out.old.items ++ outline_text width) }
+{
+    push_words(
+        out,
+        b"\" stroke=\"#000000\" stroke-width=\"300\" stroke-dasharray=\"",
+        width,
+    )?;
+    out.extend_from_slice(b" 2400")?;
+    Ok(())
+}
+
 /// Adds the height of a bar and its colour, and an outline where it is on the path.
-fn push_style(out: &mut Vec<u8>, path: &[u16], operation: &Operation) -> Result<(), AllocError>
+fn push_style(
+    out: &mut Vec<u8>,
+    path: &[u16],
+    operation: &Operation,
+    width: u64,
+) -> Result<(), AllocError>
     requires from { 1 ≤ operation.now.place }
     requires to { operation.now.place ≤ length path.now }
-    ensures { OnOk result (out.new.items ≡ out.old.items ++ style_text path.now operation.now) }
+    ensures { OnOk result (out.new.items ≡ out.old.items ++ style_text path.now width operation.now) }
 {
     out.extend_from_slice(b"\" height=\"2400\" fill=\"")?;
     out.extend_from_slice(colour(operation.place))?;
     if is_on_path(path, operation) {
-        out.extend_from_slice(b"\" stroke=\"#000000\" stroke-width=\"160")?;
+        push_outline(out, width)?;
     }
     Ok(())
 }
@@ -101,7 +136,7 @@ fn push_times(out: &mut Vec<u8>, operation: &Operation) -> Result<(), AllocError
 
 /// Whether the number of a job has room in a bar.
 fn has_room(job: u16, width: u64) -> bool
-    ensures { IsTrue result ↔ (length (decimal job) * 700 + 200 ≤ width) }
+    ensures { IsTrue result ↔ (length (decimal job) * 640 + 160 ≤ width) }
 {
     let mut buffer = Buffer::new();
     buffer.format(job).len() as u64 * DIGIT + MARGIN <= width
@@ -110,49 +145,67 @@ fn has_room(job: u16, width: u64) -> bool
 /// Adds the number of the job in its bar, where there is room.
 fn push_label(
     out: &mut Vec<u8>,
-    makespan: u64,
     operation: &Operation,
     x: u64,
     width: u64,
 ) -> Result<(), AllocError>
     requires machine { 1 ≤ operation.now.machine }
-    requires x { x ≡ x_of makespan operation.now.start }
-    requires width { width ≡ width_of makespan operation.now }
-    requires x_small { x ≤ 100000000000000 }
-    requires width_small { width ≤ 100000000000000 }
-    ensures { OnOk result (out.new.items ≡ out.old.items ++ label_text makespan operation.now) }
+    requires x { x ≤ 10000000000000000 }
+    requires width { width ≤ 10000000000000000 }
+    ensures { OnOk result (out.new.items ≡ out.old.items ++ label_text x width operation.now) }
 {
     if !has_room(operation.job, width) {
         return Ok(());
     }
     push_words(out, b"<text x=\"", x + width / 2)?;
-    push_words(out, b"\" y=\"", y_of(operation.machine) + 1_650)?;
-    push_words(out, b"\">", u64::from(operation.job))?;
+    push_words(out, b"\" y=\"", y_of(operation.machine) + 1_560)?;
+    push_words(out, ink(operation.place), u64::from(operation.job))?;
     out.extend_from_slice(b"</text>\n")
+}
+
+/// Adds the bar of an operation, which begins at x.
+fn push_drawn(
+    out: &mut Vec<u8>,
+    path: &[u16],
+    operation: &Operation,
+    x: u64,
+    width: u64,
+) -> Result<(), AllocError>
+    requires from { 1 ≤ operation.now.place }
+    requires to { operation.now.place ≤ length path.now }
+    requires machine { 1 ≤ operation.now.machine }
+    requires x { x ≤ 10000000000000000 }
+    requires width { width ≤ 10000000000000000 }
+    ensures { OnOk result (out.new.items ≡ out.old.items ++ drawn_text path.now x width operation.now) }
+{
+    push_position(out, operation, x, width)?;
+    push_style(out, path, operation, width)?;
+    push_names(out, operation)?;
+    push_times(out, operation)?;
+    push_label(out, operation, x, width)?;
+    Ok(())
 }
 
 /// Adds what is drawn of an operation: nothing where it takes no time.
 pub(crate) fn push_bar(
     out: &mut Vec<u8>,
+    breadth: u64,
     makespan: u64,
     path: &[u16],
     operation: &Operation,
 ) -> Result<(), AllocError>
+    requires breadth { breadth ≤ 3000000 }
     requires from { 1 ≤ operation.now.place }
     requires to { operation.now.place ≤ length path.now }
     requires machine { 1 ≤ operation.now.machine }
     requires end { operation.now.end ≤ greatest_completion }
-    ensures { OnOk result (out.new.items ≡ out.old.items ++ bar_text makespan path.now operation.now) }
+    ensures { OnOk result
+        (out.new.items ≡ out.old.items ++ bar_text breadth makespan path.now operation.now) }
 {
     if operation.end <= operation.start {
         return Ok(());
     }
-    let x = x_of(makespan, operation.start);
-    let width = x_of(makespan, operation.end) - x;
-    push_position(out, makespan, operation, x, width)?;
-    push_style(out, path, operation)?;
-    push_names(out, operation)?;
-    push_times(out, operation)?;
-    push_label(out, makespan, operation, x, width)?;
-    Ok(())
+    let x = x_of(breadth, makespan, operation.start);
+    let room = x_of(breadth, makespan, operation.end) - x;
+    push_drawn(out, path, operation, x, width_of(room))
 }

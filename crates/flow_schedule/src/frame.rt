@@ -4,72 +4,104 @@ ghost use Rattle.std.specs.Prelude.{◌≡◌, ◌≤◌, ◌++◌, OnOk, IfOk};
 ghost use Rattle.std.specs.List.{flat_map};
 ghost use Rattle.flow_limits.specs.Limits.{greatest_completion, most_machines};
 ghost use Rattle.flow_shop.specs.Shop.{numbers};
-ghost use Rattle.flow_schedule.specs.Frame.{svg_text, sizes_text, title_text, sheet_text, heading_text};
+ghost use Rattle.flow_schedule.specs.Frame.{svg_text, value_text, sizes_text, title_text, sheet_text, heading_text};
 ghost use Rattle.flow_schedule.specs.Frame.{legend_text, top_text, machine_name_text, frame_text};
 
 use crate::axis::{push_axis_name, push_ticks};
-use crate::scale::{LEFT, ROW, TOP, WIDTH, y_of};
+use crate::scale::{LEFT, ROW, TOP, y_of};
 use crate::text::push_words;
 use flow_shop::Instance;
 use std::alloc::{AllocError, Global};
 
-/// How wide the picture is, with the room right of the makespan.
-const SHEET: u64 = LEFT + WIDTH + 4_500;
+/// The room right of the makespan.
+const RIGHT: u64 = 4_500;
 
 /// The room below the rows.
 const BELOW: u64 = 3_400;
 
 /// Adds the opening of the picture with its size.
-fn push_svg(out: &mut Vec<u8>, height: u64) -> Result<(), AllocError>
-    ensures { OnOk result (out.new.items ≡ out.old.items ++ svg_text height) }
+fn push_svg(out: &mut Vec<u8>, width: u64, height: u64) -> Result<(), AllocError>
+    ensures { OnOk result (out.new.items ≡ out.old.items ++ svg_text width height) }
 {
     push_words(
         out,
         b"<svg xmlns=\"http://www.w3.org/2000/svg\" width=\"",
-        SHEET / 100,
+        width / 100,
     )?;
     push_words(out, b"\" height=\"", height / 100)?;
-    push_words(out, b"\" viewBox=\"0 0 ", SHEET)?;
+    push_words(out, b"\" viewBox=\"0 0 ", width)?;
     push_words(out, b" ", height)?;
     out.extend_from_slice(b"\" font-family=\"sans-serif\" font-size=\"1200\">\n")?;
     Ok(())
 }
 
-/// Adds the makespan and the sizes.
-fn push_sizes(out: &mut Vec<u8>, instance: &Instance, makespan: u64) -> Result<(), AllocError>
-    ensures { OnOk result (out.new.items ≡ out.old.items ++ sizes_text instance.now makespan) }
+/// Adds the makespan, and what a lower bound says of it: nothing where it is above.
+fn push_value(out: &mut Vec<u8>, makespan: u64, lower: Option<u64>) -> Result<(), AllocError>
+    ensures { OnOk result (out.new.items ≡ out.old.items ++ value_text makespan lower) }
 {
+    let Some(lower) = lower else {
+        return push_words(out, b"makespan ", makespan);
+    };
+    if lower == makespan {
+        return push_words(out, b"optimal ", makespan);
+    }
     push_words(out, b"makespan ", makespan)?;
+    if lower < makespan {
+        push_words(out, b", lower bound ", lower)?;
+    }
+    Ok(())
+}
+
+/// Adds the makespan with its lower bound, and the sizes.
+fn push_sizes(
+    out: &mut Vec<u8>,
+    instance: &Instance,
+    makespan: u64,
+    lower: Option<u64>,
+) -> Result<(), AllocError>
+    ensures { OnOk result (out.new.items ≡ out.old.items ++ sizes_text instance.now makespan lower) }
+{
+    push_value(out, makespan, lower)?;
     push_words(out, b", jobs ", u64::from(instance.jobs()))?;
     push_words(out, b", machines ", u64::from(instance.machines()))
 }
 
 /// Adds the title that a screen reader says.
-fn push_title(out: &mut Vec<u8>, instance: &Instance, makespan: u64) -> Result<(), AllocError>
-    ensures { OnOk result (out.new.items ≡ out.old.items ++ title_text instance.now makespan) }
+fn push_title(
+    out: &mut Vec<u8>,
+    instance: &Instance,
+    makespan: u64,
+    lower: Option<u64>,
+) -> Result<(), AllocError>
+    ensures { OnOk result (out.new.items ≡ out.old.items ++ title_text instance.now makespan lower) }
 {
     out.extend_from_slice(b"<title>")?;
-    push_sizes(out, instance, makespan)?;
+    push_sizes(out, instance, makespan, lower)?;
     out.extend_from_slice(b"</title>\n")
 }
 
 /// Adds the white sheet.
-fn push_sheet(out: &mut Vec<u8>, height: u64) -> Result<(), AllocError>
-    ensures { OnOk result (out.new.items ≡ out.old.items ++ sheet_text height) }
+fn push_sheet(out: &mut Vec<u8>, width: u64, height: u64) -> Result<(), AllocError>
+    ensures { OnOk result (out.new.items ≡ out.old.items ++ sheet_text width height) }
 {
-    push_words(out, b"<path d=\"M0 0H", SHEET)?;
+    push_words(out, b"<path d=\"M0 0H", width)?;
     push_words(out, b"V", height)?;
     out.extend_from_slice(b"H0z\" fill=\"#ffffff\"/>\n")?;
     Ok(())
 }
 
 /// Adds the heading: the makespan and the sizes.
-fn push_heading(out: &mut Vec<u8>, instance: &Instance, makespan: u64) -> Result<(), AllocError>
-    ensures { OnOk result (out.new.items ≡ out.old.items ++ heading_text instance.now makespan) }
+fn push_heading(
+    out: &mut Vec<u8>,
+    instance: &Instance,
+    makespan: u64,
+    lower: Option<u64>,
+) -> Result<(), AllocError>
+    ensures { OnOk result (out.new.items ≡ out.old.items ++ heading_text instance.now makespan lower) }
 {
     push_words(out, b"<text x=\"", LEFT)?;
-    out.extend_from_slice(b"\" y=\"2500\" font-size=\"1600\">")?;
-    push_sizes(out, instance, makespan)?;
+    out.extend_from_slice(b"\" y=\"2400\" font-size=\"1600\">")?;
+    push_sizes(out, instance, makespan, lower)?;
     out.extend_from_slice(b"</text>\n")
 }
 
@@ -77,9 +109,12 @@ fn push_heading(out: &mut Vec<u8>, instance: &Instance, makespan: u64) -> Result
 fn push_legend(out: &mut Vec<u8>) -> Result<(), AllocError>
     ensures { OnOk result (out.new.items ≡ out.old.items ++ legend_text) }
 {
-    push_words(out, b"<text x=\"", LEFT + WIDTH)?;
-    out.extend_from_slice(b"\" y=\"2500\" text-anchor=\"end\">")?;
-    out.extend_from_slice(b"outlined: a heaviest path, whose times sum to the makespan</text>\n")
+    push_words(out, b"<text x=\"", LEFT)?;
+    out.extend_from_slice(b"\" y=\"4700\">")?;
+    out.extend_from_slice(
+        b"outlined: these operations leave no room; together they take the whole time</text>\n",
+    )?;
+    Ok(())
 }
 
 /// Adds what stands above the rows.
@@ -87,14 +122,17 @@ fn push_top(
     out: &mut Vec<u8>,
     instance: &Instance,
     makespan: u64,
+    lower: Option<u64>,
+    width: u64,
     height: u64,
 ) -> Result<(), AllocError>
-    ensures { OnOk result (out.new.items ≡ out.old.items ++ top_text instance.now makespan height) }
+    ensures { OnOk result
+        (out.new.items ≡ out.old.items ++ top_text instance.now makespan lower width height) }
 {
-    push_svg(out, height)?;
-    push_title(out, instance, makespan)?;
-    push_sheet(out, height)?;
-    push_heading(out, instance, makespan)?;
+    push_svg(out, width, height)?;
+    push_title(out, instance, makespan, lower)?;
+    push_sheet(out, width, height)?;
+    push_heading(out, instance, makespan, lower)?;
     push_legend(out)
 }
 
@@ -126,20 +164,24 @@ fn push_machine_names(out: &mut Vec<u8>, machines: u16) -> Result<(), AllocError
 pub(crate) fn frame(
     alloc: Global,
     instance: &Instance,
+    breadth: u64,
     makespan: u64,
+    lower: Option<u64>,
     step: u64,
 ) -> Result<Vec<u8>, AllocError>
+    requires breadth { breadth ≤ 3000000 }
     requires makespan { makespan ≤ greatest_completion }
     requires step { 1 ≤ step }
-    ensures { IfOk result (λ text. text.items ≡ frame_text instance.now makespan step) }
+    ensures { IfOk result (λ text. text.items ≡ frame_text instance.now breadth makespan lower step) }
 {
     let machines = instance.machines();
     let bottom = TOP - 300 + u64::from(machines) * ROW;
     let mut out = Vec::new(alloc);
-    push_top(&mut out, instance, makespan, bottom + BELOW)?;
-    push_ticks(&mut out, makespan, bottom, step)?;
+    let width = LEFT + breadth + RIGHT;
+    push_top(&mut out, instance, makespan, lower, width, bottom + BELOW)?;
+    push_ticks(&mut out, breadth, makespan, bottom, step)?;
     push_axis_name(&mut out, bottom)?;
     push_machine_names(&mut out, machines)?;
-    out.extend_from_slice(b"<g text-anchor=\"middle\">\n")?;
+    out.extend_from_slice(b"<g text-anchor=\"middle\" font-size=\"1000\">\n")?;
     Ok(out)
 }

@@ -1,6 +1,9 @@
-//! Tests of what starts threads: lanes between two threads, workers and the hub, and whole runs.
+//! Tests of what starts threads: lanes between two threads, workers and the hub, whole runs, and the search for
+//! directions.
 #![tactic(auto)]
 
+#[cfg(test)]
+mod directions;
 #[cfg(test)]
 mod gates;
 #[cfg(test)]

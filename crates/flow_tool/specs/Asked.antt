@@ -38,7 +38,7 @@ asked (Span file index jobs) = of_text file.now (AnswersSpan index jobs.items)
 asked (Neh file index) = of_text file.now (AnswersNeh index)
 asked (Solve file index start request) = from_start file.now index start (AnswersSolve request)
 asked (Improve file index start request) = from_start file.now index start (AnswersImprove request)
-asked (Certify file index start request) = from_start file.now index start (AnswersCertify request)
+asked (Certify file index start request progress) = from_start file.now index start (AnswersCertify request)
 asked (Check file index cert request) = of_both file.now index cert.now most_certificate (AnswersCheck request)
 asked (Schedule file index sequence form) = of_both file.now index sequence.now most_text (AnswersSchedule form)
 

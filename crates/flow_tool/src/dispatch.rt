@@ -10,10 +10,11 @@ use crate::orders::{
     obey_certify, obey_check, obey_gen, obey_improve, obey_neh, obey_schedule, obey_solve,
     obey_span,
 };
+use crate::progress::IfAsked;
 use crate::stop::Stop;
 use clap::Error;
 use clap::error::ErrorKind;
-use flow_commands::CommandFault;
+use flow_commands::{CommandFault, Watch};
 use flow_core::{Sink, put_all};
 use flow_words::{Order, make_command, order_of};
 use std::alloc::Global;
@@ -21,12 +22,14 @@ use std::convert::AsStr;
 use std::sync::Wait;
 use std::thread::Threads;
 
-/// Does what the words of a command line ask for. Help or a version that was asked for is written too.
-pub(crate) fn run_words<R: Threads + Wait + Sync, I: Inputs, W: AsStr, K: Sink>(
+/// Does what the words of a command line ask for. Help or a version that was asked for is written too. The watch is
+/// told how far the run is, where the words ask for it.
+pub(crate) fn run_words<R: Threads + Wait + Sync, I: Inputs, S: AsStr, W: Watch, K: Sink>(
     rt: &R,
     alloc: Global,
     inputs: &I,
-    words: &[W],
+    words: &[S],
+    watch: &W,
     out: &mut K,
 ) -> Result<(), Stop>
     requires { K.has_failed out.old ≡ false }
@@ -34,7 +37,7 @@ pub(crate) fn run_words<R: Threads + Wait + Sync, I: Inputs, W: AsStr, K: Sink>(
     match make_command(alloc)?.try_get_matches_from(words) {
         Ok(matches) => {
             let order = order_of(alloc, &matches)?.ok_or(Stop::CommandLine)?;
-            obey(rt, alloc, inputs, &order, out)
+            obey(rt, alloc, inputs, &order, watch, out)
         }
         Err(error) => match error.kind() {
             ErrorKind::DisplayHelp | ErrorKind::DisplayVersion => {
@@ -56,11 +59,12 @@ fn write_help<K: Sink>(alloc: Global, help: &Error, out: &mut K) -> Result<(), C
 }
 
 /// Runs the command that was asked for.
-fn obey<R: Threads + Wait + Sync, I: Inputs, K: Sink>(
+fn obey<R: Threads + Wait + Sync, I: Inputs, W: Watch, K: Sink>(
     rt: &R,
     alloc: Global,
     inputs: &I,
     order: &Order,
+    watch: &W,
     out: &mut K,
 ) -> Result<(), Stop>
     requires { K.has_failed out.old ≡ false }
@@ -103,7 +107,16 @@ fn obey<R: Threads + Wait + Sync, I: Inputs, K: Sink>(
             index,
             start,
             request,
-        } => { obey_certify(alloc, inputs, *file, *index, *start, *request, out) }
+            progress,
+        } => {
+            let watch = IfAsked {
+                watch,
+                asked: *progress,
+            };
+            obey_certify(
+                rt, alloc, inputs, *file, *index, *start, *request, &watch, out,
+            )
+        }
         Order::Check {
             file,
             index,

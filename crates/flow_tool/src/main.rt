@@ -4,6 +4,7 @@
 mod dispatch;
 mod inputs;
 mod orders;
+mod progress;
 mod status;
 mod stop;
 #[cfg(test)]
@@ -12,6 +13,7 @@ mod tests;
 use dispatch::run_words;
 use flow_core::StdSink;
 use inputs::StdInputs;
+use progress::Progress;
 use std::io;
 use std::process::ExitCode;
 use std::sync::Wait;
@@ -38,5 +40,13 @@ fn run<T: Threads + Wait + Sync>(rt: &HostRuntime, threads: &T) -> Result<(), St
         Err(_) => return Err(Stop::CommandLine),
     };
     let mut out = StdSink::new(io::writer(rt));
-    run_words(threads, alloc, &inputs, words.as_slice(), &mut out)
+    let progress = Progress::new(rt);
+    run_words(
+        threads,
+        alloc,
+        &inputs,
+        words.as_slice(),
+        &progress,
+        &mut out,
+    )
 }

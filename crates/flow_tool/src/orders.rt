@@ -22,7 +22,7 @@ ghost use Rattle.flow_tool.specs.Inputs.{IsStartFile, RefusedStart};
 use crate::inputs::{Inputs, open_text};
 use crate::stop::Stop;
 use flow_commands::{
-    CommandFault, run_certify, run_check_as, run_gen, run_improve, run_neh, run_schedule,
+    CommandFault, Watch, run_certify, run_check_as, run_gen, run_improve, run_neh, run_schedule,
     run_solve_as, run_span,
 };
 use flow_core::Sink;
@@ -158,15 +158,17 @@ pub(crate) fn obey_improve<I: Inputs, K: Sink>(
     Ok(run_improve(alloc, &mut text, index, &mut start, request, out)?)
 }
 
-/// Writes a two-ended certificate of the least makespan, or of bounds of it.
+/// Writes a two-ended certificate of the least makespan, or of bounds of it, and tells a watch how far it is.
 #[inline(never)]
-pub(crate) fn obey_certify<I: Inputs, K: Sink>(
+pub(crate) fn obey_certify<R: Threads + Sync, I: Inputs, W: Watch, K: Sink>(
+    rt: &R,
     alloc: Global,
     inputs: &I,
     file: &str,
     index: u32,
     start: Option<&str>,
     request: CertifyRequest,
+    watch: &W,
     out: &mut K,
 ) -> Result<(), Stop>
     requires { K.has_failed out.old ≡ false }
@@ -180,7 +182,7 @@ pub(crate) fn obey_certify<I: Inputs, K: Sink>(
 {
     let mut text = open_text(inputs, file)?;
     let mut start = open_start(inputs, start)?;
-    Ok(run_certify(alloc, &mut text, index, &mut start, request, out)?)
+    Ok(run_certify(rt, alloc, &mut text, index, &mut start, request, watch, out)?)
 }
 
 /// Prints the bounds that a certificate proves, or its sequence.

@@ -6,7 +6,7 @@ use std::alloc::{AllocError, Global};
 /// The version of the program, those of the texts that it writes and reads, and the line of the kit. The first is that
 /// of the file VERSION at the top of the repository, and the last that of `rt version`; `build` refuses others.
 const VERSION: &str =
-    "1.0.0, certificates of versions 1 and 2, two-ended certificates of version 1, \
+    "2.0.0, certificates of versions 1 and 2, two-ended certificates of version 1, \
 proved and built with rattle-kit-13f logic dac8208d650f15bf";
 
 /// A word of a command: its name, how it is read, and what the help says of it.
@@ -96,9 +96,18 @@ const WORK: Word = Word {
     help: "How many millions of steps of improvement there are at most, 0 to 1000000",
 };
 
+const WORKERS: Word = Word {
+    name: "workers",
+    kind: Kind::Option {
+        value: "K",
+        default: "1",
+    },
+    help: "How many workers there are, 1 to 64",
+};
+
 static NEH: [Word; 2] = [FILE, INDEX];
 
-static CERTIFY: [Word; 8] = [
+static CERTIFY: [Word; 10] = [
     FILE,
     INDEX,
     WIDTH,
@@ -112,6 +121,12 @@ static CERTIFY: [Word; 8] = [
             default: "100000000",
         },
         help: "How many directions a proof has at most, 1 to 1000000000; fewer where the shop is large",
+    },
+    WORKERS,
+    Word {
+        name: "progress",
+        kind: Kind::Flag,
+        help: "Writes lines to standard error that say how far the run is",
     },
     START,
 ];
@@ -149,14 +164,7 @@ static GEN: [Word; 3] = [
 static SOLVE: [Word; 7] = [
     FILE,
     INDEX,
-    Word {
-        name: "workers",
-        kind: Kind::Option {
-            value: "K",
-            default: "1",
-        },
-        help: "How many workers there are, 1 to 64",
-    },
+    WORKERS,
     Word {
         name: "depth",
         kind: Kind::Option {

@@ -65,6 +65,8 @@ pub enum Order<'a> {
         start: Option<&'a str>,
         /// How the block is certified.
         request: CertifyRequest,
+        /// Whether lines on standard error say how far it is.
+        progress: bool,
     },
     /// What a certificate, two-ended or not, proves, or its sequence.
     Check {
@@ -178,7 +180,9 @@ fn certify_order<'a>(given: &ArgMatches<'a>) -> Option<Order<'a>> {
         request: CertifyRequest {
             improve: improvement_of(given)?,
             directions: given.get_one::<u32>("directions")?,
+            workers: given.get_one::<u32>("workers")?,
         },
+        progress: given.get_flag("progress"),
     })
 }
 

@@ -1,9 +1,9 @@
 -- Where a search stands, and how it ends.
-use Rattle.std.specs.Prelude.{ℕ, ◌≡◌, ◌<◌, ◌≤◌, List, ◌++◌, length, slice_index_or, All, Some, None, Result, Ok, Err}
+use Rattle.std.specs.Prelude.{ℕ, ◌≡◌, ◌<◌, ◌≤◌, List, ◌++◌, length, [], slice_index_or, All, Some, None, Result, Ok, Err}
 use Rattle.flow_shop.specs.Shop.{Shop}
-use Rattle.flow_shop.specs.Sequences.{jobs_left}
+use Rattle.flow_shop.specs.Sequences.{jobs_left, AreJobs}
 use Rattle.flow_shop.specs.Ends.{end_bound}
-use Rattle.flow_directions.specs.Search.{directions_of, first_below}
+use Rattle.flow_directions.specs.Search.{directions_of, first_below, signs, first_reached, parts_visits, IsPart}
 use Rattle.flow_directions.specs.internal.Lists.{HasLists}
 use Rattle.flow_directions.specs.internal.Packs.{HasRoom, IsBranch}
 use Rattle.flow_directions.specs.declared.branch.Branch.{Branch}
@@ -31,10 +31,15 @@ pub record KeepsPacks {V : Type 0} (shop : Shop) (old new : List (Pack V)) : Typ
 abbrev pub Ends : Shop → ℕ → ℕ → List ℕ → List ℕ → List ℕ → Written → Result Unit Stop → Type 0
 Ends shop number budget first last old new (Ok _) =
     (first_below shop number first last ≡ None) × (new.directions.items ≡ old ++ directions_of shop number first last)
-    × (length new.directions.items ≤ budget) × HasLists shop.jobs first last new.lists
+    × (length new.directions.items ≤ budget) × (new.rest.items ≡ []) × HasLists shop.jobs first last new.lists
 Ends shop number budget first last old new (Err Below) =
     (first_below shop number first last ≡ Some new.lists.jobs.items)
     × (new.directions.items ≡ old ++ directions_of shop number first last) × (length new.directions.items ≤ budget)
 Ends shop number budget first last old new (Err Over) =
-    budget < length (old ++ directions_of shop number first last)
+    (budget < length (old ++ directions_of shop number first last)) × (length new.directions.items ≡ budget)
+    × (old ++ directions_of shop number first last
+    ≡ new.directions.items ++ signs (parts_visits shop number new.rest.items))
+    × (first_below shop number first last ≡ first_reached (parts_visits shop number new.rest.items))
+    × (AreJobs shop.jobs (first ++ last) → All (IsPart shop) new.rest.items)
+    × HasLists shop.jobs first last new.lists
 Ends shop number budget first last old new (Err Memory) = Unit {0}

@@ -1,5 +1,7 @@
 //! What `certify` writes and refuses.
 
+ghost use Rattle.std.specs.Prelude.{◌≡◌, false};
+
 use super::endless::Endless;
 use super::texts::{
     ABOVE_16_BITS, AIMED, BEST, FOUR_MACHINES, GENERATED, HALVED, LAST, LONG_JOBS, LONG_TOTAL,
@@ -11,11 +13,12 @@ use super::{
     improvement,
 };
 use flow_commands::{
-    CertifyRequest, CheckRequest, CommandFault, ImproveFault, ImproveRequest, run_certify,
-    run_check_as,
+    CertifyRequest, CheckRequest, CommandFault, ImproveFault, ImproveRequest, Unwatched,
+    run_certify, run_check_as,
 };
 use flow_core::{MemorySink, ReadFault, SequenceFault, StartFault, TextFault};
 use std::alloc::Global;
+use std::thread::Threads;
 
 const ROUNDS: Wanted = Err(CommandFault::Improve(ImproveFault::Rounds));
 
@@ -137,20 +140,37 @@ static ROWS: [Row; 20] = [
 ];
 
 /// Whether `certify` of texts ends so with a sink of so many bytes.
-fn certifies(alloc: Global, texts: &Given, request: CertifyRequest, room: usize, end: End) -> bool {
+fn certifies<R: Threads + Sync>(
+    rt: &R,
+    alloc: Global,
+    texts: &Given,
+    request: CertifyRequest,
+    room: usize,
+    end: End,
+) -> bool {
     let mut out = MemorySink::new(alloc, room);
     let mut file = texts.source();
     let mut start = texts.source_beside();
-    let ran = run_certify(alloc, &mut file, texts.index, &mut start, request, &mut out);
+    let ran = run_certify(
+        rt,
+        alloc,
+        &mut file,
+        texts.index,
+        &mut start,
+        request,
+        &Unwatched,
+        &mut out,
+    );
     ends(ran, &out, end)
 }
 
 /// Whether `certify` comes to what a row says.
-fn holds(alloc: Global, row: &Row) -> bool {
+fn holds<R: Threads + Sync>(rt: &R, alloc: Global, row: &Row) -> bool {
     let (text, index, beside, numbers, directions, wanted) = *row;
     let request = CertifyRequest {
         improve: improvement(numbers),
         directions,
+        workers: 1,
     };
     let texts = Given {
         text,
@@ -158,13 +178,13 @@ fn holds(alloc: Global, row: &Row) -> bool {
         beside,
         ..OF_THREE
     };
-    certifies(alloc, &texts, request, ROOM, end_of(wanted))
+    certifies(rt, alloc, &texts, request, ROOM, end_of(wanted))
 }
 
 #[test]
 fn certify_writes_a_text_or_refuses(rt: HostRuntime) {
     for (number, row) in ROWS.iter().enumerate() {
-        assert!(rt; holds(rt.alloc(), row), "row {number}");
+        assert!(rt; holds(&rt, rt.alloc(), row), "row {number}");
     }
 }
 
@@ -241,23 +261,83 @@ fn is_accepted(alloc: Global, text: &[u8], certificate: &[u8], wanted: Wanted) -
     comes_to(ran, &out, wanted)
 }
 
-/// Whether `check` prints what a row says for what `certify` writes.
-fn proves(alloc: Global, row: &Known) -> bool {
-    let (text, numbers, directions, wanted) = *row;
+/// Certifies the text of a row with so many workers. Returns whether it is not refused.
+fn is_certified<R: Threads + Sync>(
+    rt: &R,
+    alloc: Global,
+    row: &Known,
+    workers: u32,
+    out: &mut MemorySink,
+) -> bool
+    requires { out.old.failed ≡ false }
+{
+    let (text, numbers, directions, _) = *row;
     let request = CertifyRequest {
         improve: improvement(numbers),
         directions,
+        workers,
     };
-    let mut out = MemorySink::new(alloc, ROOM);
     let mut none = OF_THREE.source_beside();
-    let ran = run_certify(alloc, &mut all_of(text), 1, &mut none, request, &mut out);
-    ran == Ok(()) && is_accepted(alloc, text, out.bytes(), wanted)
+    let ran = run_certify(
+        rt,
+        alloc,
+        &mut all_of(text),
+        1,
+        &mut none,
+        request,
+        &Unwatched,
+        out,
+    );
+    ran == Ok(())
+}
+
+/// Whether `check` prints what a row says for what `certify` writes, and more workers write the same.
+fn proves<R: Threads + Sync>(rt: &R, alloc: Global, row: &Known) -> bool {
+    let (text, _, _, wanted) = *row;
+    let mut out = MemorySink::new(alloc, ROOM);
+    if !is_certified(rt, alloc, row, 1, &mut out) {
+        return false;
+    }
+    for workers in &[2, 64] {
+        let mut other = MemorySink::new(alloc, ROOM);
+        if !is_certified(rt, alloc, row, *workers, &mut other) || other.bytes() != out.bytes() {
+            return false;
+        }
+    }
+    is_accepted(alloc, text, out.bytes(), wanted)
 }
 
 #[test]
 fn check_accepts_what_certify_wrote(rt: HostRuntime) {
     for (number, row) in KNOWN.iter().enumerate() {
-        assert!(rt; proves(rt.alloc(), row), "row {number}");
+        assert!(rt; proves(&rt, rt.alloc(), row), "row {number}");
+    }
+}
+
+/// How many workers there are, with how many directions, and what `certify` of the instance with three machines comes
+/// to.
+static WORKERS: [(u32, u32, Wanted); 6] = [
+    (0, 0, DIRECTIONS),
+    (0, 1_000, Err(CommandFault::Workers)),
+    (1, 1_000, Ok(TWO_ENDED_12)),
+    (2, 1_000, Ok(TWO_ENDED_12)),
+    (64, 1_000, Ok(TWO_ENDED_12)),
+    (65, 1_000, Err(CommandFault::Workers)),
+];
+
+#[test]
+fn certify_takes_up_to_64_workers(rt: HostRuntime) {
+    for (workers, directions, wanted) in &WORKERS {
+        let request = CertifyRequest {
+            directions: *directions,
+            workers: *workers,
+            ..PLAIN
+        };
+        let end = end_of(*wanted);
+        assert!(rt;
+            certifies(&rt, rt.alloc(), &OF_THREE, request, ROOM, end),
+            "{workers} workers"
+        );
     }
 }
 
@@ -270,6 +350,7 @@ const PLAIN: CertifyRequest = CertifyRequest {
         work: 0,
     },
     directions: 1_000,
+    workers: 1,
 };
 
 #[test]
@@ -280,7 +361,7 @@ fn certify_writes_nothing_after_a_failed_read(rt: HostRuntime) {
             ..STARTED
         };
         assert!(rt;
-            certifies(rt.alloc(), &texts, PLAIN, ROOM, UNREAD),
+            certifies(&rt, rt.alloc(), &texts, PLAIN, ROOM, UNREAD),
             "at {most}"
         );
     }
@@ -291,7 +372,7 @@ fn certify_fills_a_sink_up_to_its_limit(rt: HostRuntime) {
     for room in 0..46usize {
         let end = filled(room, TWO_ENDED_12);
         assert!(rt;
-            certifies(rt.alloc(), &OF_THREE, PLAIN, room, end),
+            certifies(&rt, rt.alloc(), &OF_THREE, PLAIN, room, end),
             "at {room}"
         );
     }
@@ -302,7 +383,16 @@ fn certify_stops_an_endless_start(rt: HostRuntime) {
     let mut out = MemorySink::new(rt.alloc(), ROOM);
     let mut start = Some(Endless::new());
     let mut file = all_of(THREE_MACHINES);
-    let ran = run_certify(rt.alloc(), &mut file, 1, &mut start, PLAIN, &mut out);
+    let ran = run_certify(
+        &rt,
+        rt.alloc(),
+        &mut file,
+        1,
+        &mut start,
+        PLAIN,
+        &Unwatched,
+        &mut out,
+    );
     assert!(rt; comes_to(ran, &out, Err(CommandFault::Read(ReadFault::TooLong))));
 }
 
@@ -311,6 +401,15 @@ fn certify_stops_an_endless_text(rt: HostRuntime) {
     let mut out = MemorySink::new(rt.alloc(), ROOM);
     let mut none = OF_THREE.source_beside();
     let mut file = Endless::new();
-    let ran = run_certify(rt.alloc(), &mut file, 1, &mut none, PLAIN, &mut out);
+    let ran = run_certify(
+        &rt,
+        rt.alloc(),
+        &mut file,
+        1,
+        &mut none,
+        PLAIN,
+        &Unwatched,
+        &mut out,
+    );
     assert!(rt; comes_to(ran, &out, Err(CommandFault::Read(ReadFault::TooLong))));
 }

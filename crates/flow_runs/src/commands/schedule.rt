@@ -29,24 +29,26 @@ const TABLE: &[u8] =
     b"job,machine,start,end\n3,1,0,0\n3,2,0,2\n3,3,2,3\n1,1,0,4\n1,2,4,4\n1,3,4,8\n\
 2,1,4,4\n2,2,4,12\n2,3,12,12\n";
 
-/// The bars of its picture, worked out by hand: a unit of time is 8000 wide. The heaviest path goes over job 1 on
-/// machine 1 and job 2 on machine 2.
-const BARS: &[u8] = b"<g text-anchor=\"middle\">\n\
-<rect x=\"9000\" y=\"7300\" width=\"16000\" height=\"2400\" fill=\"#0072B2\">\
+/// The bars of its picture, worked out by hand: a unit of time is 8000 wide, of which 80 are the edge of a bar. The
+/// heaviest path goes over job 1 on machine 1 and job 2 on machine 2.
+const BARS: &[u8] = b"<g text-anchor=\"middle\" font-size=\"1000\">\n\
+<rect x=\"9000\" y=\"9200\" width=\"15920\" height=\"2400\" fill=\"#004C7F\">\
 <title>job 3, machine 2, start 0, end 2</title></rect>\n\
-<text x=\"17000\" y=\"8950\">3</text>\n\
-<rect x=\"25000\" y=\"10300\" width=\"8000\" height=\"2400\" fill=\"#0072B2\">\
+<text x=\"16960\" y=\"10760\" fill=\"#ffffff\">3</text>\n\
+<rect x=\"25000\" y=\"12200\" width=\"7920\" height=\"2400\" fill=\"#004C7F\">\
 <title>job 3, machine 3, start 2, end 3</title></rect>\n\
-<text x=\"29000\" y=\"11950\">3</text>\n\
-<rect x=\"9000\" y=\"4300\" width=\"32000\" height=\"2400\" fill=\"#E69F00\" stroke=\"#000000\" stroke-width=\"160\">\
+<text x=\"28960\" y=\"13760\" fill=\"#ffffff\">3</text>\n\
+<rect x=\"9000\" y=\"6200\" width=\"31920\" height=\"2400\" fill=\"#F0C800\" \
+stroke=\"#000000\" stroke-width=\"300\" stroke-dasharray=\"31920 2400\">\
 <title>job 1, machine 1, start 0, end 4</title></rect>\n\
-<text x=\"25000\" y=\"5950\">1</text>\n\
-<rect x=\"41000\" y=\"10300\" width=\"32000\" height=\"2400\" fill=\"#E69F00\">\
+<text x=\"24960\" y=\"7760\">1</text>\n\
+<rect x=\"41000\" y=\"12200\" width=\"31920\" height=\"2400\" fill=\"#F0C800\">\
 <title>job 1, machine 3, start 4, end 8</title></rect>\n\
-<text x=\"57000\" y=\"11950\">1</text>\n\
-<rect x=\"41000\" y=\"7300\" width=\"64000\" height=\"2400\" fill=\"#009E73\" stroke=\"#000000\" stroke-width=\"160\">\
+<text x=\"56960\" y=\"13760\">1</text>\n\
+<rect x=\"41000\" y=\"9200\" width=\"63920\" height=\"2400\" fill=\"#8F2D00\" \
+stroke=\"#000000\" stroke-width=\"300\" stroke-dasharray=\"63920 2400\">\
 <title>job 2, machine 2, start 4, end 12</title></rect>\n\
-<text x=\"73000\" y=\"8950\">2</text>\n\
+<text x=\"72960\" y=\"10760\" fill=\"#ffffff\">2</text>\n\
 </g></svg>\n";
 
 /// A text, an index, a start and forms; and what is written, or the fault.
@@ -129,7 +131,7 @@ static PICTURES: [(&[u8], &[u8], &[u8]); 2] = [
     (
         ONE_JOB,
         b"sequence 1\n",
-        b"<g text-anchor=\"middle\">\n</g></svg>\n",
+        b"<g text-anchor=\"middle\" font-size=\"1000\">\n</g></svg>\n",
     ),
 ];
 
@@ -242,10 +244,13 @@ fn count_lines(text: &str, begin: &str) -> u64 {
 /// The last line of the table of the greatest size. The makespan is 825 times 999,999.
 const LAST_ROW: &[u8] = b"\n800,26,823999176,824999175\n";
 
-/// The last bar of its picture, worked out by hand: it begins at 95883 of the 96000 units.
+/// The last bar of its picture, worked out by hand: it begins at 2969995 of the 2973600 units, and leaves 80 of the
+/// other 3605 free.
 const LAST_BAR: &[u8] =
-    b"\n<rect x=\"104883\" y=\"79300\" width=\"117\" height=\"2400\" fill=\"#E69F00\" \
-stroke=\"#000000\" stroke-width=\"160\"><title>job 800, machine 26, start 823999176, end 824999175</title></rect>\n\
+    b"\n<rect x=\"2978995\" y=\"81200\" width=\"3525\" height=\"2400\" fill=\"#F2B6D2\" \
+stroke=\"#000000\" stroke-width=\"300\" stroke-dasharray=\"3525 2400\">\
+<title>job 800, machine 26, start 823999176, end 824999175</title></rect>\n\
+<text x=\"2980757\" y=\"82760\">800</text>\n\
 </g></svg>\n";
 
 /// A form, how its lines for operations begin, how many they are, and its end.

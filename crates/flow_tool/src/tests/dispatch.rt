@@ -8,6 +8,7 @@ use crate::tests::lines::{
     ANSWERS, CERTIFY, CHECK, IMPROVE, OPTIONS, Row, SCHEDULE, STARTS, VERSIONS,
 };
 use crate::tests::stop::is_line;
+use flow_commands::Unwatched;
 use flow_core::MemorySink;
 use std::alloc::{AllocError, Global};
 use std::process::Abort;
@@ -44,7 +45,14 @@ fn says<R: Threads + Wait + Sync>(
     let Ok(words) = words_of(alloc, line) else {
         return false;
     };
-    match run_words(rt, alloc, &Named::new(of_stdin), words.as_slice(), out) {
+    match run_words(
+        rt,
+        alloc,
+        &Named::new(of_stdin),
+        words.as_slice(),
+        &Unwatched,
+        out,
+    ) {
         Ok(()) => refusal.is_empty(),
         Err(stop) => is_line(alloc, stop, refusal),
     }

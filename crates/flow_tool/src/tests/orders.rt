@@ -122,12 +122,14 @@ const ORDERS: [(&str, Order); 8] = [
             request: CertifyRequest {
                 improve: USUAL,
                 directions: 100_000_000,
+                workers: 1,
             },
+            progress: false,
         },
     ),
     (
         "certify FILE 1 --directions 4294967295 --work 7 --width 65537 --seed 0 --rounds 4294967295 \
---start SEQUENCE",
+--workers 65 --progress --start SEQUENCE",
         Order::Certify {
             file: "FILE",
             index: 1,
@@ -135,7 +137,9 @@ const ORDERS: [(&str, Order); 8] = [
             request: CertifyRequest {
                 improve: OTHER,
                 directions: 4_294_967_295,
+                workers: 65,
             },
+            progress: true,
         },
     ),
 ];
@@ -195,7 +199,7 @@ static REFUSED: [&str; 23] = [
     "improve FILE 1 --rounds -1",
     "improve FILE 1 --certificate 1",
     "certify FILE 1 --seed 4294967296",
-    "certify FILE 1 --workers 1",
+    "certify FILE 1 --workers -1",
     "certify FILE 1 --directions 4294967296",
     "certify FILE 1 --certificate 1",
     "certify FILE 1 --bounds",

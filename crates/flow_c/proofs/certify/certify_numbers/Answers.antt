@@ -8,7 +8,7 @@ use Rattle.flow_c.proofs.certify.certify_numbers.Goals as goal
 
 pub returns-clause-bounds : goal.returns-clause-bounds
 returns-clause-bounds c =
-    let shop = shop_of c.args.jobs c.args.machines c.args.times.now in
+    let shop = shop_of c.args.shop.now in
     IfOk-weaker c.certify_from.result _ (λ found. AreBounds shop found.bounds)
     (λ found is. (two_ended_is_sound shop (with_directions found.frame.bytes found.directions.items) found.bounds
     found.sequence is.lawful).hold)
@@ -18,9 +18,9 @@ pub returns-clause-refused : goal.returns-clause-refused
 returns-clause-refused c =
     let a = c.args in
     IfErr-weaker c.certify_from.result _ _
-    (λ fault is. is-refused a.jobs a.machines a.times.now a.start.now a.effort.width a.effort.rounds a.effort.seed
-    a.effort.work a.directions a.room.sequence a.room.text fault c.in_ok-instance.ensures.accepted
-    (rw c.in_ok-instance.ensures.value at c.in_ok-start.ensures.accepted)
-    c.in_ok-effort.ensures.accepted c.in_ok-directions.ensures.accepted c.in_ok-need.ensures.accepted is)
+    (λ fault is. is-refused a.shop.now a.start.now a.effort.now a.directions a.entries.sequence
+    c.in_ok-instance.ensures.accepted (rw c.in_ok-instance.ensures.value at c.in_ok-start.ensures.accepted)
+    c.in_ok-effort.ensures.accepted c.in_ok-directions.ensures.accepted c.in_ok-need.ensures.accepted
+    a.entries.text fault is)
     (rw (c.in_ok-instance.ensures.value, c.in_ok-start.ensures.value, c.in_ok-directions.ensures.same)
     at c.certify_from.ensures.refused)

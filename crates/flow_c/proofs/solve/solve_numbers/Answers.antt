@@ -13,14 +13,13 @@ returns-clause-gives c = rw c.in_ok-instance.ensures.value at c.solve_from.ensur
 pub returns-clause-refused : goal.returns-clause-refused
 returns-clause-refused c =
     let a = c.args in
-    let shop = shop_of a.jobs a.machines a.times.now in
-    let options = options_of a.choice.depth a.choice.budget a.choice.version in
+    let shop = shop_of a.shop.now in
+    let options = options_of a.plan.now in
     IfErr-weaker c.solve_from.result _ _
-    (λ fault is. of-four (makespan_fault a.jobs a.machines a.times.now a.start.now)
-    (choice_fault a.choice.depth a.choice.budget a.choice.version)
-    (planning_fault shop options a.room.sequence)
-    (solve_fault (plan_of shop a.start.now options) a.room.text) fault
-    (no-makespan-fault a.jobs a.machines a.times.now a.start.now c.in_ok-instance.ensures.accepted
+    (λ fault is. of-four (makespan_fault a.shop.now a.start.now) (choice_fault a.plan.now)
+    (planning_fault shop options a.entries.sequence)
+    (solve_fault (plan_of shop a.start.now options) a.entries.text) fault
+    (no-makespan-fault a.shop.now a.start.now c.in_ok-instance.ensures.accepted
     (rw c.in_ok-instance.ensures.value at c.in_ok-start.ensures.accepted))
     c.in_ok-options.ensures.accepted is)
     (rw (c.in_ok-instance.ensures.value, c.in_ok-start.ensures.value, c.in_ok-options.ensures.value)

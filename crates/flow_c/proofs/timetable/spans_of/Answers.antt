@@ -10,9 +10,10 @@ pub returns-clause-count : goal.returns-clause-count
 returns-clause-count c =
     let whole : length c.in_ok-sequence.sequence ≡ c.in_ok-instance.instance.jobs =
     ap length c.in_ok-sequence.ensures.value ∙ c.in_ok-sequence.ensures.each.whole in
-    let sizes : c.in_ok-instance.instance.jobs * c.in_ok-instance.instance.machines ≡ c.args.jobs * c.args.machines =
+    let sizes : c.in_ok-instance.instance.jobs * c.in_ok-instance.instance.machines
+    ≡ c.args.shop.now.jobs * c.args.shop.now.machines =
     ap (λ (shop : Shop). shop.jobs * shop.machines) c.in_ok-instance.ensures.value in
-    let all : length c.as_slice.result.now ≡ c.args.jobs * c.args.machines =
+    let all : length c.as_slice.result.now ≡ c.args.shop.now.jobs * c.args.shop.now.machines =
     ap length c.as_slice.ensures.value ∙ ap length c.in_ok-operations.ensures.value
     ∙ timetable-length c.in_ok-instance.instance c.in_ok-sequence.sequence
     ∙ ap (λ n. n * c.in_ok-instance.instance.machines) whole ∙ sizes in (

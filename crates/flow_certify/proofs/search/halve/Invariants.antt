@@ -3,8 +3,8 @@ use Rattle.flow_certify.specs.internal.Runs.{IsLater}
 use Rattle.flow_certify.proofs.search.halve.Given as goal
 
 abbrev pub invariant-halved : goal.invariant-halved
-invariant-halved l = IsLater l.instance l.initial.run l.run
+invariant-halved g l = IsLater l.task.instance.now l.initial.run l.run
 
 -- each beam is aimed between them, and moves one of them to or past its number
 abbrev pub decreases-halved : goal.decreases-halved
-decreases-halved l = l.top - l.missed
+decreases-halved g l = l.top - l.missed

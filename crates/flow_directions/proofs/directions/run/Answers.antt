@@ -1,6 +1,6 @@
 use Rattle.std.proofs.Common.{◌≡◌, ◌++◌, length, Some, ap, sym, ◌∙◌, subst, arith}
 use Rattle.flow_shop.specs.Sequences.{IsSequence}
-use Rattle.flow_directions.specs.Search.{directions_of, IsFound}
+use Rattle.flow_directions.specs.Search.{directions_of, IsAdvanced}
 use Rattle.flow_directions.specs.internal.Reached.{IsSequenceAfter}
 use Rattle.flow_directions.proofs.FoundSteps.{found-below, each-ok, start-at, ends-below, ends-over}
 use Rattle.flow_directions.proofs.SearchReaches.{reached_is_below}
@@ -54,12 +54,11 @@ returns-in-Err-Below-clause-found g c first last is low =
     first last is low in
     let ends = ends-below shop c.args.number c.args.budget first last c.new.result.items c.search.new.written
     c.new.ensures.items c.in-Err-Below.field-0 c.in-Err-Below.field-0-is (c.in-Err-Below.ensures.ends first last at) in
-    let count : c.len-count.result ≡ length c.search.new.written.directions.items =
-    c.len-count.ensures ∙ c.search.new.written.directions.ok.0 in
-    each-ok (IsSequenceAfter shop c.all.result.now c.len-count.result)
-    (IsFound shop c.args.number c.args.budget first last) c.sequence_of.result
-    (λ found is. found-below shop c.args.number c.args.budget first last c.all.result.now c.len-count.result found
-    (ends.0 ∙ ap Some (sym c.all.ensures.value)) (count ∙ ap length ends.1) (omega (arith, count, ends.2)) is)
+    each-ok (IsSequenceAfter shop c.all.result.now c.search.new.written.directions.items)
+    (IsAdvanced shop c.args.number c.args.budget first last) c.sequence_of.result
+    (λ found is. found-below shop c.args.number c.args.budget first last c.all.result.now
+    c.search.new.written.directions.items found (ends.0 ∙ ap Some (sym c.all.ensures.value)) ends.1
+    (omega (arith, ends.2)) is)
     c.sequence_of.ensures.found
 
 pub returns-in-Err-Over-clause-found : goal.returns-in-Err-Over-clause-found
@@ -70,4 +69,5 @@ returns-in-Err-Over-clause-found g c first last is low =
     c.as_mut_slice.ensures.value c.pack.ensures.pack c.pack.ensures.count c.first.ensures.begin c.pack.ensures.jobs
     first last is low in
     ends-over c.args.instance.now c.args.number c.args.budget first last c.new.result.items c.search.new.written
-    c.new.ensures.items c.in-Err-Over.field-0 c.in-Err-Over.field-0-is (c.in-Err-Over.ensures.ends first last at)
+    c.new.ensures.items c.in-Err-Over.field-0 c.in-Err-Over.field-0-is is.are_jobs
+    (c.in-Err-Over.ensures.ends first last at)

@@ -6,10 +6,11 @@ use Rattle.flow_shop.specs.Directions.{first_with, last_with}
 use Rattle.flow_directions.specs.internal.Lists.{HasLists}
 use Rattle.flow_directions.specs.internal.Packs.{jobs_at}
 use Rattle.flow_directions.specs.declared.pack.Pack.{Pack}
-use Rattle.flow_directions.proofs.WalkSteps.{Stands, stands-first, stands-next}
-use Rattle.flow_directions.proofs.WalkSteps.{stands-done, opens-longer, head-same}
-use Rattle.flow_directions.proofs.ChildSteps.{index-same, packs-keep, pack-few, at-count, stands-job, job-open}
-use Rattle.flow_directions.proofs.ChildSteps.{child-at, ends-stops, last-reached, last-written}
+use Rattle.flow_directions.specs.internal.Left.{IsNodeLeft, AreChildrenLeft}
+use Rattle.flow_directions.proofs.WalkSteps.{Stands, stands-first, stands-next, stands-done, head-same}
+use Rattle.flow_directions.proofs.ChildSteps.{index-same, packs-keep, pack-few, at-count, next-here, stands-job}
+use Rattle.flow_directions.proofs.ChildSteps.{job-open, child-at, ends-below, ends-here, ends-over, over-lists}
+use Rattle.flow_directions.proofs.ChildSteps.{last-reached, last-written}
 use Rattle.flow_directions.proofs.PackedSteps.{rooms-set, split-first, split-behind, split-rooms, packed-at}
 use Rattle.flow_directions.proofs.walk.+search.Goals as goal
 
@@ -58,8 +59,14 @@ search-requires g t c κs within =
               (
                 c.requires.some,
                 (
-                  rooms-set c.args.instance.now deeper new c.fill.ensures.pack.room rooms,
-                  (omega (arith, some, length-set deeper 0 new), (c.requires.at.0, c.requires.at.1, packed)),
+                  c.requires.within,
+                  (
+                    c.requires.rest,
+                    (
+                      rooms-set c.args.instance.now deeper new c.fill.ensures.pack.room rooms,
+                      (omega (arith, some, length-set deeper 0 new), (c.requires.at.0, c.requires.at.1, packed)),
+                    ),
+                  ),
                 ),
               ),
             ),
@@ -70,13 +77,13 @@ search-requires g t c κs within =
 
 pub returns-then-len-aim-clause-ends : goal.returns-then-len-aim-clause-ends
 returns-then-len-aim-clause-ends g t c first last at =
-    omega (
-      arith,
-      opens-longer c.args.instance.now c.args.aim.number first last c.args.left c.args.written.now.directions.items
-          at.below at.count c.requires.some,
-      c.if-len-aim.true,
-      c.len-2.ensures,
-    )
+    ends-here c.args.instance.now c.args.aim.number c.args.aim.budget c.args.left first last
+    c.args.written.now.directions.items c.leave_node.new.self at.below at.count c.requires.some
+    (omega (arith, c.requires.within, c.if-len-aim.true, c.len-2.ensures, c.args.written.now.directions.ok.0))
+    (ap (λ v. v.items) c.in_ok-leave_node.ensures.directions)
+    (subst (HasLists c.args.instance.now.jobs first last) (sym c.in_ok-leave_node.ensures.lists) at.has_lists)
+    (subst (λ old. IsNodeLeft first last old c.leave_node.new.self.rest.items) c.requires.rest
+    (c.in_ok-leave_node.ensures.rest c.args.instance.now.jobs first last at.has_lists))
 
 pub children-init : goal.children-init
 children-init g t c =
@@ -95,6 +102,7 @@ children-init g t c =
         c.if-len-aim.false,
         c.len-2.ensures,
       );
+      rest = c.requires.rest;
       marked = c.open-opened.ensures.within;
       stands = λ none first last at.
           let same : slice_index_or c.args.packs.now 0 none
@@ -119,9 +127,7 @@ pop-requires g t c =
     omega (
       arith,
       c.children.invariant.groups c.index-packs-0.result,
-      pack-few g.V.Lanes.list g.V.Lanes.CAP g.V.Lanes.WIDTH c.args.instance.now c.args.aim.number c.args.left
-          c.args.packs.now c.args.branch.now c.args.written.now.lists c.requires.at.0 c.requires.at.1 at
-          c.index-packs-0.result,
+      pack-few at c.index-packs-0.result,
     )
 
 pub index-job-requires : goal.index-job-requires
@@ -149,9 +155,7 @@ put-requires g t c =
       stands.has_lists.first_count,
       stands.has_lists.last_count,
       c.requires.some,
-      at-count g.V.Lanes.list g.V.Lanes.CAP g.V.Lanes.WIDTH c.args.instance.now c.args.aim.number
-          c.args.left c.args.packs.now c.args.branch.now c.args.written.now.lists
-          c.requires.at.0 c.requires.at.1 at c.index-packs-0-in-Some.result,
+      at-count at c.index-packs-0-in-Some.result,
     )
 
 pub returns-then-left-eq1-clause-packs : goal.returns-then-left-eq1-clause-packs
@@ -159,31 +163,14 @@ returns-then-left-eq1-clause-packs g t c = c.children.invariant.packs
 
 pub returns-then-left-eq1-clause-ends : goal.returns-then-left-eq1-clause-ends
 returns-then-left-eq1-clause-ends g t c first last at =
-    let pack = c.index-packs-0-in-Some.result in
-    let here : Pack g.row.V.Denot = slice_index_or c.args.packs.now 0 pack in
-    let same : slice_index_or c.children.packs 0 pack ≡ here = c.children.invariant.packs.same pack in
-    let size : length here.names.items ≡ c.len-groups.result * 16 =
-    omega (arith, (at.is_branch pack).is_pack.room.names, c.children.invariant.groups pack) in
-    let inside : c.in-Some.place < length here.names.items = omega (arith, c.in-Some.ensures.within, size) in
-    let job : c.index-job.result.now ≡ slice_index here.names.items c.in-Some.place =
-    c.index-job.ensures ∙ ap (λ p. slice_index_or p.names.items c.in-Some.place c.index-job.result.now) same
-    ∙ index-same here.names.items c.in-Some.place c.index-job.result.now 0 inside in
-    let popped : jobs_at here c.children.below ≡ slice_index here.names.items c.in-Some.place
-    ∷ jobs_at here c.pop.new.self = c.in-Some.ensures.first here.names.items size in
-    let stands = c.children.invariant.stands pack first last at in
-    let lists : HasLists c.args.instance.now.jobs (first_with c.open-opened.result.end first c.index-job.result.now)
-    (last_with c.open-opened.result.end last c.index-job.result.now) c.put.new.self =
-    c.put.ensures c.args.instance.now.jobs first last stands.has_lists in (
-      last-reached g.V.Lanes.list g.V.Lanes.CAP g.V.Lanes.WIDTH c.args.instance.now c.args.aim.number
-          c.args.left c.args.packs.now c.args.branch.now c.args.written.now.lists first last at
-          pack c.open-opened.result.end c.args.written.now.directions.items
-          c.children.written.directions.items c.children.written.lists c.children.below c.pop.new.self c.in-Some.place
-          c.index-job.result.now inside stands popped job c.if-left-eq1.true c.put.new.self lists,
-      sym (last-written g.V.Lanes.list g.V.Lanes.CAP g.V.Lanes.WIDTH c.args.instance.now c.args.aim.number
-          c.args.left c.args.packs.now c.args.branch.now c.args.written.now.lists first last at
-          pack c.open-opened.result.end c.args.written.now.directions.items
-          c.children.written.directions.items c.children.written.lists c.children.below c.pop.new.self c.in-Some.place
-          c.index-job.result.now inside stands popped job c.if-left-eq1.true),
+    let pack : Pack g.row.V.Denot = c.index-packs-0-in-Some.result in
+    let next = next-here at c.index-packs-0-in-Some.result c.children.packs c.len-groups.result
+    c.children.invariant.packs (c.children.invariant.groups c.index-packs-0-in-Some.result) c.in-Some.ensures.within
+    c.in-Some.ensures.first c.index-job.ensures
+    (c.children.invariant.stands c.index-packs-0-in-Some.result first last at) in (
+      last-reached at pack next c.if-left-eq1.true c.put.new.self
+          (c.put.ensures c.args.instance.now.jobs first last next.stands.has_lists),
+      sym (last-written at pack next c.if-left-eq1.true),
       c.children.invariant.within,
     )
 
@@ -193,90 +180,43 @@ child-child-requires-clause-place g t c =
       arith,
       c.in-Some.ensures.within,
       c.children.invariant.groups c.index-packs-0-in-Some.result,
-      pack-few g.V.Lanes.list g.V.Lanes.CAP g.V.Lanes.WIDTH c.args.instance.now c.args.aim.number
-          c.args.left c.args.packs.now c.args.branch.now c.args.written.now.lists
-          c.requires.at.0 c.requires.at.1 c.requires.at.2 c.index-packs-0-in-Some.result,
+      pack-few c.requires.at.2 c.index-packs-0-in-Some.result,
     )
 
 pub child-child-requires-clause-job : goal.child-child-requires-clause-job
 child-child-requires-clause-job g t c =
-    let at = c.requires.at.2 in
-    let pack = c.index-packs-0-in-Some.result in
-    let here : Pack g.row.V.Denot = slice_index_or c.args.packs.now 0 pack in
-    let same : slice_index_or c.children.packs 0 pack ≡ here = c.children.invariant.packs.same pack in
-    let size : length here.names.items ≡ c.len-groups.result * 16 =
-    omega (arith, (at.is_branch pack).is_pack.room.names, c.children.invariant.groups pack) in
-    let inside : c.in-Some.place < length here.names.items = omega (arith, c.in-Some.ensures.within, size) in
-    let job : c.index-job.result.now ≡ slice_index here.names.items c.in-Some.place =
-    c.index-job.ensures ∙ ap (λ p. slice_index_or p.names.items c.in-Some.place c.index-job.result.now) same
-    ∙ index-same here.names.items c.in-Some.place c.index-job.result.now 0 inside in
-    let popped : jobs_at here c.children.below ≡ slice_index here.names.items c.in-Some.place
-    ∷ jobs_at here c.pop.new.self = c.in-Some.ensures.first here.names.items size in
-    let stands = c.children.invariant.stands pack c.requires.at.0 c.requires.at.1 at in
-    (job-open g.V.Lanes.list g.V.Lanes.CAP g.V.Lanes.WIDTH c.args.instance.now c.args.aim.number
-    c.args.left c.args.packs.now c.args.branch.now c.args.written.now.lists c.requires.at.0 c.requires.at.1 at
-    pack c.open-opened.result.end c.args.written.now.directions.items
-    c.children.written.directions.items c.children.written.lists c.children.below c.pop.new.self c.in-Some.place
-    c.index-job.result.now inside stands popped job).is_job
+    let pack : Pack g.row.V.Denot = c.index-packs-0-in-Some.result in
+    let next = next-here c.requires.at.2 c.index-packs-0-in-Some.result c.children.packs c.len-groups.result
+    c.children.invariant.packs (c.children.invariant.groups c.index-packs-0-in-Some.result) c.in-Some.ensures.within
+    c.in-Some.ensures.first c.index-job.ensures
+    (c.children.invariant.stands c.index-packs-0-in-Some.result c.requires.at.0 c.requires.at.1 c.requires.at.2) in
+    (job-open c.requires.at.2 pack next).is_job
 
 pub child-child-requires-clause-left : goal.child-child-requires-clause-left
 child-child-requires-clause-left g t c =
-    let at = c.requires.at.2 in
-    let pack = c.index-packs-0-in-Some.result in
-    let here : Pack g.row.V.Denot = slice_index_or c.args.packs.now 0 pack in
-    let same : slice_index_or c.children.packs 0 pack ≡ here = c.children.invariant.packs.same pack in
-    let size : length here.names.items ≡ c.len-groups.result * 16 =
-    omega (arith, (at.is_branch pack).is_pack.room.names, c.children.invariant.groups pack) in
-    let inside : c.in-Some.place < length here.names.items = omega (arith, c.in-Some.ensures.within, size) in
-    let job : c.index-job.result.now ≡ slice_index here.names.items c.in-Some.place =
-    c.index-job.ensures ∙ ap (λ p. slice_index_or p.names.items c.in-Some.place c.index-job.result.now) same
-    ∙ index-same here.names.items c.in-Some.place c.index-job.result.now 0 inside in
-    let popped : jobs_at here c.children.below ≡ slice_index here.names.items c.in-Some.place
-    ∷ jobs_at here c.pop.new.self = c.in-Some.ensures.first here.names.items size in
-    let stands = c.children.invariant.stands pack c.requires.at.0 c.requires.at.1 at in (
+    let pack : Pack g.row.V.Denot = c.index-packs-0-in-Some.result in
+    let next = next-here c.requires.at.2 c.index-packs-0-in-Some.result c.children.packs c.len-groups.result
+    c.children.invariant.packs (c.children.invariant.groups c.index-packs-0-in-Some.result) c.in-Some.ensures.within
+    c.in-Some.ensures.first c.index-job.ensures
+    (c.children.invariant.stands c.index-packs-0-in-Some.result c.requires.at.0 c.requires.at.1 c.requires.at.2) in (
       c.requires.at.0,
       c.requires.at.1,
-      (at.is_branch pack).is_node,
-      (job-open g.V.Lanes.list g.V.Lanes.CAP g.V.Lanes.WIDTH c.args.instance.now c.args.aim.number
-          c.args.left c.args.packs.now c.args.branch.now c.args.written.now.lists c.requires.at.0
-          c.requires.at.1 at pack c.open-opened.result.end c.args.written.now.directions.items
-          c.children.written.directions.items c.children.written.lists c.children.below c.pop.new.self c.in-Some.place
-          c.index-job.result.now inside stands popped job).left,
+      (c.requires.at.2.is_branch pack).is_node,
+      (job-open c.requires.at.2 pack next).left,
     )
 
 pub search-requires-in-Some : goal.search-requires-in-Some
 search-requires-in-Some g t c κs within =
-    let at = c.requires.at.2 in
-    let pack = c.index-packs-0-in-Some.result in
-    let here : Pack g.row.V.Denot = slice_index_or c.args.packs.now 0 pack in
-    let same : slice_index_or c.children.packs 0 pack ≡ here = c.children.invariant.packs.same pack in
-    let size : length here.names.items ≡ c.len-groups.result * 16 =
-    omega (arith, (at.is_branch pack).is_pack.room.names, c.children.invariant.groups pack) in
-    let inside : c.in-Some.place < length here.names.items = omega (arith, c.in-Some.ensures.within, size) in
-    let job : c.index-job.result.now ≡ slice_index here.names.items c.in-Some.place =
-    c.index-job.ensures ∙ ap (λ p. slice_index_or p.names.items c.in-Some.place c.index-job.result.now) same
-    ∙ index-same here.names.items c.in-Some.place c.index-job.result.now 0 inside in
-    let popped : jobs_at here c.children.below ≡ slice_index here.names.items c.in-Some.place
-    ∷ jobs_at here c.pop.new.self = c.in-Some.ensures.first here.names.items size in
-    let stands = c.children.invariant.stands pack c.requires.at.0 c.requires.at.1 at in
-    let open_job = job-open g.V.Lanes.list g.V.Lanes.CAP g.V.Lanes.WIDTH c.args.instance.now c.args.aim.number
-    c.args.left c.args.packs.now c.args.branch.now c.args.written.now.lists c.requires.at.0 c.requires.at.1 at
-    pack c.open-opened.result.end c.args.written.now.directions.items
-    c.children.written.directions.items c.children.written.lists c.children.below c.pop.new.self c.in-Some.place
-    c.index-job.result.now inside stands popped job in
-    let first2 = first_with c.open-opened.result.end c.requires.at.0 c.index-job.result.now in
-    let last2 = last_with c.open-opened.result.end c.requires.at.1 c.index-job.result.now in
-    let child = child-at g.V.Lanes.list g.V.Lanes.CAP g.V.Lanes.WIDTH c.args.instance.now c.args.aim.number
-    c.args.left c.args.packs.now c.args.branch.now c.args.written.now.lists c.requires.at.0 c.requires.at.1 at
-    pack c.open-opened.result.end c.args.written.now.directions.items
-    c.children.written.directions.items c.children.written.lists c.children.below c.pop.new.self c.in-Some.place
-    c.index-job.result.now inside stands popped job c.put.new.self c.child-child.result c.children.packs c.requires.few
-    c.children.invariant.packs
-    (c.put.ensures c.args.instance.now.jobs c.requires.at.0 c.requires.at.1 stands.has_lists)
-    (c.child-child.ensures.node c.requires.at.0 c.requires.at.1 (at.is_branch pack).is_node open_job.left)
-    (λ names left within named. c.child-child.ensures.left c.requires.at.0 c.requires.at.1 names left open_job.left
-    within named
-    (c.children.invariant.marked c.in-Some.place c.in-Some.ensures.marked)) in (
+    let pack : Pack g.row.V.Denot = c.index-packs-0-in-Some.result in
+    let next = next-here c.requires.at.2 c.index-packs-0-in-Some.result c.children.packs c.len-groups.result
+    c.children.invariant.packs (c.children.invariant.groups c.index-packs-0-in-Some.result) c.in-Some.ensures.within
+    c.in-Some.ensures.first c.index-job.ensures
+    (c.children.invariant.stands c.index-packs-0-in-Some.result c.requires.at.0 c.requires.at.1 c.requires.at.2) in
+    let child = child-at c.requires.at.2 pack next c.put.new.self c.child-child.result c.children.packs c.requires.few
+    c.children.invariant.packs (c.put.ensures c.args.instance.now.jobs c.requires.at.0 c.requires.at.1 next.stands.has_lists)
+    (c.child-child.ensures.node c.requires.at.0 c.requires.at.1 (c.requires.at.2.is_branch pack).is_node (job-open c.requires.at.2 pack next).left)
+    (λ names left within named. c.child-child.ensures.left c.requires.at.0 c.requires.at.1 names left (job-open c.requires.at.2 pack next).left
+    within named (c.children.invariant.marked c.in-Some.place c.in-Some.ensures.marked)) in (
       omega (arith, c.decreases, c.if-left-eq1.false, c.requires.some, c.children.invariant.packs.count),
       (
         within,
@@ -289,10 +229,16 @@ search-requires-in-Some g t c κs within =
               (
                 omega (arith, c.if-left-eq1.false, c.requires.some),
                 (
-                  c.children.invariant.packs.rooms,
+                  c.children.invariant.within,
                   (
-                    omega (arith, c.children.invariant.packs.count, c.requires.few),
-                    (first2, last2, child),
+                    c.children.invariant.rest,
+                    (
+                      c.children.invariant.packs.rooms,
+                      (
+                        omega (arith, c.children.invariant.packs.count, c.requires.few),
+                        ((first_with c.open-opened.result.end c.requires.at.0 c.index-job.result.now), (last_with c.open-opened.result.end c.requires.at.1 c.index-job.result.now), child),
+                      ),
+                    ),
                   ),
                 ),
               ),
@@ -302,88 +248,140 @@ search-requires-in-Some g t c κs within =
       ),
     )
 
-pub returns-in-Err-clause-packs : goal.returns-in-Err-clause-packs
-returns-in-Err-clause-packs g t c =
+pub returns-in-Err-Below-clause-packs : goal.returns-in-Err-Below-clause-packs
+returns-in-Err-Below-clause-packs g t c =
     packs-keep c.args.instance.now c.args.packs.now c.children.packs c.search-in-Some.new.packs
     c.children.invariant.packs c.search-in-Some.ensures.packs
 
-pub returns-in-Err-clause-ends : goal.returns-in-Err-clause-ends
-returns-in-Err-clause-ends g t c first last at =
-    let pack = c.index-packs-0-in-Some.result in
-    let here : Pack g.row.V.Denot = slice_index_or c.args.packs.now 0 pack in
-    let same : slice_index_or c.children.packs 0 pack ≡ here = c.children.invariant.packs.same pack in
-    let size : length here.names.items ≡ c.len-groups.result * 16 =
-    omega (arith, (at.is_branch pack).is_pack.room.names, c.children.invariant.groups pack) in
-    let inside : c.in-Some.place < length here.names.items = omega (arith, c.in-Some.ensures.within, size) in
-    let job : c.index-job.result.now ≡ slice_index here.names.items c.in-Some.place =
-    c.index-job.ensures ∙ ap (λ p. slice_index_or p.names.items c.in-Some.place c.index-job.result.now) same
-    ∙ index-same here.names.items c.in-Some.place c.index-job.result.now 0 inside in
-    let popped : jobs_at here c.children.below ≡ slice_index here.names.items c.in-Some.place
-    ∷ jobs_at here c.pop.new.self = c.in-Some.ensures.first here.names.items size in
-    let stands = c.children.invariant.stands pack first last at in
-    let open_job = job-open g.V.Lanes.list g.V.Lanes.CAP g.V.Lanes.WIDTH c.args.instance.now c.args.aim.number
-    c.args.left c.args.packs.now c.args.branch.now c.args.written.now.lists first last at
-    pack c.open-opened.result.end c.args.written.now.directions.items
-    c.children.written.directions.items c.children.written.lists c.children.below c.pop.new.self c.in-Some.place
-    c.index-job.result.now inside stands popped job in
-    let first2 = first_with c.open-opened.result.end first c.index-job.result.now in
-    let last2 = last_with c.open-opened.result.end last c.index-job.result.now in
-    let child = child-at g.V.Lanes.list g.V.Lanes.CAP g.V.Lanes.WIDTH c.args.instance.now c.args.aim.number
-    c.args.left c.args.packs.now c.args.branch.now c.args.written.now.lists first last at
-    pack c.open-opened.result.end c.args.written.now.directions.items
-    c.children.written.directions.items c.children.written.lists c.children.below c.pop.new.self c.in-Some.place
-    c.index-job.result.now inside stands popped job c.put.new.self c.child-child.result c.children.packs c.requires.few
-    c.children.invariant.packs
-    (c.put.ensures c.args.instance.now.jobs first last stands.has_lists)
-    (c.child-child.ensures.node first last (at.is_branch pack).is_node open_job.left)
-    (λ names left within named. c.child-child.ensures.left first last names left open_job.left within named
-    (c.children.invariant.marked c.in-Some.place c.in-Some.ensures.marked)) in
-    ends-stops g.V.Lanes.list g.V.Lanes.CAP g.V.Lanes.WIDTH c.args.instance.now c.args.aim.number
-    c.args.left c.args.packs.now c.args.branch.now c.args.written.now.lists first last at
-    pack c.open-opened.result.end c.args.written.now.directions.items
-    c.children.written.directions.items c.children.written.lists c.children.below c.pop.new.self c.in-Some.place
-    c.index-job.result.now inside stands popped job c.args.aim.budget c.search-in-Some.new.written c.in-Err.stop
-    (c.in-Err.ensures.ends first2 last2 child)
+pub returns-in-Err-Below-clause-ends : goal.returns-in-Err-Below-clause-ends
+returns-in-Err-Below-clause-ends g t c first last at =
+    let pack : Pack g.row.V.Denot = c.index-packs-0-in-Some.result in
+    let next = next-here at c.index-packs-0-in-Some.result c.children.packs c.len-groups.result
+    c.children.invariant.packs (c.children.invariant.groups c.index-packs-0-in-Some.result) c.in-Some.ensures.within
+    c.in-Some.ensures.first c.index-job.ensures
+    (c.children.invariant.stands c.index-packs-0-in-Some.result first last at) in
+    let child = child-at at pack next c.put.new.self c.child-child.result c.children.packs c.requires.few
+    c.children.invariant.packs (c.put.ensures c.args.instance.now.jobs first last next.stands.has_lists)
+    (c.child-child.ensures.node first last (at.is_branch pack).is_node (job-open at pack next).left)
+    (λ names left within named. c.child-child.ensures.left first last names left (job-open at pack next).left
+    within named (c.children.invariant.marked c.in-Some.place c.in-Some.ensures.marked)) in
+    ends-below at pack next c.args.aim.budget c.search-in-Some.new.written c.in-Err-Below.field-0
+    c.in-Err-Below.field-0-is
+    (c.in-Err-Below.ensures.ends (first_with c.open-opened.result.end first c.index-job.result.now) (last_with c.open-opened.result.end last c.index-job.result.now) child)
 
 pub take-requires : goal.take-requires
 take-requires g t c =
-    let at = c.requires.at.2 in
-    let pack = c.index-packs-0-in-Some.result in
-    let here : Pack g.row.V.Denot = slice_index_or c.args.packs.now 0 pack in
-    let same : slice_index_or c.children.packs 0 pack ≡ here = c.children.invariant.packs.same pack in
-    let size : length here.names.items ≡ c.len-groups.result * 16 =
-    omega (arith, (at.is_branch pack).is_pack.room.names, c.children.invariant.groups pack) in
-    let inside : c.in-Some.place < length here.names.items = omega (arith, c.in-Some.ensures.within, size) in
-    let job : c.index-job.result.now ≡ slice_index here.names.items c.in-Some.place =
-    c.index-job.ensures ∙ ap (λ p. slice_index_or p.names.items c.in-Some.place c.index-job.result.now) same
-    ∙ index-same here.names.items c.in-Some.place c.index-job.result.now 0 inside in
-    let popped : jobs_at here c.children.below ≡ slice_index here.names.items c.in-Some.place
-    ∷ jobs_at here c.pop.new.self = c.in-Some.ensures.first here.names.items size in
-    let stands = c.children.invariant.stands pack c.requires.at.0 c.requires.at.1 at in
-    let open_job = job-open g.V.Lanes.list g.V.Lanes.CAP g.V.Lanes.WIDTH c.args.instance.now c.args.aim.number
-    c.args.left c.args.packs.now c.args.branch.now c.args.written.now.lists c.requires.at.0 c.requires.at.1 at
-    pack c.open-opened.result.end c.args.written.now.directions.items
-    c.children.written.directions.items c.children.written.lists c.children.below c.pop.new.self c.in-Some.place
-    c.index-job.result.now inside stands popped job in
-    let first2 = first_with c.open-opened.result.end c.requires.at.0 c.index-job.result.now in
-    let last2 = last_with c.open-opened.result.end c.requires.at.1 c.index-job.result.now in
-    let child = child-at g.V.Lanes.list g.V.Lanes.CAP g.V.Lanes.WIDTH c.args.instance.now c.args.aim.number
-    c.args.left c.args.packs.now c.args.branch.now c.args.written.now.lists c.requires.at.0 c.requires.at.1 at
-    pack c.open-opened.result.end c.args.written.now.directions.items
-    c.children.written.directions.items c.children.written.lists c.children.below c.pop.new.self c.in-Some.place
-    c.index-job.result.now inside stands popped job c.put.new.self c.child-child.result c.children.packs c.requires.few
-    c.children.invariant.packs
-    (c.put.ensures c.args.instance.now.jobs c.requires.at.0 c.requires.at.1 stands.has_lists)
-    (c.child-child.ensures.node c.requires.at.0 c.requires.at.1 (at.is_branch pack).is_node open_job.left)
-    (λ names left within named. c.child-child.ensures.left c.requires.at.0 c.requires.at.1 names left open_job.left
-    within named
-    (c.children.invariant.marked c.in-Some.place c.in-Some.ensures.marked)) in (
+    let pack : Pack g.row.V.Denot = c.index-packs-0-in-Some.result in
+    let next = next-here c.requires.at.2 c.index-packs-0-in-Some.result c.children.packs c.len-groups.result
+    c.children.invariant.packs (c.children.invariant.groups c.index-packs-0-in-Some.result) c.in-Some.ensures.within
+    c.in-Some.ensures.first c.index-job.ensures
+    (c.children.invariant.stands c.index-packs-0-in-Some.result c.requires.at.0 c.requires.at.1 c.requires.at.2) in
+    let child = child-at c.requires.at.2 pack next c.put.new.self c.child-child.result c.children.packs c.requires.few
+    c.children.invariant.packs (c.put.ensures c.args.instance.now.jobs c.requires.at.0 c.requires.at.1 next.stands.has_lists)
+    (c.child-child.ensures.node c.requires.at.0 c.requires.at.1 (c.requires.at.2.is_branch pack).is_node (job-open c.requires.at.2 pack next).left)
+    (λ names left within named. c.child-child.ensures.left c.requires.at.0 c.requires.at.1 names left (job-open c.requires.at.2 pack next).left
+    within named (c.children.invariant.marked c.in-Some.place c.in-Some.ensures.marked)) in (
       c.args.instance.now.jobs,
       c.requires.at.0,
       c.requires.at.1,
       c.index-job.result.now,
-      (c.in-Ok.ensures.ends first2 last2 child).3,
+      (c.in-Ok.ensures.ends (first_with c.open-opened.result.end c.requires.at.0 c.index-job.result.now) (last_with c.open-opened.result.end c.requires.at.1 c.index-job.result.now) child).4,
     )
+
+pub take-requires-in-Err-Over : goal.take-requires-in-Err-Over
+take-requires-in-Err-Over g t c =
+    let pack : Pack g.row.V.Denot = c.index-packs-0-in-Some.result in
+    let next = next-here c.requires.at.2 c.index-packs-0-in-Some.result c.children.packs c.len-groups.result
+    c.children.invariant.packs (c.children.invariant.groups c.index-packs-0-in-Some.result) c.in-Some.ensures.within
+    c.in-Some.ensures.first c.index-job.ensures
+    (c.children.invariant.stands c.index-packs-0-in-Some.result c.requires.at.0 c.requires.at.1 c.requires.at.2) in
+    let child = child-at c.requires.at.2 pack next c.put.new.self c.child-child.result c.children.packs c.requires.few
+    c.children.invariant.packs (c.put.ensures c.args.instance.now.jobs c.requires.at.0 c.requires.at.1 next.stands.has_lists)
+    (c.child-child.ensures.node c.requires.at.0 c.requires.at.1 (c.requires.at.2.is_branch pack).is_node (job-open c.requires.at.2 pack next).left)
+    (λ names left within named. c.child-child.ensures.left c.requires.at.0 c.requires.at.1 names left (job-open c.requires.at.2 pack next).left
+    within named (c.children.invariant.marked c.in-Some.place c.in-Some.ensures.marked)) in
+    let lists = over-lists c.args.instance.now c.args.aim.number c.args.aim.budget (first_with c.open-opened.result.end c.requires.at.0 c.index-job.result.now)
+    (last_with c.open-opened.result.end c.requires.at.1 c.index-job.result.now) c.children.written.directions.items c.search-in-Some.new.written
+    c.in-Err-Over.field-0 c.in-Err-Over.field-0-is (c.in-Err-Over.ensures.ends (first_with c.open-opened.result.end c.requires.at.0 c.index-job.result.now)
+    (last_with c.open-opened.result.end c.requires.at.1 c.index-job.result.now) child) in
+    (c.args.instance.now.jobs, c.requires.at.0, c.requires.at.1, c.index-job.result.now, lists)
+
+pub jobs-requires-clause-names : goal.jobs-requires-clause-names
+jobs-requires-clause-names g t c =
+    (c.search-in-Some.ensures.packs.rooms 0 c.index-packs-0-in-Err-Over.result
+    (omega (arith, c.search-in-Some.ensures.packs.count, c.children.invariant.packs.count, c.requires.few))).names
+
+pub returns-in_err-jobs-in-Err-Over-clause-packs : goal.returns-in_err-jobs-in-Err-Over-clause-packs
+returns-in_err-jobs-in-Err-Over-clause-packs g t c =
+    packs-keep c.args.instance.now c.args.packs.now c.children.packs c.search-in-Some.new.packs
+    c.children.invariant.packs c.search-in-Some.ensures.packs
+
+pub leave_children-requires : goal.leave_children-requires
+leave_children-requires g t c =
+    let pack : Pack g.row.V.Denot = c.index-packs-0-in-Some.result in
+    let next = next-here c.requires.at.2 c.index-packs-0-in-Some.result c.children.packs c.len-groups.result
+    c.children.invariant.packs (c.children.invariant.groups c.index-packs-0-in-Some.result) c.in-Some.ensures.within
+    c.in-Some.ensures.first c.index-job.ensures
+    (c.children.invariant.stands c.index-packs-0-in-Some.result c.requires.at.0 c.requires.at.1 c.requires.at.2) in
+    let child = child-at c.requires.at.2 pack next c.put.new.self c.child-child.result c.children.packs c.requires.few
+    c.children.invariant.packs (c.put.ensures c.args.instance.now.jobs c.requires.at.0 c.requires.at.1 next.stands.has_lists)
+    (c.child-child.ensures.node c.requires.at.0 c.requires.at.1 (c.requires.at.2.is_branch pack).is_node (job-open c.requires.at.2 pack next).left)
+    (λ names left within named. c.child-child.ensures.left c.requires.at.0 c.requires.at.1 names left (job-open c.requires.at.2 pack next).left
+    within named (c.children.invariant.marked c.in-Some.place c.in-Some.ensures.marked)) in
+    let lists = over-lists c.args.instance.now c.args.aim.number c.args.aim.budget (first_with c.open-opened.result.end c.requires.at.0 c.index-job.result.now)
+    (last_with c.open-opened.result.end c.requires.at.1 c.index-job.result.now) c.children.written.directions.items c.search-in-Some.new.written
+    c.in-Err-Over.field-0 c.in-Err-Over.field-0-is (c.in-Err-Over.ensures.ends (first_with c.open-opened.result.end c.requires.at.0 c.index-job.result.now)
+    (last_with c.open-opened.result.end c.requires.at.1 c.index-job.result.now) child) in
+    (c.args.instance.now.jobs, c.requires.at.0, c.requires.at.1, c.take-in-Err-Over.ensures c.args.instance.now.jobs c.requires.at.0 c.requires.at.1 c.index-job.result.now lists)
+
+pub returns-in_err-leave_children-in-Err-Over-clause-packs :
+    goal.returns-in_err-leave_children-in-Err-Over-clause-packs
+returns-in_err-leave_children-in-Err-Over-clause-packs g t c =
+    packs-keep c.args.instance.now c.args.packs.now c.children.packs c.search-in-Some.new.packs
+    c.children.invariant.packs c.search-in-Some.ensures.packs
+
+pub returns-in-Err-Over-clause-packs : goal.returns-in-Err-Over-clause-packs
+returns-in-Err-Over-clause-packs g t c =
+    packs-keep c.args.instance.now c.args.packs.now c.children.packs c.search-in-Some.new.packs
+    c.children.invariant.packs c.search-in-Some.ensures.packs
+
+pub returns-in-Err-Over-clause-ends : goal.returns-in-Err-Over-clause-ends
+returns-in-Err-Over-clause-ends g t c first last at =
+    let pack : Pack g.row.V.Denot = c.index-packs-0-in-Some.result in
+    let next = next-here at c.index-packs-0-in-Some.result c.children.packs c.len-groups.result
+    c.children.invariant.packs (c.children.invariant.groups c.index-packs-0-in-Some.result) c.in-Some.ensures.within
+    c.in-Some.ensures.first c.index-job.ensures
+    (c.children.invariant.stands c.index-packs-0-in-Some.result first last at) in
+    let child = child-at at pack next c.put.new.self c.child-child.result c.children.packs c.requires.few
+    c.children.invariant.packs (c.put.ensures c.args.instance.now.jobs first last next.stands.has_lists)
+    (c.child-child.ensures.node first last (at.is_branch pack).is_node (job-open at pack next).left)
+    (λ names left within named. c.child-child.ensures.left first last names left (job-open at pack next).left
+    within named (c.children.invariant.marked c.in-Some.place c.in-Some.ensures.marked)) in
+    let lists = over-lists c.args.instance.now c.args.aim.number c.args.aim.budget (first_with c.open-opened.result.end first c.index-job.result.now)
+    (last_with c.open-opened.result.end last c.index-job.result.now) c.children.written.directions.items c.search-in-Some.new.written
+    c.in-Err-Over.field-0 c.in-Err-Over.field-0-is (c.in-Err-Over.ensures.ends (first_with c.open-opened.result.end first c.index-job.result.now)
+    (last_with c.open-opened.result.end last c.index-job.result.now) child) in
+    let back = c.take-in-Err-Over.ensures c.args.instance.now.jobs first last c.index-job.result.now lists in
+    let named : c.in_ok-jobs-in-Err-Over.jobs.items
+    ≡ jobs_at (slice_index_or c.args.packs.now 0 pack) c.pop.new.self =
+    c.in_ok-jobs-in-Err-Over.ensures
+    ∙ ap (λ p. jobs_at p c.pop.new.self)
+    (c.search-in-Some.ensures.packs.same c.index-packs-0-in-Err-Over.result
+    ∙ c.children.invariant.packs.same c.index-packs-0-in-Err-Over.result
+    ∙ head-same c.args.packs.now c.index-packs-0-in-Err-Over.result pack c.requires.few) in
+    ends-over at pack next c.args.aim.budget c.search-in-Some.new.written c.leave_children.new.self
+    c.in-Err-Over.field-0 c.in-Err-Over.field-0-is
+    (c.in-Err-Over.ensures.ends (first_with c.open-opened.result.end first c.index-job.result.now) (last_with c.open-opened.result.end last c.index-job.result.now) child)
+    (ap (λ v. v.items) c.in_ok-leave_children-in-Err-Over.ensures.directions)
+    (subst (HasLists c.args.instance.now.jobs first last) (sym c.in_ok-leave_children-in-Err-Over.ensures.lists) back)
+    (subst (λ jobs. AreChildrenLeft first last c.open-opened.result.end jobs c.search-in-Some.new.written.rest.items
+    c.leave_children.new.self.rest.items) named
+    (c.in_ok-leave_children-in-Err-Over.ensures.rest c.args.instance.now.jobs first last back))
+
+pub returns-in-Err-Memory-clause-packs : goal.returns-in-Err-Memory-clause-packs
+returns-in-Err-Memory-clause-packs g t c =
+    packs-keep c.args.instance.now c.args.packs.now c.children.packs c.search-in-Some.new.packs
+    c.children.invariant.packs c.search-in-Some.ensures.packs
 
 pub children-smaller : goal.children-smaller
 children-smaller g t c =
@@ -394,96 +392,54 @@ children-smaller g t c =
     )
 
 pub children-preserved : goal.children-preserved
-children-preserved g t c = record {
-  packs = packs-keep c.args.instance.now c.args.packs.now c.children.packs c.search-in-Some.new.packs
-      c.children.invariant.packs c.search-in-Some.ensures.packs;
-  groups = c.children.invariant.groups;
-  within =
-      let at = c.requires.at.2 in
-      let pack = c.index-packs-0-in-Some.result in
-      let here : Pack g.row.V.Denot = slice_index_or c.args.packs.now 0 pack in
-      let same : slice_index_or c.children.packs 0 pack ≡ here = c.children.invariant.packs.same pack in
-      let size : length here.names.items ≡ c.len-groups.result * 16 =
-      omega (arith, (at.is_branch pack).is_pack.room.names, c.children.invariant.groups pack) in
-      let inside : c.in-Some.place < length here.names.items = omega (arith, c.in-Some.ensures.within, size) in
-      let job : c.index-job.result.now ≡ slice_index here.names.items c.in-Some.place =
-      c.index-job.ensures ∙ ap (λ p. slice_index_or p.names.items c.in-Some.place c.index-job.result.now) same
-      ∙ index-same here.names.items c.in-Some.place c.index-job.result.now 0 inside in
-      let popped : jobs_at here c.children.below ≡ slice_index here.names.items c.in-Some.place
-      ∷ jobs_at here c.pop.new.self = c.in-Some.ensures.first here.names.items size in
-      let stands = c.children.invariant.stands pack c.requires.at.0 c.requires.at.1 at in
-      let open_job = job-open g.V.Lanes.list g.V.Lanes.CAP g.V.Lanes.WIDTH c.args.instance.now c.args.aim.number
-      c.args.left c.args.packs.now c.args.branch.now c.args.written.now.lists c.requires.at.0 c.requires.at.1 at
-      pack c.open-opened.result.end c.args.written.now.directions.items
-      c.children.written.directions.items c.children.written.lists c.children.below c.pop.new.self c.in-Some.place
-      c.index-job.result.now inside stands popped job in
-      let first2 = first_with c.open-opened.result.end c.requires.at.0 c.index-job.result.now in
-      let last2 = last_with c.open-opened.result.end c.requires.at.1 c.index-job.result.now in
-      let child = child-at g.V.Lanes.list g.V.Lanes.CAP g.V.Lanes.WIDTH c.args.instance.now c.args.aim.number
-      c.args.left c.args.packs.now c.args.branch.now c.args.written.now.lists c.requires.at.0 c.requires.at.1 at
-      pack c.open-opened.result.end c.args.written.now.directions.items
-      c.children.written.directions.items c.children.written.lists c.children.below c.pop.new.self c.in-Some.place
-      c.index-job.result.now inside stands popped job c.put.new.self c.child-child.result c.children.packs
-      c.requires.few c.children.invariant.packs
-      (c.put.ensures c.args.instance.now.jobs c.requires.at.0 c.requires.at.1 stands.has_lists)
-      (c.child-child.ensures.node c.requires.at.0 c.requires.at.1 (at.is_branch pack).is_node open_job.left)
-      (λ names left within named. c.child-child.ensures.left c.requires.at.0 c.requires.at.1 names left open_job.left
-      within named
-      (c.children.invariant.marked c.in-Some.place c.in-Some.ensures.marked)) in
-      (c.in-Ok.ensures.ends first2 last2 child).2;
-  marked = λ place marked. c.children.invariant.marked place (c.pop.ensures.fewer place marked);
-  stands = λ none first last at.
-      let pack = c.index-packs-0-in-Some.result in
-      let here : Pack g.row.V.Denot = slice_index_or c.args.packs.now 0 pack in
-      let same : slice_index_or c.children.packs 0 pack ≡ here = c.children.invariant.packs.same pack in
-      let size : length here.names.items ≡ c.len-groups.result * 16 =
-      omega (arith, (at.is_branch pack).is_pack.room.names, c.children.invariant.groups pack) in
-      let inside : c.in-Some.place < length here.names.items = omega (arith, c.in-Some.ensures.within, size) in
-      let job : c.index-job.result.now ≡ slice_index here.names.items c.in-Some.place =
-      c.index-job.ensures ∙ ap (λ p. slice_index_or p.names.items c.in-Some.place c.index-job.result.now) same
-      ∙ index-same here.names.items c.in-Some.place c.index-job.result.now 0 inside in
-      let popped : jobs_at here c.children.below ≡ slice_index here.names.items c.in-Some.place
-      ∷ jobs_at here c.pop.new.self = c.in-Some.ensures.first here.names.items size in
-      let stands = c.children.invariant.stands pack first last at in
-      let open_job = job-open g.V.Lanes.list g.V.Lanes.CAP g.V.Lanes.WIDTH c.args.instance.now c.args.aim.number
-      c.args.left c.args.packs.now c.args.branch.now c.args.written.now.lists first last at
-      pack c.open-opened.result.end c.args.written.now.directions.items
-      c.children.written.directions.items c.children.written.lists c.children.below c.pop.new.self c.in-Some.place
-      c.index-job.result.now inside stands popped job in
-      let first2 = first_with c.open-opened.result.end first c.index-job.result.now in
-      let last2 = last_with c.open-opened.result.end last c.index-job.result.now in
-      let child = child-at g.V.Lanes.list g.V.Lanes.CAP g.V.Lanes.WIDTH c.args.instance.now c.args.aim.number
-      c.args.left c.args.packs.now c.args.branch.now c.args.written.now.lists first last at
-      pack c.open-opened.result.end c.args.written.now.directions.items
-      c.children.written.directions.items c.children.written.lists c.children.below c.pop.new.self c.in-Some.place
-      c.index-job.result.now inside stands popped job c.put.new.self c.child-child.result c.children.packs
-      c.requires.few c.children.invariant.packs
-      (c.put.ensures c.args.instance.now.jobs first last stands.has_lists)
-      (c.child-child.ensures.node first last (at.is_branch pack).is_node open_job.left)
-      (λ names left within named. c.child-child.ensures.left first last names left open_job.left within named
-      (c.children.invariant.marked c.in-Some.place c.in-Some.ensures.marked)) in
-      let ends = c.in-Ok.ensures.ends first2 last2 child in
-      subst (λ p. Stands c.args.instance.now c.args.aim.number c.open-opened.result.end first last
-      c.args.written.now.directions.items c.search-in-Some.new.written.directions.items c.take.new.self
-      (jobs_at p c.pop.new.self)) (head-same c.args.packs.now pack none c.requires.few)
-      (stands-next c.args.instance.now c.args.aim.number first last c.open-opened.result.end
-      c.args.written.now.directions.items c.children.written.directions.items c.children.written.lists
-      c.index-job.result.now (jobs_at here c.pop.new.self)
-      (stands-job g.V.Lanes.list g.V.Lanes.CAP g.V.Lanes.WIDTH c.args.instance.now c.args.aim.number
-      c.args.left c.args.packs.now c.args.branch.now c.args.written.now.lists first last at
-      pack c.open-opened.result.end c.args.written.now.directions.items
-      c.children.written.directions.items c.children.written.lists c.children.below c.pop.new.self c.in-Some.place
-      c.index-job.result.now inside stands popped job) c.search-in-Some.new.written.directions.items c.take.new.self
-      ends.0 ends.1
-      (c.take.ensures c.args.instance.now.jobs first last c.index-job.result.now ends.3));
-}
+children-preserved g t c =
+    let pack : Pack g.row.V.Denot = c.index-packs-0-in-Some.result in
+    let next = next-here c.requires.at.2 c.index-packs-0-in-Some.result c.children.packs c.len-groups.result
+    c.children.invariant.packs (c.children.invariant.groups c.index-packs-0-in-Some.result) c.in-Some.ensures.within
+    c.in-Some.ensures.first c.index-job.ensures
+    (c.children.invariant.stands c.index-packs-0-in-Some.result c.requires.at.0 c.requires.at.1 c.requires.at.2) in
+    let child = child-at c.requires.at.2 pack next c.put.new.self c.child-child.result c.children.packs c.requires.few
+    c.children.invariant.packs (c.put.ensures c.args.instance.now.jobs c.requires.at.0 c.requires.at.1 next.stands.has_lists)
+    (c.child-child.ensures.node c.requires.at.0 c.requires.at.1 (c.requires.at.2.is_branch pack).is_node (job-open c.requires.at.2 pack next).left)
+    (λ names left within named. c.child-child.ensures.left c.requires.at.0 c.requires.at.1 names left (job-open c.requires.at.2 pack next).left
+    within named (c.children.invariant.marked c.in-Some.place c.in-Some.ensures.marked)) in
+    let ends = c.in-Ok.ensures.ends (first_with c.open-opened.result.end c.requires.at.0 c.index-job.result.now) (last_with c.open-opened.result.end c.requires.at.1 c.index-job.result.now) child in
+    record {
+      packs = packs-keep c.args.instance.now c.args.packs.now c.children.packs c.search-in-Some.new.packs
+          c.children.invariant.packs c.search-in-Some.ensures.packs;
+      groups = c.children.invariant.groups;
+      within = ends.2;
+      rest = ends.3;
+      marked = λ place marked. c.children.invariant.marked place (c.pop.ensures.fewer place marked);
+      stands = λ none first last at.
+          let pack : Pack g.row.V.Denot = c.index-packs-0-in-Some.result in
+          let next = next-here at c.index-packs-0-in-Some.result c.children.packs c.len-groups.result
+          c.children.invariant.packs (c.children.invariant.groups c.index-packs-0-in-Some.result) c.in-Some.ensures.within
+          c.in-Some.ensures.first c.index-job.ensures
+          (c.children.invariant.stands c.index-packs-0-in-Some.result first last at) in
+          let child = child-at at pack next c.put.new.self c.child-child.result c.children.packs c.requires.few
+          c.children.invariant.packs (c.put.ensures c.args.instance.now.jobs first last next.stands.has_lists)
+          (c.child-child.ensures.node first last (at.is_branch pack).is_node (job-open at pack next).left)
+          (λ names left within named. c.child-child.ensures.left first last names left (job-open at pack next).left
+          within named (c.children.invariant.marked c.in-Some.place c.in-Some.ensures.marked)) in
+          let ends = c.in-Ok.ensures.ends (first_with c.open-opened.result.end first c.index-job.result.now) (last_with c.open-opened.result.end last c.index-job.result.now) child in
+          subst (λ p. Stands c.args.instance.now c.args.aim.number c.open-opened.result.end first last
+          c.args.written.now.directions.items c.search-in-Some.new.written.directions.items c.take.new.self
+          (jobs_at p c.pop.new.self)) (head-same c.args.packs.now pack none c.requires.few)
+          (stands-next c.args.instance.now c.args.aim.number first last c.open-opened.result.end
+          c.args.written.now.directions.items c.children.written.directions.items c.children.written.lists
+          c.index-job.result.now (jobs_at (slice_index_or c.args.packs.now 0 pack) c.pop.new.self)
+          (stands-job at pack next) c.search-in-Some.new.written.directions.items c.take.new.self
+          ends.0 ends.1
+          (c.take.ensures c.args.instance.now.jobs first last c.index-job.result.now ends.4));
+    }
 
 pub returns-clause-packs : goal.returns-clause-packs
 returns-clause-packs g t c = c.children.invariant.packs
 
 pub returns-clause-ends : goal.returns-clause-ends
 returns-clause-ends g t c first last at =
-    let pack = c.index-packs-0.result in
+    let pack : Pack g.row.V.Denot = c.index-packs-0.result in
     let here : Pack g.row.V.Denot = slice_index_or c.args.packs.now 0 pack in
     let size : length here.names.items ≡ c.len-groups.result * 16 =
     omega (arith, (at.is_branch pack).is_pack.room.names, c.children.invariant.groups pack) in
@@ -491,4 +447,4 @@ returns-clause-ends g t c first last at =
     let done = stands-done c.args.instance.now c.args.aim.number first last c.open-opened.result.end
     c.args.written.now.directions.items c.children.written.directions.items c.children.written.lists
     (jobs_at here c.children.below) stands (c.in_default.ensures.none here.names.items size) in
-    (done.0, done.1, c.children.invariant.within, stands.has_lists)
+    (done.0, done.1, c.children.invariant.within, c.children.invariant.rest, stands.has_lists)

@@ -1,4 +1,4 @@
-use Rattle.std.proofs.Common.{◌≡◌, ℕ, ◌+◌, ◌*◌, ◌≤◌, List, length, replicate, slice_index_or}
+use Rattle.std.proofs.Common.{◌≡◌, ℕ, ◌+◌, ◌*◌, ◌≤◌, List, [], length, replicate, slice_index_or}
 use Rattle.flow_directions.specs.internal.Words.{chosen, mark}
 use Rattle.flow_directions.specs.internal.Packs.{jobs_at}
 use Rattle.flow_directions.specs.internal.Walk.{IsAt, KeepsPacks}
@@ -15,6 +15,7 @@ invariant-children g l = record {
   packs : KeepsPacks l.instance l.fn.packs l.packs;
   groups : (none : Pack g.row.V.Denot) → l.groups ≡ length (slice_index_or l.fn.packs 0 none).groups.items;
   within : length l.written.directions.items ≤ l.aim.budget;
+  rest : l.written.rest.items ≡ [];
   marked : (place : ℕ) → mark l.below.words place ≡ 1 → mark l.branch.left.words place ≡ 1;
   stands : (none : Pack g.row.V.Denot) (first last : List ℕ) →
       IsAt g.V.Lanes.list g.V.Lanes.CAP g.V.Lanes.WIDTH l.instance l.aim.number first last l.left l.fn.written.lists

@@ -6,7 +6,7 @@ use Rattle.flow_schedule.proofs.axis.push_ticks.Goals as goal
 
 pub loop-count-preserved : goal.loop-count-preserved
 loop-count-preserved c =
-    let text = tick_text c.args.makespan c.args.bottom c.args.step in
+    let text = tick_text c.args.breadth c.args.makespan c.args.bottom c.args.step in
     let next : c.loop-count.count + 1 ≡ suc c.loop-count.count = omega arith in
     numbers-more text c.args.out.now.items c.loop-count.out.items c.push_time.new.out.items 0 c.loop-count.count
     c.loop-count.count (omega arith) c.loop-count.invariant

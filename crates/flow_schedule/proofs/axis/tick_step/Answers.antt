@@ -1,26 +1,9 @@
-use Rattle.std.proofs.Common.{arith}
-use Rattle.flow_schedule.proofs.Rounds.{unit-more, step-one, step-two, step-five, step-ten}
+use Rattle.std.proofs.Common.{ℕ, ◌/◌, subst, arith}
+use Rattle.flow_schedule.specs.Scale.{IsRoundUp}
+use Rattle.flow_schedule.proofs.Rounds.{step-of}
 use Rattle.flow_schedule.proofs.axis.tick_step.Goals as goal
 
-pub loop-unit-preserved : goal.loop-unit-preserved
-loop-unit-preserved c = record {
-  some = omega arith;
-  within = omega arith;
-  power = unit-more c.args.makespan c.loop-unit.unit c.loop-unit.invariant.power (omega arith);
-}
-
-pub returns-then-makespan-unit-clause-value : goal.returns-then-makespan-unit-clause-value
-returns-then-makespan-unit-clause-value c =
-    step-one c.args.makespan c.loop-unit.unit c.loop-unit.invariant.power (omega arith)
-
-pub returns-then-makespan-unit-2-clause-value : goal.returns-then-makespan-unit-2-clause-value
-returns-then-makespan-unit-2-clause-value c =
-    step-two c.args.makespan c.loop-unit.unit c.loop-unit.invariant.power (omega arith) (omega arith)
-
-pub returns-then-makespan-unit-3-clause-value : goal.returns-then-makespan-unit-3-clause-value
-returns-then-makespan-unit-3-clause-value c =
-    step-five c.args.makespan c.loop-unit.unit c.loop-unit.invariant.power (omega arith) (omega arith)
-
-pub returns-else-makespan-unit-3-clause-value : goal.returns-else-makespan-unit-3-clause-value
-returns-else-makespan-unit-3-clause-value c =
-    step-ten c.args.makespan c.loop-unit.unit c.loop-unit.invariant.power (omega arith) (omega arith)
+pub returns-clause-value : goal.returns-clause-value
+returns-clause-value c =
+    step-of c.args.makespan (c.args.breadth / 8000) c.round_up.result (omega arith)
+    (subst (λ (least : ℕ). IsRoundUp least c.round_up.result) c.div_ceil.ensures c.round_up.ensures.value)

@@ -3,7 +3,7 @@ use Rattle.std.proofs.lemmas.List.{take_all}
 use Rattle.flow_shop.specs.Paths.{span}
 use Rattle.flow_schedule.specs.Timetable.{timetable}
 use Rattle.flow_schedule.specs.HeaviestPath.{IsHeaviestPath}
-use Rattle.flow_schedule.specs.Scale.{IsTickStep}
+use Rattle.flow_schedule.specs.Scale.{breadth_of, steps_of, IsTickStep}
 use Rattle.flow_schedule.specs.Frame.{frame_text}
 use Rattle.flow_schedule.proofs.Texts.{pieces-more}
 use Rattle.flow_schedule.proofs.Times.{made}
@@ -12,6 +12,7 @@ use Rattle.flow_schedule.proofs.picture.timetable_picture.Goals as goal
 
 pub returns : goal.returns
 returns c =
+    let breadth : c.breadth_of-breadth.result ≡ breadth_of c.args.instance.now = c.breadth_of-breadth.ensures.value in
     let makespan : c.makespan-makespan.result ≡ span c.args.instance.now c.args.sequence.now =
     c.makespan-makespan.ensures in
     let items : c.deref-operation-items.result.now ≡ timetable c.args.instance.now c.args.sequence.now =
@@ -19,28 +20,35 @@ returns c =
     let all : take c.loop-operation.operation-index c.deref-operation-items.result.now
     ≡ c.deref-operation-items.result.now =
     take_all c.loop-operation.operation-index c.deref-operation-items.result.now (omega arith) in
-    let bars : ℕ → List ℕ = λ makespan. flat_map (bar_text makespan c.in_ok-path.path.items)
+    let step = c.tick_step-step.result in
+    let bars : ℕ → ℕ → List ℕ = λ breadth makespan. flat_map (bar_text breadth makespan c.in_ok-path.path.items)
     (timetable c.args.instance.now c.args.sequence.now) in
+    let text : ℕ → ℕ → List ℕ = λ breadth makespan.
+    frame_text c.args.instance.now breadth makespan c.args.lower step ++ bars breadth makespan in
     record {
-      step = c.tick_step.result;
+      step = step;
       path = c.in_ok-path.path.items;
-      ticks = subst (λ (makespan : ℕ). IsTickStep makespan c.tick_step.result) makespan c.tick_step.ensures.value;
+      ticks = subst (λ (breadth : ℕ). IsTickStep (span c.args.instance.now c.args.sequence.now) (steps_of breadth) step)
+          breadth (subst (λ (makespan : ℕ). IsTickStep makespan (steps_of c.breadth_of-breadth.result) step) makespan
+          c.tick_step-step.ensures.value);
       heaviest = subst (λ (list : List ℕ). IsHeaviestPath c.args.instance.now list c.in_ok-path.path.items)
           c.jobs.ensures.value c.in_ok-path.ensures;
       whole = c.in_ok-extend_from_slice.ensures.items
           ∙ ap (λ out. out ++ codes "</g></svg>\n") (c.loop-operation.invariant
           ∙ ap (λ list. c.in_ok-out.out.items
-          ++ flat_map (bar_text c.makespan-makespan.result c.in_ok-path.path.items) list) (all ∙ items)
-          ∙ ap (λ head. head ++ bars c.makespan-makespan.result) c.in_ok-out.ensures
-          ∙ ap (λ makespan. frame_text c.args.instance.now makespan c.tick_step.result ++ bars makespan) makespan);
+          ++ flat_map (bar_text c.breadth_of-breadth.result c.makespan-makespan.result c.in_ok-path.path.items) list)
+          (all ∙ items)
+          ∙ ap (λ head. head ++ bars c.breadth_of-breadth.result c.makespan-makespan.result) c.in_ok-out.ensures
+          ∙ ap (text c.breadth_of-breadth.result) makespan
+          ∙ ap (λ breadth. text breadth (span c.args.instance.now c.args.sequence.now)) breadth);
     }
 
 pub loop-operation-preserved : goal.loop-operation-preserved
 loop-operation-preserved c =
-    pieces-more (bar_text c.makespan-makespan.result c.in_ok-path.path.items) c.in_ok-out.out.items
-    c.loop-operation.out.items c.push_bar.new.out.items c.deref-operation-items.result.now
+    pieces-more (bar_text c.breadth_of-breadth.result c.makespan-makespan.result c.in_ok-path.path.items)
+    c.in_ok-out.out.items c.loop-operation.out.items c.push_bar.new.out.items c.deref-operation-items.result.now
     c.loop-operation.operation-index (made 0 0 0 0 0) (omega arith) c.loop-operation.invariant
     (c.in_ok-push_bar.ensures
-    ∙ ap (λ list. c.loop-operation.out.items ++ bar_text c.makespan-makespan.result list
+    ∙ ap (λ list. c.loop-operation.out.items ++ bar_text c.breadth_of-breadth.result c.makespan-makespan.result list
     (slice_index_or c.deref-operation-items.result.now c.loop-operation.operation-index (made 0 0 0 0 0)))
     c.as_slice-in-loop-operation.ensures.value)

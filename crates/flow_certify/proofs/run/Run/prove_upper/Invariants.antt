@@ -3,7 +3,7 @@ use Rattle.flow_certify.specs.internal.Runs.{IsLater}
 use Rattle.flow_certify.proofs.run.Run.prove_upper.Given as goal
 
 abbrev pub invariant-better : goal.invariant-better
-invariant-better l = IsLater l.instance l.initial.self l.self
+invariant-better g l = IsLater l.task.instance.now l.initial.self l.self
 
 abbrev pub decreases-better : goal.decreases-better
-decreases-better l = l.self.known.upper - l.self.known.lower
+decreases-better g l = l.self.known.upper - l.self.known.lower

@@ -4,8 +4,8 @@ use Rattle.flow_certify.proofs.run.Run.raise.Given as goal
 
 -- numbers to try are up to the makespan of the sequence
 abbrev pub invariant-raised : goal.invariant-raised
-invariant-raised l =
-    IsLater l.instance l.initial.self l.self × (l.top ≤ l.self.known.upper + 1) × (1 ≤ l.step)
+invariant-raised g l =
+    IsLater l.task.instance.now l.initial.self l.self × (l.top ≤ l.self.known.upper + 1) × (1 ≤ l.step)
 
 abbrev pub decreases-raised : goal.decreases-raised
-decreases-raised l = l.top - l.self.known.lower
+decreases-raised g l = l.top - l.self.known.lower

@@ -1,0 +1,36 @@
+//! A sequence that a search reached, in room that a caller lends.
+
+ghost use Rattle.std.specs.Prelude.{◌≡◌, ◌≤◌, length, take, drop, cond};
+ghost use Rattle.flow_c.specs.Rooms.{IsSameRoom};
+
+use crate::room::fill;
+use flow_improve::Reached;
+
+/// Room for a sequence, and what is said of it.
+#[repr(C)]
+pub struct ReachedRoom<'a> {
+    /// Room for the jobs.
+    pub sequence: &'a mut [u16],
+    /// The makespan.
+    pub makespan: u64,
+    /// 1 where the search ended because the makespan has Taillard's bound, or because a pass dropped nothing; else 0.
+    /// No contract says that no sequence has a smaller makespan then.
+    pub whole: u32,
+}
+
+impl ReachedRoom<'_> {
+    /// Takes what a search reached.
+    pub(crate) fn put(&mut self, reached: &Reached)
+        requires { length reached.now.sequence ≤ length self.old.sequence.now }
+        ensures sequence { take (length reached.now.sequence) self.new.sequence.now ≡ reached.now.sequence }
+        ensures rest { drop (length reached.now.sequence) self.new.sequence.now
+            ≡ drop (length reached.now.sequence) self.old.sequence.now }
+        ensures makespan { self.new.makespan ≡ reached.now.value }
+        ensures whole { self.new.whole ≡ cond reached.now.whole 1 0 }
+        ensures room { IsSameRoom self.new.sequence self.old.sequence }
+    {
+        fill(reached.sequence.jobs(), self.sequence);
+        self.makespan = reached.value;
+        self.whole = u32::from(reached.whole);
+    }
+}

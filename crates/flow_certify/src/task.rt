@@ -1,0 +1,12 @@
+//! What all steps of a search for bounds share.
+
+use flow_shop::Instance;
+use std::alloc::Global;
+
+/// An instance, and who searches it for directions.
+#[derive(Clone, Copy)]
+pub(crate) struct Task<'a, P> {
+    pub(crate) alloc: Global,
+    pub(crate) instance: &'a Instance,
+    pub(crate) prover: &'a P,
+}

@@ -1,0 +1,73 @@
+//! Who searches an instance for directions.
+
+use crate::directions::prove;
+use crate::found::Found;
+use flow_shop::Instance;
+use std::alloc::{AllocError, Global};
+
+/// What a run that asks for directions tells of itself.
+#[derive(Clone, Copy, Debug, PartialEq, Eq)]
+pub enum News {
+    /// The step that begins.
+    Step(u32),
+    /// The bounds that are known.
+    Bounds {
+        /// No sequence has a smaller makespan.
+        lower: u64,
+        /// Some sequence has this makespan.
+        upper: u64,
+    },
+    /// How many directions the search that goes on has written.
+    Directions(u64),
+    /// The run ended.
+    Ended,
+}
+
+/// Searches an instance for directions.
+pub trait Prover {
+    ghost use Rattle.std.specs.Prelude.{[], IfOk};
+    ghost use Rattle.flow_directions.specs.Search.{IsFound, Shows};
+
+    // What has to hold where it searches.
+    ghost is_ready: { Self → Type 0 };
+
+    /// Searches for directions that prove that no sequence of an instance has a makespan below a number, with a budget,
+    /// as `prove` does from the node of two empty lists. The fault is that memory ran out.
+    fn prove(
+        &self,
+        alloc: Global,
+        instance: &Instance,
+        number: u64,
+        budget: u64,
+    ) -> Result<Found, AllocError>
+        requires { is_ready self.now }
+        ensures found { IfOk result (λ found. IsFound instance.now number budget [] [] found) }
+        ensures shown { IfOk result (λ found. Shows instance.now number [] [] found) };
+
+    /// Is told something new. It changes nothing of what is found.
+    fn tell(&self, news: News);
+}
+
+/// Searches on the calling thread.
+#[derive(Clone, Copy, Debug)]
+pub struct Alone;
+
+impl Prover for Alone {
+    ghost is_ready = { λ _. Unit {0} };
+
+    fn prove(
+        &self,
+        alloc: Global,
+        instance: &Instance,
+        number: u64,
+        budget: u64,
+    ) -> Result<Found, AllocError> {
+        match prove(alloc, instance, &[], &[], number, budget) {
+            Ok(found) => Ok(found),
+            // Two empty lists are a node, so a fault is that memory ran out.
+            Err(_) => Err(AllocError),
+        }
+    }
+
+    fn tell(&self, _news: News) {}
+}

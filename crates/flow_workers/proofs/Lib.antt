@@ -1,0 +1,4 @@
+pub mod Behind
+pub mod PieceSteps
+pub mod Results
+pub mod FoundByPieces

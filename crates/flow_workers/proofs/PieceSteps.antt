@@ -1,0 +1,187 @@
+-- What pieces stand for, where they are joined, and where a search made them.
+use Rattle.std.proofs.Common.{◌≡◌, ◌≢◌, ℕ, suc, ◌<◌, List, [], ◌∷◌, ◌++◌, length, slice_index_or, slice_set, Some, None}
+use Rattle.std.proofs.lemmas.Bool.{cases_lt}
+use Rattle.std.proofs.lemmas.List.{get_or-set_other, get_or-set_same}
+use Rattle.std.proofs.Common.{refl, ap, sym, ◌∙◌, inl, inr, map, arith}
+use Rattle.flow_shop.specs.Shop.{Shop}
+use Rattle.flow_directions.specs.Search.{Visit, signs, first_reached, visits, part_visits, parts_visits}
+use Rattle.flow_directions.specs.Search.{Continues, IsAdvanced, child_visits}
+use Rattle.flow_directions.specs.declared.found.Advanced.TheVariants.{Proved, Below}
+use Rattle.flow_directions.specs.declared.found.Part.TheVariants.{Node, Children}
+use Rattle.flow_shop.specs.declared.end.End.{End}
+use Rattle.flow_shop.specs.Directions.{first_with, last_with}
+use Rattle.std.specs.Global.{Vec}
+use Rattle.std.specs.List.{flat_map}
+use Rattle.flow_workers.specs.internal.Units.{IsNodeOf}
+use Rattle.flow_directions.specs.declared.found.Part.{Part}
+use Rattle.flow_directions.proofs.VisitSteps.{none-or-reached, signs-append, first_reached-append}
+use Rattle.flow_directions.proofs.VisitSteps.{signs-append-reached, first_reached-append-reached}
+use Rattle.flow_workers.specs.internal.Pieces.{Met, joined, behind, met, piece_met, pieces_met, dealt_met, all_met, written}
+use Rattle.flow_workers.specs.declared.piece.Piece.{Piece}
+use Rattle.flow_workers.specs.declared.piece.Piece.TheVariants.{Left}
+use Rattle.flow_workers.specs.declared.piece.Dealt.{Dealt}
+use Rattle.flow_workers.specs.declared.piece.Dealt.TheVariants.{Searched}
+use Rattle.flow_workers.specs.declared.piece.Answer.{Answer}
+use Rattle.flow_workers.specs.internal.Answers.{HasPlace, StandsFor}
+use Rattle.flow_workers.proofs.Behind.{pair, behind-nil, behind-assoc}
+
+-- what two lists of visits meet
+pub met-append : (xs ys : List Visit) → met (xs ++ ys) ≡ behind (met xs) (met ys)
+met-append xs ys = elim (none-or-reached (first_reached xs)) [
+  | inl none ↦
+      pair (signs (xs ++ ys)) (signs xs ++ signs ys) (first_reached (xs ++ ys)) (first_reached ys)
+      (signs-append xs ys none) (first_reached-append xs ys none)
+      ∙ sym (ap (λ r. joined (signs xs) r (met ys)) none)
+  | inr found ↦
+      pair (signs (xs ++ ys)) (signs xs) (first_reached (xs ++ ys)) (Some found.0)
+      (signs-append-reached xs ys found.0 found.1) (first_reached-append-reached xs ys found.0 found.1)
+      ∙ sym (ap (λ r. joined (signs xs) r (met ys)) found.1)
+]
+
+-- parts that are left have no directions yet
+pub none-written : (parts : List Part) → written (map Left parts) ≡ 0
+none-written [] = refl
+none-written (part ∷ parts) = none-written parts
+
+module _ (shop : Shop) (number : ℕ) where
+  -- pieces that are joined
+  pub pieces-append : (xs ys : List Piece) →
+      pieces_met shop number (xs ++ ys) ≡ behind (pieces_met shop number xs) (pieces_met shop number ys)
+  pieces-append [] ys = refl
+  pieces-append (x ∷ xs) ys =
+      ap (behind (piece_met shop number x)) (pieces-append xs ys)
+      ∙ sym (behind-assoc (piece_met shop number x) (pieces_met shop number xs) (pieces_met shop number ys))
+
+  -- one more piece
+  pub pieces-more : (xs : List Piece) (x : Piece) →
+      pieces_met shop number (xs ++ x ∷ []) ≡ behind (pieces_met shop number xs) (piece_met shop number x)
+  pieces-more xs x =
+      pieces-append xs (x ∷ []) ∙ ap (behind (pieces_met shop number xs)) (behind-nil (piece_met shop number x))
+
+  -- one more piece that was dealt
+  pub all-more : (xs : List Dealt) (x : Dealt) →
+      all_met shop number (xs ++ x ∷ []) ≡ behind (all_met shop number xs) (dealt_met shop number x)
+  all-more [] x = behind-nil (dealt_met shop number x)
+  all-more (y ∷ xs) x =
+      ap (behind (dealt_met shop number y)) (all-more xs x)
+      ∙ sym (behind-assoc (dealt_met shop number y) (all_met shop number xs) (dealt_met shop number x))
+
+  -- what was dealt last is put before the pieces
+  pub put-more : (xs : List Dealt) (x : Dealt) (one : Met) (pieces put : List Piece) (dealt : List Dealt) →
+      dealt ≡ xs ++ x ∷ [] → dealt_met shop number x ≡ one →
+      pieces_met shop number put ≡ behind one (pieces_met shop number pieces) →
+      behind (all_met shop number xs) (pieces_met shop number put)
+      ≡ behind (all_met shop number dealt) (pieces_met shop number pieces)
+  put-more xs x one pieces put dealt are is puts =
+      ap (behind (all_met shop number xs)) puts
+      ∙ sym (behind-assoc (all_met shop number xs) one (pieces_met shop number pieces))
+      ∙ ap (λ m. behind m (pieces_met shop number pieces))
+      (ap (behind (all_met shop number xs)) (sym is) ∙ sym (all-more xs x) ∙ sym (ap (all_met shop number) are))
+
+  -- pieces that stand for the same, one by one
+  pub all-same : (xs ys : List Dealt) → length ys ≡ length xs →
+      ((k : ℕ) (d : Dealt) → k < length xs → dealt_met shop number (slice_index_or ys k d)
+      ≡ dealt_met shop number (slice_index_or xs k d)) →
+      all_met shop number ys ≡ all_met shop number xs
+  all-same [] [] same each = refl
+  all-same [] (y ∷ ys) same each = absurd (omega (arith, same))
+  all-same (x ∷ xs) [] same each = absurd (omega (arith, same))
+  all-same (x ∷ xs) (y ∷ ys) same each =
+      ap (λ m. behind m (all_met shop number ys)) (each 0 x (omega arith))
+      ∙ ap (behind (dealt_met shop number x))
+      (all-same xs ys (omega (arith, same)) (λ k d within. each (suc k) d (omega (arith, within))))
+
+  -- an answer in the place of its piece
+  pub answer-put : (first now : List Dealt) (answer : Answer) (one : Dealt) → one ≡ Searched answer.pieces →
+      length now ≡ length first → HasPlace first answer → StandsFor shop number first answer →
+      ((k : ℕ) (d : Dealt) → k < length first → dealt_met shop number (slice_index_or now k d)
+      ≡ dealt_met shop number (slice_index_or first k d)) →
+      (k : ℕ) (d : Dealt) → k < length first →
+      dealt_met shop number (slice_index_or (slice_set now answer.place one) k d)
+      ≡ dealt_met shop number (slice_index_or first k d)
+  answer-put first now answer one is same place stands each k d within = elim (cases_lt k answer.place) [
+    | inl before ↦ apart (omega arith)
+    | inr not_before ↦ elim (cases_lt answer.place k) [
+      | inl after ↦ apart (omega arith)
+      | inr not_after ↦
+          let at : k ≡ answer.place = omega arith in
+          ap (λ i. dealt_met shop number (slice_index_or (slice_set now answer.place one) i d)) at
+          ∙ ap (dealt_met shop number) (get_or-set_same now answer.place one d (omega (arith, same, place)))
+          ∙ ap (dealt_met shop number) is ∙ stands d
+          ∙ sym (ap (λ i. dealt_met shop number (slice_index_or first i d)) at)
+    ]
+  ]
+    where
+      apart : k ≢ answer.place →
+          dealt_met shop number (slice_index_or (slice_set now answer.place one) k d)
+          ≡ dealt_met shop number (slice_index_or first k d)
+      apart other =
+          ap (dealt_met shop number) (get_or-set_other now answer.place k one d other) ∙ each k d within
+
+  -- parts that are left
+  pub parts-met : (parts : List Part) →
+      pieces_met shop number (map Left parts) ≡ met (parts_visits shop number parts)
+  parts-met [] = refl
+  parts-met (part ∷ parts) =
+      ap (behind (met (part_visits shop number part))) (parts-met parts)
+      ∙ sym (met-append (part_visits shop number part) (parts_visits shop number parts))
+
+  -- where a search goes on with parts
+  pub rest-met : (first last text : List ℕ) (parts : List Part) →
+      Continues (visits shop number first last) text (parts_visits shop number parts) →
+      met (visits shop number first last) ≡ behind (text, None) (pieces_met shop number (map Left parts))
+  rest-met first last text parts goes =
+      pair (signs (visits shop number first last)) (text ++ signs (parts_visits shop number parts))
+      (first_reached (visits shop number first last)) (first_reached (parts_visits shop number parts))
+      goes.0 goes.1
+      ∙ sym (ap (behind (text, None)) (parts-met parts))
+
+  -- a node that is left
+  pub node-met : (piece : Piece) (part : Part) (begin end : Vec ℕ) (first last : List ℕ) → piece ≡ Left part →
+      part ≡ Node begin end → first ≡ begin.items → last ≡ end.items →
+      piece_met shop number piece ≡ met (visits shop number first last)
+  node-met piece part begin end first last piece_is part_is first_is last_is =
+      ap (piece_met shop number) piece_is
+      ∙ ap (λ p. met (part_visits shop number p)) part_is
+      ∙ sym (ap (λ xs. met (visits shop number xs end.items)) first_is)
+      ∙ sym (ap (λ xs. met (visits shop number first xs)) last_is)
+
+  -- a node whose directions were found
+  pub proved-met : (budget : ℕ) (first last : List ℕ) (text : Vec ℕ) →
+      IsAdvanced shop number budget first last (Proved text) →
+      met (visits shop number first last) ≡ (text.items, None)
+  proved-met budget first last text is =
+      pair (signs (visits shop number first last)) text.items (first_reached (visits shop number first last)) None
+      (sym is.1) is.0
+
+  -- a node of which a sequence was reached
+  pub below-met : (budget : ℕ) (first last jobs : List ℕ) (makespan : ℕ) (text : Vec ℕ) →
+      IsAdvanced shop number budget first last (Below jobs makespan text) →
+      met (visits shop number first last) ≡ (text.items, Some jobs)
+  below-met budget first last jobs makespan text is =
+      pair (signs (visits shop number first last)) text.items (first_reached (visits shop number first last))
+      (Some jobs) (sym is.1) is.0.0
+
+  -- a part that is the node of some lists
+  unit-visits : (first last : List ℕ) (part : Part) → IsNodeOf first last part →
+      part_visits shop number part ≡ visits shop number first last
+  unit-visits first last (Node begin end) is =
+      ap (λ xs. visits shop number xs end.items) is.0 ∙ ap (λ xs. visits shop number first xs) is.1
+  unit-visits first last (Children begin end side jobs) is = absurd is
+
+  -- the first child of a part, and then the others
+  pub children-met : (end : End) (begin behind_list named others_list : Vec ℕ) (job : ℕ) (others : List ℕ)
+      (unit : Part) (rest : List Piece) →
+      IsNodeOf (first_with end begin.items job) (last_with end behind_list.items job) unit →
+      named.items ≡ job ∷ others → others_list.items ≡ others →
+      behind (met (part_visits shop number unit))
+      (pieces_met shop number (Left (Children begin behind_list end others_list) ∷ rest))
+      ≡ pieces_met shop number (Left (Children begin behind_list end named) ∷ rest)
+  children-met end begin behind_list named others_list job others unit rest is named_is others_is =
+      let f : ℕ → List Visit = child_visits shop number end begin.items behind_list.items in
+      ap (λ v. behind (met v) (behind (met (flat_map f others_list.items)) (pieces_met shop number rest)))
+      (unit-visits (first_with end begin.items job) (last_with end behind_list.items job) unit is)
+      ∙ ap (λ xs. behind (met (f job)) (behind (met (flat_map f xs)) (pieces_met shop number rest))) others_is
+      ∙ sym (behind-assoc (met (f job)) (met (flat_map f others)) (pieces_met shop number rest))
+      ∙ ap (λ m. behind m (pieces_met shop number rest)) (sym (met-append (f job) (flat_map f others)))
+      ∙ sym (ap (λ xs. behind (met (flat_map f xs)) (pieces_met shop number rest)) named_is)

@@ -1,0 +1,10 @@
+use Rattle.std.proofs.Common.{rules, arith, ◌≡◌, ◌<◌, All, length, ap, ◌∙◌}
+use Rattle.std.proofs.lemmas.List.Elements.{All-pop}
+use Rattle.flow_workers.specs.internal.Answers.{HasPlace, StandsFor}
+use Rattle.flow_workers.proofs.PieceSteps.{all-same}
+use Rattle.flow_workers.proofs.round.put_answers.Goals as goal
+
+pub returns-clause-met : goal.returns-clause-met
+returns-clause-met c shop number stand =
+    all-same shop number c.args.dealt.now c.answers.dealt c.answers.invariant.0
+    (c.answers.invariant.2 shop number stand).1

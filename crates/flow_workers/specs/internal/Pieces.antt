@@ -1,0 +1,53 @@
+-- What the pieces of a search stand for.
+use Rattle.std.specs.Prelude.{ℕ, ◌+◌, List, [], ◌∷◌, ◌++◌, length, Option, Some, None}
+use Rattle.flow_shop.specs.Shop.{Shop}
+use Rattle.flow_directions.specs.Search.{Visit, signs, first_reached, part_visits}
+use Rattle.flow_workers.specs.declared.piece.Piece.{Piece}
+use Rattle.flow_workers.specs.declared.piece.Piece.TheVariants.{Done, Reached, Left}
+use Rattle.flow_workers.specs.declared.piece.Dealt.{Dealt}
+use Rattle.flow_workers.specs.declared.piece.Dealt.TheVariants.{Open, Searched}
+
+-- what a search meets: the signs of the nodes that it opens before a sequence is reached, and that sequence
+abbrev pub Met : Type 0
+Met = List ℕ × Option (List ℕ)
+
+-- what is met in a list of visits
+abbrev pub met : List Visit → Met
+met visits = (signs visits, first_reached visits)
+
+-- signs, a sequence where one is reached, and what is met behind them: nothing behind a sequence
+abbrev pub joined : List ℕ → Option (List ℕ) → Met → Met
+joined text None more = (text ++ more.0, more.1)
+joined text (Some jobs) more = (text, Some jobs)
+
+-- what is met, and then something else
+abbrev pub behind : Met → Met → Met
+behind first more = joined first.0 first.1 more
+
+-- what a piece stands for
+abbrev pub piece_met : Shop → ℕ → Piece → Met
+piece_met shop number (Done text) = (text.items, None)
+piece_met shop number (Reached sequence text) = (text.items, Some sequence)
+piece_met shop number (Left part) = met (part_visits shop number part)
+
+-- what pieces stand for, one after the other
+abbrev pub pieces_met : Shop → ℕ → List Piece → Met
+pieces_met shop number [] = ([], None)
+pieces_met shop number (piece ∷ pieces) = behind (piece_met shop number piece) (pieces_met shop number pieces)
+
+-- what a piece that was dealt stands for
+abbrev pub dealt_met : Shop → ℕ → Dealt → Met
+dealt_met shop number (Open piece) = piece_met shop number piece
+dealt_met shop number (Searched pieces) = pieces_met shop number pieces.items
+
+-- what all pieces that were dealt stand for, one after the other
+abbrev pub all_met : Shop → ℕ → List Dealt → Met
+all_met shop number [] = ([], None)
+all_met shop number (one ∷ more) = behind (dealt_met shop number one) (all_met shop number more)
+
+-- how many directions pieces have that were searched
+abbrev pub written : List Piece → ℕ
+written [] = 0
+written (Done text ∷ pieces) = length text.items + written pieces
+written (Reached sequence text ∷ pieces) = length text.items + written pieces
+written (Left part ∷ pieces) = written pieces

@@ -1,0 +1,133 @@
+//! Which pieces are dealt in a round: the first ones of a search, where children of a node are taken one by one.
+
+ghost use Rattle.std.specs.Prelude.{◌≡◌, ◌++◌, [], Option, Some, None, IfOk};
+ghost use Rattle.flow_shop.specs.Directions.{first_with, last_with};
+ghost use Rattle.flow_workers.specs.internal.Pieces.{behind, dealt_met, all_met, piece_met, pieces_met};
+ghost use Rattle.flow_workers.specs.internal.Units.{IsNodeOf, unit_met};
+
+use crate::pace::Pace;
+use crate::piece::{Dealt, Piece};
+use flow_directions::Part;
+use flow_shop::End;
+use std::alloc::{AllocError, Global};
+use std::collections::VecDeque;
+
+/// The child of a node that puts a job at an end.
+fn child(alloc: Global, first: &[u16], last: &[u16], end: End, job: u16) -> Result<Part, AllocError>
+    ensures { IfOk result (IsNodeOf (first_with end first.now job) (last_with end last.now job)) }
+{
+    let mut begin = Vec::from_slice(alloc, first)?;
+    let mut behind = Vec::new(alloc);
+    match end {
+        End::Front => begin.push(job)?,
+        End::Back => behind.push(job)?,
+    }
+    behind.extend_from_slice(last)?;
+    Ok(Part::Node {
+        first: begin,
+        last: behind,
+    })
+}
+
+/// Takes the first piece off, or the first child of it.
+fn take_unit(alloc: Global, pieces: &mut VecDeque<Piece>) -> Result<Option<Piece>, AllocError>
+    ensures { (shop : _) (number : _) → IfOk result (λ unit.
+        behind (unit_met shop number unit) (pieces_met shop number pieces.new.items)
+        ≡ pieces_met shop number pieces.old.items) }
+{
+    let Some(piece) = pieces.pop_front() else {
+        return Ok(None);
+    };
+    let Piece::Left(
+        Part::Children {
+            first,
+            last,
+            end,
+            jobs,
+        },
+    ) = piece
+    else {
+        return Ok(Some(piece));
+    };
+    let Some((job, others)) = jobs.as_slice().split_first() else {
+        return Ok(Some(Piece::Done(Vec::new(alloc))));
+    };
+    let unit = child(alloc, first.as_slice(), last.as_slice(), end, *job)?;
+    let jobs = Vec::from_slice(alloc, others)?;
+    pieces.push_front(Piece::Left(Part::Children {
+        first,
+        last,
+        end,
+        jobs,
+    }))?;
+    Ok(Some(Piece::Left(unit)))
+}
+
+/// Takes the first pieces off, as far as the pace goes: it counts the nodes, and the directions that are known to come
+/// before the next piece.
+pub(crate) fn deal(
+    alloc: Global,
+    pieces: &mut VecDeque<Piece>,
+    pace: &Pace,
+) -> Result<Vec<Dealt>, AllocError>
+    ensures { (shop : _) (number : _) → IfOk result (λ dealt.
+        behind (all_met shop number dealt.items) (pieces_met shop number pieces.new.items)
+        ≡ pieces_met shop number pieces.old.items) }
+{
+    let mut dealt = Vec::new(alloc);
+    let mut nodes: usize = 0;
+    let mut known: u64 = 0;
+    'units: for _ in 0..usize::MAX {
+        if nodes >= pace.nodes || known >= pace.left {
+            break;
+        }
+        let Some(unit) = take_unit(alloc, pieces)? else {
+            break;
+        };
+        match &unit {
+            Piece::Done(directions) => known = known.saturating_add(directions.len() as u64),
+            _ => nodes = nodes.saturating_add(1),
+        }
+        dealt.push(Dealt::Open(unit))?;
+    }
+    Ok(dealt)
+}
+
+/// Puts a piece before others. Those behind a sequence that is reached are let go.
+fn put_first(pieces: &mut VecDeque<Piece>, piece: Piece) -> Result<(), AllocError>
+    ensures { (shop : _) (number : _) → IfOk result (λ _. pieces_met shop number pieces.new.items
+        ≡ behind (piece_met shop number piece) (pieces_met shop number pieces.old.items)) }
+{
+    if let Piece::Reached { .. } = &piece {
+        pieces.clear();
+    }
+    pieces.push_front(piece)?;
+    Ok(())
+}
+
+/// Puts some pieces before others.
+fn put_run(pieces: &mut VecDeque<Piece>, run: VecDeque<Piece>) -> Result<(), AllocError>
+    ensures { (shop : _) (number : _) → IfOk result (λ _. pieces_met shop number pieces.new.items
+        ≡ behind (pieces_met shop number run.items) (pieces_met shop number pieces.old.items)) }
+{
+    let mut run = run;
+    'pieces: while let Some(piece) = run.pop_back() {
+        put_first(pieces, piece)?;
+    }
+    Ok(())
+}
+
+/// Puts what was dealt before the pieces that were not.
+pub(crate) fn put_back(pieces: &mut VecDeque<Piece>, dealt: Vec<Dealt>) -> Result<(), AllocError>
+    ensures { (shop : _) (number : _) → IfOk result (λ _. pieces_met shop number pieces.new.items
+        ≡ behind (all_met shop number dealt.items) (pieces_met shop number pieces.old.items)) }
+{
+    let mut dealt = dealt;
+    'dealt: while let Some(last) = dealt.pop() {
+        match last {
+            Dealt::Open(piece) => put_first(pieces, piece)?,
+            Dealt::Searched(run) => put_run(pieces, run)?,
+        }
+    }
+    Ok(())
+}

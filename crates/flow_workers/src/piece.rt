@@ -1,0 +1,39 @@
+//! Pieces of a search.
+
+use flow_directions::Part;
+use flow_shop::Sequence;
+use std::collections::VecDeque;
+
+/// A piece of a search.
+#[derive(Drop)]
+pub(crate) enum Piece {
+    /// It was searched: its directions. It reaches no sequence below the number.
+    Done(Vec<u8>),
+    /// It was searched up to the first sequence below the number.
+    Reached {
+        /// The sequence.
+        sequence: Sequence,
+        /// The directions before it.
+        directions: Vec<u8>,
+    },
+    /// It is still to be searched.
+    Left(Part),
+}
+
+/// A piece that is dealt in a round.
+#[derive(Drop)]
+pub(crate) enum Dealt {
+    /// It was not searched in this round.
+    Open(Piece),
+    /// It was searched: these stand for it.
+    Searched(VecDeque<Piece>),
+}
+
+/// What a worker found for a piece that was dealt.
+#[derive(Drop)]
+pub(crate) struct Answer {
+    /// The place of the piece among those that were dealt.
+    pub(crate) place: usize,
+    /// What stands for the piece.
+    pub(crate) pieces: VecDeque<Piece>,
+}

@@ -1,0 +1,148 @@
+//! A round: the first pieces are dealt, and each worker takes the next of them that no worker has taken, one after the
+//! other.
+
+ghost use Rattle.std.specs.Prelude.{◌≡◌, ◌<◌, All, length, IfOk, IfSome};
+ghost use denote.Param.Send.{IsSync};
+ghost use Rattle.flow_workers.specs.internal.Pieces.{all_met, pieces_met};
+ghost use Rattle.flow_workers.specs.internal.Answers.{HasPlace, StandsFor};
+ghost use Rattle.flow_workers.specs.declared.piece.Dealt.TheVariants.{Searched};
+
+use crate::deal::{deal, put_back};
+use crate::node::{Aim, search_node};
+use crate::pace::Pace;
+use crate::piece::{Answer, Dealt, Piece};
+use flow_directions::Part;
+use std::alloc::AllocError;
+use std::collections::VecDeque;
+use std::sync::atomic::{AtomicU64, AtomicUsize, Ordering};
+use std::thread;
+use std::thread::Threads;
+
+/// What all workers of a round share.
+#[derive(Drop)]
+struct Round<'a> {
+    aim: &'a Aim<'a>,
+    dealt: &'a [Dealt],
+    pace: Pace,
+    /// The place of the piece that is taken next.
+    next: AtomicUsize,
+    /// How many directions were written.
+    written: AtomicU64,
+}
+
+impl<'a> Round<'a> {
+    /// Takes the next place, unless the round is over.
+    fn take(&self) -> Option<usize>
+        ensures { IfSome result (λ place. place < length self.now.dealt.now) }
+    {
+        if self.written.load(Ordering::SeqCst) >= self.pace.whole {
+            return None;
+        }
+        let place = self.next.fetch_add(1, Ordering::SeqCst);
+        if place < self.dealt.len() {
+            Some(place)
+        } else {
+            None
+        }
+    }
+
+    /// Counts directions. Behind a sequence that is reached nothing more is searched.
+    fn count(&self, written: u64, reached: bool) {
+        self.written.fetch_add(written, Ordering::SeqCst);
+        if reached {
+            self.next.store(self.dealt.len(), Ordering::SeqCst);
+        }
+    }
+
+    /// Takes one piece after the other, and searches those that are nodes.
+    fn work(&self) -> Result<Vec<Answer>, AllocError>
+        ensures places { IfOk result (λ answers. All (HasPlace self.now.dealt.now) answers.items) }
+        ensures stand { IfOk result (λ answers. All
+            (StandsFor self.now.aim.now.instance.now self.now.aim.now.number self.now.dealt.now) answers.items) }
+    {
+        let mut answers = Vec::new(self.aim.alloc);
+        'taken: for _ in 0..self.dealt.len() {
+            let Some(place) = self.take() else {
+                break;
+            };
+            if let Dealt::Open(Piece::Left(Part::Node { first, last })) = &self.dealt[place] {
+                let found = search_node(
+                    self.aim,
+                    first.as_slice(),
+                    last.as_slice(),
+                    self.pace.grant,
+                )?;
+                self.count(found.written, found.reached);
+                answers.push(Answer {
+                    place,
+                    pieces: found.pieces,
+                })?;
+            }
+        }
+        Ok(answers)
+    }
+}
+
+/// What all workers find for pieces that were dealt.
+fn search_dealt<R: Threads + Sync>(
+    rt: &R,
+    aim: &Aim,
+    dealt: &[Dealt],
+    pace: Pace,
+) -> Result<Vec<Answer>, AllocError>
+    ensures places { IfOk result (λ answers. All (HasPlace dealt.now) answers.items) }
+    ensures stand { IfOk result (λ answers. All (StandsFor aim.now.instance.now aim.now.number dealt.now) answers.items) }
+{
+    let round = Round {
+        aim,
+        dealt,
+        pace,
+        next: AtomicUsize::new(0),
+        written: AtomicU64::new(0),
+    };
+    let workers = pace.workers.min(dealt.len());
+    let mut lists = thread::map_indices(rt, aim.alloc, workers, &|_| round.work())?;
+    let mut answers = Vec::new(aim.alloc);
+    'lists: while let Some(list) = lists.pop() {
+        let mut list = list?;
+        answers.append(&mut list)?;
+    }
+    Ok(answers)
+}
+
+/// Puts what was found in the place of a piece.
+fn put_answer(one: &mut Dealt, pieces: VecDeque<Piece>)
+    ensures { one.new ≡ Searched pieces }
+{
+    *one = Dealt::Searched(pieces);
+}
+
+/// Puts each answer in the place of its piece.
+fn put_answers(dealt: &mut [Dealt], answers: Vec<Answer>)
+    requires { All (HasPlace dealt.old) answers.items }
+    ensures len { length dealt.new ≡ length dealt.old }
+    ensures met { (shop : _) (number : _) → All (StandsFor shop number dealt.old) answers.items →
+        all_met shop number dealt.new ≡ all_met shop number dealt.old }
+{
+    let mut answers = answers;
+    'answers: while let Some(answer) = answers.pop() {
+        put_answer(&mut dealt[answer.place], answer.pieces);
+    }
+}
+
+/// Searches the first pieces at a pace. What the pieces stand for stays the same.
+pub(crate) fn search_round<R: Threads + Sync>(
+    rt: &R,
+    aim: &Aim,
+    pieces: &mut VecDeque<Piece>,
+    pace: Pace,
+) -> Result<(), AllocError>
+    ensures { IfOk result (λ _. pieces_met aim.now.instance.now aim.now.number pieces.new.items
+        ≡ pieces_met aim.now.instance.now aim.now.number pieces.old.items) }
+{
+    let mut dealt = deal(aim.alloc, pieces, &pace)?;
+    let answers = search_dealt(rt, aim, dealt.as_slice(), pace)?;
+    put_answers(dealt.as_mut_slice(), answers);
+    put_back(pieces, dealt)?;
+    Ok(())
+}

@@ -1,0 +1,109 @@
+"""Times as a report shows them: in the unit of the table, or by the clock."""
+
+import re
+from dataclasses import dataclass
+from fractions import Fraction
+from typing import Optional, Union
+
+from ._errors import OptionError, shown
+from ._labels import Unit
+
+_START = re.compile(r"([01]?\d|2[0-3]):([0-5]\d)", re.ASCII)
+_UNIT = re.compile(r"(\d{1,9}(?:[.,]\d{1,9})?) ?(s|min|h)", re.ASCII)
+_SECONDS = {"s": 1, "min": 60, "h": 3600}
+_DAY = 86_400
+
+
+@dataclass(frozen=True)
+class Plain:
+    """Times in the unit of the table, from 0."""
+
+    unit: Unit
+
+    def at(self, time: int) -> str:
+        """When something is."""
+        return self.unit.shown(time)
+
+    def lasting(self, time: int) -> str:
+        """How long something takes."""
+        return self.unit.shown(time)
+
+    def sentence(self) -> str:
+        """What the times are."""
+        return "Times count from 0, in the unit of the table."
+
+    def taking(self, time: int) -> str:
+        """What an order does that ends then."""
+        return f"take {self.at(time)}"
+
+    def form(self) -> str:
+        """How lengths of time are written, where that is to be said."""
+        return ""
+
+
+@dataclass(frozen=True)
+class Clock:
+    """Times by the clock of day 1 and the days after it. The shop begins `start` seconds after midnight, and its unit
+    takes `step` seconds. `unit` says how long the unit of the table is."""
+
+    start: int
+    step: Fraction
+    unit: str
+    has_seconds: bool
+    is_rounded: bool
+
+    def _seconds(self, time: int) -> int:
+        """How many seconds a time is, to the nearest one."""
+        return (2 * time * self.step.numerator + self.step.denominator) // (2 * self.step.denominator)
+
+    def _written(self, seconds: int, form: str) -> str:
+        """Hours and minutes, and seconds where there are any."""
+        text = f"{seconds // 3600:{form}}:{seconds // 60 % 60:02}"
+        return f"{text}:{seconds % 60:02}" if self.has_seconds else text
+
+    def at(self, time: int) -> str:
+        """When something is: the time of day, with the day after the first one."""
+        days, seconds = divmod(self.start + self._seconds(time), _DAY)
+        text = self._written(seconds, "02")
+        return f"day {days + 1}, {text}" if days else text
+
+    def lasting(self, time: int) -> str:
+        """How long something takes."""
+        return self._written(self._seconds(time), "")
+
+    def sentence(self) -> str:
+        """What the times are."""
+        rounded = ", rounded to seconds" if self.is_rounded else ""
+        return f"Times are by the clock, from {self.at(0)} on{rounded}; one unit of the table is {self.unit}."
+
+    def taking(self, time: int) -> str:
+        """What an order does that ends then."""
+        return f"finish at {self.at(time)}"
+
+    def form(self) -> str:
+        """How lengths of time are written."""
+        return "hours:minutes:seconds" if self.has_seconds else "hours:minutes"
+
+
+Times = Union[Plain, Clock]
+
+
+def times_of(unit: Unit, start: Optional[str], length: Optional[str]) -> Times:
+    """How to show times of this unit: by the clock, where it is said when they start and how long the unit of the table
+    is. OptionError where one of both is missing, or has another form."""
+    if start is None and length is None:
+        return Plain(unit)
+    if length is None:
+        raise OptionError("UNIT", 0, "start needs unit: how long one unit of the table is, as 15min")
+    if start is None:
+        raise OptionError("START", 0, "unit needs start: the time of day when the first job starts, as 07:30")
+    begun, found = _START.fullmatch(start), _UNIT.fullmatch(length)
+    if not begun:
+        raise OptionError("START", 0, f"start is {shown(start)}, and has to be a time of day, as 07:30")
+    seconds = Fraction(found[1].replace(",", ".")) * _SECONDS[found[2]] if found else Fraction(0)
+    if not found or not seconds:
+        sentence = f"unit is {shown(length)}, and has to be how long one unit of the table is, as 15min, 1h or 30s"
+        raise OptionError("UNIT", 0, sentence)
+    step = seconds / unit.scale
+    since_midnight = int(begun[1]) * 3600 + int(begun[2]) * 60
+    return Clock(since_midnight, step, f"{found[1]} {found[2]}", step % 60 != 0, step % 1 != 0)

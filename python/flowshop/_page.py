@@ -1,0 +1,286 @@
+"""A schedule as one page of HTML: its order, a picture, what is proved of it, and a sheet for each machine."""
+
+import html
+import re
+from collections import Counter
+from dataclasses import dataclass
+from typing import Any, Hashable, Iterable, List, NamedTuple, Tuple
+
+from ._clock import Clock, Times
+from ._errors import counted
+from ._library import version
+from ._results import Timetable
+
+# Of a picture: the makespan and a bound in its title and over it, a mark of its time axis, and the title of a bar.
+_HEAD = re.compile(r"\b(makespan|optimal|lower bound) (\d+)")
+_MARK = re.compile(r"(<line [^>]*/><text [^>]*>)(\d+)(?=</text>)")
+_SPAN = re.compile(r"\bstart (\d+), end (\d+)(?=</title>)")
+# A time of day without seconds.
+_WHOLE = re.compile(r"^(\d\d:\d\d):00$")
+# How many bars a picture has at most, to be of use on a page.
+MOST_BARS = 4000
+# Up to so many jobs the sheets of several machines share a page of paper; above so many the rows of a sheet stand in
+# columns; and above so many jobs the picture has a page across.
+_MOST_SHARED, _MOST_IN_LINE, _MOST_UPRIGHT = 12, 28, 30
+_STYLE = """
+body { font: 11pt/1.4 system-ui, "Segoe UI", "Liberation Sans", Arial, sans-serif; color: #000; background: #fff;
+  max-width: 1110px; margin: 1.5em auto; padding: 0 1em; }
+h1 { font-size: 1.7em; line-height: 1.2; margin: 0 0 .3em; overflow-wrap: anywhere; }
+h2 { font-size: 1.3em; line-height: 1.2; margin: 1.4em 0 .4em; break-after: avoid; overflow-wrap: anywhere; }
+p { margin: .3em 0; }
+.proved { font-size: 1.15em; font-weight: bold; }
+.small { font-size: .85em; }
+ol { columns: 12em auto; column-gap: 2em; margin: .3em 0; padding-left: 2.6em; font-variant-numeric: tabular-nums; }
+li { break-inside: avoid; overflow-wrap: anywhere; }
+figure { margin: .5em 0; overflow-x: auto; }
+svg { display: block; min-width: 100%; height: auto; }
+table { border-collapse: collapse; font-variant-numeric: tabular-nums; }
+th, td { padding: .15em .6em; border-bottom: 1px solid #888; text-align: right; vertical-align: baseline;
+  white-space: nowrap; }
+thead th { border-bottom: 2px solid #000; vertical-align: bottom; white-space: normal; }
+tbody th { font-weight: normal; }
+th.name { text-align: left; white-space: normal; min-width: 6em; overflow-wrap: anywhere; }
+tr { break-inside: avoid; }
+a { color: inherit; }
+.shared, .rows { overflow-x: auto; }
+.rows table { width: 100%; max-width: 45em; }
+.rows td:first-child, .rows th:first-child { width: 1%; }
+@page { size: A4; margin: 14mm; }
+@page across { size: A4 landscape; }
+@media print {
+  body { font-size: 10pt; max-width: none; margin: 0; padding: 0; }
+  figure { overflow: visible; }
+  svg { width: 100%; min-width: 0; }
+  a { text-decoration: none; }
+  .picture, .shared { break-inside: avoid; }
+  .across { page: across; }
+  .first, .own { break-before: page; }
+  .sheet { font-size: 12pt; }
+  .rows { columns: var(--width, auto) auto; column-gap: 2em; }
+  .rows table { max-width: none; }
+  .shared, .rows { overflow: visible; }
+  .many { font-size: 9pt; }
+  .many th, .many td { padding: .1em .4em; }
+}
+"""
+_NAME = ' class="name"'
+
+
+@dataclass(frozen=True)
+class Facts:
+    """What a page says of a schedule: its timetable; a number below which no order has a makespan, and whether a text
+    proves it; the makespan of the jobs in the order of the table; a picture, or nothing; and how times are shown."""
+
+    title: str
+    timetable: Timetable
+    lower: int
+    is_certified: bool
+    listed: int
+    picture: str
+    times: Times
+
+
+class _Turn(NamedTuple):
+    """A job on a machine, where it takes time: its place in the sequence, its name, its start and its end."""
+
+    place: int
+    job: str
+    start: int
+    end: int
+
+
+class _Machine(NamedTuple):
+    """A machine: its number, its name, and its jobs in their order."""
+
+    number: int
+    name: str
+    turns: List[_Turn]
+
+    def working(self) -> int:
+        """How long it works."""
+        return sum(turn.end - turn.start for turn in self.turns)
+
+    def between(self) -> int:
+        """How long it is idle between its jobs."""
+        return self.turns[-1].end - self.turns[0].start - self.working() if self.turns else 0
+
+
+def _plain(name: Hashable) -> str:
+    """A name as text on a page: what is no sign is a blank."""
+    return html.escape("".join(sign if sign.isprintable() else " " for sign in str(name)))
+
+
+def _jobs(timetable: Timetable) -> List[str]:
+    """The names of the jobs in the order of the sequence; with the number of the job where several have one name."""
+    count = Counter(map(str, timetable.names))
+    named = zip(timetable.names, timetable.sequence)
+    texts = (f"{name} (job {job})" if count[str(name)] > 1 else f"{name}" for name, job in named)
+    if timetable.names == timetable.sequence:
+        texts = (f"Job {job}" for job in timetable.sequence)
+    return [_plain(text) for text in texts]
+
+
+def _machines(timetable: Timetable) -> List[_Machine]:
+    """The machines with their jobs."""
+    starts: List[Any] = timetable.starts.tolist()
+    ends: List[Any] = timetable.ends.tolist()
+    jobs, names = _jobs(timetable), timetable.machine_names
+    are_numbers = names == tuple(range(1, len(names) + 1))
+    machines = []
+    for at, name in enumerate(names):
+        turns = [
+            _Turn(place, job, begun[at], ended[at])
+            for place, (job, begun, ended) in enumerate(zip(jobs, starts, ends), 1)
+            if begun[at] < ended[at]
+        ]
+        machines.append(_Machine(at + 1, f"Machine {name}" if are_numbers else _plain(name), turns))
+    return machines
+
+
+def _proved(facts: Facts) -> str:
+    """What the bound means, in a sentence."""
+    upper, at = facts.timetable.makespan, facts.times.at
+    if facts.lower == upper:
+        return f"No order finishes earlier than {at(upper)}: this one is optimal."
+    return f"No order can finish before {at(facts.lower)}; this one finishes at {at(upper)}."
+
+
+def _beside(facts: Facts) -> str:
+    """How far the schedule may be from the best one, and how the order of the table would do."""
+    timetable, lower = facts.timetable, facts.lower
+    upper = timetable.makespan
+    sentences = []
+    if 0 < lower < upper:
+        tenths = -(1000 * (lower - upper) // lower)
+        sentences.append(f"It takes at most {tenths // 10}.{tenths % 10}% more than the least time.")
+    if not facts.is_certified and lower < upper:
+        sentences.append("That bound takes no search; a certificate may prove a higher one.")
+    if timetable.sequence == tuple(range(1, len(timetable.sequence) + 1)):
+        sentences.append("This is the order of the table.")
+    else:
+        too = " too" if facts.listed == upper else ""
+        sentences.append(f"In the order of the table it would {facts.times.taking(facts.listed)}{too}.")
+    return " ".join(sentences)
+
+
+def _table(heads: Iterable[Tuple[str, str]], rows: Iterable[str]) -> List[str]:
+    """A table of rows, with heads of these classes."""
+    cells = "".join(f'<th scope="col"{kind}>{head}</th>' for kind, head in heads)
+    return ["<table>", f"<thead><tr>{cells}</tr></thead>", "<tbody>", *rows, "</tbody>", "</table>"]
+
+
+def _of_machines(machines: List[_Machine], makespan: int, times: Times) -> List[str]:
+    """The table of the machines: when each begins and ends, and how long it works and is idle."""
+    heads = ["First start", "Last end", "Working", "Idle", "Idle between jobs", "Utilisation"]
+    rows = []
+    for machine in machines:
+        working = machine.working()
+        cells = ["–", "–"]
+        if machine.turns:
+            cells = [times.at(machine.turns[0].start), times.at(machine.turns[-1].end)]
+        cells += map(times.lasting, (working, makespan - working, machine.between()))
+        cells.append(f"{(200 * working + makespan) // (2 * makespan) if makespan else 0}%")
+        head = f'<th scope="row"{_NAME}><a href="#machine{machine.number}">{machine.name}</a></th>'
+        rows.append(f"<tr>{head}{''.join(f'<td>{cell}</td>' for cell in cells)}</tr>")
+    form = f" Lengths of time are {times.form()}." if times.form() else ""
+    return [
+        '<section class="shared">',
+        "<h2>Machines</h2>",
+        *_table([(_NAME, "Machine"), *(("", head) for head in heads)], rows),
+        f'<p class="small">Idle is the rest of the whole time of {times.lasting(makespan)}, '
+        f"and utilisation the part of it that is work.{form}</p>",
+        "</section>",
+    ]
+
+
+def _sheet(machine: _Machine, facts: Facts, title: str) -> List[str]:
+    """The sheet of a machine: its jobs in order, with start and end of each."""
+    jobs, count = len(facts.timetable.names), len(facts.timetable.machine_names)
+    times, turns = facts.times, machine.turns
+    kinds = ["sheet", "shared" if jobs <= _MOST_SHARED else "own"]
+    kinds += ["first"] if machine.number == 1 else []
+    kinds += ["many"] if jobs > _MOST_IN_LINE else []
+    rest = jobs - len(turns)
+    skipped = f"; {counted(rest, 'job')} {'skips' if rest == 1 else 'skip'} it" if rest else ""
+    lines = [
+        f'<section class="{" ".join(kinds)}" id="machine{machine.number}">',
+        f"<h2>{machine.name}</h2>",
+        f"<p>{title}. Machine {machine.number} of {count}: {counted(len(turns), 'job')}{skipped}.</p>",
+    ]
+    if turns:
+        rows = [
+            f'<tr><td>{turn.place}</td><th scope="row" class="name">{turn.job}</th>'
+            f"<td>{times.at(turn.start)}</td><td>{times.at(turn.end)}</td></tr>"
+            for turn in turns
+        ]
+        width = max(10, *(len(turn.job) for turn in turns)) + 2 * max(5, len(times.at(turns[-1].end))) + 12
+        columns = f' style="--width: {width}ch"' if jobs > _MOST_IN_LINE else ""
+        job = f"Job on {machine.name}" if jobs > _MOST_IN_LINE else "Job"
+        heads = [("", "Place"), (_NAME, job), ("", "Start"), ("", "End")]
+        lines += [f'<div class="rows"{columns}>', *_table(heads, rows), "</div>"]
+    return [*lines, "</section>"]
+
+
+def _with_times(picture: str, times: Times) -> str:
+    """A picture with the times as the page shows them. A mark of the time axis has the day where that begins, and no
+    seconds where there are none."""
+    last = ""
+
+    def mark(found: "re.Match[str]") -> str:
+        nonlocal last
+        day, comma, at = times.at(int(found[2])).rpartition(", ")
+        text = (day + comma if day != last else "") + _WHOLE.sub(r"\1", at)
+        last = day
+        return found[1] + text
+
+    def span(found: "re.Match[str]") -> str:
+        return f"start {times.at(int(found[1]))}, end {times.at(int(found[2]))}"
+
+    head, axis, rest = picture.partition("<line ")
+    head = _HEAD.sub(lambda found: f"{found[1]} {times.lasting(int(found[2]))}", head)
+    # By the clock, the first mark takes the place of the word before the axis.
+    body = rest.replace(">time</text>", "></text>", 1) if isinstance(times, Clock) else rest
+    return head + _SPAN.sub(span, _MARK.sub(mark, axis + body))
+
+
+def _picture(facts: Facts) -> List[str]:
+    """The picture, or a sentence where it is left out."""
+    if not facts.picture:
+        return ['<p class="small">The picture is left out: it has too many bars for a page.</p>']
+    label = f"A row for each machine, with a bar for each job from its start to its end. {_proved(facts)}"
+    picture = _with_times(facts.picture, facts.times).rstrip("\n")
+    picture = picture.replace("<svg ", f'<svg role="img" aria-label="{label}" ', 1)
+    kind = "picture across" if len(facts.timetable.names) > _MOST_UPRIGHT else "picture"
+    return [f'<section class="{kind}">', "<h2>Picture</h2>", "<figure>", picture, "</figure>", "</section>"]
+
+
+def page(facts: Facts) -> str:
+    """The page."""
+    title, timetable = _plain(facts.title), facts.timetable
+    machines = _machines(timetable)
+    lines = [
+        "<!DOCTYPE html>",
+        '<html lang="en">',
+        "<head>",
+        '<meta charset="utf-8">',
+        '<meta name="viewport" content="width=device-width, initial-scale=1">',
+        f"<title>{title}</title>",
+        f"<style>{_STYLE}</style>",
+        "</head>",
+        "<body>",
+        f"<h1>{title}</h1>",
+        f'<p class="proved">{_proved(facts)}</p>',
+        f"<p>{_beside(facts)}</p>",
+        f"<p>{facts.times.sentence()}</p>",
+        "<h2>Order</h2>",
+        "<ol>",
+        *(f"<li>{job}</li>" for job in _jobs(timetable)),
+        "</ol>",
+        *_of_machines(machines, timetable.makespan, facts.times),
+        '<p class="small">Not modelled are due dates, set-up times, shifts and breaks; every machine takes the jobs in '
+        f"the same order. Made by flowshop {version()}.</p>",
+        *_picture(facts),
+    ]
+    for machine in machines:
+        lines += _sheet(machine, facts, title)
+    return "".join(f"{line}\n" for line in [*lines, "</body>", "</html>"])

@@ -1,0 +1,90 @@
+"""The command `report`: a schedule as one file of HTML, with names, a picture, and a sheet for each machine."""
+
+import argparse
+import sys
+from typing import Optional
+
+from ._errors import NotASequence, NotLawful, OptionError, TextError, counted, shown
+from ._results import Certificate
+from ._sequences import Jobs
+from ._shop import Shop
+from ._texts import sequence_of
+
+
+def words(parsers: "argparse._SubParsersAction[argparse.ArgumentParser]") -> None:
+    """Adds the command and its words."""
+    parser = parsers.add_parser(
+        "report",
+        help="write a schedule as one file of HTML, for screen and paper",
+        description="Writes a schedule as one file of HTML: the order of the jobs, what is proved of it, when each "
+        "machine works and is idle, a picture, and a sheet for each machine with start and end of each job. Names and "
+        "unit are those that examples/from_csv.awk keeps in the file of the shop.",
+        epilog="example: python3 -m flowshop report shop.txt 1 certificate --start 07:30 --unit 1min --out report.html",
+    )
+    parser.add_argument("shop", metavar="SHOP", help="the file of the shop, a benchmark text")
+    parser.add_argument("index", metavar="INDEX", nargs="?", help="the block of the file, from 1, if it has several")
+    parser.add_argument(
+        "text",
+        metavar="TEXT",
+        nargs="?",
+        help="the file of a certificate, which is checked, or of a sequence; left out, a search takes some seconds",
+    )
+    parser.add_argument("--start", metavar="TIME", help="the time of day when the first job starts, as 07:30")
+    parser.add_argument("--unit", metavar="LENGTH", help="how long one unit of the table is, as 15min, 1h or 30s")
+    parser.add_argument("--title", help="the title of the report; left out, it names the file of the shop")
+    parser.add_argument("--out", metavar="FILE", help="the file to write; left out, standard output")
+    parser.set_defaults(run=run)
+
+
+def _picked(path: str, index: Optional[str]) -> Shop:
+    """The shop of a block of a file. OptionError where the index is none of the file."""
+    try:
+        blocks = Shop.read(path)
+    except TextError as error:
+        sentence = f"{error}; examples/from_csv.awk turns a table into such a file"
+        raise TextError(error.name, error.place, sentence) from None
+    if index is None and len(blocks) == 1:
+        return blocks[0].shop
+    if index is None:
+        raise OptionError("INDEX", 0, f"{path} has {counted(len(blocks), 'block')}: write the number of one behind it")
+    if not index.isdecimal() or not 1 <= int(index) <= len(blocks):
+        raise OptionError("INDEX", 0, f"INDEX is {shown(index)}, and {path} has the blocks 1 to {len(blocks)}")
+    return blocks[int(index) - 1].shop
+
+
+def _sequence(shop: Shop, text: bytes) -> Jobs:
+    """The sequence in a text. TextError where it has another makespan than the text says."""
+    jobs, stated, line = sequence_of(text)
+    makespan = shop.makespan(jobs)
+    if stated not in (None, makespan):
+        sentence = f"line {line} says that the makespan is {stated:,}, and that of these jobs is {makespan:,}"
+        raise TextError("NOT_ATTAINED", line, sentence)
+    return jobs
+
+
+def _order(shop: Shop, path: Optional[str]) -> Jobs:
+    """The sequence in a file, or its text as that of a certificate, which is not checked yet; or else a certificate
+    that is searched for."""
+    if path is None:
+        return shop.certify(work=100, directions=1_000_000)
+    with open(path, "rb") as file:
+        text = file.read()
+    return _sequence(shop, text) if text.split(None, 1)[:1] == [b"sequence"] else Certificate(0, 0, (), text)
+
+
+def run(options: argparse.Namespace) -> int:
+    """Writes the report. OptionError where a word is none; the other errors are those of the calls."""
+    index, text = options.index, options.text
+    if index is not None and text is None and not index.isdecimal():
+        index, text = None, index
+    shop = _picked(options.shop, index)
+    title = options.title or f"Schedule of {options.shop}{f', block {index}' if index not in (None, '1') else ''}"
+    try:
+        report = shop.report(_order(shop, text), start=options.start, unit=options.unit, title=title)
+    except (NotASequence, NotLawful, TextError) as error:
+        raise type(error)(error.name, error.place, f"{text}: {error}") from None
+    if options.out is None:
+        sys.stdout.buffer.write(report.encode("utf-8", "replace"))
+    else:
+        report.save(options.out)
+    return 0

@@ -1,0 +1,112 @@
+"""The library and its records (library/flowshop.h), by ctypes, and what the tests of its calls count."""
+
+import ctypes
+import os
+import re
+
+TOP = os.path.dirname(os.path.dirname(os.path.abspath(__file__)))
+LIBRARY = ctypes.CDLL(os.environ.get("FLOWSHOP_LIBRARY", os.path.join(TOP, "out", "libflowshop.so")))
+with open(os.path.join(TOP, "library", "flowshop.h"), encoding="ascii") as _header:
+    HEADER = _header.read()
+STATUSES = re.findall(r"FLOWSHOP_(\w+) = (\d+)", HEADER.partition("enum flowshop_status {")[2].partition("};")[0])
+NAMES = {int(number): name for name, number in STATUSES}
+U8, U16, U32, U64, SIZE = ctypes.c_uint8, ctypes.c_uint16, ctypes.c_uint32, ctypes.c_uint64, ctypes.c_size_t
+
+counts = {True: 0, False: 0}
+
+
+def equal(what, got, wanted):
+    """Counts whether what was got is what was wanted."""
+    counts[got == wanted] += 1
+    if got != wanted:
+        print(f"not as it should be: {what}: {got!r} for {wanted!r}")
+
+
+def record(name, *fields):
+    """A record of numbers and slices; a slice has a pointer and a count."""
+    types = []
+    for field, kind in fields:
+        if isinstance(kind, list):
+            types += [(field, ctypes.POINTER(kind[0])), (f"{field}_count", SIZE)]
+        else:
+            types.append((field, kind))
+    return type(name, (ctypes.Structure,), {"_fields_": types})
+
+
+Outcome = record("Outcome", ("status", U32), ("place", SIZE))
+Shop = record("Shop", ("jobs", U32), ("machines", U32), ("times", [U32]))
+Reached = record("Reached", ("sequence", [U16]), ("makespan", U64), ("whole", U32))
+Block = record(
+    "Block", ("jobs", U32), ("machines", U32), ("times", [U32]), ("seed", U32), ("upper", U32), ("lower", U32)
+)
+Spans = record("Spans", ("starts", [U64]), ("ends", [U64]))
+Text = record("Text", ("bytes", [U8]), ("length", SIZE))
+Bounds = record("Bounds", ("sequence", [U16]), ("lower", U64), ("upper", U64))
+Effort = record("Effort", ("width", U32), ("rounds", U32), ("seed", U32), ("work", U32))
+Plan = record("Plan", ("depth", U32), ("budget", U32), ("version", U32))
+BeamOptions = record("BeamOptions", ("number", U64), ("width", U32), ("steps", U64))
+RoundsOptions = record("RoundsOptions", ("rounds", U32), ("seed", U32), ("steps", U64))
+Node = record("Node", ("first", [U16]), ("last", [U16]))
+Part = record(
+    "Part",
+    ("sequence", [U16]),
+    ("directions", [U8]),
+    ("rest", [U16]),
+    ("found", U32),
+    ("makespan", U64),
+    ("directions_length", SIZE),
+    ("rest_length", SIZE),
+)
+
+
+def lent(kind, numbers):
+    """A slice that a call reads: an array, which is never null, and its count."""
+    return (kind * max(1, len(numbers)))(*numbers), len(numbers)
+
+
+def shop_of(shop):
+    """The record of a shop: its jobs, its machines, and its times, machine by machine."""
+    jobs, machines, times = shop
+    return Shop(jobs, machines, *lent(U32, times))
+
+
+class Room:
+    """A slice for results, filled with sevens, and one more entry."""
+
+    def __init__(self, kind, count):
+        self.array = (kind * (count + 1))(*[7] * (count + 1))
+        self.count = count
+
+    def words(self):
+        return [self.array, self.count]
+
+    def untouched(self):
+        return all(entry == 7 for entry in self.array)
+
+    def taken(self, count):
+        """The first entries, of which the others are to be as they were."""
+        equal("the rest of a slice", set(self.array[count:]), {7})
+        return list(self.array[:count])
+
+
+def call(name, *words):
+    """Makes a call: None where it is done, else the name of the status and the place. Slices stay where they are."""
+    made = getattr(LIBRARY, f"flowshop_{name}")
+    made.restype = Outcome
+    records = [word for word in words if isinstance(word, ctypes.Structure)]
+    before = [slices(word) for word in records]
+    outcome = made(*[ctypes.byref(word) if isinstance(word, ctypes.Structure) else word for word in words])
+    equal("where the slices are", [slices(word) for word in records], before)
+    if outcome.status:
+        return NAMES[outcome.status], outcome.place
+    equal("the place of a call that is done", outcome.place, 0)
+    return None
+
+
+def slices(word):
+    """Where the slices of a record are, and how many entries they have."""
+    return [
+        ctypes.cast(getattr(word, name), ctypes.c_void_p).value if name + "_count" in dir(word) else getattr(word, name)
+        for name, *_ in word._fields_
+        if name + "_count" in dir(word) or name.endswith("_count")
+    ]

@@ -1,0 +1,583 @@
+"""The report of a schedule: its sentences, times, tables and picture, beside values worked out by hand and plain code
+that shares nothing with it; the command that writes it; and three tables that become reports in three commands."""
+
+import datetime
+import decimal
+import html.parser
+import os
+import pathlib
+import random
+import re
+import shutil
+import subprocess
+import sys
+import tempfile
+import time
+
+from counts import end, equal, refused
+
+from flowshop import Certificate, Report, Shop, _clock, _labels, _page
+
+TOP = os.path.dirname(os.path.dirname(os.path.abspath(__file__)))
+PROGRAM = os.environ.get("FLOWSHOP_PROGRAM", os.path.join(TOP, "crates", "flow_tool", "out", "flow_tool"))
+# The shop that docs/formats.md reads by hand: a row for each job; and texts of it, of which one states less than is so.
+ROWS = [[4, 0, 4], [0, 8, 0], [0, 2, 1]]
+SHOP = Shop.from_jobs(ROWS)
+LEAST = "flowshop two-ended 1\n3 3\n12 12\n3 1 2\n++\nend\n"
+BOUNDS = "flowshop two-ended 1\n3 3\n11 13\n2 1 3\n-\nend\n"
+NOTHING = "flowshop two-ended 1\n3 3\n0 13\n2 1 3\n\nend\n"
+STRANGE = '<b>&"x\'</b>'
+
+
+class Element:
+    """An element of a page: its name, its attributes, and its texts and elements in their order."""
+
+    def __init__(self, name, attributes):
+        self.name, self.attributes, self.parts = name, dict(attributes), []
+
+    def all(self, name, kind=None):
+        """The elements of a name below this one, and of a class."""
+        for part in self.parts:
+            if isinstance(part, Element):
+                if part.name == name and (kind is None or kind in part.attributes.get("class", "").split()):
+                    yield part
+                yield from part.all(name, kind)
+
+    def text(self):
+        """The text below this element."""
+        return "".join(part if isinstance(part, str) else part.text() for part in self.parts)
+
+
+class Reader(html.parser.HTMLParser):
+    """Reads a page into `root`, and keeps what is at fault in its form."""
+
+    def __init__(self, page):
+        super().__init__()
+        self.root = Element("", [])
+        self.open, self.faults = [self.root], []
+        self.feed(page)
+        self.close()
+        self.faults += [f"{element.name} is open" for element in self.open[1:]]
+
+    def handle_starttag(self, tag, attrs):
+        element = Element(tag, attrs)
+        if len(element.attributes) < len(attrs):
+            self.faults.append(f"{tag} has an attribute twice")
+        self.open[-1].parts.append(element)
+        if tag != "meta":
+            self.open.append(element)
+
+    def handle_startendtag(self, tag, attrs):
+        self.open[-1].parts.append(Element(tag, attrs))
+        if "svg" not in [element.name for element in self.open]:
+            self.faults.append(f"{tag} ends itself")
+
+    def handle_endtag(self, tag):
+        if self.open[-1].name == tag:
+            self.open.pop()
+        else:
+            self.faults.append(f"{tag} ends in {self.open[-1].name}")
+
+    def handle_data(self, data):
+        self.open[-1].parts.append(data)
+
+
+def read(report):
+    """A page that was read; it is well-formed, asks for nothing from elsewhere, and can be read aloud."""
+    reader = Reader(report)
+    root = reader.root
+    equal("the form of a page", reader.faults, [])
+    equal("its language", [element.attributes for element in root.all("html")], [{"lang": "en"}])
+    heads = [element.attributes.get("scope") for element in root.all("th")]
+    equal("that each head of a table says of what", set(heads) <= {"row", "col"}, True)
+    names = [element.attributes["id"] for element in root.all("section") if "id" in element.attributes]
+    links = [element.attributes["href"] for element in root.all("a")]
+    equal("where its links lead", links, [f"#{name}" for name in names])
+    equal("that no two have one name", len(set(names)), len(names))
+    for name in ("script", "link", "img", "iframe", "object"):
+        equal(f"elements {name}", list(root.all(name)), [])
+    style = "".join(element.text() for element in root.all("style"))
+    equal("what its style asks for", re.findall(r"url\(|@import|@font-face|https?:", style), [])
+    return root
+
+
+def line_of(root, start):
+    """The paragraph that begins so."""
+    return next((element.text() for element in root.all("p") if element.text().startswith(start)), None)
+
+
+def table_of(element):
+    """The rows of the table in an element, as texts."""
+    return [[cell.text() for cell in row.parts] for row in element.all("tr")]
+
+
+def sheets_of(root):
+    """The sheets: the name of each machine, the line below, and the rows."""
+    sheets = root.all("section", "sheet")
+    return [(next(each.all("h2")).text(), next(each.all("p")).text(), table_of(each)[1:]) for each in sheets]
+
+
+def shop_of(rows, scale=1, sign="point", job_names=None, machine_names=None):
+    """The shop of a file with these rows, one for each job, and this unit."""
+    job_names = job_names or range(1, len(rows) + 1)
+    machine_names = machine_names or range(1, len(rows[0]) + 1)
+    lines = ["\t".join(["jobs", *map(str, job_names)]), f"{len(rows)} {len(rows[0])} 0 0 0"]
+    unit = f"machines, times in 1/{scale}, decimal {sign}, separator semicolon"
+    lines.append("\t".join([unit, *map(str, machine_names)]))
+    lines += [" ".join(map(str, column)) for column in zip(*rows)]
+    with tempfile.TemporaryDirectory() as folder:
+        path = pathlib.Path(folder, "shop.txt")
+        path.write_text("\n".join([*lines, ""]), encoding="utf-8")
+        return Shop.read(path)[0].shop
+
+
+def plain_spans(rows, sequence):
+    """When each job of a sequence starts and ends on each machine, by the definition."""
+    ends, spans = [0] * len(rows[0]), []
+    for job in sequence:
+        left, spans_of_job = 0, []
+        for machine, length in enumerate(rows[job - 1]):
+            start = max(ends[machine], left)
+            left = ends[machine] = start + length
+            spans_of_job.append((start, left))
+        spans.append(spans_of_job)
+    return spans
+
+
+def in_unit(scale, sign="."):
+    """How a time is shown in the unit of a table: the decimal number, without zeros behind it."""
+
+    def shown(number):
+        text = f"{decimal.Decimal(number) / scale:f}"
+        return (text.rstrip("0").rstrip(".") if "." in text else text).replace(".", sign)
+
+    return shown, shown
+
+
+def by_clock(start, seconds, has_seconds):
+    """How moments and lengths are shown by the clock, where a unit has so many seconds."""
+    begun = datetime.datetime(2001, 1, 1, *map(int, start.split(":")))
+
+    def at(number):
+        moment = begun + datetime.timedelta(seconds=number * seconds)
+        day = (moment.date() - begun.date()).days + 1
+        return (f"day {day}, " if day > 1 else "") + moment.strftime("%H:%M:%S" if has_seconds else "%H:%M")
+
+    def lasting(number):
+        minutes, rest = divmod(int(number * seconds), 60)
+        text = f"{minutes // 60}:{minutes % 60:02d}"
+        return f"{text}:{rest:02d}" if has_seconds else text
+
+    return at, lasting
+
+
+def percent(part, whole):
+    """A part of a whole in percent, to the nearest one."""
+    share = decimal.Decimal(100 * part) / whole if whole else decimal.Decimal(0)
+    return f"{share.quantize(decimal.Decimal(1), decimal.ROUND_HALF_UP)}%"
+
+
+def compare(what, report, rows, sequence, shown, names):
+    """Compares the order, the table of the machines, the sheets and the picture of a report with plain code."""
+    (at, lasting), (job_names, machine_names) = shown, names
+    root = read(report)
+    spans = plain_spans(rows, sequence)
+    makespan = spans[-1][-1][1]
+    jobs = [job_names[job - 1] for job in sequence]
+    equal(f"{what}: the order", [item.text() for item in root.all("li")], jobs)
+    table, sheets, titles = [], [], []
+    for machine, name in enumerate(machine_names):
+        of_machine = [(place, jobs[place - 1], *each[machine]) for place, each in enumerate(spans, 1)]
+        turns = [turn for turn in of_machine if turn[2] < turn[3]]
+        working = sum(row[machine] for row in rows)
+        between = sum(after[2] - before[3] for before, after in zip(turns, turns[1:]))
+        ends = [at(turns[0][2]), at(turns[-1][3])] if turns else ["–", "–"]
+        lengths = [lasting(working), lasting(makespan - working), lasting(between)]
+        table.append([name, *ends, *lengths, percent(working, makespan)])
+        sheets.append((name, [[str(place), job, at(start), at(end)] for place, job, start, end in turns]))
+        titles += [f"{job}, {name}, start {at(start)}, end {at(end)}".lower() for _, job, start, end in turns]
+    equal(f"{what}: the machines", table_of(next(root.all("section", "shared")))[1:], table)
+    equal(f"{what}: the sheets", [(name, rows) for name, _, rows in sheets_of(root)], sheets)
+    bars = [element.text().lower() for drawing in root.all("svg") for element in drawing.all("title")][1:]
+    equal(f"{what}: the picture", sorted(bars), sorted(titles))
+    return root
+
+
+def say_what_is_proved():
+    """The sentences on the bound, and on the order of the table. All numbers were worked out by hand."""
+    earlier, optimal = "No order finishes earlier than", "this one is optimal."
+    before, finishes = "No order can finish before", "this one finishes at"
+    simple = "That bound takes no search; a certificate may prove a higher one."
+    table, is_table = "In the order of the table it would", "This is the order of the table."
+    equal_jobs, one = Shop.from_jobs([[1], [1]]), Shop.from_jobs([[1000]])
+    part = "flowshop two-ended 1\n1 1\n{} 1000\n1\n\nend\n".format
+    percents = "It takes at most {}% more than the least time.".format
+    for shop, order, words, proved, beside in [
+        (SHOP, SHOP.check(LEAST), {}, f"{earlier} 12: {optimal}", f"{table} take 15."),
+        (SHOP, SHOP.check(BOUNDS), {}, f"{before} 11; {finishes} 13.", f"{percents(18.2)} {table} take 15."),
+        (SHOP, SHOP.check(NOTHING), {}, f"{before} 0; {finishes} 13.", f"{table} take 15."),
+        (SHOP, Certificate(13, 13, (1, 2, 3), BOUNDS.encode()), {}, f"{before} 11; {finishes} 13.",
+         f"{percents(18.2)} {table} take 15."),
+        (SHOP, [2, 1, 3], {}, f"{before} 10; {finishes} 13.", f"{percents(30.0)} {simple} {table} take 15."),
+        (SHOP, SHOP.neh(), {}, f"{before} 10; {finishes} 13.", f"{percents(30.0)} {simple} {table} take 15."),
+        (SHOP, [1, 2, 3], {}, f"{before} 10; {finishes} 15.", f"{percents(50.0)} {simple} {is_table}"),
+        (SHOP, SHOP.check(LEAST), {"start": "07:30", "unit": "15min"}, f"{earlier} 10:30: {optimal}",
+         f"{table} finish at 11:15."),
+        (SHOP, SHOP.check(BOUNDS), {"start": "22:00", "unit": "1h"}, f"{before} day 2, 09:00; {finishes} day 2, 11:00.",
+         f"{percents(18.2)} {table} finish at day 2, 13:00."),
+        (Shop.from_jobs([[1, 5], [5, 1]]), [2, 1], {}, f"{before} 7; {finishes} 11.",
+         f"{percents(57.2)} {simple} {table} take 7."),
+        (equal_jobs, [2, 1], {}, f"{earlier} 2: {optimal}", f"{table} take 2 too."),
+        (equal_jobs, [1, 2], {}, f"{earlier} 2: {optimal}", is_table),
+        (Shop.from_jobs([[0, 0]]), [1], {}, f"{earlier} 0: {optimal}", is_table),
+        (one, one.check(part(800)), {}, f"{before} 800; {finishes} 1000.", f"{percents(25.0)} {is_table}"),
+        (one, one.check(part(999)), {}, f"{before} 999; {finishes} 1000.", f"{percents(0.2)} {is_table}"),
+    ]:
+        root = read(shop.report(order, **words))
+        equal(f"what is said of {order!r}", line_of(root, "No order"), proved)
+        equal(f"what is said beside it of {order!r}", [each.text() for each in root.all("p")][1], beside)
+        (drawing,) = root.all("svg")
+        equal("the picture as words", drawing.attributes["aria-label"].endswith(proved), True)
+    wanted = "Not modelled are due dates, set-up times, shifts and breaks; every machine takes the jobs in the same "
+    equal("what is not modelled", line_of(root, "Not").partition("order. Made")[0], wanted)
+    other = Shop.from_jobs([[1, 2, 4]] * 3)
+    got = refused(lambda: other.report(SHOP.check(LEAST)))[:3]
+    equal("a certificate of another shop", got, ("NotLawful", "NOT_ATTAINED", 4))
+    equal("a sequence of another shop", refused(lambda: SHOP.report([1, 2]))[:2], ("NotASequence", "LENGTH"))
+
+
+def show_times():
+    """When a job of this time ends, and how long the machine works, in each unit. All were worked out by hand."""
+    for number, scale, sign, start, unit, at, lasting in [
+        (29, 4, "point", None, None, "7.25", "7.25"),
+        (29, 4, "comma", None, None, "7,25", "7,25"),
+        (28, 4, "point", None, None, "7", "7"),
+        (1, 1_000_000, "point", None, None, "0.000001", "0.000001"),
+        (10, 100, "comma", None, None, "0,1", "0,1"),
+        (999_999, 1, "point", None, None, "999999", "999999"),
+        (29, 1, "point", "23:30", "1min", "23:59", "0:29"),
+        (30, 1, "point", "23:30", "1min", "day 2, 00:00", "0:30"),
+        (90, 1, "point", "23:30", "1min", "day 2, 01:00", "1:30"),
+        (49, 1, "point", "7:30", "1h", "day 3, 08:30", "49:00"),
+        (2, 1, "point", "00:00", "12h", "day 2, 00:00", "24:00"),
+        (3, 1, "point", "08:00", "15 min", "08:45", "0:45"),
+        (1, 4, "point", "08:00", "15min", "08:03:45", "0:03:45"),
+        (29, 4, "comma", "07:30", "1min", "07:37:15", "0:07:15"),
+        (4, 4, "comma", "07:30", "1h", "08:30", "1:00"),
+        (5, 10, "point", "08:00", "1,5min", "08:00:45", "0:00:45"),
+        (5, 10, "point", "08:00", "1.5 h", "08:45", "0:45"),
+        (3, 1, "point", "23:59", "0.5s", "23:59:02", "0:00:02"),
+        (119, 1, "point", "23:59", "0.5s", "day 2, 00:00:00", "0:01:00"),
+        (999_999, 1, "point", "00:00", "24h", "day 1000000, 00:00", "23999976:00"),
+    ]:
+        root = read(shop_of([[number]], scale, sign).report([1], start=start, unit=unit))
+        ((_, _, rows),) = sheets_of(root)
+        row = table_of(next(root.all("section", "shared")))[1]
+        got = rows[0][3], row[2], row[3], row[4].strip("0:")
+        equal(f"{number} in 1/{scale}, from {start} by {unit}", got, (at, at, lasting, ""))
+    for words, said in [
+        ({}, "Times count from 0, in the unit of the table."),
+        ({"start": "7:30", "unit": "15min"}, "Times are by the clock, from 07:30 on; one unit of the table is 15 min."),
+        ({"start": "7:30", "unit": "0.7s"},
+         "Times are by the clock, from 07:30:00 on, rounded to seconds; one unit of the table is 0.7 s."),
+    ]:
+        equal(f"what the times are {words}", line_of(read(SHOP.report([1, 2, 3], **words)), "Times"), said)
+    for words, name, sentence in [
+        ({"start": "07:30"}, "UNIT", "start needs unit: how long one unit of the table is, as 15min"),
+        ({"unit": "1min"}, "START", "unit needs start: the time of day when the first job starts, as 07:30"),
+        *[({"start": start, "unit": "1h"}, "START", f"start is {start!r}, and has to be a time of day, as 07:30")
+          for start in ("", "7", "24:00", "7:60", "07:30:00", "7.30", "-1:00", "١:٠٠")],
+        *[({"start": "7:30", "unit": unit}, "UNIT",
+           f"unit is {unit!r}, and has to be how long one unit of the table is, as 15min, 1h or 30s")
+          for unit in ("", "15", "min", "0min", "0.0h", "-1h", "1d", "1e3s", "1h30min", "1.h")],
+    ]:
+        got = refused(lambda words=words: SHOP.report([1, 2, 3], **words))
+        equal(f"a report with {words}", got, ("OptionError", name, 0, sentence))
+
+
+def show_names():
+    """Names and titles as they are, of jobs and machines that have them and that have none."""
+    shop = Shop.from_jobs(ROWS, job_names=[STRANGE, "a\nb", "x" * 60], machine_names=[STRANGE, "Öl &amp; Co", 7])
+    root = read(shop.report([2, 1, 3], title=STRANGE))
+    names = [STRANGE, "Öl &amp; Co", "7"]
+    equal("strange names of jobs", [item.text() for item in root.all("li")], ["a b", STRANGE, "x" * 60])
+    equal("strange names of machines", [name for name, _, _ in sheets_of(root)], names)
+    equal("a strange title", [next(root.all(name)).text() for name in ("title", "h1")], [STRANGE, STRANGE])
+    equal("what is shown of it", repr(shop.report([2, 1, 3], title=STRANGE)), f"Report({STRANGE})")
+    wanted = [
+        f"{STRANGE}. Machine 1 of 3: 1 job; 2 jobs skip it.",
+        f"{STRANGE}. Machine 2 of 3: 2 jobs; 1 job skips it.",
+    ]
+    equal("the lines of its sheets", [line for _, line, _ in sheets_of(root)][:2], wanted)
+    root = read(Shop.from_jobs(ROWS, job_names=["Bed", "Door", "Bed"]).report([2, 1, 3]))
+    equal("two jobs of one name", [item.text() for item in root.all("li")], ["Door", "Bed (job 1)", "Bed (job 3)"])
+    equal("their sheet", [row[1] for row in sheets_of(root)[2][2]], ["Bed (job 1)", "Bed (job 3)"])
+    # Label lines with the names of another shop.
+    for job_names, machine_names in [(["Bed"], None), (None, ["Cut", "Weld"]), ("abcd", "Cut")]:
+        root = read(shop_of(ROWS, 1, "point", job_names, machine_names).report([2, 1, 3]))
+        equal("names of another shop", [item.text() for item in root.all("li")], ["Job 2", "Job 1", "Job 3"])
+        equal("its machines", [name for name, _, _ in sheets_of(root)], ["Machine 1", "Machine 2", "Machine 3"])
+    equal("a title of its own", next(root.all("h1")).text(), "Schedule of 3 jobs on 3 machines")
+
+
+def draw_pictures():
+    """The picture has the names and times of the report, and stands in it where it has not too many bars."""
+    root = read(shop_of([[616]], 1, "point", ["Bed"], ["Saw"]).report([1], start="22:30", unit="1min"))
+    (drawing,) = root.all("svg")
+    texts = [element.text() for element in drawing.all("text")]
+    marks = ["22:30", "day 2, 00:10", "01:50", "03:30", "05:10", "06:50", "08:30"]
+    equal("the marks of its axis", [text for text in texts if re.search(r"\d\d:\d\d$", text)], marks)
+    titles = [element.text() for element in drawing.all("title")]
+    equal("its titles", ("10:16" in titles[0], titles[1:]), (True, ["Bed, Saw, start 22:30, end day 2, 08:46"]))
+    root = read(shop_of([[2420]], 4, "comma").report([1]))
+    texts = [element.text() for element in next(root.all("svg")).all("text")]
+    equal("marks in parts", [text for text in texts if text.isdigit()][:5], ["0", "125", "250", "375", "500"])
+    root = read(shop_of([[616]], 4).report([1], start="22:30", unit="1min"))
+    texts = [element.text() for element in next(root.all("svg")).all("text")]
+    marks = ["22:30", "22:55", "23:20", "23:45", "day 2, 00:10", "00:35", "01:00"]
+    equal("marks without seconds", [text for text in texts if re.search(r"\d\d:\d\d$", text)], marks)
+    # A picture whose title has a bound.
+    clock = _clock.times_of(_labels.Unit(), "07:30", "1min")
+    drawing = "<title>optimal {}, jobs 2</title><text>makespan {}, lower bound {}, jobs 3</text>".format
+    mark = '<line x="1"/><text x="2">{}</text>'.format
+    got = _page._with_times(drawing(61, 61, 5) + mark(61), clock)
+    equal("a title with a bound", got, drawing("1:01", "1:01", "0:05") + mark("08:31"))
+    for jobs, bars in [(200, 4000), (201, 0)]:
+        shop = Shop.generate(jobs, 20, 1)
+        equal(f"the bars of {jobs} x 20", shop.report(shop.neh()).count("<rect "), bars)
+
+
+def compare_drawn_shops():
+    """Drawn shops with zeros, of one job and of one machine too, in each unit, beside plain code."""
+    draw = random.Random(7)
+    sizes = [(1, 1), (1, 4), (6, 1), (13, 3), (30, 2), (4, 5), (8, 6), (5, 2)]
+    for number in range(40):
+        jobs, machines = sizes[number % 8]
+        most, sign = draw.choice([0, 2, 99, 999]), draw.choice(["point", "comma"])
+        scale, minutes = draw.choice([(1, 1), (2, 1), (4, 1), (10, 1), (2, 15), (4, 60), (25, 15)])
+        rows = [[draw.choice([0, draw.randint(0, most)]) for _ in range(machines)] for _ in range(jobs)]
+        names = [f"Tür <{job}>" for job in range(jobs)], [f"Säge {machine}" for machine in range(machines)]
+        shop = shop_of(rows, scale, sign, *names)
+        if draw.random() < 0.5:
+            shop = shop_of(rows, scale, sign)
+            names = [f"Job {job + 1}" for job in range(jobs)], [f"Machine {machine + 1}" for machine in range(machines)]
+        sequence = draw.sample(range(1, jobs + 1), jobs)
+        shown = in_unit(scale, "," if sign == "comma" else ".")
+        compare(f"drawn shop {number}", shop.report(sequence), rows, sequence, shown, names)
+        shown = by_clock("21:45", 60 * minutes / scale, minutes % scale != 0)
+        report = shop.report(shop.schedule(sequence), start="21:45", unit=f"{minutes}min")
+        compare(f"drawn shop {number} by the clock", report, rows, sequence, shown, names)
+
+
+def write_the_greatest():
+    """The report of the greatest shop takes no more than some seconds and megabytes. It has no picture."""
+    rows = [[(31 * job * job + 47 * machine + 13 * job * machine) % 100 for machine in range(26)] for job in range(800)]
+    shop, begun = Shop.from_jobs(rows), time.monotonic()
+    report = shop.report(range(800, 0, -1))
+    took = time.monotonic() - begun
+    equal("how long it takes", took < 10, True)
+    equal("how long it is", 500_000 < len(report.encode()) < 3_000_000, True)
+    names = [f"Job {job}" for job in range(1, 801)], [f"Machine {machine}" for machine in range(1, 27)]
+    root = read(report)
+    equal("its pictures", list(root.all("svg")), [])
+    wanted = "The picture is left out: it has too many bars for a page."
+    equal("what is said of them", line_of(root, "The picture"), wanted)
+    spans = plain_spans(rows, range(800, 0, -1))
+    last = [[str(place), names[0][800 - place], *map(str, each[25])] for place, each in enumerate(spans, 1)]
+    equal("its last sheet", sheets_of(root)[25][2], [row for row in last if row[2] != row[3]])
+
+
+def keep_reports():
+    """What is done with a report."""
+    report = SHOP.report([2, 1, 3], title="Öl")
+    equal("its kind", (isinstance(report, Report), isinstance(report, str)), (True, True))
+    frame = Reader(report._repr_html_())
+    shown = [(each.attributes["title"], each.attributes["srcdoc"]) for each in frame.root.all("iframe")]
+    equal("one for a notebook", (frame.faults, shown), ([], [("Öl", report)]))
+    with tempfile.TemporaryDirectory() as folder:
+        path = os.path.join(folder, "report.html")
+        report.save(path)
+        equal("one that is saved", pathlib.Path(path).read_text(encoding="utf-8"), report)
+        equal("one that is not", refused(lambda: report.save(folder)), IsADirectoryError)
+
+
+def run(*words):
+    """Runs the command, and gives its status, and what it wrote."""
+    done = subprocess.run([sys.executable, "-m", "flowshop", "report", *words], capture_output=True, check=False)
+    return done.returncode, done.stdout.decode(), done.stderr.decode()
+
+
+# What files the command is called with, beside shop.txt, one.txt with a shop of one job, and two.txt with both.
+FILES = {
+    "least": LEAST,
+    "bounds": BOUNDS,
+    "best": "sequence 3 1 2\nmakespan 12\n",
+    "spaced": "\r\n sequence 03\t1 2 \r\n\n",
+    "worse": "\nsequence 3 1 2\nmakespan 11\n",
+    "many": "sequence 1 2 3\n\nmakespan 15\nsequence 1\n",
+    "wrong": "sequence 1 x 3\n",
+    "short": "sequence 1 2\nmakespan 2\n",
+    "other": "sequence 1 2 3\n12\n",
+    "table.csv": "Job;Cut\nA;1\n",
+}
+
+
+def write_by_the_command():
+    """What the command `report` writes: what the call gives, of the file that is named, and of no other block."""
+    one, clock = Shop.from_jobs([[5]]), {"start": "07:30", "unit": "15min"}
+    least, title = SHOP.check(LEAST), {"title": "Schedule of shop.txt"}
+    for words, report in [
+        (["shop.txt", "1", "least"], SHOP.report(least, **title)),
+        (["shop.txt", "bounds"], SHOP.report(SHOP.check(BOUNDS), **title)),
+        (["shop.txt", "1", "best"], SHOP.report([3, 1, 2], **title)),
+        (["shop.txt", "spaced", "--title", STRANGE], SHOP.report([3, 1, 2], title=STRANGE)),
+        (["shop.txt"], SHOP.report(SHOP.certify(width=1, work=1), **title)),
+        (["two.txt", "1", "least"], SHOP.report(least, title="Schedule of two.txt")),
+        (["two.txt", "2"], one.report(one.certify(work=1), title="Schedule of two.txt, block 2")),
+        (["shop.txt", "1", "least", "--start", "07:30", "--unit", "15min"], SHOP.report(least, **clock, **title)),
+    ]:
+        equal(f"report {words}", run(*words), (0, report, ""))
+    equal("report to a file", run("shop.txt", "1", "least", "--title", "Öl", "--out", "report.html"), (0, "", ""))
+    written = pathlib.Path("report.html").read_text(encoding="utf-8")
+    equal("the file", written, SHOP.report(least, title="Öl"))
+
+
+def refuse_by_the_command():
+    """Each way in which the command is refused, with its status and its line on standard error."""
+    blocks = "two.txt has 2 blocks: write the number of one behind it"
+    head = "line 2 of table.csv is 'A;1': the head of a block is five numbers: jobs, machines, seed, upper bound and"
+    for words, status, said in [
+        ("nothing", 3, "[Errno 2] No such file or directory: 'nothing'"),
+        ("shop.txt 1 nothing", 3, "[Errno 2] No such file or directory: 'nothing'"),
+        ("shop.txt 1 least --out nothing/a.html", 3, "[Errno 2] No such file or directory: 'nothing/a.html'"),
+        ("table.csv", 1, f"{head} lower bound; examples/from_csv.awk turns a table into such a file"),
+        ("two.txt", 2, blocks),
+        ("two.txt least", 2, blocks),
+        ("two.txt 3", 2, "INDEX is '3', and two.txt has the blocks 1 to 2"),
+        ("shop.txt 0", 2, "INDEX is '0', and shop.txt has the blocks 1 to 1"),
+        ("shop.txt least 1", 2, "INDEX is 'least', and shop.txt has the blocks 1 to 1"),
+        ("two.txt 2 least", 1, "least: line 2 is '3 3', which is not of a shop with jobs 1 and machines 1"),
+        ("shop.txt 1 worse", 1, "worse: line 3 says that the makespan is 11, and that of these jobs is 12"),
+        ("shop.txt 1 many", 1, "many: line 4 is 'sequence 1', and has to be blank"),
+        ("shop.txt 1 wrong", 1,
+         "wrong: line 1 is 'sequence 1 x 3', and has to be the word sequence and the numbers of the jobs"),
+        ("shop.txt 1 other", 1, "other: line 2 is '12', and has to be the word makespan and a number"),
+        ("shop.txt 1 short", 1, "short: the sequence has 2 jobs, and the shop has 3; each job stands in it once"),
+        ("shop.txt 1 table.csv", 1,
+         "table.csv: line 1 is 'Job;Cut', and names no certificate, such as 'flowshop two-ended 1'"),
+        ("shop.txt 1 least --start 7", 2, "start needs unit: how long one unit of the table is, as 15min"),
+    ]:
+        equal(f"report {words}", run(*words.split()), (status, "", f"flowshop: {said}\n"))
+    equal("report alone", run()[:2], (2, ""))
+
+
+def call_the_command():
+    """The command `report`, in a folder with some files."""
+    with tempfile.TemporaryDirectory() as folder:
+        os.chdir(folder)
+        for name, text in FILES.items():
+            pathlib.Path(name).write_text(text, encoding="utf-8")
+        SHOP.write("shop.txt")
+        Shop.from_jobs([[5]]).write("one.txt")
+        pathlib.Path("two.txt").write_text("".join(pathlib.Path(name).read_text() for name in ("shop.txt", "one.txt")))
+        write_by_the_command()
+        refuse_by_the_command()
+        os.chdir(TOP)
+
+
+class Planned:
+    """A table of a planner: whole times, by what they are divided in the table, how a time and a line are written
+    there, and the names."""
+
+    def __init__(self, rows, scale, form, sign, job_names, machine_names):
+        self.rows, self.scale, self.sign = rows, scale, sign
+        self.job_names, self.machine_names = job_names, machine_names
+        self.form = form
+        self.separator = ";" if sign == "," else ","
+
+    def line(self, name, times):
+        """A line of the table."""
+        fields = [self.form.format(decimal.Decimal(number) / self.scale).replace(".", self.sign) for number in times]
+        return self.separator.join([f'"{name}"' if self.separator in name else name, *fields])
+
+    def text(self, corner, *more):
+        """The table, with more lines behind it."""
+        heads = self.separator.join([corner, *self.machine_names])
+        return "\n".join([heads, *map(self.line, self.job_names, self.rows), *more, ""])
+
+
+def three_commands(what, planned, table, words=(), clock=False):
+    """Writes a table, and calls from_csv.awk with these words, certify and report. What has to stand in the report is
+    computed from the whole times."""
+    pathlib.Path("table.csv").write_text(table, encoding="utf-8")
+    convert = ["awk", "-f", os.path.join(TOP, "examples", "from_csv.awk"), *words, "table.csv"]
+    certify = [PROGRAM, "certify", "shop.txt", "1", "--work", "10", "--directions", "10000"]
+    for command, file in ((convert, "shop.txt"), (certify, "certificate")):
+        with open(file, "wb") as out:
+            subprocess.run(command, stdout=out, stderr=subprocess.PIPE, check=True)
+    options = ["--start", "06:00", "--unit", "1min"] if clock else []
+    equal(f"{what}: report", run("shop.txt", "1", "certificate", "--out", "report.html", *options), (0, "", ""))
+    report = pathlib.Path("report.html").read_text(encoding="utf-8")
+    lines = pathlib.Path("certificate").read_text(encoding="ascii").split("\n")
+    (lower, upper), sequence = map(int, lines[2].split()), [int(job) for job in lines[3].split()]
+    scale, rows = planned.scale, planned.rows
+    shown = by_clock("06:00", 60 / scale, scale > 1) if clock else in_unit(scale, planned.sign)
+    root = compare(what, report, rows, sequence, shown, (planned.job_names, planned.machine_names))
+    at, how = shown[0], "finish at" if clock else "take"
+    proved = f"No order can finish before {at(lower)}; this one finishes at {at(upper)}."
+    if lower == upper:
+        proved = f"No order finishes earlier than {at(upper)}: this one is optimal."
+    listed = plain_spans(rows, range(1, len(rows) + 1))[-1][-1][1]
+    equal(f"{what}: what is proved", line_of(root, "No order"), proved)
+    beside = next(each.text() for each in root.all("p") if "the table it would" in each.text())
+    wanted = f"In the order of the table it would {how} {at(listed)}."
+    equal(f"{what}: the order of the table", beside[-len(wanted) :], wanted)
+
+
+def plan_tables():
+    """Three tables become reports: 8 x 4 with names; 60 x 6 with decimals; and 120 x 12 with semicolons, decimal commas
+    and a line of totals, about which from_csv.awk asks, in a sentence that says what to do."""
+    if not os.path.exists(PROGRAM) or not shutil.which("awk"):
+        print("no program or no awk: tables that become reports were passed over")
+        return
+    draw = random.Random(11)
+    orders = ["Bed", "Door", "Shelf, large", "Table", "Desk", "Bench", "Chair & stool", "Rack"]
+    rows = [[draw.choice([0, draw.randint(1, 90)]) for _ in range(4)] for _ in range(8)]
+    eight = Planned(rows, 1, "{:.0f}", ".", orders, ["Saw", "Mill", "Drill", "Paint"])
+    rows = [[draw.randint(0, 399) for _ in range(6)] for _ in range(60)]
+    jobs, machines = [f"Job {job}" for job in range(1, 61)], [f"M{machine}" for machine in range(1, 7)]
+    sixty = Planned(rows, 4, "{:.2f}", ".", jobs, machines)
+    rows = [[draw.randint(0, 999) for _ in range(12)] for _ in range(120)]
+    jobs, machines = [f"Schränkchen {job}" for job in range(1, 121)], [f"Säge {machine}" for machine in range(1, 13)]
+    many = Planned(rows, 10, "{:.1f}", ",", jobs, machines)
+    table = many.text("Auftrag", many.line("Summe", [sum(column) for column in zip(*rows)]))
+    with tempfile.TemporaryDirectory() as folder:
+        os.chdir(folder)
+        three_commands("8 x 4", eight, eight.text("Order"), clock=True)
+        three_commands("60 x 6", sixty, sixty.text("Job"))
+        pathlib.Path("table.csv").write_text(table, encoding="utf-8")
+        convert = ["awk", "-f", os.path.join(TOP, "examples", "from_csv.awk"), "table.csv"]
+        done = subprocess.run(convert, capture_output=True, check=False)
+        doubt = "table.csv: line 122 (Summe) looks like totals: write totals=drop or totals=keep before the name of"
+        equal("what is asked about totals", (done.returncode, done.stderr.decode()), (1, f"{doubt} the table\n"))
+        three_commands("120 x 12", many, table, ["totals=drop"])
+        three_commands("120 x 12 by the clock", many, table, ["totals=drop"], clock=True)
+        os.chdir(TOP)
+
+
+def main():
+    """Runs all, and ends."""
+    say_what_is_proved()
+    show_times()
+    show_names()
+    draw_pictures()
+    compare_drawn_shops()
+    write_the_greatest()
+    keep_reports()
+    call_the_command()
+    plan_tables()
+    end("reports")
+
+
+if __name__ == "__main__":
+    main()
