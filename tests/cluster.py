@@ -4,6 +4,7 @@ RUN..`, the commands by an executor, where other words than python3 run them."""
 
 import concurrent.futures
 import hashlib
+import io
 import json
 import os
 import pathlib
@@ -61,15 +62,15 @@ def drawn_runs():
         shop = Shop.from_machines([[kinds[number % 4]() for _ in range(jobs)] for _ in range(machines)])
         choice = {"width": draw.choice([0, 5, 16, 37, 150]), "rounds": 20, "work": draw.choice([0, 1, 7, 30])}
         choice.update(seed=draw.randint(1, 99), directions=draw.choice([1, 1000, 29_999, 200_000]))
-        if number < 20 or number in (38, 83, 104, 115):
+        if number < 16 or number in (38, 83, 104, 115):
             yield shop, choice
-    for _ in range(20):
+    for _ in range(18):
         most = draw.choice([3000, 6000, 999_999])
         jobs, machines = draw.randint(12, 20), draw.randint(6, 20)
         shop = Shop.from_machines([[draw.randint(0, most) for _ in range(jobs)] for _ in range(machines)])
         choice = {"width": draw.choice([0, 16, 24]), "rounds": 5, "work": 1, "seed": draw.randint(1, 99)}
         yield shop, {**choice, "directions": draw.randint(3000, 40_000)}
-    for _ in range(4):
+    for _ in range(2):
         shop = Shop.from_machines([[draw.randint(0, 3000) for _ in range(14)] for _ in range(10)])
         yield shop, {"width": 0, "rounds": 5, "work": 1, "seed": 1, "directions": draw.randint(1_000_000, 2_500_000)}
 
@@ -132,8 +133,8 @@ class Traced:
 def follow_manual():
     """The searches of a run that comes to nothing, with their budgets, and its beams and rounds, with their steps, by
     docs/manual.md. Some numbers, for 20 jobs on 10 machines and 10,000,000 directions: all searches have 850 of 650
-    parts of these, 13,076,923, of which each takes 20 x 20 / 3 = 133 more than it writes; of 17,000,000 steps beams have
-    12,000,000."""
+    parts of these, 13,076,923, of which each takes 20 x 20 / 3 = 133 more than it writes; of 17,000,000 steps beams
+    have 12,000,000."""
     upper, lower = SOME.neh().value, SOME.bound()
     halves, missed = [], lower + 1
     while upper - missed > 1:
@@ -237,6 +238,27 @@ def keep_time(pool):
     for rounds, seed in [(0, 1), (0, 2), (20, 3), (20, 4)]:
         shop, choice = Shop.generate(40, 10, seed), {"width": 600, "rounds": rounds, "work": 100}
         equal(f"improve {shop!r} with time", shop.improve(**choice, time_limit=1000), shop.improve(**choice))
+
+
+class Stream(io.StringIO):
+    """Standard error, as a terminal or not."""
+
+    def __init__(self, is_terminal):
+        super().__init__()
+        self.isatty = lambda: is_terminal
+
+
+def show_progress():
+    """Lines on standard error: one that a terminal writes anew, else at most two in a second; and always a last one."""
+    for is_terminal in (True, False):
+        stream = Stream(is_terminal)
+        with mock.patch.object(sys, "stderr", stream):
+            found = HARD.certify(**LONG, time_limit=1.3, progress=True)
+        *lines, last = stream.getvalue().rstrip("\n").split("\r" if is_terminal else "\n")
+        equal("what is said last", f": bounds {found.lower} to {found.upper}, " in last, True)
+        equal("how many lines there are", 2 <= len(lines) <= (8 if is_terminal else 4), True)
+        equal("that they are ended", stream.getvalue().count("\n"), 1 if is_terminal else len(lines) + 1)
+        equal("what is left of the last line", stream.getvalue().count("\x1b[K"), len(lines) if is_terminal else 0)
 
 
 def interrupt(seconds, call):
@@ -526,6 +548,7 @@ def use_local():
         follow_manual()
         compare_texts(pool)
         keep_time(pool)
+        show_progress()
         interrupt_runs(pool)
         lose_results(pool)
     lose_worker()

@@ -500,11 +500,12 @@ class Shop:
         have, the longer the searches take where they do not find the least makespan. The other numbers are those of
         `improve`. With the numbers left out a call may take a minute and a half.
 
-        Searches for directions are shared by so many `workers`, which are threads; or by those of a `map`, such as that
-        of a pool of processes. The certificate is the same for any number of workers and any map. After `time_limit`
-        seconds it is one of the best bounds so far. An interrupt ends the call within a second, as Interrupted, which
-        has it. `progress` is called with a Progress, a few times a second; where it is True, a line on standard error
-        tells the same. Errors are those of `improve`, and those of the map.
+        Searches for directions are shared by so many `workers`, 1 to 10,000, which are threads; or by those of a `map`,
+        such as that of a pool of processes, where `workers` says how many there are, if it is known. The certificate is
+        the same for any number of workers and any map. After `time_limit` seconds it is one of the best bounds so far.
+        An interrupt ends the call within a second, as Interrupted, which has it. `progress` is called with a Progress,
+        a few times a second; where it is True, a line on standard error tells the same. Errors are those of `improve`,
+        and those of the map.
 
         >>> certificate = shop.certify(workers=4, time_limit=60)
         >>> certificate.lower, certificate.upper

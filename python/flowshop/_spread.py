@@ -30,8 +30,8 @@ _TO_BITS, _TO_SIGNS = bytes.maketrans(b"+-", b"\0\1"), bytes.maketrans(b"01", b"
 
 
 class Workers(NamedTuple):
-    """Who searches parts: those of a map, or so many threads; how many beams and rounds may be made at once; and whether
-    these are given to them too."""
+    """Who searches parts: those of a map, or so many threads; how many beams and rounds may be made at once; and
+    whether these are given to them too."""
 
     map: Optional[Map]
     size: int
@@ -371,8 +371,9 @@ class Spread:
                 self._known.add(answer.worker)
                 shared.put(one, answer)
         finally:
-            for answers in {id(answers): answers for _, answers in flight}.values():
-                getattr(answers, "close", int)()
+            for _, answers in flight:
+                if hasattr(answers, "close"):  # it drops the calls that are not yet begun
+                    answers.close()
 
     def reached(self, name: str, *words: Any) -> Reached:
         """What the beam or the rounds of these words come to."""
