@@ -24,8 +24,9 @@
  *
  * What is proved: each call, for all arguments that are passed as said above, reads and writes only what it is lent,
  * returns, and gives what its comment says: the status, the value, the sequence, the certificate. The contracts stand
- * in crates/flow_c/src, and the numbers of the statuses in crates/flow_c/specs/Statuses.antt. Not proved are this
- * header, the compiler, the C library, and how much time or memory a call takes. */
+ * in crates/flow_c/src, and the numbers of the statuses in crates/flow_c/specs/Statuses.antt. Not proved are how
+ * the searches of flowshop_improve, flowshop_beam and flowshop_rounds go, and so how good what they reach is, and what
+ * `whole` says of them; this header, the compiler, the C library, and how much time or memory a call takes. */
 #ifndef FLOWSHOP_H
 #define FLOWSHOP_H
 
@@ -227,9 +228,9 @@ typedef struct flowshop_node {
 
 /* What a search for directions came to. */
 enum flowshop_found {
-    FLOWSHOP_PROVED = 0, /* the directions prove the number */
-    FLOWSHOP_BELOW = 1, /* a sequence is below the number */
-    FLOWSHOP_OVER = 2 /* there are more directions than there is room for */
+    FLOWSHOP_PROVED = 1, /* the directions prove the number */
+    FLOWSHOP_BELOW = 2, /* a sequence is below the number */
+    FLOWSHOP_OVER = 3 /* there are more directions than there is room for */
 };
 
 /* Room for what a search for directions comes to, and what is said of it. */
@@ -335,7 +336,7 @@ FLOWSHOP_CALL flowshop_outcome flowshop_timetable(const flowshop_shop *shop, con
  * each machine, and a bar for each job and machine where the time is not 0. The outlined bars are those of a heaviest
  * staircase path, whose times sum to the makespan; of several such paths it is open which. `lower` is a number below
  * which no sequence has a makespan, as a text proves it, or 0 for none; nothing tests it. The title says that the
- * makespan is optimal where it is that number, and names a lower number beside it. All bytes are ASCII. Where the text
+ * makespan is optimal where it is that number, and names the number where the makespan is above it. All bytes are ASCII. Where the text
  * has no room, `place` has its length.
  * Faults in order: JOBS, MACHINES, COUNT, TIME; LENGTH, JOB, TWICE; ROOM. */
 FLOWSHOP_CALL flowshop_outcome flowshop_picture(const flowshop_shop *shop, const uint16_t *sequence,
@@ -391,11 +392,11 @@ FLOWSHOP_CALL flowshop_outcome flowshop_certify(const flowshop_shop *shop, const
  *                    the first `jobs` entries of `sequence`; its makespan; and the directions before it.
  *   FLOWSHOP_OVER    there are more directions than there is room for, in all or before such a sequence: the first
  *                    ones, as many as there is room for, and the parts with which the search goes on, in order.
- * Each part that is left is in `rest` these numbers: how many jobs its first list has, how many its last list, how many
+ * `rest` has of each part that is left these numbers: how many jobs its first list has, how many its last list, how many
  * jobs follow, and an end; then the first list, the last list and the jobs. Where the end is 0 the part is the node of
- * the two lists, and no jobs follow. Else it is some children of that node, one after the other: those that put these
- * jobs at the front (1), behind the first list, or at the back (2), before the last list. No part needs more than
- * jobs + 4 entries, and (jobs + 4) * (jobs + 1) entries have been enough for all parts; nothing proves this.
+ * the two lists, and no jobs follow. Else it is some children of that node, one after the other, or none: those that put
+ * these jobs at the front (1), behind the first list, or at the back (2), before the last list. No part needs more than
+ * jobs + 4 entries. (jobs + 4) * (jobs + 1) entries have been enough for all parts; that they always are, nothing proves.
  * The directions of a search are those of its parts, joined in order, up to the first part that has a sequence below
  * the number; and what one of them comes to does not depend on the others. So parts can be searched at once, and
  * elsewhere. What a call does not write stays as it was. `rest` is tested when the search has ended.
@@ -407,7 +408,7 @@ FLOWSHOP_CALL flowshop_outcome flowshop_prove(const flowshop_shop *shop, const f
 /* The best sequence of a two-ended beam search, its makespan, which is at most that of the sequence `start`, and how
  * the search ended. It makes passes of the widths 1, 2, 4 and so on, up to the width, and none that might take more
  * than so many steps in all. Where it is aimed at a number, it keeps only children whose bound is below it, and ends as
- * soon as it comes to a sequence below it; so it may end with the start. The rest of the room stays as it was.
+ * soon as it comes to a sequence below it; so it may end with the start.
  * Faults in order: JOBS, MACHINES, COUNT, TIME; LENGTH, JOB, TWICE (of start); WIDTH; ROOM. */
 FLOWSHOP_CALL flowshop_outcome flowshop_beam(const flowshop_shop *shop, const uint16_t *start, size_t start_count,
                                              const flowshop_beam_options *options, flowshop_reached *reached)
@@ -415,7 +416,7 @@ FLOWSHOP_CALL flowshop_outcome flowshop_beam(const flowshop_shop *shop, const ui
 
 /* The best sequence of rounds of iterated greedy search, its makespan, which is at most that of the sequence `start`,
  * and how they ended. They end with the most rounds, with the round that reaches the steps, or where the makespan has
- * Taillard's bound. The rest of the room stays as it was.
+ * Taillard's bound.
  * Faults in order: JOBS, MACHINES, COUNT, TIME; LENGTH, JOB, TWICE (of start); ROUNDS, SEED; ROOM. */
 FLOWSHOP_CALL flowshop_outcome flowshop_rounds(const flowshop_shop *shop, const uint16_t *start, size_t start_count,
                                                const flowshop_rounds_options *options, flowshop_reached *reached)

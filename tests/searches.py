@@ -136,10 +136,10 @@ def prove(shop, number, first=(), last=(), budget=MANY, room=None, rest_room=Non
         return refused
     text = bytes(directions.taken(part.directions_length)).decode("ascii")
     left = rest.taken(part.rest_length)
-    jobs = sequence.taken(jobs if part.found == 1 else 0)
-    equal("no makespan where there is no sequence", part.found == 1 or part.makespan == 0, True)
-    equal("no parts where the search has ended", part.found == 2 or left == [], True)
-    return [("PROVED", text), ("BELOW", text, jobs, part.makespan), ("OVER", text, parts_of(left))][part.found]
+    jobs = sequence.taken(jobs if part.found == 2 else 0)
+    equal("no makespan where there is no sequence", part.found == 2 or part.makespan == 0, True)
+    equal("no parts where the search has ended", part.found == 3 or left == [], True)
+    return [("PROVED", text), ("BELOW", text, jobs, part.makespan), ("OVER", text, parts_of(left))][part.found - 1]
 
 
 def parts_of(numbers):

@@ -8,7 +8,7 @@ from ._library import BeamOptions, NodeLists, PartRooms, ReachedRoom, RoundsOpti
 from ._library import call, out, u8, u16
 
 # What a search comes to, as the library numbers it.
-PROVED, BELOW, OVER = 0, 1, 2
+PROVED, BELOW, OVER = 1, 2, 3
 # The ends at which the children of a node put a job; 0 is the node itself.
 FRONT, BACK = 1, 2
 _HEAD = struct.Struct("=4H")

@@ -22,15 +22,15 @@ use Rattle.flow_c.specs.declared.fault.Fault.TheVariants.{Room, Instance, Sequen
 
 -- the directions prove the number
 abbrev pub proved : ℕ
-proved = 0
+proved = 1
 
 -- a sequence is below the number
 abbrev pub below : ℕ
-below = 1
+below = 2
 
 -- there are more directions than there is room for
 abbrev pub over : ℕ
-over = 2
+over = 3
 
 -- the number of an end
 abbrev pub number_of : End → ℕ

@@ -23,13 +23,13 @@ use flow_shop::Instance;
 use std::alloc::{AllocError, Global};
 
 /// The directions prove the number.
-const PROVED: u32 = 0;
+const PROVED: u32 = 1;
 
 /// A sequence is below the number.
-const BELOW: u32 = 1;
+const BELOW: u32 = 2;
 
 /// There are more directions than there is room for.
-const OVER: u32 = 2;
+const OVER: u32 = 3;
 
 /// Room for what a search comes to, and what is said of it.
 #[repr(C)]
@@ -156,9 +156,9 @@ fn search_numbers(
 }
 
 /// A part of a search for directions that prove that no sequence of a node has a makespan below a number: it may write
-/// as many as there is room for. The directions become the first entries of `directions`, and the numbers of the parts
-/// with which a search goes on that is over the first entries of `rest`. A sequence below the number becomes the first
-/// entries of `sequence`.
+/// as many as there is room for. The directions become the first entries of `directions`. Where there are more of them,
+/// the parts with which the search goes on become, as numbers, the first entries of `rest`. A sequence below the number
+/// becomes the first entries of `sequence`.
 #[unsafe(no_mangle)]
 pub extern "C" fn flowshop_prove(
     alloc: Global,

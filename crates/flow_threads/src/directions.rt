@@ -80,8 +80,8 @@ impl Watch for Told {
     }
 }
 
-/// Whether so many workers find these directions with a budget of as many, and tell a watch of all of them; and below
-/// the next number what one thread finds. With a budget of one less, or next to nothing, they find none.
+/// Whether so many workers find these directions with a budget of as many, and below the next number what one thread
+/// finds, and tell a watch of all directions. With a budget of one less, or next to nothing, they find none.
 fn is_published<R: Threads + Sync>(rt: &R, alloc: Global, row: &Published, workers: usize) -> bool {
     let (jobs, machines, seed, number, length, digest) = *row;
     let Ok(instance) = generate(alloc, jobs, machines, seed) else {
@@ -113,6 +113,11 @@ fn is_published<R: Threads + Sync>(rt: &R, alloc: Global, row: &Published, worke
     let Ok(alone) = prove(alloc, &instance, &[], &[], next, length) else {
         return false;
     };
+    if let Found::Below { directions, .. } = &alone {
+        if told.last.get() != *directions {
+            return false;
+        }
+    }
     begins && text.len() as u64 == length && below == Ok(alone)
 }
 

@@ -26,8 +26,8 @@ impl<'a, W: Watch> Watch for IfAsked<'a, W> {
 /// The least time between two lines, in milliseconds; only the last line may come sooner.
 const PAUSE: u64 = 1_000;
 
-/// Writes lines that say how far a run is: when it began, which step it is at, which bounds it knows, and how many
-/// directions it wrote. Where standard error refuses a line, the run goes on without it.
+/// Writes lines that say how far a run is: how long ago it began, which step it is at, which bounds it knows, and how
+/// many directions it wrote. Where standard error refuses a line, the run goes on without it.
 #[derive(Drop)]
 pub(crate) struct Progress<'a, R> {
     rt: &'a R,

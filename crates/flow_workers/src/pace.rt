@@ -9,14 +9,15 @@ const MOST: u64 = 250_000;
 /// The least directions of a piece, so that dealing it costs little beside its search.
 const LEAST_OF_PIECE: u64 = 200;
 
-/// How many pieces each worker searches in a round as far as they may be searched, where the jobs are few.
+/// How many nodes each worker searches in a round that have as many directions as a node is given, or more. What is left
+/// of each of them has up to a part for each job.
 const CUTS: u64 = 8;
 
-/// With more jobs than this over `CUTS` each worker searches fewer pieces: what is left of each has a part for each job.
+/// Such nodes times jobs are no more than this for each worker, so with many jobs there are fewer of them.
 const JOBS_CUT: u64 = 400;
 
-/// The most bytes of pieces that are left before a round, as they are reckoned here. With more of them one node is
-/// searched in a round, from its end on: so they are not joined by others.
+/// The most bytes of pieces before a round, as they are reckoned here. With more of them one node is searched in a
+/// round, so that few pieces are added.
 const MOST_BYTES: usize = 100_000_000;
 
 /// How much is searched in a round.

@@ -93,6 +93,7 @@ pub fn prove_by<R: Threads + Sync, W: Watch>(
                 },
             ) => {
                 let count = text.len() as u64 + directions.len() as u64;
+                workers.watch.tell(News::Directions(count));
                 return Ok(reached(instance, sequence, count, budget));
             }
             Some(piece) => pieces.push_front(piece)?,
