@@ -336,8 +336,8 @@ FLOWSHOP_CALL flowshop_outcome flowshop_timetable(const flowshop_shop *shop, con
  * each machine, and a bar for each job and machine where the time is not 0. The outlined bars are those of a heaviest
  * staircase path, whose times sum to the makespan; of several such paths it is open which. `lower` is a number below
  * which no sequence has a makespan, as a text proves it, or 0 for none; nothing tests it. The title says that the
- * makespan is optimal where it is that number, and names the number where the makespan is above it. All bytes are ASCII. Where the text
- * has no room, `place` has its length.
+ * makespan is optimal where it is that number, and names the number where the makespan is above it. All bytes are
+ * ASCII. Where the text has no room, `place` has its length.
  * Faults in order: JOBS, MACHINES, COUNT, TIME; LENGTH, JOB, TWICE; ROOM. */
 FLOWSHOP_CALL flowshop_outcome flowshop_picture(const flowshop_shop *shop, const uint16_t *sequence,
                                                 size_t sequence_count, uint64_t lower, flowshop_text *text)
@@ -392,11 +392,12 @@ FLOWSHOP_CALL flowshop_outcome flowshop_certify(const flowshop_shop *shop, const
  *                    the first `jobs` entries of `sequence`; its makespan; and the directions before it.
  *   FLOWSHOP_OVER    there are more directions than there is room for, in all or before such a sequence: the first
  *                    ones, as many as there is room for, and the parts with which the search goes on, in order.
- * `rest` has of each part that is left these numbers: how many jobs its first list has, how many its last list, how many
- * jobs follow, and an end; then the first list, the last list and the jobs. Where the end is 0 the part is the node of
- * the two lists, and no jobs follow. Else it is some children of that node, one after the other, or none: those that put
- * these jobs at the front (1), behind the first list, or at the back (2), before the last list. No part needs more than
- * jobs + 4 entries. (jobs + 4) * (jobs + 1) entries have been enough for all parts; that they always are, nothing proves.
+ * `rest` has of each part that is left these numbers: how many jobs its first list has, how many its last list, how
+ * many jobs follow, and an end; then the first list, the last list and the jobs. Where the end is 0 the part is the
+ * node of the two lists, and no jobs follow. Else it is some children of that node, one after the other, or none: those
+ * that put these jobs at the front (1), behind the first list, or at the back (2), before the last list. No part needs
+ * more than jobs + 4 entries. (jobs + 4) * (jobs + 1) entries have been enough for all parts; that they always are,
+ * nothing proves.
  * The directions of a search are those of its parts, joined in order, up to the first part that has a sequence below
  * the number; and what one of them comes to does not depend on the others. So parts can be searched at once, and
  * elsewhere. What a call does not write stays as it was. `rest` is tested when the search has ended.
