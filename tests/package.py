@@ -213,8 +213,8 @@ def use_names():
         text = Shop.from_jobs([[1]], machine_names=[name]).gantt([1])
         equal("a name of a row", (f'text-anchor="end">{shown}<' in text, f'viewBox="{left} 0 ' in text), (True, True))
     equal("in its bars", ["D" in labels, "Shelf" in labels, "3" in labels], [True, True, False])
-    # The bars of job 3 are 14,770 and 7,385 wide, and a character 670.
-    for length, bars in ((11, 2), (12, 1), (22, 1), (23, 0)):
+    # The bars of job 3 are 14,690 and 7,305 wide, and a character 670.
+    for length, bars in ((10, 2), (11, 1), (21, 1), (22, 0)):
         name = "T" * length
         drawing = Shop.from_jobs(ROWS, job_names=["Shelf", "Door", name]).gantt([2, 1, 3])
         equal(f"bars with a name of {length} characters", drawing.count(f">{name}</text>"), bars)
