@@ -498,7 +498,8 @@ static void *many(void *from) {
         wrong += flowshop_picture(&shop, start, 4, 0, &text).status;
         wrong += flowshop_improve(&shop, start, 4, &own, &better).status;
         wrong += better.makespan < least.upper || better.makespan > first.makespan;
-        wrong += flowshop_prove(&shop, &root, least.upper, &part).status + part.found;
+        wrong += flowshop_prove(&shop, &root, least.upper, &part).status;
+        wrong += part.found != FLOWSHOP_PROVED;
         wrong += flowshop_certify(&shop, start, 4, &little, 1000, &proved, &text).status;
         wrong += proved.lower != least.upper || proved.upper != least.upper;
         wrong += flowshop_check(&shop, bytes, text.length, &least).status;
