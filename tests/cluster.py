@@ -116,7 +116,7 @@ class Traced:
     def prove(self, number, budget):
         """A search that is over its budget."""
         self.asked.append((number, budget))
-        return _spread.Found(2, budget)
+        return _spread.Found(_parts.OVER, budget)
 
     def reached(self, name, start, *words):
         """A beam, or rounds."""
@@ -178,9 +178,11 @@ def compare_searches():
         for number in (least - 1, least, least + 1):
             text, reached = plain.search(number)
             for budget in sorted({1, 2, 7, max(1, len(text) - 1), len(text), len(text) + 1, 1000}):
-                wanted = (2, budget, b"", ()) if len(text) > budget else (0, len(text), text, ())
-                if reached and len(text) <= budget:
-                    wanted = 1, len(text), b"", reached
+                wanted = (_parts.PROVED, len(text), text, ())
+                if len(text) > budget:
+                    wanted = _parts.OVER, budget, b"", ()
+                elif reached:
+                    wanted = _parts.BELOW, len(text), b"", reached
                 workers = _spread.Workers(draw.choice([map, shuffled(budget)]), draw.randint(1, 5))
                 with small_tasks(draw.choice([1e-6, 1e-4])), _spread.Spread(shop._parts[:3], workers, int) as spread:
                     spread.pace.speed, spread.pace.nodes = draw.choice([1e4, 1e6]), draw.randint(1, 30)
@@ -189,7 +191,7 @@ def compare_searches():
                 equal(f"a search of {rows} below {number} with {budget}", got, wanted)
                 compare_parts(shop, number, budget, text, reached)
                 kinds.add(found.kind)
-    equal("that all comes out", kinds, {0, 1, 2})
+    equal("that all comes out", kinds, {_parts.PROVED, _parts.BELOW, _parts.OVER})
 
 
 def compare_parts(shop, number, budget, text, reached):
