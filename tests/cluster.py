@@ -15,6 +15,7 @@ import sys
 import tempfile
 import threading
 import time
+from importlib.util import find_spec
 from unittest import mock
 
 from counts import end, equal, refused
@@ -421,6 +422,13 @@ def use_command():
         equal("what is said of them", run.stderr.count("the block is searched again"), 2)
         equal("the texts again", [(out / name).read_bytes() for name in names[:2]], [f.text for f in wanted[:2]])
         equal("a check of two", command("check", BLOCKS, "--out", out, "--blocks", "1-2").returncode, 0)
+        # Bounds that differ are kept too, and a line says so.
+        hard = pathlib.Path(folder, "hard.txt")
+        Shop.generate(20, 20, 479340445).write(hard)
+        runs = [command("certify", hard, "--out", out, "--work", 1, "--directions", 1000) for _ in range(2)]
+        kept = "bounds that are there; remove it, and the block is searched anew"
+        equal("bounds that are kept", [run.stderr.count(kept) for run in runs], [0, 1])
+        equal("what is printed of them", runs[0].stdout.split()[-1], runs[1].stdout.split()[-1])
 
 
 def refuse_words():
@@ -435,6 +443,7 @@ def refuse_words():
             ([BLOCKS, "--time-limit", "-1"], 2, "time_limit is -1.0, and has to be a number of seconds"),
             ([pathlib.Path(folder, "nothing")], 3, "[Errno 2] No such file or directory"),
             ([TOP / "VERSION"], 1, "line 1 of "),
+            *([] if find_spec("mpi4py") else [([BLOCKS, "--executor", "mpi"], 2, "--executor needs a package")]),
         ]:
             run = command("certify", *words, cwd=folder)
             equal(f"the status of {words}", run.returncode, status)

@@ -293,7 +293,8 @@ def use_results():
     equal("a least makespan", (found.lower, found.upper, found.sequence, found.optimal), (12, 12, (3, 1, 2), True))
     for result, value in [(start, 13), (found, 12), (timetable, 12)]:
         equal("a result as a sequence", (SHOP.makespan(result), SHOP.schedule(result).makespan), (value, value))
-        equal("its picture", f"<title>makespan {value}, jobs 3, machines 3<" in SHOP.gantt(result), True)
+        proved = "optimal" if result is found else "makespan"
+        equal("its picture", f"<title>{proved} {value}, jobs 3, machines 3<" in SHOP.gantt(result), True)
         equal("a search from it", (SHOP.solve(result).upper, SHOP.certify(result, **FEW).upper), (12, 12))
         equal("an improvement of it", SHOP.improve(result).value, 12)
     equal("many results", SHOP.makespans([start, found, timetable, (1, 2, 3)]).tolist(), [13, 12, 12, 15])
@@ -357,7 +358,10 @@ def draw_timetables():
     equal("one for a notebook", (drawing._repr_svg_(), type(drawing._repr_svg_())), (drawing, str))
     shown = read(os.path.join(TOP, "docs", "schedule.svg")).decode()
     order = [int(job) for job in re.findall(r"job (\d+), machine 1,", shown)]
-    equal("the picture of docs/", Shop.read(PUBLISHED)[0].shop.gantt(order), shown)
+    published = Shop.read(PUBLISHED)[0].shop
+    equal("the picture of docs/", published.gantt(published.certify(order, **FEW)), shown)
+    foreign = Shop.from_jobs([[1, 1, 1]] * 3).certify()
+    equal("a picture of a certificate of another shop", refused(lambda: SHOP.gantt(foreign))[:2], ("NotLawful", "NOT_ATTAINED"))
 
 
 def use_files():

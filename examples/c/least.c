@@ -15,6 +15,8 @@ int main(void) {
     if (!outcome.status) outcome = flowshop_certify(&shop, start, 3, &effort, 1000, &bounds, &text);
     if (!outcome.status) outcome = flowshop_check(&shop, bytes, text.length, &bounds);
     if (outcome.status) return printf("%s at %zu\n", flowshop_status_name(outcome.status), outcome.place), 1;
-    printf("least makespan %llu: %d %d %d\n", (unsigned long long)bounds.lower, best[0], best[1], best[2]);
+    if (bounds.lower == bounds.upper) printf("least makespan");
+    else printf("at least %llu; found", (unsigned long long)bounds.lower);
+    printf(" %llu: %d %d %d\n", (unsigned long long)bounds.upper, best[0], best[1], best[2]);
     return 0;
 }

@@ -79,6 +79,11 @@ fn main() -> ExitCode {
         println!("refused {} at {}", outcome.status, outcome.place);
         return ExitCode::FAILURE;
     }
-    println!("least makespan {}: {} {} {}", bounds.lower, best[0], best[1], best[2]);
+    if bounds.lower == bounds.upper {
+        print!("least makespan");
+    } else {
+        print!("at least {}; found", bounds.lower);
+    }
+    println!(" {}: {} {} {}", bounds.upper, best[0], best[1], best[2]);
     ExitCode::SUCCESS
 }

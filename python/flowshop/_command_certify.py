@@ -9,7 +9,7 @@ import sys
 import time
 from concurrent.futures import BrokenExecutor, ProcessPoolExecutor
 from contextlib import contextmanager
-from typing import Callable, Iterator, List, NamedTuple, Optional
+from typing import Any, Callable, Iterator, List, NamedTuple, Optional
 
 from ._certify import Effort
 from ._errors import NotLawful
@@ -21,8 +21,8 @@ from ._waiting import Lines, Progress, Watch
 
 _EFFORT = {"width": 4096, "rounds": 10_000, "seed": 1, "work": 8500, "directions": 100_000_000}
 _ABOUT = """Certifies all blocks of files. Each certificate is written to a file of the folder --out, and a line says
-what it proves. A block whose certificate is there and lawful is not searched again, so that a run that was stopped goes
-on where it was."""
+what it proves. A block whose certificate is there and lawful is not searched again, also where its bounds differ, so
+that a run that was stopped goes on with the blocks that are left."""
 
 
 def words(parsers: "argparse._SubParsersAction[argparse.ArgumentParser]") -> None:
@@ -55,6 +55,14 @@ def _be_deaf() -> None:
     signal.signal(signal.SIGINT, signal.SIG_IGN)
 
 
+def _package(name: str) -> Any:
+    """The package of an executor."""
+    try:
+        return importlib.import_module(name)
+    except ImportError as error:
+        raise WordError(f"--executor needs a package that is not installed: {error}") from error
+
+
 @contextmanager
 def _workers(executor: str, count: Optional[int]) -> Iterator[Workers]:
     """The workers that words name."""
@@ -69,11 +77,11 @@ def _workers(executor: str, count: Optional[int]) -> Iterator[Workers]:
             list(pool.map(int, range(local)))  # they start before any thread does
             yield Workers(pool.map, local, has_beams=True)
     elif executor == "mpi":
-        futures, mpi = importlib.import_module("mpi4py.futures"), importlib.import_module("mpi4py.MPI")
+        futures, mpi = _package("mpi4py.futures"), _package("mpi4py.MPI")
         with futures.MPIPoolExecutor() as pool:
             yield Workers(pool.map, count or max(1, mpi.COMM_WORLD.Get_size() - 1), has_beams=True)
     elif kind == "dask" and address:
-        with importlib.import_module("distributed").Client(address) as client:
+        with _package("distributed").Client(address) as client:
             yield Workers(client.get_executor().map, count or max(1, sum(client.ncores().values())), has_beams=True)
     else:
         raise WordError(f"--executor is {executor}, and has to be threads, processes, mpi or dask:ADDRESS")
@@ -82,7 +90,10 @@ def _workers(executor: str, count: Optional[int]) -> Iterator[Workers]:
 def _certified(work: Work, search: _Search) -> Row:
     """The row of a block, whose certificate is written where no lawful one is there."""
     try:
-        return row_of(work, work.shop.check(work.path), None)
+        kept = work.shop.check(work.path)
+        if not kept.optimal:
+            print(f"{work.path}: bounds that are there; remove it, and the block is searched anew", file=sys.stderr)
+        return row_of(work, kept, None)
     except FileNotFoundError:
         pass
     except NotLawful as error:

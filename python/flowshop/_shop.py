@@ -285,14 +285,20 @@ class Shop:
 
     def gantt(self, sequence: Jobs) -> Picture:
         """The picture of the timetable of a sequence, as SVG text: a row for each machine, and a bar for each job and
-        machine where the time is not 0. The outlined operations leave no room: together they take the whole time.
-        Errors are those of `makespan`.
+        machine where the time is not 0. The outlined operations leave no room: together they take the whole time. Of a
+        Certificate, which is checked, the title says also what it proves; NotLawful where it is none of the shop. The
+        other errors are those of `makespan`.
 
         >>> shop.gantt(shop.neh())[:4]
         '<svg'
         """
+        lower = self.check(sequence).lower if isinstance(sequence, Certificate) else 0
+        return self._picture(sequence, lower)
+
+    def _picture(self, sequence: Jobs, lower: int) -> Picture:
+        """The picture of a sequence, with a lower bound where it is above 0."""
         jobs, room = packed(sequence, self.jobs), 16_384 + 400 * self.jobs * self.machines
-        picture = written(room, lambda text: self._call("picture", jobs, 0, text)).decode("ascii")
+        picture = written(room, lambda text: self._call("picture", jobs, lower, text)).decode("ascii")
         if self._parts[3:5] != (None, None):
             picture = with_names(picture, self.job_names, self.machine_names)
         return Picture(picture)
@@ -323,7 +329,7 @@ class Shop:
             lower=certificate.lower if certificate else self.bound(),
             is_certified=certificate is not None,
             listed=self.makespan(range(1, self.jobs + 1)),
-            picture=self.gantt(certificate or timetable) if self.jobs * self.machines <= MOST_BARS else "",
+            picture=self._picture(certificate or timetable, 0) if self.jobs * self.machines <= MOST_BARS else "",
             times=times,
         )
         return Report(page(facts))

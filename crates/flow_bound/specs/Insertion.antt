@@ -5,11 +5,12 @@ use Rattle.flow_shop.specs.Least.{greatest}
 use Rattle.flow_shop.specs.Paths.{weight, paths, completion, span}
 
 -- the tail of a list from a machine: the greatest weight of a path over the list from there to the last machine
+-- (law: span_is_of_heads_and_tails)
 unfoldable pub tail : Shop → List ℕ → ℕ → ℕ
 tail shop jobs machine = greatest (map (weight shop jobs machine) (paths (length jobs) machine shop.machines))
 
 -- for each job of a list: the makespan of the list is the greatest sum, over the machines, of the job's completion time
--- and the tail, from that machine, of the jobs behind it
+-- and the tail, from that machine, of the jobs behind it (law: span_is_of_heads_and_tails)
 abbrev pub SpanIsOfHeadsAndTails : Type 0
 SpanIsOfHeadsAndTails =
     (shop : Shop) (front back : List ℕ) (job : ℕ) →

@@ -2,7 +2,7 @@
 use Rattle.std.proofs.Common.{◌≡◌, ◌⊎◌, refl, inl, inr, ℕ, List, Some, None}
 use Rattle.flow_shop.specs.SequenceFaults.{sequence_fault}
 use Rattle.flow_c.specs.Statuses.{number, memory}
-use Rattle.flow_c.specs.Faults.{shop_of, numbers_fault, effort_fault, room_fault}
+use Rattle.flow_c.specs.Faults.{shop_of, numbers_fault, fault_of_effort, room_fault}
 use Rattle.flow_c.specs.Certify.{IsTextTooLong, certify_fault, directions_fault}
 use Rattle.flow_c.specs.declared.shop.ShopNumbers.{ShopNumbers}
 use Rattle.flow_c.specs.declared.effort.EffortNumbers.{EffortNumbers}
@@ -11,7 +11,7 @@ use Rattle.flow_c.proofs.Tested.{no-makespan-fault}
 
 module _ (numbers : ShopNumbers) (start : List ℕ) (effort : EffortNumbers) (directions entries : ℕ)
     (one : numbers_fault numbers ≡ None) (two : sequence_fault numbers.jobs start ≡ None)
-    (three : effort_fault effort ≡ None) (four : directions_fault directions ≡ None)
+    (three : fault_of_effort effort ≡ None) (four : directions_fault directions ≡ None)
     (five : room_fault numbers.jobs entries ≡ None) where
   -- the arguments have no fault
   no-certify-fault : certify_fault numbers start effort directions entries ≡ None

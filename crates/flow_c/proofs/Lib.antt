@@ -4,5 +4,4 @@ mod TextSize
 mod Puts
 mod Asked
 mod Ended
-mod Nodes
 mod Told

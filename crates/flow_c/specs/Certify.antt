@@ -9,7 +9,7 @@ use Rattle.flow_shop.specs.Ends.{end_bound}
 use Rattle.flow_shop.specs.Paths.{span}
 use Rattle.flow_check.specs.TwoEnded.{IsTwoEnded}
 use Rattle.flow_check.specs.declared.bounds.Bounds.{Bounds}
-use Rattle.flow_c.specs.Faults.{makespan_fault, effort_fault, room_fault}
+use Rattle.flow_c.specs.Faults.{makespan_fault, fault_of_effort, room_fault}
 use Rattle.flow_c.specs.declared.shop.ShopNumbers.{ShopNumbers}
 use Rattle.flow_c.specs.declared.effort.EffortNumbers.{EffortNumbers}
 use Rattle.flow_c.specs.declared.fault.Fault.{Fault}
@@ -24,7 +24,7 @@ directions_fault directions = fault_unless (is_in_range 1 most_directions direct
 abbrev pub certify_fault : ShopNumbers → List ℕ → EffortNumbers → ℕ → ℕ → Option Fault
 certify_fault numbers start effort directions entries = first_fault (
     makespan_fault numbers start
-    ∷ option_map Effort (effort_fault effort)
+    ∷ option_map Effort (fault_of_effort effort)
     ∷ directions_fault directions
     ∷ room_fault numbers.jobs entries
     ∷ [])
@@ -43,7 +43,7 @@ pub record IsTextFrom (shop : Shop) (start : List ℕ) (most : ℕ) (bytes : Lis
   pub few : length lawful.directions ≤ most
   pub short : length bytes ≤ most + most_beside
 
--- there is such a text, and fewer entries than it has bytes
+-- there is such a text, and fewer entries than it has bytes; the fault says how many it has
 abbrev pub IsTextTooLong : Shop → List ℕ → ℕ → ℕ → Fault → Type 0
 IsTextTooLong shop start most entries fault =
     (text : List ℕ) × (bounds : Bounds) × (sequence : List ℕ) × IsTextFrom shop start most text bounds sequence

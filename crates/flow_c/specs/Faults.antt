@@ -1,20 +1,20 @@
 -- Why a call refuses what it is lent, and what it reports.
 use Rattle.std.specs.Prelude.{ℕ, ◌≡◌, ◌*◌, ◌⊎◌, nat_le, List, [], ◌∷◌, length, Option, Some, None}
-use Rattle.std.specs.Int.{is_in_range}
 use Rattle.std.specs.Option.{option_map}
-use Rattle.flow_limits.specs.Limits.{least_version, greatest_version}
-use Rattle.flow_limits.specs.Limits.{most_width, most_rounds, greatest_seed, most_work}
+use Rattle.flow_limits.specs.Limits.{most_width}
 use Rattle.flow_shop.specs.Refusals.{fault_unless, first_fault}
 use Rattle.flow_shop.specs.Shop.{Shop}
 use Rattle.flow_shop.specs.Paths.{span}
 use Rattle.flow_shop.specs.InstanceFaults.{instance_fault}
 use Rattle.flow_shop.specs.declared.instance.InstanceFault.{InstanceFault}
 use Rattle.flow_shop.specs.SequenceFaults.{sequence_fault}
-use Rattle.flow_text.specs.Generator.{generator_fault}
-use Rattle.flow_search.specs.Choices.{Choices, option_fault}
+use Rattle.flow_generator.specs.Generator.{generator_fault}
+use Rattle.flow_improve.specs.Effort.{effort_fault, run_fault}
+use Rattle.flow_improve.specs.declared.effort.EffortFault.{EffortFault}
+use Rattle.flow_improve.specs.declared.effort.EffortFault.TheVariants.{Width}
+use Rattle.flow_search.specs.Choices.{Choices, versioned_fault}
 use Rattle.flow_search.specs.Plans.{Planned, plan_fault}
 use Rattle.flow_search.specs.Outcomes.{first_over_budget}
-use Rattle.flow_search.specs.declared.options.OptionFault.TheVariants.{Version}
 use Rattle.flow_search.specs.declared.verdict.RunFault.TheVariants.{OverBudget}
 use Rattle.flow_cert.specs.PlanCertificates.{certificate_of}
 use Rattle.flow_c.specs.Statuses.{number, done, memory}
@@ -25,8 +25,6 @@ use Rattle.flow_c.specs.declared.effort.EffortNumbers.{EffortNumbers}
 use Rattle.flow_c.specs.declared.beam.BeamOptions.{BeamOptions}
 use Rattle.flow_c.specs.declared.rounds.RoundsOptions.{RoundsOptions}
 use Rattle.flow_c.specs.declared.solve.PlanNumbers.{PlanNumbers}
-use Rattle.flow_c.specs.declared.fault.EffortFault.{EffortFault}
-use Rattle.flow_c.specs.declared.fault.EffortFault.TheVariants.{Width, Rounds, Seed, Work}
 use Rattle.flow_c.specs.declared.fault.Fault.{Fault}
 use Rattle.flow_c.specs.declared.fault.Fault.TheVariants.{Room, Instance, Sequence, Choice, Effort, Plan, Run}
 
@@ -38,7 +36,7 @@ shop_of numbers = record { jobs = numbers.jobs; machines = numbers.machines; tim
 abbrev pub numbers_fault : ShopNumbers → Option InstanceFault
 numbers_fault numbers = instance_fault numbers.jobs numbers.machines numbers.times.now
 
--- a call answers a fault: the first one of what it was lent; or memory ran out
+-- a call answers a fault: the first one of what it was lent; or memory ran out (inner)
 abbrev pub IsFaultOf : Option Fault → Fault → Type 0
 IsFaultOf first fault = (first ≡ Some fault) ⊎ (number fault ≡ memory)
 
@@ -95,20 +93,15 @@ timetable_fault numbers sequence starts ends = first_fault (
     ∷ [])
 
 -- why the numbers of an improvement are refused
-abbrev pub effort_fault : EffortNumbers → Option EffortFault
-effort_fault effort = first_fault (
-    fault_unless (nat_le effort.width most_width) Width
-    ∷ fault_unless (nat_le effort.rounds most_rounds) Rounds
-    ∷ fault_unless (is_in_range 1 greatest_seed effort.seed) Seed
-    ∷ fault_unless (nat_le effort.work most_work) Work
-    ∷ [])
+abbrev pub fault_of_effort : EffortNumbers → Option EffortFault
+fault_of_effort effort = effort_fault effort.width effort.rounds effort.seed effort.work
 
 -- why nothing is improved: the numbers are no instance, the jobs no sequence of it, the other numbers not within their
 -- limits, or a sequence has no room
 abbrev pub improve_fault : ShopNumbers → List ℕ → EffortNumbers → ℕ → Option Fault
 improve_fault numbers start effort entries = first_fault (
     makespan_fault numbers start
-    ∷ option_map Effort (effort_fault effort)
+    ∷ option_map Effort (fault_of_effort effort)
     ∷ room_fault numbers.jobs entries
     ∷ [])
 
@@ -126,8 +119,7 @@ beam_fault numbers start options entries = first_fault (
 abbrev pub rounds_fault : ShopNumbers → List ℕ → RoundsOptions → ℕ → Option Fault
 rounds_fault numbers start options entries = first_fault (
     makespan_fault numbers start
-    ∷ fault_unless (nat_le options.rounds most_rounds) (Effort Rounds)
-    ∷ fault_unless (is_in_range 1 greatest_seed options.seed) (Effort Seed)
+    ∷ option_map Effort (run_fault options.rounds options.seed)
     ∷ room_fault numbers.jobs entries
     ∷ [])
 
@@ -142,10 +134,7 @@ plan_of shop start options =
 
 -- why numbers are no options
 abbrev pub choice_fault : PlanNumbers → Option Fault
-choice_fault plan = first_fault (
-    option_map Choice (option_fault 1 plan.depth plan.budget)
-    ∷ fault_unless (is_in_range least_version greatest_version plan.version) (Choice Version)
-    ∷ [])
+choice_fault plan = option_map Choice (versioned_fault 1 plan.depth plan.budget plan.version)
 
 -- why a plan has no certificate within its budget: the first prefix whose tree is too long
 abbrev pub budget_fault : Planned → Option Fault

@@ -1,4 +1,4 @@
--- What a part of a search for directions gives, and why it gives nothing.
+-- What a part of a search for directions gives, and why it gives nothing. `library/flowshop.h` has the same numbers.
 use Rattle.std.specs.Prelude.{ℕ, ◌≡◌, ◌<◌, List, [], ◌∷◌, ◌++◌, length, take, Option}
 use Rattle.std.specs.Global.{Vec}
 use Rattle.std.specs.List.{flat_map}
@@ -76,7 +76,7 @@ prove_fault numbers node entries = first_fault (
     ∷ room_fault numbers.jobs entries
     ∷ [])
 
--- a search leaves parts, and there are fewer entries than they have numbers
+-- a search leaves parts, and there are fewer entries than they have numbers; the fault says how many they have
 abbrev pub IsRestTooLong : Shop → ℕ → ℕ → NodeLists → ℕ → Fault → Type 0
 IsRestTooLong shop number budget node entries fault =
     (text : Vec ℕ) × (parts : Vec Part) × IsAdvanced shop number budget node.first.now node.last.now (Rest text parts)

@@ -1,4 +1,4 @@
--- The numbers of statuses.
+-- The numbers of statuses. `library/flowshop.h` has the same ones.
 use Rattle.std.specs.Prelude.{ℕ}
 use Rattle.flow_shop.specs.declared.instance.InstanceFault.{InstanceFault}
 use Rattle.flow_shop.specs.declared.instance.InstanceFault.TheVariants as instance
@@ -14,8 +14,8 @@ use Rattle.flow_check.specs.declared.fault.CheckFault.{CheckFault}
 use Rattle.flow_check.specs.declared.fault.CheckFault.TheVariants as check
 use Rattle.flow_text.specs.declared.text.fault.TextFault.{TextFault}
 use Rattle.flow_text.specs.declared.text.fault.TextFault.TheVariants as text
-use Rattle.flow_c.specs.declared.fault.EffortFault.{EffortFault}
-use Rattle.flow_c.specs.declared.fault.EffortFault.TheVariants as effort
+use Rattle.flow_improve.specs.declared.effort.EffortFault.{EffortFault}
+use Rattle.flow_improve.specs.declared.effort.EffortFault.TheVariants as effort
 use Rattle.flow_c.specs.declared.fault.Fault.{Fault}
 use Rattle.flow_c.specs.declared.fault.Fault.TheVariants.{Memory, Room, Instance, Sequence, Choice, Effort, Plan, Run}
 use Rattle.flow_c.specs.declared.fault.Fault.TheVariants.{Certificate, Text, Index, Directions}

@@ -8,12 +8,12 @@ ghost use Rattle.flow_c.specs.Statuses.{done, memory};
 ghost use Rattle.flow_c.specs.Faults.{shop_of, numbers_fault, beam_fault, IsFaultOf, Reports};
 ghost use Rattle.flow_c.specs.Rooms.{IsSameRoom};
 
-use crate::fault::{EffortFault, Fault};
+use crate::fault::Fault;
 use crate::outcome::Outcome;
 use crate::reached::ReachedRoom;
 use crate::room::need;
 use crate::shop::ShopNumbers;
-use flow_improve::{Reached, beam, beam_below};
+use flow_improve::{EffortFault, Reached, beam, beam_below};
 use flow_limits::MAX_WIDTH;
 use flow_shop::Sequence;
 use std::alloc::Global;

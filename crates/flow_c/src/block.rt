@@ -2,14 +2,15 @@
 
 ghost use Rattle.std.specs.Prelude.{◌≡◌, ◌⊎◌, ◌*◌, ◌≤◌, IfOk, IfErr, length, drop};
 ghost use Rattle.flow_shop.specs.Shop.{IsWithinLimits};
+ghost use Rattle.flow_text.specs.Picks.{HasBlock};
 ghost use Rattle.flow_c.specs.Statuses.{number, done, memory};
-ghost use Rattle.flow_c.specs.Blocks.{Names, IsBlockFault, IsPickFault, ReportsBlock, block_in};
+ghost use Rattle.flow_c.specs.Blocks.{IsBlockFault, ReportsBlock, block_in};
 ghost use Rattle.flow_c.specs.Rooms.{IsSameRoom};
 
 use crate::fault::Fault;
 use crate::outcome::Outcome;
 use crate::room::{fill, need};
-use flow_text::{Block, read_blocks};
+use flow_text::{Block, Pick, pick_block};
 use std::alloc::Global;
 
 /// Room for the times of a block, and what it states.
@@ -29,19 +30,6 @@ pub struct BlockRoom<'a> {
     pub lower: u32,
 }
 
-/// The block of a text that an index names.
-fn pick(alloc: Global, text: &[u8], index: u32) -> Result<Block, Fault>
-    ensures names { IfOk result (Names text.now index) }
-    ensures refused { IfErr result (λ fault. (number fault ≡ memory) ⊎ IsPickFault text.now index fault) }
-{
-    let mut blocks = read_blocks(alloc, text)?;
-    let count = blocks.len();
-    if index == 0 || index as usize > count {
-        return Err(Fault::Index(count));
-    }
-    Ok(blocks.swap_remove(index as usize - 1))
-}
-
 /// The block of a text that an index names, and its times, where there is room for them.
 fn times_of_block(
     alloc: Global,
@@ -49,13 +37,13 @@ fn times_of_block(
     index: u32,
     entries: usize,
 ) -> Result<(Block, Vec<u32>), Fault>
-    ensures names { IfOk result (λ found. Names text.now index found.0) }
+    ensures named { IfOk result (λ found. HasBlock text.now index found.0) }
     ensures times { IfOk result (λ found. found.1.items ≡ found.0.instance.times) }
     ensures limits { IfOk result (λ found. IsWithinLimits found.0.instance) }
     ensures enough { IfOk result (λ found. length found.1.items ≤ entries) }
     ensures refused { IfErr result (λ fault. (number fault ≡ memory) ⊎ IsBlockFault text.now index entries fault) }
 {
-    let block = pick(alloc, text, index)?;
+    let Pick { block, .. } = pick_block(alloc, text, index)?;
     let count = usize::from(block.instance.jobs()) * usize::from(block.instance.machines());
     need(count, entries)?;
     let times = block.instance.times(alloc)?;
@@ -72,7 +60,7 @@ pub extern "C" fn flowshop_block(
     block: &mut BlockRoom,
 ) -> Outcome
     ensures status { ReportsBlock text.now index (length block.old.times.now) result }
-    ensures block { result.status ≡ done → Names text.now index (block_in block.new) }
+    ensures block { result.status ≡ done → HasBlock text.now index (block_in block.new) }
     ensures rest { drop (block.new.jobs * block.new.machines) block.new.times.now
         ≡ drop (block.new.jobs * block.new.machines) block.old.times.now }
     ensures room { IsSameRoom block.new.times block.old.times }

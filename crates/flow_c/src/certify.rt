@@ -1,10 +1,9 @@
 //! The search for bounds, and the text that proves them.
 
-ghost use Rattle.std.specs.Prelude.{◌≡◌, ◌⊎◌, ◌+◌, ◌≤◌, ◌<◌, None, Some, IfOk, OnOk, IfErr, length, take, drop, []};
+ghost use Rattle.std.specs.Prelude.{◌≡◌, ◌⊎◌, ◌+◌, ◌≤◌, None, Some, IfOk, OnOk, IfErr, length, take, drop, []};
 ghost use Rattle.flow_shop.specs.Shop.{IsWithinLimits};
 ghost use Rattle.flow_shop.specs.Paths.{span};
 ghost use Rattle.flow_shop.specs.Sequences.{IsSequence, IsLeastMakespan};
-ghost use Rattle.flow_text.specs.Generator.{modulus};
 ghost use Rattle.flow_check.specs.Certificate.{AreBounds};
 ghost use Rattle.flow_check.specs.TwoEnded.{two_ended_text};
 ghost use Rattle.flow_c.specs.Statuses.{number, done, memory};
@@ -82,8 +81,6 @@ fn certify_from(
 ) -> Result<Written, Fault>
     requires limits { IsWithinLimits instance.now }
     requires is_sequence { IsSequence instance.now.jobs start.now }
-    requires seed_from { 1 ≤ effort.now.seed }
-    requires seed_to { effort.now.seed < modulus }
     ensures text { IfOk result (λ found. IsTextFrom instance.now start.now directions
         (with_directions found.frame.bytes found.directions.items) found.bounds found.sequence) }
     ensures framed { IfOk result (λ found. behind ≤ length found.frame.bytes) }

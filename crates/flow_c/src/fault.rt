@@ -6,25 +6,14 @@ ghost use Rattle.flow_c.specs.Places.{place_of};
 ghost use Rattle.flow_c.specs.Statuses as statuses;
 ghost use Rattle.flow_c.specs.Places as places;
 ghost use Rattle.flow_c.specs.declared.fault.Fault.TheVariants as fault;
+ghost use Rattle.flow_text.specs.declared.text.pick.PickFault.TheVariants as pick;
 
 use flow_check::CheckFault;
+use flow_improve::EffortFault;
 use flow_search::{OptionFault, PlanFault, RunFault};
 use flow_shop::{InstanceFault, SequenceFault};
-use flow_text::{TextFault, WriteFault};
+use flow_text::{PickFault, TextFault, WriteFault};
 use std::alloc::AllocError;
-
-/// Why the numbers of an improvement are refused, in the order of the tests.
-#[derive(Clone, Copy, Debug, PartialEq, Eq)]
-pub enum EffortFault {
-    /// The width is above `MAX_WIDTH`.
-    Width,
-    /// The rounds are above `MAX_ROUNDS`.
-    Rounds,
-    /// The seed is not in `1..=MAX_SEED`.
-    Seed,
-    /// The work is above `MAX_WORK`.
-    Work,
-}
 
 /// Why a call refused.
 #[derive(Clone, Copy, Debug, PartialEq, Eq)]
@@ -128,11 +117,15 @@ impl From<CheckFault> for Fault {
     }
 }
 
-impl From<TextFault> for Fault {
-    ghost from_gives = { λ own given. given ≡ fault.Text own };
+impl From<PickFault> for Fault {
+    ghost from_gives = { λ own given.
+        given ≡ (elim own [ pick.Text text ↦ fault.Text text | pick.Index count ↦ fault.Index count ]) };
 
-    fn from(fault: TextFault) -> Fault {
-        Fault::Text(fault)
+    fn from(fault: PickFault) -> Fault {
+        match fault {
+            PickFault::Text(fault) => Fault::Text(fault),
+            PickFault::Index(count) => Fault::Index(count),
+        }
     }
 }
 

@@ -1,14 +1,14 @@
 //! The generator of random instances.
 
 ghost use Rattle.std.specs.Prelude.{◌≡◌, ◌⊎◌, ◌*◌, None, IfOk, OnOk, IfErr, length, take, drop};
-ghost use Rattle.flow_text.specs.Generator.{generated, generator_fault};
+ghost use Rattle.flow_generator.specs.Generator.{generated, generator_fault};
 ghost use Rattle.flow_c.specs.Statuses.{number, done, memory};
 ghost use Rattle.flow_c.specs.Faults.{generate_fault, IsFaultOf, Reports};
 
 use crate::fault::Fault;
 use crate::outcome::Outcome;
 use crate::room::{fill, need};
-use flow_text::generate;
+use flow_generator::generate;
 use std::alloc::Global;
 
 /// The times of the instance of a seed, where there is room for them.

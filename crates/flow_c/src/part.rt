@@ -1,10 +1,9 @@
 //! Parts of a search, as numbers.
 
-ghost use Rattle.std.specs.Prelude.{◌≡◌, ◌≤◌, ◌++◌, length, All, IfOk};
+ghost use Rattle.std.specs.Prelude.{◌≡◌, ◌++◌, All, IfOk};
 ghost use Rattle.std.specs.List.{flat_map};
-ghost use Rattle.flow_limits.specs.Limits.{most_jobs};
 ghost use Rattle.flow_c.specs.Searches as searches;
-ghost use Rattle.flow_c.specs.internal.Parts.{IsShort};
+ghost use Rattle.flow_c.specs.internal.Parts.{IsList, IsShort};
 
 use flow_directions::Part;
 use flow_shop::End;
@@ -18,9 +17,9 @@ fn push_lists(
     jobs: &[u16],
     end: u16,
 ) -> Result<(), AllocError>
-    requires first { length first.now ≤ most_jobs }
-    requires last { length last.now ≤ most_jobs }
-    requires jobs { length jobs.now ≤ most_jobs }
+    requires first { IsList first.now }
+    requires last { IsList last.now }
+    requires jobs { IsList jobs.now }
     ensures { IfOk result
         (λ _. numbers.new.items ≡ numbers.old.items ++ searches.listed first.now last.now jobs.now end) }
 {

@@ -8,13 +8,12 @@ ghost use Rattle.flow_c.specs.Statuses.{done, memory};
 ghost use Rattle.flow_c.specs.Faults.{shop_of, numbers_fault, rounds_fault, IsFaultOf, Reports};
 ghost use Rattle.flow_c.specs.Rooms.{IsSameRoom};
 
-use crate::fault::{EffortFault, Fault};
+use crate::fault::Fault;
 use crate::outcome::Outcome;
 use crate::reached::ReachedRoom;
 use crate::room::need;
 use crate::shop::ShopNumbers;
 use flow_improve::{Reached, RunLimits, rounds_from};
-use flow_limits::{MAX_ROUNDS, MAX_SEED};
 use flow_shop::Sequence;
 use std::alloc::Global;
 
@@ -49,17 +48,7 @@ fn rounds_of(
 {
     let instance = shop.instance(alloc)?;
     let start = Sequence::new(alloc, &instance, start)?;
-    let limits = RunLimits {
-        rounds: options.rounds,
-        seed: options.seed,
-        work: options.steps,
-    };
-    if limits.rounds > MAX_ROUNDS {
-        return Err(Fault::Effort(EffortFault::Rounds));
-    }
-    if limits.seed < 1 || limits.seed > MAX_SEED {
-        return Err(Fault::Effort(EffortFault::Seed));
-    }
+    let limits = RunLimits::new(options.rounds, options.seed, options.steps)?;
     need(shop.jobs as usize, entries)?;
     Ok(rounds_from(alloc, &instance, &start, &limits)?)
 }

@@ -51,8 +51,7 @@ fn options(plan: &PlanNumbers) -> Result<Options, Fault>
     ensures accepted { OnOk result (choice_fault plan.now ≡ None) }
     ensures refused { IfErr result (λ fault. choice_fault plan.now ≡ Some fault) }
 {
-    let options = Options::new(1, plan.depth, plan.budget)?;
-    Ok(options.with_version(plan.version)?)
+    Ok(Options::versioned(1, plan.depth, plan.budget, plan.version)?)
 }
 
 /// The plan of an instance and options, from a sequence.

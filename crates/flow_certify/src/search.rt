@@ -1,7 +1,6 @@
 //! From a start to bounds: which sequences and numbers are searched, and with which budgets.
 
-ghost use Rattle.std.specs.Prelude.{◌≡◌, ◌<◌, ◌≤◌, min, [], length, IfOk};
-ghost use Rattle.flow_text.specs.Generator.{modulus};
+ghost use Rattle.std.specs.Prelude.{◌≡◌, ◌≤◌, min, [], length, IfOk};
 ghost use Rattle.flow_shop.specs.Paths.{span};
 ghost use Rattle.flow_shop.specs.Sequences.{IsSequence};
 ghost use Rattle.flow_shop.specs.Directions.{Proves};
@@ -43,8 +42,6 @@ fn prove_best<P: Prover>(
 ) -> Result<(), AllocError>
     requires ready { P.is_ready task.now.prover.now }
     requires start { length start.now ≡ task.now.instance.now.jobs }
-    requires seed_from { 1 ≤ effort.now.seed }
-    requires seed_to { effort.now.seed < modulus }
     requires run { IsRun task.now.instance.now run.old }
     ensures { IsLater task.now.instance.now run.old run.new }
 {
@@ -59,7 +56,7 @@ fn prove_best<P: Prover>(
         return Ok(());
     }
     run.begin(task, 2);
-    let width = effort.width.min(NARROW);
+    let width = effort.width().min(NARROW);
     let narrow = beam(task.alloc, task.instance, start, width, effort.beam_work())?;
     run.take(task.alloc, &narrow)?;
     if narrow.whole {
@@ -85,8 +82,6 @@ fn prove_on<P: Prover>(
 ) -> Result<(), AllocError>
     requires ready { P.is_ready task.now.prover.now }
     requires start { length start.now ≡ task.now.instance.now.jobs }
-    requires seed_from { 1 ≤ effort.now.seed }
-    requires seed_to { effort.now.seed < modulus }
     requires sequence { IsSequence task.now.instance.now.jobs beamed.now.sequence }
     requires value { beamed.now.value ≡ span task.now.instance.now beamed.now.sequence }
     requires run { IsRun task.now.instance.now run.old }
@@ -124,10 +119,10 @@ fn widened(
     ensures sequence { IfOk result (λ reached. IsSequence instance.now.jobs reached.sequence) }
     ensures value { IfOk result (λ reached. reached.value ≡ span instance.now reached.sequence) }
 {
-    if effort.width <= NARROW {
+    if effort.width() <= NARROW {
         return Ok(narrow);
     }
-    beam(alloc, instance, start, effort.width, effort.beam_work())
+    beam(alloc, instance, start, effort.width(), effort.beam_work())
 }
 
 /// Looks for a sequence that has the proved number as its makespan, by a beam that is aimed at the next number.
@@ -140,7 +135,7 @@ fn aim<P: Prover>(task: &Task<P>, effort: &Effort, run: &mut Run) -> Result<(), 
         return Ok(());
     }
     let number = run.known.lower.saturating_add(1);
-    let width = effort.width.saturating_mul(8).min(AIMED);
+    let width = effort.width().saturating_mul(8).min(AIMED);
     let work = effort.beam_work().saturating_mul(AIMED_SHARE);
     let aimed = beam_below(
         task.alloc,
@@ -160,7 +155,7 @@ fn halve<P: Prover>(task: &Task<P>, effort: &Effort, run: &mut Run) -> Result<()
     requires run { IsRun task.now.instance.now run.old }
     ensures { IsLater task.now.instance.now run.old run.new }
 {
-    let width = effort.width / 4;
+    let width = effort.width() / 4;
     let work = effort.beam_work() / 2;
     let mut missed = run.known.lower.saturating_add(1);
     let mut top = run.known.upper;
@@ -212,8 +207,8 @@ fn prove_more<P: Prover>(task: &Task<P>, effort: &Effort, run: &mut Run) -> Resu
 }
 
 /// Bounds of the least makespan, a sequence that has the upper one, and directions that prove the lower one. The prover
-/// searches for directions, and is told which step begins, and which bounds are known before each search and at the end;
-/// what is found does not depend on which prover it is.
+/// searches for directions. It is told which step begins, and which bounds are known before each search and at the end.
+/// What is found does not depend on which prover it is.
 pub fn certify<P: Prover>(
     alloc: Global,
     prover: &P,
@@ -224,8 +219,6 @@ pub fn certify<P: Prover>(
 ) -> Result<Certified, AllocError>
     requires ready { P.is_ready prover.now }
     requires start { length start.now ≡ instance.now.jobs }
-    requires seed_from { 1 ≤ effort.now.seed }
-    requires seed_to { effort.now.seed < modulus }
     ensures each { IfOk result (λ found. IsSequence instance.now.jobs found.sequence) }
     ensures attained { IfOk result (λ found. span instance.now found.sequence ≡ found.upper) }
     ensures no_worse { IfOk result (λ found. found.upper ≤ span instance.now start.now) }

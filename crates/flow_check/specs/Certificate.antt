@@ -46,7 +46,7 @@ IsCertificateWith shop bytes value sequence =
     (version depth : ℕ) × (trees : List (List ℕ)) × Shows shop version value depth sequence trees
     × (bytes ≡ certificate_text shop version depth value sequence trees)
 
--- a text is a lawful certificate of a value
+-- a text is a lawful certificate of a value (law: certificate_is_sound, value_is_exact, text_states_one)
 abbrev pub IsCertificate : Shop → List ℕ → ℕ → Type 0
 IsCertificate shop bytes value = (sequence : List ℕ) × IsCertificateWith shop bytes value sequence
 
@@ -57,17 +57,17 @@ pub record AreBounds (shop : Shop) (bounds : Bounds) : Type 0 where
   pub upper : (sequence : List ℕ) × IsSequence shop.jobs sequence × (span shop sequence ≡ bounds.upper)
   pub between : (least : ℕ) → IsLeastMakespan shop least → (bounds.lower ≤ least) × (least ≤ bounds.upper)
 
--- the value of a lawful certificate, whoever made it, is the least makespan
+-- the value of a lawful certificate, whoever made it, is the least makespan (law: certificate_is_sound)
 abbrev pub CertificateIsSound : Type 0
 CertificateIsSound =
     (shop : Shop) (bytes : List ℕ) (value : ℕ) → IsCertificate shop bytes value → IsLeastMakespan shop value
 
--- a text is a certificate of one value at most
+-- a text is a certificate of one value at most (law: certificate_is_sound)
 abbrev pub ValueIsOne : Type 0
 ValueIsOne =
     (shop : Shop) (bytes : List ℕ) (v w : ℕ) → IsCertificate shop bytes v → IsCertificate shop bytes w → v ≡ w
 
--- a text states one value and one sequence
+-- a text states one value and one sequence (law: text_states_one)
 abbrev pub StatesOne : Type 0
 StatesOne =
     (shop : Shop) (bytes : List ℕ) (value other : ℕ) (one another : List ℕ) → IsWithinLimits shop →

@@ -62,7 +62,7 @@ HasLineFault shop bound value left (prefix ∷ prefixes) place text fault =
     ⊎ ((lines : List ℕ) × (rest ≡ line_feed ∷ lines)
     × HasLineFault shop bound value left prefixes (place + 1) lines fault)))
 
--- the first fault of a text that is no lawful certificate. The first tree stands in line 5
+-- the first fault of a text that is no lawful certificate. The first tree stands in line 5 (law: fault_is_exact)
 abbrev pub HasFirstFault : Shop → List ℕ → CheckFault → Type 0
 HasFirstFault shop text Memory = ⊥
 HasFirstFault shop text Header = (version : ℕ) → IsVersion version → ¬ BeginsWith text (upto_title version)
@@ -89,10 +89,12 @@ HasFirstFault shop text fault =
     × HasLineFault shop (bound_of version) value (shop.jobs - depth) (cut shop.jobs depth) 5 lines fault
 
 -- each text of an instance is a lawful certificate of a value, or has one first fault, and not both
+-- (law: fault_is_exact)
 pub record IsJudged (shop : Shop) (text : List ℕ) : Type 0 where
   pub some : ((value : ℕ) × IsCertificate shop text value) ⊎ ((fault : CheckFault) × HasFirstFault shop text fault)
   pub apart : (value : ℕ) (fault : CheckFault) → IsCertificate shop text value → ¬ HasFirstFault shop text fault
   pub one : (fault other : CheckFault) → HasFirstFault shop text fault → HasFirstFault shop text other → fault ≡ other
 
+-- each text of an instance within the limits is judged (law: fault_is_exact)
 abbrev pub EachTextIsJudged : Type 0
 EachTextIsJudged = (shop : Shop) (text : List ℕ) → IsWithinLimits shop → IsJudged shop text

@@ -47,6 +47,7 @@ pub record ShowsBounds (shop : Shop) (bounds : Bounds) (sequence directions : Li
   pub proved : Proves shop bounds.lower directions
 
 -- a text is a lawful two-ended certificate of these bounds, with this sequence
+-- (law: two_ended_is_sound, two_ended_states_one)
 pub record IsTwoEnded (shop : Shop) (bytes : List ℕ) (bounds : Bounds) (sequence : List ℕ) : Type 0 where
   pub directions : List ℕ
   pub shows : ShowsBounds shop bounds sequence directions
@@ -57,19 +58,19 @@ pub record AreProved (shop : Shop) (bounds : Bounds) : Type 0 where
   pub hold : AreBounds shop bounds
   pub least : bounds.lower ≡ bounds.upper → IsLeastMakespan shop bounds.lower
 
--- two statements are one: the same bounds, sequence and directions
+-- two statements are one: the same bounds, sequence and directions (law: two_ended_states_one)
 pub record AreOne (bounds other : Bounds) (sequence jobs directions signs : List ℕ) : Type 0 where
   pub bounds_same : bounds ≡ other
   pub sequence_same : sequence ≡ jobs
   pub directions_same : directions ≡ signs
 
--- the bounds of a lawful text, whoever made it, are proved
+-- the bounds of a lawful text, whoever made it, are proved (law: two_ended_is_sound)
 abbrev pub TwoEndedIsSound : Type 0
 TwoEndedIsSound =
     (shop : Shop) (bytes : List ℕ) (bounds : Bounds) (sequence : List ℕ) → IsTwoEnded shop bytes bounds sequence →
     AreProved shop bounds
 
--- a text states one pair of bounds, one sequence and one string of directions
+-- a text states one pair of bounds, one sequence and one string of directions (law: two_ended_states_one)
 abbrev pub TwoEndedStatesOne : Type 0
 TwoEndedStatesOne =
     (shop : Shop) (bytes : List ℕ) (bounds other : Bounds) (sequence jobs : List ℕ) → IsWithinLimits shop →

@@ -95,7 +95,7 @@ pub record FailsAfterFour (shop : Shop) (text : List ℕ) (fault : CheckFault) :
   pub attained : span shop sequence ≡ bounds.upper
   pub faulty : HasLastFault shop bounds.lower rest fault
 
--- the first fault of a text
+-- the first fault of a text (law: two_ended_fault_is_exact)
 abbrev pub HasTwoEndedFault : Shop → List ℕ → CheckFault → Type 0
 HasTwoEndedFault shop text Memory = ⊥
 HasTwoEndedFault shop text Header = ¬ BeginsWith text title_line
@@ -106,6 +106,7 @@ HasTwoEndedFault shop text NotAttained = MissesUpper shop text
 HasTwoEndedFault shop text fault = FailsAfterFour shop text fault
 
 -- each text is a lawful two-ended certificate of some bounds, with a sequence, or has one first fault, and not both
+-- (law: two_ended_fault_is_exact)
 pub record IsTwoEndedJudged (shop : Shop) (text : List ℕ) : Type 0 where
   pub some : ((bounds : Bounds) × (sequence : List ℕ) × IsTwoEnded shop text bounds sequence)
       ⊎ ((fault : CheckFault) × HasTwoEndedFault shop text fault)
@@ -114,7 +115,7 @@ pub record IsTwoEndedJudged (shop : Shop) (text : List ℕ) : Type 0 where
   pub one : (fault other : CheckFault) → HasTwoEndedFault shop text fault → HasTwoEndedFault shop text other →
       fault ≡ other
 
--- each text of an instance within the limits is judged
+-- each text of an instance within the limits is judged (law: two_ended_fault_is_exact)
 abbrev pub EachTwoEndedIsJudged : Type 0
 EachTwoEndedIsJudged = (shop : Shop) (text : List ℕ) → IsWithinLimits shop → IsTwoEndedJudged shop text
 

@@ -15,10 +15,8 @@ use Rattle.flow_certify.specs.Signs.{most_signs}
 use Rattle.flow_check.specs.TextLines.{ending, line, spaced}
 use Rattle.flow_check.specs.TwoEnded.{IsTwoEnded, ShowsBounds, title_line, two_ended_text}
 use Rattle.flow_check.specs.declared.bounds.Bounds.{Bounds}
-use Rattle.flow_check.proofs.TwoEndedLaws.{two_ended_is_sound}
 use Rattle.flow_requests.specs.declared.CertifyRequest.{CertifyRequest}
-use Rattle.flow_commands.specs.Certify.{AnswersCertify, Certifies, WroteTwoEnded, certify_fault}
-use Rattle.flow_commands.specs.Runs.{SinkRun, Took}
+use Rattle.flow_commands.specs.Certify.{AnswersCertify, Certifies, certify_fault}
 use Rattle.flow_commands.specs.Start.{StartsFrom}
 
 -- two numbers and a space
@@ -135,9 +133,3 @@ pub certified-answers : (request : CertifyRequest) (shop : Shop) (given : Option
     certify_fault request ≡ None → Certifies shop given request.directions text →
     AnswersCertify request shop given (Ok text)
 certified-answers request shop given text accepted is = rw (AnswersCertify, accepted) (text, is, refl)
-
--- the bounds of a text that is written are proved
-pub wrote-two-ended : {K : Type 0} (shop : Shop) (given : Option (List ℕ)) (most : ℕ) (text : List ℕ)
-    (sink : SinkRun K) → Certifies shop given most text → Took text sink → WroteTwoEnded shop sink
-wrote-two-ended shop given most text sink is took =
-    (text, is.0, is.1, took, is.2, two_ended_is_sound shop text is.0 is.1 is.2)

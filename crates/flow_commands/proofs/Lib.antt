@@ -1,10 +1,9 @@
 mod Certified
-mod Endings
-mod Given
+mod Drivers
 mod Gives
-mod Improved
 mod Least
-mod Refused
-mod Scheduled
+mod Responses
 mod Small
-mod Solved
+mod Starts
+mod Truths
+mod Written

@@ -3,7 +3,6 @@ use Rattle.std.specs.Prelude.{◌≡◌, ℕ, ◌-◌, ◌≤◌, ◌<◌, ◌�
 use Rattle.flow_core.specs.TextFaults.{text_fault}
 use Rattle.flow_core.specs.Text.{Reads}
 use Rattle.flow_core.specs.declared.text.block.Block.{Block}
-use Rattle.flow_commands.specs.Answer.{Answer}
 use Rattle.flow_commands.specs.declared.fault.CommandFault.{CommandFault}
 use Rattle.flow_commands.specs.declared.fault.CommandFault.TheVariants.{Index, Text}
 
@@ -15,8 +14,18 @@ Picks text index (Err (Text fault)) = text_fault text ≡ Some fault
 Picks text index (Err Index) = (blocks : List Block) × Reads text blocks × ((index ≡ 0) ⊎ (length blocks < index))
 Picks text index (Err fault) = ⊥
 
--- the answer for the block that an index names, or why it names none
-abbrev pub AnswersFor : ℕ → (Block → Answer → Type 0) → List ℕ → Answer → Type 0
-AnswersFor index Answers text answer =
-    ((block : Block) × Picks text index (Ok block) × Answers block answer)
-    ⊎ ((fault : CommandFault) × Picks text index (Err fault) × (answer ≡ Err fault))
+-- a text has so many blocks
+abbrev pub HasBlocks : List ℕ → ℕ → Type 0
+HasBlocks text count = (blocks : List Block) × Reads text blocks × (length blocks ≡ count)
+
+-- a block that an index names: the text that it is from, its number there, how many blocks that has, and the block
+pub record Origin : Type 0 where
+  pub text : List ℕ
+  pub index : ℕ
+  pub count : ℕ
+  pub block : Block
+
+-- an index names a block of a text
+abbrev pub IsPicked : List ℕ → ℕ → Origin → Type 0
+IsPicked text index origin =
+    (origin.text ≡ text) × (origin.index ≡ index) × Picks text index (Ok origin.block) × HasBlocks text origin.count

@@ -29,7 +29,8 @@ Certifies shop given most text =
     (bounds : Bounds) × (jobs : List ℕ) × (lawful : IsTwoEnded shop text bounds jobs) × IsImproved shop given jobs
     × (end_bound shop [] [] ≤ bounds.lower) × (length lawful.directions ≤ most) × (length text ≤ most_certificate)
 
--- what `certify` answers for a shop and a given sequence: such a text; or why its numbers are refused
+-- what `certify` answers for a shop and a given sequence: such a text; or why its numbers are refused. Which text it
+-- is, is not said
 abbrev pub AnswersCertify : CertifyRequest → Shop → Option (List ℕ) → Answer → Type 0
 AnswersCertify request shop given answer = elim (certify_fault request) [
   | Some fault ↦ answer ≡ Err fault

@@ -1,5 +1,5 @@
 -- What `check` answers.
-use Rattle.std.specs.Prelude.{◌≡◌, ◌≢◌, ℕ, ◌⊎◌, Bool, false, true, cond, nat_eq, List, Ok, Err}
+use Rattle.std.specs.Prelude.{◌≡◌, ◌≢◌, ℕ, ◌⊎◌, Bool, false, true, cond, nat_eq, List, ◌++◌, Ok, Err}
 use Rattle.flow_core.specs.Shop.{Shop}
 use Rattle.flow_core.specs.Paths.{span}
 use Rattle.flow_core.specs.Sequences.{IsLeastMakespan, IsSequence}
@@ -11,9 +11,13 @@ use Rattle.flow_check.specs.declared.bounds.Bounds.{Bounds}
 use Rattle.flow_check.specs.declared.fault.CheckFault.{CheckFault}
 use Rattle.flow_check.specs.declared.kind.TextKind.{TextKind}
 use Rattle.flow_check.specs.declared.kind.TextKind.TheVariants.{Certificate}
+use Rattle.flow_requests.specs.declared.CheckOutput.{CheckOutput}
+use Rattle.flow_requests.specs.declared.CheckOutput.TheVariants.{Proved, Report, Sequence}
 use Rattle.flow_requests.specs.declared.CheckRequest.{CheckRequest}
 use Rattle.flow_commands.specs.Answer.{Answer}
+use Rattle.flow_commands.specs.Block.{Origin}
 use Rattle.flow_commands.specs.Printed.{bounds_line, optimal_line, sequence_lines}
+use Rattle.flow_commands.specs.Report.{report_lines}
 use Rattle.flow_commands.specs.Runs.{SinkRun, Took}
 use Rattle.flow_commands.specs.declared.fault.CommandFault.{CommandFault}
 use Rattle.flow_commands.specs.declared.fault.CommandFault.TheVariants as command
@@ -23,9 +27,13 @@ abbrev pub proved_line : Bounds → List ℕ
 proved_line bounds =
     cond (nat_eq bounds.lower bounds.upper) (optimal_line bounds.lower) (bounds_line bounds.lower bounds.upper)
 
--- the text that is printed: a sequence and its makespan, where the sequence is asked for; else the line of the bounds
-abbrev pub checked_text : Bool → Shop → Bounds → List ℕ → List ℕ
-checked_text sequence shop bounds jobs = cond sequence (sequence_lines shop jobs) (proved_line bounds)
+-- what is printed, of a block and the bytes of a lawful text: the line of the bounds; or the sequence and its makespan;
+-- or that line and a report
+abbrev pub printed_text : CheckOutput → Origin → TextKind → List ℕ → Bounds → List ℕ → List ℕ
+printed_text Proved origin kind bytes bounds jobs = proved_line bounds
+printed_text Sequence origin kind bytes bounds jobs = sequence_lines origin.block.instance jobs
+printed_text Report origin kind bytes bounds jobs =
+    proved_line bounds ++ report_lines origin kind bytes
 
 -- the kind as which the bytes are read: a certificate, where two-ended certificates are not accepted
 abbrev pub IsTakenAs : Bool → List ℕ → TextKind → Type 0
@@ -53,19 +61,19 @@ RefusesText kind shop bytes fault =
     × ((bounds : Bounds) (jobs : List ℕ) → ¬ GivesAs kind shop bytes bounds jobs)
     × (fault ≡ command.Certificate first)
 
--- what `check` answers for bytes that are read as a text of a kind: what is printed of the bounds and the sequence that
--- a lawful text gives, where the bounds suffice
-abbrev pub AnswersAs : TextKind → CheckRequest → Shop → List ℕ → Answer → Type 0
-AnswersAs kind request shop bytes (Ok text) =
-    (bounds : Bounds) × (jobs : List ℕ) × GivesAs kind shop bytes bounds jobs
-    × SufficesFor request bounds × (text ≡ checked_text request.sequence shop bounds jobs)
-AnswersAs kind request shop bytes (Err fault) =
-    RefusesText kind shop bytes fault ⊎ RefusesBounds kind request shop bytes fault
+-- what `check` answers for a block and bytes that are read as a text of a kind: what is printed of a lawful text, where
+-- its bounds suffice
+abbrev pub AnswersAs : TextKind → CheckRequest → Origin → List ℕ → Answer → Type 0
+AnswersAs kind request origin bytes (Ok text) =
+    (bounds : Bounds) × (jobs : List ℕ) × GivesAs kind origin.block.instance bytes bounds jobs
+    × SufficesFor request bounds × (text ≡ printed_text request.output origin kind bytes bounds jobs)
+AnswersAs kind request origin bytes (Err fault) =
+    RefusesText kind origin.block.instance bytes fault ⊎ RefusesBounds kind request origin.block.instance bytes fault
 
--- what `check` answers for the bytes of a text
-abbrev pub AnswersCheck : CheckRequest → Shop → List ℕ → Answer → Type 0
-AnswersCheck request shop bytes answer =
-    (kind : TextKind) × IsTakenAs request.bounds bytes kind × AnswersAs kind request shop bytes answer
+-- what `check` answers for a block and the bytes of a text
+abbrev pub AnswersCheck : CheckRequest → Origin → List ℕ → Answer → Type 0
+AnswersCheck request origin bytes answer =
+    (kind : TextKind) × IsTakenAs request.bounds bytes kind × AnswersAs kind request origin bytes answer
 
 -- what a text of a kind proves of the shop: its bounds are proved, and those of a certificate are one number
 abbrev pub ProvesAs : TextKind → Shop → Bounds → Type 0
@@ -73,21 +81,25 @@ ProvesAs kind shop bounds = AreProved shop bounds × (kind ≡ Certificate → b
 
 -- what is answered is true of the shop: the bounds that are printed are proved by a text of the kind of the bytes, and
 -- suffice; or the sequence has the upper one
-abbrev pub SaysProved : CheckRequest → Shop → List ℕ → Answer → Type 0
-SaysProved request shop bytes (Ok text) =
+abbrev pub SaysProved : CheckRequest → Origin → List ℕ → Answer → Type 0
+SaysProved request origin bytes (Ok text) =
     (kind : TextKind) × IsTakenAs request.bounds bytes kind
-    × (bounds : Bounds) × ProvesAs kind shop bounds × SufficesFor request bounds
-    × (jobs : List ℕ) × IsSequence shop.jobs jobs × (span shop jobs ≡ bounds.upper)
-    × (text ≡ checked_text request.sequence shop bounds jobs)
-SaysProved request shop bytes (Err fault) = ⊥
+    × (bounds : Bounds) × ProvesAs kind origin.block.instance bounds × SufficesFor request bounds
+    × (jobs : List ℕ) × IsSequence origin.block.instance.jobs jobs
+    × (span origin.block.instance jobs ≡ bounds.upper)
+    × (text ≡ printed_text request.output origin kind bytes bounds jobs)
+SaysProved request origin bytes (Err fault) = ⊥
 
 -- a sink took the line of the least makespan of a shop
 abbrev pub WroteLeast : {K : Type 0} → Shop → SinkRun K → Type 0
 WroteLeast shop sink = (value : ℕ) × IsLeastMakespan shop value × Took (optimal_line value) sink
 
--- a sink took the line of the least makespan of a shop; or, where the sequence is asked for, one that has it
-abbrev pub WroteOptimum : {K : Type 0} → Bool → Shop → SinkRun K → Type 0
-WroteOptimum false shop sink = WroteLeast shop sink
-WroteOptimum true shop sink =
+-- a sink took the line of the least makespan of a shop, alone or before a report; or, where the sequence is asked for,
+-- one that has it
+abbrev pub WroteOptimum : {K : Type 0} → CheckOutput → Shop → SinkRun K → Type 0
+WroteOptimum Proved shop sink = WroteLeast shop sink
+WroteOptimum Sequence shop sink =
     (jobs : List ℕ) × IsSequence shop.jobs jobs × IsLeastMakespan shop (span shop jobs)
     × Took (sequence_lines shop jobs) sink
+WroteOptimum Report shop sink =
+    (value : ℕ) × IsLeastMakespan shop value × (report : List ℕ) × Took (optimal_line value ++ report) sink

@@ -1,28 +1,21 @@
 -- What `improve` answers.
-use Rattle.std.specs.Prelude.{◌≡◌, ℕ, ◌-◌, ◌≤◌, nat_le, List, [], ◌∷◌, Option, Some, None, Ok, Err}
-use Rattle.std.specs.Int.{is_in_range}
+use Rattle.std.specs.Prelude.{◌≡◌, ℕ, ◌≤◌, List, Option, Some, None, Ok, Err}
+use Rattle.std.specs.Option.{option_map}
 use Rattle.flow_core.specs.Shop.{Shop}
-use Rattle.flow_core.specs.Generator.{modulus}
-use Rattle.flow_core.specs.Limits.{most_rounds, most_width, most_work}
 use Rattle.flow_core.specs.Paths.{span}
-use Rattle.flow_core.specs.Refusals.{fault_unless, first_fault}
 use Rattle.flow_core.specs.Sequences.{IsSequence}
+use Rattle.flow_improve.specs.Effort.{effort_fault}
 use Rattle.flow_requests.specs.declared.ImproveRequest.{ImproveRequest}
 use Rattle.flow_commands.specs.Answer.{Answer}
 use Rattle.flow_commands.specs.Printed.{sequence_lines}
 use Rattle.flow_commands.specs.Start.{StartsFrom}
 use Rattle.flow_commands.specs.declared.fault.CommandFault.{CommandFault}
 use Rattle.flow_commands.specs.declared.fault.CommandFault.TheVariants.{Improve}
-use Rattle.flow_commands.specs.declared.fault.ImproveFault.TheVariants.{Rounds, Seed, Width, Work}
 
 -- why `improve` refuses its numbers, if it does
 abbrev pub improve_fault : ImproveRequest → Option CommandFault
-improve_fault request = first_fault (
-    fault_unless (nat_le request.width most_width) (Improve Width)
-    ∷ fault_unless (nat_le request.rounds most_rounds) (Improve Rounds)
-    ∷ fault_unless (is_in_range 1 (modulus - 1) request.seed) (Improve Seed)
-    ∷ fault_unless (nat_le request.work most_work) (Improve Work)
-    ∷ [])
+improve_fault request =
+    option_map Improve (effort_fault request.width request.rounds request.seed request.work)
 
 -- a sequence whose makespan is at most that of the one to start from
 abbrev pub IsImproved : Shop → Option (List ℕ) → List ℕ → Type 0

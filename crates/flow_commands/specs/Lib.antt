@@ -2,10 +2,13 @@ pub mod Answer
 pub mod Block
 pub mod Certify
 pub mod Check
+pub mod Files
 pub mod Generate
 pub mod Improve
 pub mod Neh
 pub mod Printed
+pub mod Report
+pub mod Request
 pub mod Runs
 pub mod Schedule
 pub mod Solve

@@ -4,6 +4,10 @@ use Rattle.std.specs.List.{flat_map}
 use Rattle.flow_core.specs.Shop.{Shop}
 use Rattle.flow_core.specs.Paths.{span}
 
+-- a line of some words and a number
+abbrev pub value_line : List ℕ → ℕ → List ℕ
+value_line words value = words ++ decimal value ++ codes "\n"
+
 -- a makespan's line
 abbrev pub makespan_line : ℕ → List ℕ
 makespan_line value = codes "makespan " ++ decimal value ++ codes "\n"

@@ -1,68 +1,108 @@
--- What a run of a command does with its sources and its sink.
-use Rattle.std.specs.Prelude.{◌≡◌, ℕ, ◌≤◌, ◌⊎◌, Bool, true, List, length, Option, Some, None, unwrap_or, Ok, Err}
+-- What a run of a command comes to: what it reads and what it writes, how it ends, and which device refused.
+use Rattle.std.specs.Prelude.{◌≡◌, ◌↔◌, ◌⊎◌, ◌≤◌, ℕ, Bool, true, List, length, Option, Some, None, unwrap_or}
+use Rattle.std.specs.Prelude.{Result, Ok, Err, IfSome, OnOk, IfErr, IsErrOf}
 use Rattle.std.specs.Io.KnownBytes.{Appends}
 use Rattle.flow_core.specs.Shop.{Shop}
-use Rattle.flow_core.specs.Bytes.{AddsProperPrefix, Grows, GrowsWithin, GrowsBeyond}
-use Rattle.flow_core.specs.Limits.{most_text}
-use Rattle.flow_core.specs.declared.text.block.Block.{Block}
+use Rattle.flow_core.specs.Bytes.{AddsProperPrefix, Grows}
+use Rattle.flow_text.specs.declared.bytes.device.Sink as sinks
+use Rattle.flow_text.specs.declared.bytes.device.Source as sources
 use Rattle.flow_core.specs.declared.bytes.fault.ReadFault.TheVariants as read
 use Rattle.flow_core.specs.declared.bytes.fault.WriteFault.TheVariants as write
+use Rattle.flow_commands.specs.Answer.{Answer}
+use Rattle.flow_commands.specs.Block.{IsPicked, Origin, Picks}
+use Rattle.flow_commands.specs.Files.{IsWithin, most_bytes}
 use Rattle.flow_commands.specs.declared.fault.CommandFault.{CommandFault}
 use Rattle.flow_commands.specs.declared.fault.CommandFault.TheVariants as command
-use Rattle.flow_commands.specs.Answer.{Answer}
-use Rattle.flow_commands.specs.Block.{AnswersFor, Picks}
-use Rattle.flow_commands.specs.Start.{FromText}
+use Rattle.flow_commands.specs.declared.files.FileKind.{FileKind}
+use Rattle.flow_commands.specs.declared.files.FileKind.TheVariants.{Text}
 
--- a source before and after a run; it shows the bytes that it has given, and whether it has ended
+-- a source before and after a run; it shows the bytes that it has given, whether it has ended, and whether it has
+-- refused
 pub record SourceRun (S : Type 0) : Type 0 where
   pub given : S → Option (List ℕ)
   pub has_ended : S → Bool
+  pub has_failed : S → Bool
   pub before : S
   pub after : S
 
--- a sink before and after a run; it shows the bytes that it has taken
+-- a sink before and after a run; it shows the bytes that it has taken, and whether it has refused
 pub record SinkRun (K : Type 0) : Type 0 where
   pub taken : K → Option (List ℕ)
+  pub has_failed : K → Bool
   pub before : K
   pub after : K
 
--- the run of a source, by what it shows
-abbrev pub source_run : {S : Type 0} → (S → Option (List ℕ)) → (S → Bool) → S → S → SourceRun S
-source_run given has_ended before after =
-    record { given = given; has_ended = has_ended; before = before; after = after }
+-- the sources and the sink of a run: a text, a second file where there is one, and what is written
+pub record Run (S T K : Type 0) : Type 0 where
+  pub text : SourceRun S
+  pub second : Option (SourceRun T)
+  pub sink : SinkRun K
 
--- the run of a sink, by what it shows
-abbrev pub sink_run : {K : Type 0} → (K → Option (List ℕ)) → K → K → SinkRun K
-sink_run taken before after = record { taken = taken; before = before; after = after }
+-- the run of a source
+abbrev pub source_run : {S : Type 0} → sources.Ghosts S → S → S → SourceRun S
+source_run shows before after = record {
+  given = shows.given;
+  has_ended = shows.has_ended;
+  has_failed = shows.has_failed;
+  before = before;
+  after = after;
+}
 
--- the run of a source that may be left out, from what stands in its place before and after it
-abbrev pub start_run :
-    {S : Type 0} → (S → Option (List ℕ)) → (S → Bool) → Option S → Option S → Option (SourceRun S)
-start_run given has_ended None after = None
-start_run given has_ended (Some before) after = Some (source_run given has_ended before (unwrap_or after before))
+-- the run of a sink
+abbrev pub sink_run : {K : Type 0} → sinks.Ghosts K → K → K → SinkRun K
+sink_run shows before after =
+    record { taken = shows.taken; has_failed = shows.has_failed; before = before; after = after }
 
--- there is such a source, and it has refused to be read
-abbrev pub HasFailed : {S : Type 0} → (S → Bool) → Option (SourceRun S) → Type 0
-HasFailed has_failed None = ⊥
-HasFailed has_failed (Some source) = has_failed source.after ≡ true
+-- the run of a second file, by what stands in its place before and after
+abbrev pub second_run : {T : Type 0} → sources.Ghosts T → Option T → Option T → Option (SourceRun T)
+second_run shows None after = None
+second_run shows (Some before) after = Some (source_run shows before (unwrap_or after before))
 
--- a source was left unread
-abbrev pub IsUnread : {S : Type 0} → SourceRun S → Type 0
-IsUnread source = source.after ≡ source.before
+-- a run over a text, and a second file where there is one
+abbrev pub run_of : {S : Type 0} → {T : Type 0} → {K : Type 0} → SourceRun S → Option (SourceRun T) → SinkRun K →
+    Run S T K
+run_of text second sink = record { text = text; second = second; sink = sink }
 
--- a sink was left unwritten
-abbrev pub IsUnwritten : {K : Type 0} → SinkRun K → Type 0
-IsUnwritten sink = sink.after ≡ sink.before
+-- a run over a text alone
+abbrev pub run_alone : {S : Type 0} → {K : Type 0} → SourceRun S → SinkRun K → Run S (Unit {0}) K
+run_alone text sink = run_of text None sink
+
+-- a source gave these bytes
+abbrev pub Gave : {S : Type 0} → List ℕ → SourceRun S → Type 0
+Gave bytes source = Appends (source.given source.before) (source.given source.after) bytes
+
+-- a source gave no more bytes than the limit of a kind of file
+abbrev pub GaveWithin : {S : Type 0} → FileKind → SourceRun S → Type 0
+GaveWithin kind source = (bytes : List ℕ) × (length bytes ≤ most_bytes kind) × Gave bytes source
+
+-- a source gave bytes that a file of a kind may not have
+abbrev pub GaveBeyond : {S : Type 0} → FileKind → SourceRun S → Type 0
+GaveBeyond kind source = (bytes : List ℕ) × (¬ IsWithin kind bytes) × Gave bytes source
 
 -- a source takes back no byte
 abbrev pub Stands : {S : Type 0} → SourceRun S → Type 0
 Stands source = Grows (source.given source.before) (source.given source.after)
 
--- a source gave at most so many bytes and then its end, and this holds of the bytes
-abbrev pub Came : {S : Type 0} → ℕ → (List ℕ → Type 0) → SourceRun S → Type 0
-Came limit Holds source =
-    (bytes : List ℕ) × (length bytes ≤ limit) × Appends (source.given source.before) (source.given source.after) bytes
-    × (source.has_ended source.after ≡ true) × Holds bytes
+-- a source has refused
+abbrev pub HasFailed : {S : Type 0} → SourceRun S → Type 0
+HasFailed source = source.has_failed source.after ≡ true
+
+-- there is a second file, and it has refused
+abbrev pub SecondFailed : {S : Type 0} → Option (SourceRun S) → Type 0
+SecondFailed None = ⊥
+SecondFailed (Some second) = HasFailed second
+
+-- a second file was left unread
+abbrev pub IsUnread : {S : Type 0} → Option (SourceRun S) → Type 0
+IsUnread second = IfSome second (λ file. file.after ≡ file.before)
+
+-- a sink was left unwritten
+abbrev pub IsUnwritten : {K : Type 0} → SinkRun K → Type 0
+IsUnwritten sink = sink.after ≡ sink.before
+
+-- a sink has refused
+abbrev pub SinkFailed : {K : Type 0} → SinkRun K → Type 0
+SinkFailed sink = sink.has_failed sink.after ≡ true
 
 -- a sink took this text
 abbrev pub Took : {K : Type 0} → List ℕ → SinkRun K → Type 0
@@ -75,72 +115,88 @@ Wrote Answers sink = (text : List ℕ) × Answers (Ok text) × Took text sink
 -- a sink took a proper prefix of the text of an answer
 abbrev pub WrotePart : {K : Type 0} → (Answer → Type 0) → SinkRun K → Type 0
 WrotePart Answers sink =
-    (text : List ℕ) × Answers (Ok text) × AddsProperPrefix (sink.taken sink.before) (sink.taken sink.after) text
+    (text : List ℕ) × Answers (Ok text)
+    × AddsProperPrefix (sink.taken sink.before) (sink.taken sink.after) text
 
--- why a run stopped at a source: memory ran out, while the source had given no more bytes than the limit; a refusal of
--- the source; more bytes than the limit; or what all its bytes say
-abbrev pub StopsAt : {S : Type 0} → ℕ → (List ℕ → CommandFault → Type 0) → SourceRun S → CommandFault → Type 0
-StopsAt limit Refuses source fault =
-    ((fault ≡ command.Memory) × GrowsWithin (source.given source.before) (source.given source.after) limit)
-    ⊎ (fault ≡ command.Read read.Device)
-    ⊎ ((fault ≡ command.Read read.TooLong)
-    × GrowsBeyond (source.given source.before) (source.given source.after) limit)
-    ⊎ Came limit (λ bytes. Refuses bytes fault) source
-
--- a sink took the answer for all bytes of a source
-abbrev pub WroteFor :
-    {S : Type 0} → {K : Type 0} → ℕ → (List ℕ → Answer → Type 0) → SourceRun S → SinkRun K → Type 0
-WroteFor limit Answers source sink = Came limit (λ bytes. Wrote (Answers bytes) sink) source
-
--- how a refused run of these ends: the sink was not called, or it refused and took a proper prefix of the text
-abbrev pub Ends :
-    {S : Type 0} → {K : Type 0} → ℕ → (List ℕ → Answer → Type 0) → SourceRun S → SinkRun K → CommandFault → Type 0
-Ends limit Answers source sink fault =
-    (IsUnwritten sink × StopsAt limit (λ bytes refusal. Answers bytes (Err refusal)) source fault)
-    ⊎ ((fault ≡ command.Write write.Device) × Came limit (λ bytes. WrotePart (Answers bytes) sink) source)
-
--- how a refused run ends that reads nothing
+-- how a refused command ended that read nothing: nothing was written, since memory ran out or by its answer; or the
+-- sink refused, and took a part
 abbrev pub EndsAlone : {K : Type 0} → (Answer → Type 0) → SinkRun K → CommandFault → Type 0
 EndsAlone Answers sink fault =
     (IsUnwritten sink × ((fault ≡ command.Memory) ⊎ Answers (Err fault)))
     ⊎ ((fault ≡ command.Write write.Device) × WrotePart Answers sink)
 
+-- what a command does that reads nothing: it writes its answer, or ends as a refused one; and it says that the sink
+-- refused where that is so, and there alone
+pub record Responds {K : Type 0} (Answers : Answer → Type 0) (sink : SinkRun K)
+    (result : Result (Unit {0}) CommandFault) : Type 0 where
+  pub written : OnOk result (Wrote Answers sink)
+  pub ended : IfErr result (EndsAlone Answers sink)
+  pub write_device : IsErrOf result (command.Write write.Device) ↔ SinkFailed sink
+  pub reads_nothing : IsErrOf result (command.Read read.Device) → ⊥
+
+-- a source gave all bytes of a file of a kind and then its end, and this holds of the bytes
+abbrev pub Came : {S : Type 0} → FileKind → (List ℕ → Type 0) → SourceRun S → Type 0
+Came kind Holds source =
+    (bytes : List ℕ) × IsWithin kind bytes × Gave bytes source × (source.has_ended source.after ≡ true)
+    × Holds bytes
+
+-- why a run stopped at a file: memory ran out, while its source had given no more than the file may have; the source
+-- refused; it gave more; or what all bytes say
+abbrev pub StopsAt :
+    {S : Type 0} → FileKind → (List ℕ → CommandFault → Type 0) → SourceRun S → CommandFault → Type 0
+StopsAt kind Refuses source fault =
+    ((fault ≡ command.Memory) × GaveWithin kind source)
+    ⊎ (fault ≡ command.Read read.Device)
+    ⊎ ((fault ≡ command.Read read.TooLong) × GaveBeyond kind source)
+    ⊎ Came kind (λ bytes. Refuses bytes fault) source
+
+-- a second file of a kind came, where there is one, and this holds of its bytes
+abbrev pub CameSecond : {T : Type 0} → FileKind → (Option (List ℕ) → Type 0) → Option (SourceRun T) → Type 0
+CameSecond kind Holds None = Holds None
+CameSecond kind Holds (Some second) = Came kind (λ bytes. Holds (Some bytes)) second
+
+-- why a run stopped whose text came: at the second file, where there is one; else memory ran out, or by the answer
+abbrev pub StopsAtSecond :
+    {T : Type 0} → FileKind → (Option (List ℕ) → CommandFault → Type 0) → Option (SourceRun T) → CommandFault → Type 0
+StopsAtSecond kind Refuses None fault = (fault ≡ command.Memory) ⊎ Refuses None fault
+StopsAtSecond kind Refuses (Some second) fault = StopsAt kind (λ bytes. Refuses (Some bytes)) second fault
+
+-- a text came, and this holds of the block that an index names
+abbrev pub CameOf : {S : Type 0} → ℕ → (Origin → Type 0) → SourceRun S → Type 0
+CameOf index Holds text = Came Text (λ bytes. (origin : Origin) × IsPicked bytes index origin × Holds origin) text
+
 -- a text came, and this holds of the shop of the block that an index names
 abbrev pub CameFor : {S : Type 0} → ℕ → (Shop → Type 0) → SourceRun S → Type 0
-CameFor index Holds text =
-    Came most_text (λ bytes. (block : Block) × Picks bytes index (Ok block) × Holds block.instance) text
+CameFor index Holds = CameOf index (λ origin. Holds origin.block.instance)
 
--- a text came, then a second file within its limit, and a sink took the answer for a shop of the text and those bytes
-abbrev pub WroteBoth :
-    {S : Type 0} → {T : Type 0} → {K : Type 0} → ℕ → (Shop → List ℕ → Answer → Type 0) → ℕ
-    → SourceRun S → SourceRun T → SinkRun K → Type 0
-WroteBoth limit Answers index text second sink =
-    CameFor index (λ shop. WroteFor limit (Answers shop) second sink) text
+-- the text and the second file of a run came, and this holds of the block and of the bytes of that file
+abbrev pub CameBoth :
+    {S : Type 0} → {T : Type 0} → {K : Type 0} → FileKind → ℕ → (Origin → Option (List ℕ) → Type 0) → Run S T K
+    → Type 0
+CameBoth kind index Holds run = CameOf index (λ origin. CameSecond kind (Holds origin) run.second) run.text
 
--- how a refused run of these ends: the second file was left unread, and the text or the index is at fault; or the text
--- came, and the second file or the sink is at fault
-abbrev pub EndsBoth :
-    {S : Type 0} → {T : Type 0} → {K : Type 0} → ℕ → (Shop → List ℕ → Answer → Type 0) → ℕ
-    → SourceRun S → SourceRun T → SinkRun K → CommandFault → Type 0
-EndsBoth limit Answers index text second sink fault =
-    (IsUnwritten sink × IsUnread second
-    × StopsAt most_text (λ bytes refusal. Picks bytes index (Err refusal)) text fault)
-    ⊎ CameFor index (λ shop. Ends limit (Answers shop) second sink fault) text
+-- how a refused run ends: at the text or its index, before the second file is read; at the second file, or by the
+-- answer, before a byte is written; or the sink refused, and took a part
+abbrev pub Ends :
+    {S : Type 0} → {T : Type 0} → {K : Type 0} → FileKind → (Origin → Option (List ℕ) → Answer → Type 0) → ℕ
+    → Run S T K → CommandFault → Type 0
+Ends kind Answers index run fault =
+    (StopsAt Text (λ bytes refusal. Picks bytes index (Err refusal)) run.text fault
+    × IsUnread run.second × IsUnwritten run.sink)
+    ⊎ CameOf index (λ origin.
+    StopsAtSecond kind (λ second refusal. Answers origin second (Err refusal)) run.second fault
+    × IsUnwritten run.sink) run.text
+    ⊎ ((fault ≡ command.Write write.Device)
+    × CameBoth kind index (λ origin second. WrotePart (Answers origin second) run.sink) run)
 
--- a sink took the answer for a shop of a text, and for the sequence of a start text where there is one
-abbrev pub WroteFrom :
-    {S : Type 0} → {T : Type 0} → {K : Type 0} → (Shop → Option (List ℕ) → Answer → Type 0) → ℕ
-    → SourceRun S → Option (SourceRun T) → SinkRun K → Type 0
-WroteFrom Answers index text None sink =
-    WroteFor most_text (AnswersFor index (λ block. Answers block.instance None)) text sink
-WroteFrom Answers index text (Some start) sink =
-    WroteBoth most_text (FromText (λ shop jobs. Answers shop (Some jobs))) index text start sink
-
--- how a refused run of these ends
-abbrev pub EndsFrom :
-    {S : Type 0} → {T : Type 0} → {K : Type 0} → (Shop → Option (List ℕ) → Answer → Type 0) → ℕ
-    → SourceRun S → Option (SourceRun T) → SinkRun K → CommandFault → Type 0
-EndsFrom Answers index text None sink fault =
-    Ends most_text (AnswersFor index (λ block. Answers block.instance None)) text sink fault
-EndsFrom Answers index text (Some start) sink fault =
-    EndsBoth most_text (FromText (λ shop jobs. Answers shop (Some jobs))) index text start sink fault
+-- what a run comes to: it writes the answer for the block that an index names and for the second file, of this kind, or
+-- ends as a refused one; it says that a source or the sink refused where that is so, and there alone; and no source
+-- takes back a byte
+pub record Ran {S T K : Type 0} (kind : FileKind) (Answers : Origin → Option (List ℕ) → Answer → Type 0)
+    (index : ℕ) (run : Run S T K) (result : Result (Unit {0}) CommandFault) : Type 0 where
+  pub written : OnOk result (CameBoth kind index (λ origin second. Wrote (Answers origin second) run.sink) run)
+  pub ended : IfErr result (Ends kind Answers index run)
+  pub read_device : IsErrOf result (command.Read read.Device) ↔ (HasFailed run.text ⊎ SecondFailed run.second)
+  pub write_device : IsErrOf result (command.Write write.Device) ↔ SinkFailed run.sink
+  pub stands : Stands run.text
+  pub second_stands : IfSome run.second Stands

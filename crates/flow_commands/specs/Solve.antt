@@ -17,7 +17,7 @@ use Rattle.flow_commands.specs.Start.{StartsFrom}
 use Rattle.flow_commands.specs.declared.fault.CommandFault.TheVariants.{Choice, Plan, Run}
 
 -- what `solve` answers for a plan: its certificate, where each tree is within the budget; or the first prefix whose
--- tree is not; or that a worker could not be started
+-- tree is not; or that a worker could not be started, of which nothing more is said
 abbrev pub AnswersRun : Planned → Answer → Type 0
 AnswersRun plan (Ok text) = (first_over_budget plan ≡ None) × (text ≡ certificate_of plan)
 AnswersRun plan (Err fault) =

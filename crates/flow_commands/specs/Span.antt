@@ -4,7 +4,6 @@ use Rattle.flow_core.specs.Shop.{Shop}
 use Rattle.flow_core.specs.Paths.{span}
 use Rattle.flow_core.specs.SequenceFaults.{sequence_fault}
 use Rattle.flow_commands.specs.Answer.{Answer}
-use Rattle.flow_commands.specs.Block.{AnswersFor}
 use Rattle.flow_commands.specs.Printed.{makespan_line}
 use Rattle.flow_commands.specs.declared.fault.CommandFault.TheVariants.{Sequence}
 
@@ -14,6 +13,6 @@ span_answer shop jobs =
     elim (sequence_fault shop.jobs jobs)
     [ None ↦ Ok (makespan_line (span shop jobs)) | Some fault ↦ Err (Sequence fault) ]
 
--- what `span` answers for a text
-abbrev pub AnswersSpan : ℕ → List ℕ → List ℕ → Answer → Type 0
-AnswersSpan index jobs = AnswersFor index (λ block answer. answer ≡ span_answer block.instance jobs)
+-- what `span` answers for a shop
+abbrev pub AnswersSpan : List ℕ → Shop → Answer → Type 0
+AnswersSpan jobs shop answer = answer ≡ span_answer shop jobs

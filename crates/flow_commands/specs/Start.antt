@@ -9,11 +9,13 @@ use Rattle.flow_core.specs.declared.text.start.Claim.{Claim}
 use Rattle.flow_core.specs.declared.text.start.StartFault.TheVariants.{Line}
 use Rattle.flow_bound.specs.Neh.{IsNeh}
 use Rattle.flow_commands.specs.Answer.{Answer}
+use Rattle.flow_commands.specs.Block.{Origin}
 use Rattle.flow_commands.specs.declared.fault.CommandFault.{CommandFault}
 use Rattle.flow_commands.specs.declared.fault.CommandFault.TheVariants.{Sequence, Start}
 
 -- what a start text gives for a shop: its jobs, which are a sequence with the makespan that they are said to have; or
 -- the first fault: of the text; of its jobs; or the line of the claim, where their makespan is another one
+-- (law: each_start_gives_one)
 abbrev pub GivesStart : Shop → List ℕ → Result (List ℕ) CommandFault → Type 0
 GivesStart shop text (Ok jobs) =
     (claim : Option Claim) × IsStart text (record { jobs = jobs; claim = claim }) × IsSequence shop.jobs jobs
@@ -27,7 +29,7 @@ GivesStart shop text (Err (Start fault)) =
     × IsSequence shop.jobs jobs × (claim.makespan ≢ span shop jobs) × (fault ≡ Line claim.line))
 GivesStart shop text (Err fault) = ⊥
 
--- for each shop, each text gives one sequence as a start, or one fault
+-- for each shop, each text gives one sequence as a start, or one fault (law: each_start_gives_one)
 abbrev pub EachStartGivesOne : Type 0
 EachStartGivesOne =
     (shop : Shop) (text : List ℕ) → (given : Result (List ℕ) CommandFault) × GivesStart shop text given
@@ -43,3 +45,10 @@ abbrev pub FromText : (Shop → List ℕ → Answer → Type 0) → Shop → Lis
 FromText Answers shop text answer =
     ((jobs : List ℕ) × GivesStart shop text (Ok jobs) × Answers shop jobs answer)
     ⊎ ((fault : CommandFault) × GivesStart shop text (Err fault) × (answer ≡ Err fault))
+
+-- what is answered for the shop of a block and the sequence of a start text, or without one where there is no such text
+abbrev pub FromStart :
+    (Shop → Option (List ℕ) → Answer → Type 0) → Origin → Option (List ℕ) → Answer → Type 0
+FromStart Answers origin None answer = Answers origin.block.instance None answer
+FromStart Answers origin (Some text) answer =
+    FromText (λ shop jobs. Answers shop (Some jobs)) origin.block.instance text answer

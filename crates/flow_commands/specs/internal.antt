@@ -1,1 +1,4 @@
+pub mod Devices
 pub mod Given
+pub mod Picked
+pub mod Reading

@@ -1,34 +1,47 @@
 //! The block of a benchmark text that an index names.
 
-ghost use Rattle.std.specs.Prelude.{◌≡◌, ◌↔◌, false, true, IfOk, IfErr, IsErrOf, Ok, Err};
-ghost use Rattle.flow_core.specs.Bytes.{Grows};
-ghost use Rattle.flow_core.specs.declared.bytes.fault.ReadFault.TheVariants.{Device};
-ghost use Rattle.flow_commands.specs.Block.{Picks};
-ghost use Rattle.flow_commands.specs.Runs.{Came, StopsAt, source_run};
-ghost use Rattle.flow_core.specs.Limits.{most_text};
+ghost use Rattle.std.specs.Prelude.{◌≡◌, ◌⊎◌, IfOk, IfErr, Err};
+ghost use Rattle.flow_commands.specs.internal.Devices.{NamesNoDevice};
+ghost use Rattle.flow_commands.specs.Block.{IsPicked, Picks};
+ghost use Rattle.flow_commands.specs.internal.Picked.{origin_of};
 
 use crate::fault::CommandFault;
-use flow_core::{Block, MAX_TEXT, Source, read_all, read_blocks};
+use flow_core::{Block, read_blocks};
 use std::alloc::Global;
 
-/// Reads a whole text, and returns the block that the index names. Blocks are counted from 1.
-pub(crate) fn read_block<S: Source>(
+/// A block that an index names, and the text that it is from.
+#[derive(Drop)]
+pub(crate) struct PickedBlock {
+    /// The text.
+    pub(crate) text: Vec<u8>,
+    /// Its number in the text, from 1.
+    pub(crate) index: u32,
+    /// How many blocks the text has.
+    pub(crate) count: usize,
+    /// The block.
+    pub(crate) block: Block,
+}
+
+/// The block of a text that the index names. Blocks are counted from 1.
+pub(crate) fn pick_block(
     alloc: Global,
-    file: &mut S,
+    text: Vec<u8>,
     index: u32,
-) -> Result<Block, CommandFault>
-    requires { S.has_failed file.old ≡ false }
-    ensures picked { IfOk result (λ block. Came most_text (λ text. Picks text index (Ok block))
-        (source_run S.given S.has_ended file.old file.new)) }
-    ensures refused { IfErr result (λ fault. StopsAt most_text (λ text refusal. Picks text index (Err refusal))
-        (source_run S.given S.has_ended file.old file.new) fault) }
-    ensures device { IsErrOf result (CommandFault.Read Device) ↔ (S.has_failed file.new ≡ true) }
-    ensures stands { Grows (S.given file.old) (S.given file.new) }
+) -> Result<PickedBlock, CommandFault>
+    ensures picked { IfOk result (λ picked. IsPicked text.items index (origin_of picked)) }
+    ensures refused { IfErr result (λ fault. (fault ≡ CommandFault.Memory) ⊎ Picks text.items index (Err fault)) }
+    ensures device { NamesNoDevice result }
 {
-    let text = read_all(alloc, file, MAX_TEXT)?;
     let mut blocks = read_blocks(alloc, text.as_slice())?;
-    if index == 0 || index as usize > blocks.len() {
+    let count = blocks.len();
+    if index == 0 || index as usize > count {
         return Err(CommandFault::Index);
     }
-    Ok(blocks.swap_remove(index as usize - 1))
+    let block = blocks.swap_remove(index as usize - 1);
+    Ok(PickedBlock {
+        text,
+        index,
+        count,
+        block,
+    })
 }

@@ -1,20 +1,21 @@
 //! The command `certify`.
 
-ghost use Rattle.std.specs.Prelude.{◌≡◌, ◌↔◌, ◌⊎◌, ◌≤◌, ◌<◌, true, false};
-ghost use Rattle.std.specs.Prelude.{None, Some, IfOk, OnOk, IfErr, IfSome, IsErrOf, is_some};
+ghost use Rattle.std.specs.Prelude.{◌≡◌, ◌⊎◌, false, None, Some, Err, IfOk, OnOk, IfErr, IfSome, is_some};
 ghost use Rattle.std.specs.Option.{ForSome};
-ghost use Rattle.flow_core.specs.Bytes.{Grows};
-ghost use Rattle.flow_core.specs.Generator.{modulus};
+ghost use denote.Param.Send.{IsSync};
 ghost use Rattle.flow_core.specs.Sequences.{IsSequence};
-ghost use Rattle.flow_core.specs.declared.bytes.fault.ReadFault.TheVariants as read;
-ghost use Rattle.flow_core.specs.declared.bytes.fault.WriteFault.TheVariants as write;
-ghost use Rattle.flow_commands.specs.Certify.{AnswersCertify, WroteTwoEnded, certify_fault};
-ghost use Rattle.flow_commands.specs.Runs.{CameFor, EndsAlone, EndsFrom, HasFailed, Stands, Wrote, WroteFrom};
-ghost use Rattle.flow_commands.specs.Runs.{sink_run, source_run, start_run};
+ghost use Rattle.flow_check.specs.TwoEnded.{two_ended_text};
+ghost use Rattle.flow_commands.specs.internal.Devices.{NamesNoDevice};
+ghost use Rattle.flow_commands.specs.Certify.{AnswersCertify, Certifies, WroteTwoEnded, certify_fault};
+ghost use Rattle.flow_commands.specs.Runs.{CameFor, Ran, Responds, run_of, second_run, sink_run, source_run};
+ghost use Rattle.flow_commands.specs.Start.{FromStart};
 
+use crate::block::PickedBlock;
+use crate::command::{Command, run_over};
 use crate::fault::CommandFault;
+use crate::files::FileKind;
 use crate::improve::effort_of;
-use crate::start::{read_inputs, start_of};
+use crate::start::{sequence_given, start_of};
 use flow_cert::write_two_ended;
 use flow_certify::certify;
 use flow_check::Bounds;
@@ -28,9 +29,8 @@ use std::thread::Threads;
 /// The effort of a request, where its numbers are within their limits; else the first fault.
 fn tested(request: CertifyRequest) -> Result<Effort, CommandFault>
     ensures accepted { OnOk result (certify_fault request ≡ None) }
-    ensures seed_from { IfOk result (λ effort. 1 ≤ effort.seed) }
-    ensures seed_to { IfOk result (λ effort. effort.seed < modulus) }
     ensures refused { IfErr result (λ fault. certify_fault request ≡ Some fault) }
+    ensures device { NamesNoDevice result }
 {
     let effort = effort_of(request.improve)?;
     if request.directions < 1 || request.directions > MAX_DIRECTIONS {
@@ -42,31 +42,36 @@ fn tested(request: CertifyRequest) -> Result<Effort, CommandFault>
     Ok(effort)
 }
 
-/// Certifies a block from a given sequence, if there is one, and writes the two-ended certificate.
-fn certify_block<R: Threads + Sync, W: Watch, K: Sink>(
-    rt: &R,
+/// Certifies as a request says. The workers search for directions, on threads where they are two or more, and the watch
+/// is told how far the run is.
+#[derive(Drop)]
+pub(crate) struct Certify<'a, R, W> {
+    pub(crate) rt: &'a R,
+    pub(crate) watch: &'a W,
+    pub(crate) request: CertifyRequest,
+}
+
+/// Certifies an instance from a given sequence, if there is one, and writes the two-ended certificate.
+#[inline(never)]
+fn certify_instance<R: Threads + Sync, W: Watch, K: Sink>(
+    command: &Certify<R, W>,
     alloc: Global,
     instance: Instance,
     given: Option<Sequence>,
-    request: CertifyRequest,
-    watch: &W,
     out: &mut K,
 ) -> Result<(), CommandFault>
     requires out_works { K.has_failed out.old ≡ false }
     requires given { IfSome given (IsSequence instance.jobs) }
-    ensures written { OnOk result (Wrote (AnswersCertify request instance given) (sink_run K.taken out.old out.new)) }
-    ensures lawful { OnOk result (WroteTwoEnded instance (sink_run K.taken out.old out.new)) }
-    ensures ended { IfErr result (EndsAlone (AnswersCertify request instance given)
-        (sink_run K.taken out.old out.new)) }
-    ensures write_device { IsErrOf result (CommandFault.Write write.Device) ↔ (K.has_failed out.new ≡ true) }
-    ensures reads_nothing { IsErrOf result (CommandFault.Read read.Device) → ⊥ }
+    ensures { Responds (AnswersCertify command.now.request instance given) (sink_run K.Sink out.old out.new)
+        result }
 {
+    let request = command.request;
     let effort = tested(request)?;
     let start = start_of(alloc, &instance, given)?;
     let workers = Workers {
-        rt,
+        rt: command.rt,
         count: request.workers as usize,
-        watch,
+        watch: command.watch,
     };
     let found = certify(
         alloc,
@@ -90,6 +95,25 @@ fn certify_block<R: Threads + Sync, W: Watch, K: Sink>(
     Ok(())
 }
 
+impl<'a, R: Threads + Sync, W: Watch> Command for Certify<'a, R, W> {
+    // Threads may share what starts them.
+    ghost is_ready = { λ _. IsSync R.row };
+
+    ghost answers = { λ s. FromStart (AnswersCertify s.request) };
+
+    fn respond<K: Sink>(
+        &self,
+        alloc: Global,
+        picked: PickedBlock,
+        second: Option<Vec<u8>>,
+        out: &mut K,
+    ) -> Result<(), CommandFault> {
+        let PickedBlock { block, .. } = picked;
+        let given = sequence_given(alloc, &block.instance, second)?;
+        certify_instance(self, alloc, block.instance, given, out)
+    }
+}
+
 /// Writes a two-ended certificate of the block that an index names: bounds of its least makespan, which are one number
 /// where that was proved. Its sequence is no worse than the one that a start text gives, or, where there is no such
 /// text, than that of Nawaz, Enscore and Ham. The workers search for directions, on threads where they are two or more.
@@ -107,21 +131,13 @@ pub fn run_certify<R: Threads + Sync, S: Source, T: Source, W: Watch, K: Sink>(
     requires file_works { S.has_failed file.old ≡ false }
     requires start_works { ForSome start.old (λ source. T.has_failed source ≡ false) }
     requires out_works { K.has_failed out.old ≡ false }
-    ensures written { OnOk result (WroteFrom (AnswersCertify request) index
-        (source_run S.given S.has_ended file.old file.new)
-        (start_run T.given T.has_ended start.old start.new) (sink_run K.taken out.old out.new)) }
-    ensures lawful { OnOk result (CameFor index (λ shop. WroteTwoEnded shop (sink_run K.taken out.old out.new))
-        (source_run S.given S.has_ended file.old file.new)) }
-    ensures ended { IfErr result (EndsFrom (AnswersCertify request) index
-        (source_run S.given S.has_ended file.old file.new)
-        (start_run T.given T.has_ended start.old start.new) (sink_run K.taken out.old out.new)) }
-    ensures read_device { IsErrOf result (CommandFault.Read read.Device) ↔ ((S.has_failed file.new ≡ true)
-        ⊎ HasFailed T.has_failed (start_run T.given T.has_ended start.old start.new)) }
-    ensures write_device { IsErrOf result (CommandFault.Write write.Device) ↔ (K.has_failed out.new ≡ true) }
-    ensures stands { Grows (S.given file.old) (S.given file.new) }
-    ensures start_stands { IfSome (start_run T.given T.has_ended start.old start.new) Stands }
+    ensures ran { Ran FileKind.Text (FromStart (AnswersCertify request)) index
+        (run_of (source_run S.Source file.old file.new) (second_run T.Source start.old start.new)
+        (sink_run K.Sink out.old out.new)) result }
+    ensures lawful { OnOk result (CameFor index (λ shop. WroteTwoEnded shop (sink_run K.Sink out.old out.new))
+        (source_run S.Source file.old file.new)) }
     ensures start_stays { is_some start.new ≡ is_some start.old }
 {
-    let (block, given) = read_inputs(alloc, file, index, start)?;
-    certify_block(rt, alloc, block.instance, given, request, watch, out)
+    let command = Certify { rt, watch, request };
+    run_over(alloc, file, index, FileKind::Text, start, &command, out)
 }

@@ -1,23 +1,24 @@
 //! The command `check`.
 
-ghost use Rattle.std.specs.Prelude.{◌≡◌, ◌↔◌, ◌⊎◌, false, true};
-ghost use Rattle.std.specs.Prelude.{IfOk, OnOk, IfErr, IsErrOf};
-ghost use Rattle.flow_core.specs.Bytes.{Grows};
+ghost use Rattle.std.specs.Prelude.{◌≡◌, ◌⊎◌, false, true, Some, Ok, Err, IfOk, OnOk, IfErr};
 ghost use Rattle.flow_core.specs.Paths.{span};
-ghost use Rattle.flow_core.specs.Shop.{Shop};
-ghost use Rattle.flow_core.specs.declared.bytes.fault.ReadFault.TheVariants as read;
-ghost use Rattle.flow_core.specs.declared.bytes.fault.WriteFault.TheVariants as write;
-ghost use Rattle.flow_commands.specs.Check.{AnswersCheck, FallsShortOf, IsTakenAs, SaysProved};
-ghost use Rattle.flow_commands.specs.Check.{SufficesFor, WroteLeast, WroteOptimum, checked_text, proved_line};
-ghost use Rattle.flow_commands.specs.Runs.{CameFor, Ends, EndsBoth, WroteBoth, WroteFor, sink_run, source_run};
-ghost use Rattle.flow_core.specs.Limits.{most_certificate};
+ghost use Rattle.flow_requests.specs.declared.CheckOutput.TheVariants.{Proved};
+ghost use Rattle.flow_commands.specs.Answer.{OfBytes};
+ghost use Rattle.flow_commands.specs.internal.Devices.{NamesNoDevice};
+ghost use Rattle.flow_commands.specs.Check.{AnswersCheck, FallsShortOf, IsTakenAs, SaysProved, SufficesFor};
+ghost use Rattle.flow_commands.specs.Check.{WroteLeast, WroteOptimum, printed_text, proved_line};
+ghost use Rattle.flow_commands.specs.internal.Picked.{origin_of};
+ghost use Rattle.flow_commands.specs.Runs.{CameBoth, CameFor, Ran, Wrote, run_of, sink_run, source_run};
 
-use crate::block::read_block;
+use crate::block::PickedBlock;
+use crate::command::{Answering, Printed, run_with};
 use crate::fault::CommandFault;
+use crate::files::{FileKind, bytes_or_none};
 use crate::printed::{bounds_line, optimal_line, sequence_lines};
+use crate::report::report_lines;
 use flow_check::{Bounds, Shown, TextKind, check_text, kind_of};
-use flow_core::{Instance, MAX_CERTIFICATE, Sink, Source, put_all, read_all};
-use flow_requests::CheckRequest;
+use flow_core::{Sink, Source};
+use flow_requests::{CheckOutput, CheckRequest};
 use std::alloc::{AllocError, Global};
 
 /// The line of the bounds that a text proves.
@@ -41,15 +42,29 @@ fn kind_among(bytes: &[u8], bounds: bool) -> TextKind
     }
 }
 
-/// The text that is printed of what a text shows.
-fn printed_text(alloc: Global, shown: &Shown, sequence: bool) -> Result<Vec<u8>, AllocError>
-    ensures { (shop : Shop) → span shop shown.now.sequence ≡ shown.now.bounds.upper →
-        IfOk result (λ text. text.items ≡ checked_text sequence shop shown.now.bounds shown.now.sequence) }
+/// The text that is printed of what a text of a kind shows of a block.
+fn printed_text(
+    alloc: Global,
+    picked: &PickedBlock,
+    kind: TextKind,
+    bytes: &[u8],
+    shown: &Shown,
+    output: CheckOutput,
+) -> Result<Vec<u8>, AllocError>
+    requires { span picked.now.block.instance shown.now.sequence ≡ shown.now.bounds.upper }
+    ensures { IfOk result (λ printed. printed.items
+        ≡ printed_text output (origin_of picked.now) kind bytes.now shown.now.bounds shown.now.sequence) }
 {
-    if sequence {
-        return sequence_lines(alloc, shown.sequence.jobs(), shown.bounds.upper);
+    match output {
+        CheckOutput::Proved => proved_line(alloc, shown.bounds),
+        CheckOutput::Sequence => sequence_lines(alloc, shown.sequence.jobs(), shown.bounds.upper),
+        CheckOutput::Report => {
+            let mut text = proved_line(alloc, shown.bounds)?;
+            let report = report_lines(alloc, picked, kind, bytes)?;
+            text.extend_from_slice(report.as_slice())?;
+            Ok(text)
+        }
     }
-    proved_line(alloc, shown.bounds)
 }
 
 /// Whether bounds fall short of a request.
@@ -60,35 +75,45 @@ fn falls_short(request: CheckRequest, bounds: Bounds) -> bool
     request.optimal && bounds.lower != bounds.upper
 }
 
-/// Reads a certificate of an instance, and writes what it proves, or its sequence; or refuses its bounds.
-fn check_certificate<C: Source, K: Sink>(
+/// What is printed of a certificate of a block; or why it is refused, or its bounds are.
+fn checked_text(
     alloc: Global,
-    instance: &Instance,
-    cert: &mut C,
+    picked: &PickedBlock,
+    bytes: &[u8],
     request: CheckRequest,
-    out: &mut K,
-) -> Result<(), CommandFault>
-    requires cert_works { C.has_failed cert.old ≡ false }
-    requires out_works { K.has_failed out.old ≡ false }
-    ensures written { OnOk result (WroteFor most_certificate (AnswersCheck request instance.now)
-        (source_run C.given C.has_ended cert.old cert.new) (sink_run K.taken out.old out.new)) }
-    ensures ended { IfErr result (Ends most_certificate (AnswersCheck request instance.now)
-        (source_run C.given C.has_ended cert.old cert.new) (sink_run K.taken out.old out.new)) }
-    ensures read_device { IsErrOf result (CommandFault.Read read.Device) ↔ (C.has_failed cert.new ≡ true) }
-    ensures write_device { IsErrOf result (CommandFault.Write write.Device) ↔ (K.has_failed out.new ≡ true) }
-    ensures stands { Grows (C.given cert.old) (C.given cert.new) }
+) -> Result<Vec<u8>, CommandFault>
+    ensures text { IfOk result (λ text. AnswersCheck request (origin_of picked.now) bytes.now (Ok text.items)) }
+    ensures refused { IfErr result (λ fault. (fault ≡ CommandFault.Memory)
+        ⊎ AnswersCheck request (origin_of picked.now) bytes.now (Err fault)) }
+    ensures device { NamesNoDevice result }
 {
-    let given = read_all(alloc, cert, MAX_CERTIFICATE)?;
-    let bytes = given.as_slice();
     let kind = kind_among(bytes, request.bounds);
-    let shown = check_text(alloc, kind, instance, bytes)?;
+    let shown = check_text(alloc, kind, &picked.block.instance, bytes)?;
     if falls_short(request, shown.bounds) {
         let Bounds { lower, upper } = shown.bounds;
         return Err(CommandFault::Bounds { lower, upper });
     }
-    let text = printed_text(alloc, &shown, request.sequence)?;
-    put_all(out, text.as_slice())?;
-    Ok(())
+    Ok(printed_text(alloc, picked, kind, bytes, &shown, request.output)?)
+}
+
+/// Answers what a certificate proves, or its sequence, as a request says.
+#[derive(Drop)]
+pub(crate) struct Check {
+    pub(crate) request: CheckRequest,
+}
+
+impl Answering for Check {
+    ghost answers = { λ s. OfBytes (AnswersCheck s.request) };
+
+    fn answer(
+        &self,
+        alloc: Global,
+        picked: PickedBlock,
+        second: Option<Vec<u8>>,
+    ) -> Result<Vec<u8>, CommandFault> {
+        let bytes = bytes_or_none(alloc, second);
+        checked_text(alloc, &picked, bytes.as_slice(), self.request)
+    }
 }
 
 /// Writes the value that a certificate proves least for the block that an index names.
@@ -102,21 +127,12 @@ pub fn run_check<S: Source, C: Source, K: Sink>(
     requires file_works { S.has_failed file.old ≡ false }
     requires cert_works { C.has_failed cert.old ≡ false }
     requires out_works { K.has_failed out.old ≡ false }
-    ensures written { OnOk result (WroteBoth most_certificate
-        (AnswersCheck (record { bounds = false; sequence = false; optimal = false })) index
-        (source_run S.given S.has_ended file.old file.new) (source_run C.given C.has_ended cert.old cert.new)
-        (sink_run K.taken out.old out.new)) }
-    ensures least { OnOk result (CameFor index (λ shop. WroteLeast shop (sink_run K.taken out.old out.new))
-        (source_run S.given S.has_ended file.old file.new)) }
-    ensures ended { IfErr result (EndsBoth most_certificate
-        (AnswersCheck (record { bounds = false; sequence = false; optimal = false })) index
-        (source_run S.given S.has_ended file.old file.new) (source_run C.given C.has_ended cert.old cert.new)
-        (sink_run K.taken out.old out.new)) }
-    ensures read_device { IsErrOf result (CommandFault.Read read.Device)
-        ↔ ((S.has_failed file.new ≡ true) ⊎ (C.has_failed cert.new ≡ true)) }
-    ensures write_device { IsErrOf result (CommandFault.Write write.Device) ↔ (K.has_failed out.new ≡ true) }
-    ensures stands { Grows (S.given file.old) (S.given file.new) }
-    ensures cert_stands { Grows (C.given cert.old) (C.given cert.new) }
+    ensures ran { Ran FileKind.Certificate
+        (OfBytes (AnswersCheck (record { bounds = false; output = Proved; optimal = false }))) index
+        (run_of (source_run S.Source file.old file.new) (Some (source_run C.Source cert.old cert.new))
+        (sink_run K.Sink out.old out.new)) result }
+    ensures least { OnOk result (CameFor index (λ shop. WroteLeast shop (sink_run K.Sink out.old out.new))
+        (source_run S.Source file.old file.new)) }
 {
     run_check_as(
         alloc,
@@ -125,7 +141,7 @@ pub fn run_check<S: Source, C: Source, K: Sink>(
         cert,
         CheckRequest {
             bounds: false,
-            sequence: false,
+            output: CheckOutput::Proved,
             optimal: false,
         },
         out,
@@ -145,24 +161,25 @@ pub fn run_check_as<S: Source, C: Source, K: Sink>(
     requires file_works { S.has_failed file.old ≡ false }
     requires cert_works { C.has_failed cert.old ≡ false }
     requires out_works { K.has_failed out.old ≡ false }
-    ensures written { OnOk result (WroteBoth most_certificate (AnswersCheck request) index
-        (source_run S.given S.has_ended file.old file.new) (source_run C.given C.has_ended cert.old cert.new)
-        (sink_run K.taken out.old out.new)) }
-    ensures proved { OnOk result (WroteBoth most_certificate (SaysProved request) index
-        (source_run S.given S.has_ended file.old file.new) (source_run C.given C.has_ended cert.old cert.new)
-        (sink_run K.taken out.old out.new)) }
+    ensures ran { Ran FileKind.Certificate (OfBytes (AnswersCheck request)) index
+        (run_of (source_run S.Source file.old file.new) (Some (source_run C.Source cert.old cert.new))
+        (sink_run K.Sink out.old out.new)) result }
+    ensures proved { OnOk result (CameBoth FileKind.Certificate index
+        (λ origin second. Wrote (OfBytes (SaysProved request) origin second) (sink_run K.Sink out.old out.new))
+        (run_of (source_run S.Source file.old file.new) (Some (source_run C.Source cert.old cert.new))
+        (sink_run K.Sink out.old out.new))) }
     ensures optimal { request.optimal ≡ true → OnOk result (CameFor index
-        (λ shop. WroteOptimum request.sequence shop (sink_run K.taken out.old out.new))
-        (source_run S.given S.has_ended file.old file.new)) }
-    ensures ended { IfErr result (EndsBoth most_certificate (AnswersCheck request) index
-        (source_run S.given S.has_ended file.old file.new) (source_run C.given C.has_ended cert.old cert.new)
-        (sink_run K.taken out.old out.new)) }
-    ensures read_device { IsErrOf result (CommandFault.Read read.Device)
-        ↔ ((S.has_failed file.new ≡ true) ⊎ (C.has_failed cert.new ≡ true)) }
-    ensures write_device { IsErrOf result (CommandFault.Write write.Device) ↔ (K.has_failed out.new ≡ true) }
-    ensures stands { Grows (S.given file.old) (S.given file.new) }
-    ensures cert_stands { Grows (C.given cert.old) (C.given cert.new) }
+        (λ shop. WroteOptimum request.output shop (sink_run K.Sink out.old out.new))
+        (source_run S.Source file.old file.new)) }
 {
-    let block = read_block(alloc, file, index)?;
-    check_certificate(alloc, &block.instance, cert, request, out)
+    let command = Printed(Check { request });
+    run_with(
+        alloc,
+        file,
+        index,
+        FileKind::Certificate,
+        cert,
+        &command,
+        out,
+    )
 }

@@ -15,27 +15,11 @@ ghost use Rattle.flow_commands.specs.declared.fault.CommandFault.TheVariants.{Ce
 
 use flow_check::CheckFault;
 use flow_core::{InstanceFault, ReadFault, SequenceFault, StartFault, TextFault, WriteFault};
+use flow_improve::EffortFault;
 use flow_pool::SolveFault;
 use flow_search::{OptionFault, PlanFault};
 use std::alloc::AllocError;
 use thiserror::Error;
-
-/// Why the numbers of an improvement are refused, in the order of the tests.
-#[derive(Clone, Copy, Debug, PartialEq, Eq, Error)]
-pub enum ImproveFault {
-    /// The greatest width of the beam is more than 65,536.
-    #[error("Width")]
-    Width,
-    /// There are more than 100,000,000 rounds.
-    #[error("Rounds")]
-    Rounds,
-    /// The seed is not from 1 to 2,147,483,646.
-    #[error("Seed")]
-    Seed,
-    /// There are more than 1,000,000 million steps.
-    #[error("Work")]
-    Work,
-}
 
 /// Why a command refused, in the order in which it is tested; its text is the line on standard error.
 #[derive(Clone, Copy, Debug, PartialEq, Eq, Error)]
@@ -63,7 +47,7 @@ pub enum CommandFault {
     Instance(InstanceFault),
     /// The numbers of an improvement are refused.
     #[error("refused option {0}")]
-    Improve(ImproveFault),
+    Improve(EffortFault),
     /// The directions of a proof are not from 1 to 1,000,000,000.
     #[error("refused option Directions")]
     Directions,
@@ -161,10 +145,10 @@ impl From<InstanceFault> for CommandFault {
     }
 }
 
-impl From<ImproveFault> for CommandFault {
+impl From<EffortFault> for CommandFault {
     ghost from_gives = { λ fault given. given ≡ Improve fault };
 
-    fn from(fault: ImproveFault) -> CommandFault {
+    fn from(fault: EffortFault) -> CommandFault {
         CommandFault::Improve(fault)
     }
 }

@@ -1,10 +1,8 @@
 //! The command `gen`.
 
-ghost use Rattle.std.specs.Prelude.{◌≡◌, ◌↔◌, false, true, Ok};
-ghost use Rattle.std.specs.Prelude.{IfOk, OnOk, IfErr, IsErrOf};
-ghost use Rattle.flow_core.specs.declared.bytes.fault.WriteFault.TheVariants as write;
+ghost use Rattle.std.specs.Prelude.{◌≡◌, false, IfOk};
 ghost use Rattle.flow_commands.specs.Generate.{AnswersGen, IsGeneratedText};
-ghost use Rattle.flow_commands.specs.Runs.{EndsAlone, Wrote, sink_run};
+ghost use Rattle.flow_commands.specs.Runs.{Responds, sink_run};
 
 use crate::fault::CommandFault;
 use flow_bound::{neh, taillard_bound};
@@ -35,9 +33,7 @@ pub fn run_gen<K: Sink>(
     out: &mut K,
 ) -> Result<(), CommandFault>
     requires { K.has_failed out.old ≡ false }
-    ensures written { OnOk result (Wrote (AnswersGen jobs machines seed) (sink_run K.taken out.old out.new)) }
-    ensures ended { IfErr result (EndsAlone (AnswersGen jobs machines seed) (sink_run K.taken out.old out.new)) }
-    ensures write_device { IsErrOf result (CommandFault.Write write.Device) ↔ (K.has_failed out.new ≡ true) }
+    ensures { Responds (AnswersGen jobs machines seed) (sink_run K.Sink out.old out.new) result }
 {
     let instance = generate(alloc, jobs, machines, seed)?;
     let text = generated_text(alloc, seed, instance)?;

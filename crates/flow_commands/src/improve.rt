@@ -1,59 +1,32 @@
 //! The command `improve`.
 
-ghost use Rattle.std.specs.Prelude.{◌≡◌, ◌↔◌, ◌⊎◌, ◌≤◌, ◌<◌, false, true, None, Some, Ok, Err};
-ghost use Rattle.std.specs.Prelude.{IfOk, OnOk, IfErr, IfSome, IsErrOf, is_some};
+ghost use Rattle.std.specs.Prelude.{◌≡◌, ◌⊎◌, false, None, Some, Ok, Err};
+ghost use Rattle.std.specs.Prelude.{IfOk, OnOk, IfErr, IfSome, is_some};
 ghost use Rattle.std.specs.Option.{ForSome};
-ghost use Rattle.flow_core.specs.Bytes.{Grows};
-ghost use Rattle.flow_core.specs.Generator.{modulus};
 ghost use Rattle.flow_core.specs.Paths.{span};
 ghost use Rattle.flow_core.specs.Sequences.{IsSequence};
-ghost use Rattle.flow_core.specs.declared.bytes.fault.ReadFault.TheVariants as read;
-ghost use Rattle.flow_core.specs.declared.bytes.fault.WriteFault.TheVariants as write;
+ghost use Rattle.flow_commands.specs.internal.Devices.{NamesNoDevice};
 ghost use Rattle.flow_commands.specs.Improve.{AnswersImprove, IsImproved, improve_fault};
-ghost use Rattle.flow_commands.specs.Runs.{EndsAlone, EndsFrom, HasFailed, Stands, Wrote, WroteFrom};
-ghost use Rattle.flow_commands.specs.Runs.{sink_run, source_run, start_run};
+ghost use Rattle.flow_commands.specs.Runs.{Ran, run_of, second_run, sink_run, source_run};
+ghost use Rattle.flow_commands.specs.Start.{FromStart};
 
-use crate::fault::{CommandFault, ImproveFault};
+use crate::block::PickedBlock;
+use crate::command::{Answering, Printed, run_over};
+use crate::fault::CommandFault;
+use crate::files::FileKind;
 use crate::printed::sequence_lines;
-use crate::start::{read_inputs, start_of};
-use flow_core::{
-    Instance, MAX_ROUNDS, MAX_SEED, MAX_WIDTH, MAX_WORK, Sequence, Sink, Source, put_all,
-};
-use flow_improve::{Effort, Reached, improve};
+use crate::start::{sequence_given, start_of};
+use flow_core::{Instance, Sequence, Sink, Source};
+use flow_improve::{Effort, EffortFault, Reached, improve};
 use flow_requests::ImproveRequest;
 use std::alloc::{AllocError, Global};
 
-/// The effort of a request, where its numbers are within their limits; else the first fault.
-pub(crate) fn effort_of(request: ImproveRequest) -> Result<Effort, ImproveFault>
+/// The effort of a request; or the first fault of its numbers.
+pub(crate) fn effort_of(request: ImproveRequest) -> Result<Effort, EffortFault>
     ensures accepted { OnOk result (improve_fault request ≡ None) }
-    ensures seed_from { IfOk result (λ effort. 1 ≤ effort.seed) }
-    ensures seed_to { IfOk result (λ effort. effort.seed < modulus) }
     ensures refused { IfErr result (λ fault. improve_fault request ≡ Some (CommandFault.Improve fault)) }
 {
-    let ImproveRequest {
-        width,
-        rounds,
-        seed,
-        work,
-    } = request;
-    if width > MAX_WIDTH {
-        return Err(ImproveFault::Width);
-    }
-    if rounds > MAX_ROUNDS {
-        return Err(ImproveFault::Rounds);
-    }
-    if seed < 1 || seed > MAX_SEED {
-        return Err(ImproveFault::Seed);
-    }
-    if work > MAX_WORK {
-        return Err(ImproveFault::Work);
-    }
-    Ok(Effort {
-        width,
-        rounds,
-        seed,
-        work,
-    })
+    Effort::new(request.width, request.rounds, request.seed, request.work)
 }
 
 /// A sequence of an instance that is no worse than the one to start from, with its makespan.
@@ -63,9 +36,7 @@ fn improved(
     given: Option<Sequence>,
     effort: &Effort,
 ) -> Result<Reached, AllocError>
-    requires given { IfSome given (IsSequence instance.now.jobs) }
-    requires seed_from { 1 ≤ effort.now.seed }
-    requires seed_to { effort.now.seed < modulus }
+    requires { IfSome given (IsSequence instance.now.jobs) }
     ensures improved { IfOk result (λ better. IsImproved instance.now given better.sequence) }
     ensures value { IfOk result (λ better. better.value ≡ span instance.now better.sequence) }
 {
@@ -73,28 +44,42 @@ fn improved(
     improve(alloc, instance, &start, effort)
 }
 
-/// Improves the sequence to start from, and writes the better sequence and its makespan.
-fn improve_block<K: Sink>(
+/// The lines of a sequence that is no worse than the one to start from; or why the numbers of a request are refused.
+fn improved_lines(
     alloc: Global,
     instance: &Instance,
     given: Option<Sequence>,
     request: ImproveRequest,
-    out: &mut K,
-) -> Result<(), CommandFault>
-    requires out_works { K.has_failed out.old ≡ false }
-    requires given { IfSome given (IsSequence instance.now.jobs) }
-    ensures written { OnOk result (Wrote (AnswersImprove request instance.now given)
-        (sink_run K.taken out.old out.new)) }
-    ensures ended { IfErr result (EndsAlone (AnswersImprove request instance.now given)
-        (sink_run K.taken out.old out.new)) }
-    ensures write_device { IsErrOf result (CommandFault.Write write.Device) ↔ (K.has_failed out.new ≡ true) }
-    ensures reads_nothing { IsErrOf result (CommandFault.Read read.Device) → ⊥ }
+) -> Result<Vec<u8>, CommandFault>
+    requires { IfSome given (IsSequence instance.now.jobs) }
+    ensures text { IfOk result (λ text. AnswersImprove request instance.now given (Ok text.items)) }
+    ensures refused { IfErr result (λ fault. (fault ≡ CommandFault.Memory)
+        ⊎ AnswersImprove request instance.now given (Err fault)) }
+    ensures device { NamesNoDevice result }
 {
     let effort = effort_of(request)?;
     let better = improved(alloc, instance, given, &effort)?;
-    let lines = sequence_lines(alloc, better.sequence.jobs(), better.value)?;
-    put_all(out, lines.as_slice())?;
-    Ok(())
+    Ok(sequence_lines(alloc, better.sequence.jobs(), better.value)?)
+}
+
+/// Answers a sequence that is no worse than the one to start from, and its makespan.
+#[derive(Drop)]
+pub(crate) struct Improve {
+    pub(crate) request: ImproveRequest,
+}
+
+impl Answering for Improve {
+    ghost answers = { λ s. FromStart (AnswersImprove s.request) };
+
+    fn answer(
+        &self,
+        alloc: Global,
+        picked: PickedBlock,
+        second: Option<Vec<u8>>,
+    ) -> Result<Vec<u8>, CommandFault> {
+        let given = sequence_given(alloc, &picked.block.instance, second)?;
+        improved_lines(alloc, &picked.block.instance, given, self.request)
+    }
 }
 
 /// Improves a starting sequence of the block that an index names: the one that a start text gives, or, where there is
@@ -110,19 +95,11 @@ pub fn run_improve<S: Source, T: Source, K: Sink>(
     requires file_works { S.has_failed file.old ≡ false }
     requires start_works { ForSome start.old (λ source. T.has_failed source ≡ false) }
     requires out_works { K.has_failed out.old ≡ false }
-    ensures written { OnOk result (WroteFrom (AnswersImprove request) index
-        (source_run S.given S.has_ended file.old file.new)
-        (start_run T.given T.has_ended start.old start.new) (sink_run K.taken out.old out.new)) }
-    ensures ended { IfErr result (EndsFrom (AnswersImprove request) index
-        (source_run S.given S.has_ended file.old file.new)
-        (start_run T.given T.has_ended start.old start.new) (sink_run K.taken out.old out.new)) }
-    ensures read_device { IsErrOf result (CommandFault.Read read.Device) ↔ ((S.has_failed file.new ≡ true)
-        ⊎ HasFailed T.has_failed (start_run T.given T.has_ended start.old start.new)) }
-    ensures write_device { IsErrOf result (CommandFault.Write write.Device) ↔ (K.has_failed out.new ≡ true) }
-    ensures stands { Grows (S.given file.old) (S.given file.new) }
-    ensures start_stands { IfSome (start_run T.given T.has_ended start.old start.new) Stands }
+    ensures ran { Ran FileKind.Text (FromStart (AnswersImprove request)) index
+        (run_of (source_run S.Source file.old file.new) (second_run T.Source start.old start.new)
+        (sink_run K.Sink out.old out.new)) result }
     ensures start_stays { is_some start.new ≡ is_some start.old }
 {
-    let (block, given) = read_inputs(alloc, file, index, start)?;
-    improve_block(alloc, &block.instance, given, request, out)
+    let command = Printed(Improve { request });
+    run_over(alloc, file, index, FileKind::Text, start, &command, out)
 }

@@ -8,26 +8,35 @@
 mod block;
 mod certify;
 mod check;
+mod command;
 mod fault;
+mod files;
 mod generate;
 mod improve;
 mod laws;
 mod neh;
 mod printed;
+mod report;
+mod request;
 mod schedule;
 mod solve;
 mod span;
 mod start;
+mod timed;
 
 pub use certify::run_certify;
 pub use check::{run_check, run_check_as};
-pub use fault::{CommandFault, ImproveFault, ToolFault};
-pub use flow_requests::{CertifyRequest, CheckRequest, ImproveRequest, ScheduleForm, SolveRequest};
+pub use fault::{CommandFault, ToolFault};
+pub use flow_improve::EffortFault;
+pub use flow_requests::{
+    CertifyRequest, CheckOutput, CheckRequest, ImproveRequest, Request, ScheduleForm, SolveRequest,
+};
 pub use flow_workers::{News, Unwatched, Watch};
 pub use generate::run_gen;
 pub use improve::run_improve;
 pub use laws::each_start_gives_one;
 pub use neh::run_neh;
+pub use request::run_request;
 pub use schedule::run_schedule;
 pub use solve::{run_solve, run_solve_as};
 pub use span::run_span;

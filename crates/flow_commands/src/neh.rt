@@ -1,26 +1,42 @@
 //! The command `neh`.
 
-ghost use Rattle.std.specs.Prelude.{◌≡◌, ◌↔◌, false, true, IfOk, OnOk, IfErr, IsErrOf, Ok};
-ghost use Rattle.flow_core.specs.Bytes.{Grows};
-ghost use Rattle.flow_core.specs.declared.bytes.fault.ReadFault.TheVariants as read;
-ghost use Rattle.flow_core.specs.declared.bytes.fault.WriteFault.TheVariants as write;
-ghost use Rattle.flow_commands.specs.Neh.{AnswersNeh, AnswersStart};
-ghost use Rattle.flow_commands.specs.Runs.{Ends, WroteFor, sink_run, source_run};
-ghost use Rattle.flow_core.specs.Limits.{most_text};
+ghost use Rattle.std.specs.Prelude.{◌≡◌, false, IfOk, Ok};
+ghost use Rattle.flow_commands.specs.Answer.{OfShop};
+ghost use Rattle.flow_commands.specs.Neh.{AnswersNeh};
+ghost use Rattle.flow_commands.specs.Runs.{Ran, run_alone, sink_run, source_run};
 
-use crate::block::read_block;
+use crate::block::PickedBlock;
+use crate::command::{Answering, Printed, run_over};
 use crate::fault::CommandFault;
+use crate::files::FileKind;
 use crate::printed::sequence_lines;
 use flow_bound::neh;
-use flow_core::{Instance, Sink, Source, put_all};
+use flow_core::{Instance, MemorySource, Sink, Source};
 use std::alloc::{AllocError, Global};
+
+/// Answers the starting sequence and its makespan.
+#[derive(Drop)]
+pub(crate) struct Neh;
 
 /// The lines of the starting sequence and its makespan.
 fn starting_lines(alloc: Global, instance: &Instance) -> Result<Vec<u8>, AllocError>
-    ensures { IfOk result (λ lines. AnswersStart instance.now (Ok lines.items)) }
+    ensures { IfOk result (λ lines. AnswersNeh instance.now (Ok lines.items)) }
 {
     let (sequence, value) = neh(alloc, instance)?;
     sequence_lines(alloc, sequence.jobs(), value)
+}
+
+impl Answering for Neh {
+    ghost answers = { λ _. OfShop AnswersNeh };
+
+    fn answer(
+        &self,
+        alloc: Global,
+        picked: PickedBlock,
+        _second: Option<Vec<u8>>,
+    ) -> Result<Vec<u8>, CommandFault> {
+        Ok(starting_lines(alloc, &picked.block.instance)?)
+    }
 }
 
 /// Writes the starting sequence of the block that an index names, and its makespan.
@@ -32,16 +48,16 @@ pub fn run_neh<S: Source, K: Sink>(
 ) -> Result<(), CommandFault>
     requires file_works { S.has_failed file.old ≡ false }
     requires out_works { K.has_failed out.old ≡ false }
-    ensures written { OnOk result (WroteFor most_text (AnswersNeh index)
-        (source_run S.given S.has_ended file.old file.new) (sink_run K.taken out.old out.new)) }
-    ensures ended { IfErr result (Ends most_text (AnswersNeh index)
-        (source_run S.given S.has_ended file.old file.new) (sink_run K.taken out.old out.new)) }
-    ensures read_device { IsErrOf result (CommandFault.Read read.Device) ↔ (S.has_failed file.new ≡ true) }
-    ensures write_device { IsErrOf result (CommandFault.Write write.Device) ↔ (K.has_failed out.new ≡ true) }
-    ensures stands { Grows (S.given file.old) (S.given file.new) }
+    ensures { Ran FileKind.Text (OfShop AnswersNeh) index
+        (run_alone (source_run S.Source file.old file.new) (sink_run K.Sink out.old out.new)) result }
 {
-    let block = read_block(alloc, file, index)?;
-    let lines = starting_lines(alloc, &block.instance)?;
-    put_all(out, lines.as_slice())?;
-    Ok(())
+    run_over(
+        alloc,
+        file,
+        index,
+        FileKind::Text,
+        &mut None::<MemorySource>,
+        &Printed(Neh),
+        out,
+    )
 }

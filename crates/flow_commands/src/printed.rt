@@ -1,7 +1,7 @@
 //! The lines that commands print.
 
-ghost use Rattle.std.specs.Prelude.{◌≡◌, ◌++◌, IfOk, codes, decimal};
-ghost use Rattle.flow_commands.specs.Printed.{bounds_line, makespan_line, optimal_line, sequence_line};
+ghost use Rattle.std.specs.Prelude.{◌≡◌, ◌++◌, IfOk, codes};
+ghost use Rattle.flow_commands.specs.Printed.{bounds_line, makespan_line, optimal_line, sequence_line, value_line};
 
 use itoa::Buffer;
 use std::alloc::{AllocError, Global};
@@ -34,12 +34,19 @@ pub(crate) fn bounds_line(alloc: Global, lower: u64, upper: u64) -> Result<Vec<u
 }
 
 /// A line of some words and a value.
-fn value_line(alloc: Global, words: &[u8], value: u64) -> Result<Vec<u8>, AllocError>
-    ensures { IfOk result (λ line. line.items ≡ words.now ++ decimal value ++ codes "\n") }
+pub(crate) fn value_line(alloc: Global, words: &[u8], value: u64) -> Result<Vec<u8>, AllocError>
+    ensures { IfOk result (λ line. line.items ≡ value_line words.now value) }
 {
     let mut buffer = Buffer::new();
+    line_of(alloc, words, buffer.format(value).as_bytes())
+}
+
+/// A line of some words and what follows them.
+pub(crate) fn line_of(alloc: Global, words: &[u8], rest: &[u8]) -> Result<Vec<u8>, AllocError>
+    ensures { IfOk result (λ line. line.items ≡ words.now ++ rest.now ++ codes "\n") }
+{
     let mut line = Vec::from_slice(alloc, words)?;
-    line.extend_from_slice(buffer.format(value).as_bytes())?;
+    line.extend_from_slice(rest)?;
     line.push(b'\n')?;
     Ok(line)
 }

@@ -1,17 +1,17 @@
 //! The command `schedule`.
 
-ghost use Rattle.std.specs.Prelude.{◌≡◌, ◌↔◌, ◌⊎◌, false, true, length, IfOk, OnOk, IfErr, IsErrOf};
-ghost use Rattle.flow_core.specs.Bytes.{Grows};
-ghost use Rattle.flow_core.specs.Limits.{most_text};
-ghost use Rattle.flow_core.specs.declared.bytes.fault.ReadFault.TheVariants as read;
-ghost use Rattle.flow_core.specs.declared.bytes.fault.WriteFault.TheVariants as write;
-ghost use Rattle.flow_commands.specs.Runs.{Ends, EndsBoth, WroteBoth, WroteFor, sink_run, source_run};
-ghost use Rattle.flow_commands.specs.Schedule.{AnswersSchedule, IsSchedule};
+ghost use Rattle.std.specs.Prelude.{◌≡◌, ◌⊎◌, false, length, Some, Ok, Err, IfOk, OnOk, IfErr};
+ghost use Rattle.flow_commands.specs.Answer.{OfBytes};
+ghost use Rattle.flow_commands.specs.internal.Devices.{NamesNoDevice};
+ghost use Rattle.flow_commands.specs.Runs.{CameFor, Ran, run_of, sink_run, source_run};
+ghost use Rattle.flow_commands.specs.Schedule.{AnswersSchedule, IsSchedule, WroteSchedule};
 
-use crate::block::read_block;
+use crate::block::PickedBlock;
+use crate::command::{Answering, Printed, run_with};
 use crate::fault::CommandFault;
-use crate::start::read_sequence;
-use flow_core::{Instance, Sequence, Sink, Source, put_all};
+use crate::files::{FileKind, bytes_or_none};
+use crate::timed::{TimedSequence, timed_sequence};
+use flow_core::{Instance, Sink, Source};
 use flow_requests::ScheduleForm;
 use flow_schedule::{timetable_csv, timetable_picture};
 use std::alloc::{AllocError, Global};
@@ -20,66 +20,82 @@ use std::alloc::{AllocError, Global};
 fn schedule_text(
     alloc: Global,
     instance: &Instance,
-    sequence: &Sequence,
+    timed: &TimedSequence,
     form: ScheduleForm,
 ) -> Result<Vec<u8>, AllocError>
-    requires { length sequence.now ≡ instance.now.jobs }
-    ensures { IfOk result (λ text. IsSchedule form instance.now sequence.now text.items) }
+    requires { length timed.now.sequence ≡ instance.now.jobs }
+    ensures { IfOk result (λ text. IsSchedule form instance.now timed.now text.items) }
 {
     match form {
-        ScheduleForm::Csv => timetable_csv(alloc, instance, sequence),
-        ScheduleForm::Svg => timetable_picture(alloc, instance, sequence, None),
+        ScheduleForm::Csv => timetable_csv(alloc, instance, &timed.sequence),
+        ScheduleForm::Svg => timetable_picture(alloc, instance, &timed.sequence, timed.lower),
     }
 }
 
-/// Reads a start text, and writes the schedule of the sequence that it gives for an instance.
-fn schedule_start<T: Source, K: Sink>(
+/// The schedule of the sequence that a text gives for an instance; or the fault that it gives.
+fn scheduled_text(
     alloc: Global,
     instance: &Instance,
-    start: &mut T,
+    text: &[u8],
     form: ScheduleForm,
-    out: &mut K,
-) -> Result<(), CommandFault>
-    requires start_works { T.has_failed start.old ≡ false }
-    requires out_works { K.has_failed out.old ≡ false }
-    ensures written { OnOk result (WroteFor most_text (AnswersSchedule form instance.now)
-        (source_run T.given T.has_ended start.old start.new) (sink_run K.taken out.old out.new)) }
-    ensures ended { IfErr result (Ends most_text (AnswersSchedule form instance.now)
-        (source_run T.given T.has_ended start.old start.new) (sink_run K.taken out.old out.new)) }
-    ensures read_device { IsErrOf result (CommandFault.Read read.Device) ↔ (T.has_failed start.new ≡ true) }
-    ensures write_device { IsErrOf result (CommandFault.Write write.Device) ↔ (K.has_failed out.new ≡ true) }
-    ensures stands { Grows (T.given start.old) (T.given start.new) }
+) -> Result<Vec<u8>, CommandFault>
+    ensures text { IfOk result (λ schedule. AnswersSchedule form instance.now text.now (Ok schedule.items)) }
+    ensures refused { IfErr result (λ fault. (fault ≡ CommandFault.Memory)
+        ⊎ AnswersSchedule form instance.now text.now (Err fault)) }
+    ensures device { NamesNoDevice result }
 {
-    let sequence = read_sequence(alloc, instance, start)?;
-    let text = schedule_text(alloc, instance, &sequence, form)?;
-    put_all(out, text.as_slice())?;
-    Ok(())
+    let timed = timed_sequence(alloc, instance, text)?;
+    Ok(schedule_text(alloc, instance, &timed, form)?)
 }
 
-/// Writes the schedule of a sequence for the block that an index names. A start text gives the sequence.
+/// Answers the schedule of a sequence in a form.
+#[derive(Drop)]
+pub(crate) struct Schedule {
+    pub(crate) form: ScheduleForm,
+}
+
+impl Answering for Schedule {
+    ghost answers = { λ s. OfBytes (λ origin. AnswersSchedule s.form origin.block.instance) };
+
+    fn answer(
+        &self,
+        alloc: Global,
+        picked: PickedBlock,
+        second: Option<Vec<u8>>,
+    ) -> Result<Vec<u8>, CommandFault> {
+        let text = bytes_or_none(alloc, second);
+        scheduled_text(alloc, &picked.block.instance, text.as_slice(), self.form)
+    }
+}
+
+/// Writes the schedule of a sequence for the block that an index names. A start text gives the sequence; or a
+/// certificate, two-ended or not, that proves a lower bound too.
 pub fn run_schedule<S: Source, T: Source, K: Sink>(
     alloc: Global,
     file: &mut S,
     index: u32,
-    start: &mut T,
+    given: &mut T,
     form: ScheduleForm,
     out: &mut K,
 ) -> Result<(), CommandFault>
     requires file_works { S.has_failed file.old ≡ false }
-    requires start_works { T.has_failed start.old ≡ false }
+    requires given_works { T.has_failed given.old ≡ false }
     requires out_works { K.has_failed out.old ≡ false }
-    ensures written { OnOk result (WroteBoth most_text (AnswersSchedule form) index
-        (source_run S.given S.has_ended file.old file.new) (source_run T.given T.has_ended start.old start.new)
-        (sink_run K.taken out.old out.new)) }
-    ensures ended { IfErr result (EndsBoth most_text (AnswersSchedule form) index
-        (source_run S.given S.has_ended file.old file.new) (source_run T.given T.has_ended start.old start.new)
-        (sink_run K.taken out.old out.new)) }
-    ensures read_device { IsErrOf result (CommandFault.Read read.Device)
-        ↔ ((S.has_failed file.new ≡ true) ⊎ (T.has_failed start.new ≡ true)) }
-    ensures write_device { IsErrOf result (CommandFault.Write write.Device) ↔ (K.has_failed out.new ≡ true) }
-    ensures stands { Grows (S.given file.old) (S.given file.new) }
-    ensures start_stands { Grows (T.given start.old) (T.given start.new) }
+    ensures ran { Ran FileKind.StartOrCertificate
+        (OfBytes (λ origin. AnswersSchedule form origin.block.instance)) index
+        (run_of (source_run S.Source file.old file.new) (Some (source_run T.Source given.old given.new))
+        (sink_run K.Sink out.old out.new)) result }
+    ensures proved { OnOk result (CameFor index (λ shop. WroteSchedule form shop (sink_run K.Sink out.old out.new))
+        (source_run S.Source file.old file.new)) }
 {
-    let block = read_block(alloc, file, index)?;
-    schedule_start(alloc, &block.instance, start, form, out)
+    let command = Printed(Schedule { form });
+    run_with(
+        alloc,
+        file,
+        index,
+        FileKind::StartOrCertificate,
+        given,
+        &command,
+        out,
+    )
 }

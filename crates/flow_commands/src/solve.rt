@@ -1,22 +1,21 @@
 //! The command `solve`.
 
-ghost use Rattle.std.specs.Prelude.{◌≡◌, ◌↔◌, ◌⊎◌, false, true, None, Ok, IfOk, OnOk, IfErr, IfSome, IsErrOf, is_some};
+ghost use Rattle.std.specs.Prelude.{◌≡◌, ◌⊎◌, false, None, Ok, Err, IfOk, OnOk, IfErr, IfSome, is_some};
 ghost use Rattle.std.specs.Option.{ForSome};
-ghost use Rattle.flow_core.specs.Bytes.{Grows};
 ghost use Rattle.flow_core.specs.Sequences.{IsSequence};
-ghost use Rattle.flow_core.specs.declared.bytes.fault.ReadFault.TheVariants as read;
-ghost use Rattle.flow_core.specs.declared.bytes.fault.WriteFault.TheVariants as write;
 ghost use Rattle.flow_search.specs.Plans.{IsPlan, but_memory, plan_fault};
-ghost use Rattle.flow_commands.specs.Block.{AnswersFor};
-ghost use Rattle.flow_commands.specs.Runs.{CameFor, Ends, EndsAlone, EndsFrom, HasFailed, Stands, Wrote, WroteFor};
-ghost use Rattle.flow_commands.specs.Runs.{WroteFrom, sink_run, source_run, start_run};
-ghost use Rattle.flow_commands.specs.Solve.{AnswersOptions, AnswersPlan, AnswersRun, AnswersSolve};
-ghost use Rattle.flow_commands.specs.Solve.{WroteCertificate, asked_options};
-ghost use Rattle.flow_commands.specs.Start.{StartsFrom};
-ghost use Rattle.flow_core.specs.Limits.{most_text};
+ghost use Rattle.flow_commands.specs.Answer.{Answer};
+ghost use Rattle.flow_commands.specs.internal.Devices.{NamesNoDevice};
+ghost use Rattle.flow_commands.specs.Runs.{CameFor, Ran, Responds, run_alone, run_of, second_run, sink_run, source_run};
+ghost use Rattle.flow_commands.specs.Solve.{AnswersRun, AnswersSolve, WroteCertificate, asked_options};
+ghost use Rattle.flow_commands.specs.Start.{FromStart, StartsFrom};
+ghost use Rattle.flow_commands.specs.internal.Picked.{origin_of};
+ghost use Rattle.flow_commands.specs.internal.Reading.{bytes_of};
 
+use crate::block::PickedBlock;
 use crate::fault::CommandFault;
-use crate::start::read_inputs;
+use crate::files::{FileKind, read_picked, read_second};
+use crate::start::sequence_given;
 use flow_cert::write_certificate;
 use flow_core::{Instance, MemorySource, Sequence, Sink, Source};
 use flow_pool::{Gate, solve};
@@ -36,11 +35,7 @@ fn solve_plan<R: Threads + Wait + Sync, G: Gate + Sync, K: Sink>(
 ) -> Result<(), CommandFault>
     requires out_works { K.has_failed out.old ≡ false }
     requires is_plan { IsPlan plan.now }
-    ensures written { OnOk result (Wrote (AnswersRun plan.now) (sink_run K.taken out.old out.new)) }
-    ensures lawful { OnOk result (WroteCertificate plan.now.shop (sink_run K.taken out.old out.new)) }
-    ensures ended { IfErr result (EndsAlone (AnswersRun plan.now) (sink_run K.taken out.old out.new)) }
-    ensures write_device { IsErrOf result (CommandFault.Write write.Device) ↔ (K.has_failed out.new ≡ true) }
-    ensures reads_nothing { IsErrOf result (CommandFault.Read read.Device) → ⊥ }
+    ensures { Responds (AnswersRun plan.now) (sink_run K.Sink out.old out.new) result }
 {
     let report = solve(rt, alloc, plan, gate)?;
     write_certificate(plan, &report.verdict, out)?;
@@ -69,39 +64,36 @@ fn plan_of<'a>(
     }
 }
 
-/// Solves an instance, and writes the certificate of its plan.
-fn solve_instance<R: Threads + Wait + Sync, G: Gate + Sync, K: Sink>(
-    rt: &R,
-    alloc: Global,
-    instance: &Instance,
-    given: Option<Sequence>,
-    options: Options,
-    gate: &G,
-    out: &mut K,
-) -> Result<(), CommandFault>
-    requires out_works { K.has_failed out.old ≡ false }
-    requires given { IfSome given (IsSequence instance.now.jobs) }
-    ensures written { OnOk result (Wrote (AnswersPlan instance.now given options) (sink_run K.taken out.old out.new)) }
-    ensures lawful { OnOk result (WroteCertificate instance.now (sink_run K.taken out.old out.new)) }
-    ensures ended { IfErr result (EndsAlone (AnswersPlan instance.now given options)
-        (sink_run K.taken out.old out.new)) }
-    ensures write_device { IsErrOf result (CommandFault.Write write.Device) ↔ (K.has_failed out.new ≡ true) }
-    ensures reads_nothing { IsErrOf result (CommandFault.Read read.Device) → ⊥ }
+/// The options of a request; or the first fault, that of the version last.
+fn options_of(request: SolveRequest) -> Result<Options, OptionFault>
+    ensures { result ≡ asked_options request.workers request.depth request.budget request.version }
 {
-    let plan = plan_of(alloc, instance, given, options)?;
-    solve_plan(rt, alloc, &plan, gate, out)
+    let options = Options::new(request.workers, request.depth, request.budget)?;
+    options.with_version(request.version)
 }
 
-/// The options of four numbers; or the first fault, that of the version last.
-fn options_of(workers: u32, depth: u32, budget: u32, version: u32) -> Result<Options, OptionFault>
-    ensures { result ≡ asked_options workers depth budget version }
+/// The plan that a request asks for, from a given sequence if there is one.
+fn asked_plan<'a>(
+    alloc: Global,
+    instance: &'a Instance,
+    given: Option<Sequence>,
+    request: SolveRequest,
+) -> Result<Plan<'a>, CommandFault>
+    requires { IfSome given (IsSequence instance.now.jobs) }
+    ensures plan { IfOk result (λ plan. IsPlan plan) }
+    ensures answers { IfOk result (λ plan. (answer : Answer) → AnswersRun plan answer →
+        AnswersSolve request instance.now given answer) }
+    ensures refused { IfErr result (λ fault. (fault ≡ CommandFault.Memory)
+        ⊎ AnswersSolve request instance.now given (Err fault)) }
+    ensures device { NamesNoDevice result }
 {
-    let options = Options::new(workers, depth, budget)?;
-    options.with_version(version)
+    let options = options_of(request)?;
+    Ok(plan_of(alloc, instance, given, options)?)
 }
 
 /// Solves an instance as a request says, from a given sequence if there is one, and writes the certificate of its plan.
-fn solve_block<R: Threads + Wait + Sync, G: Gate + Sync, K: Sink>(
+#[inline(never)]
+fn solve_instance<R: Threads + Wait + Sync, G: Gate + Sync, K: Sink>(
     rt: &R,
     alloc: Global,
     instance: &Instance,
@@ -112,20 +104,28 @@ fn solve_block<R: Threads + Wait + Sync, G: Gate + Sync, K: Sink>(
 ) -> Result<(), CommandFault>
     requires out_works { K.has_failed out.old ≡ false }
     requires given { IfSome given (IsSequence instance.now.jobs) }
-    ensures written { OnOk result (Wrote (AnswersSolve request instance.now given) (sink_run K.taken out.old out.new)) }
-    ensures lawful { OnOk result (WroteCertificate instance.now (sink_run K.taken out.old out.new)) }
-    ensures ended { IfErr result (EndsAlone (AnswersSolve request instance.now given)
-        (sink_run K.taken out.old out.new)) }
-    ensures write_device { IsErrOf result (CommandFault.Write write.Device) ↔ (K.has_failed out.new ≡ true) }
-    ensures reads_nothing { IsErrOf result (CommandFault.Read read.Device) → ⊥ }
+    ensures { Responds (AnswersSolve request instance.now given) (sink_run K.Sink out.old out.new) result }
 {
-    let options = options_of(
-        request.workers,
-        request.depth,
-        request.budget,
-        request.version,
-    )?;
-    solve_instance(rt, alloc, instance, given, options, gate, out)
+    let plan = asked_plan(alloc, instance, given, request)?;
+    solve_plan(rt, alloc, &plan, gate, out)
+}
+
+/// Solves a block as a request says, from the sequence of a start text if there is one.
+fn solve_block<R: Threads + Wait + Sync, G: Gate + Sync, K: Sink>(
+    rt: &R,
+    alloc: Global,
+    picked: PickedBlock,
+    start: Option<Vec<u8>>,
+    request: SolveRequest,
+    gate: &G,
+    out: &mut K,
+) -> Result<(), CommandFault>
+    requires out_works { K.has_failed out.old ≡ false }
+    ensures { Responds (FromStart (AnswersSolve request) (origin_of picked) (bytes_of start))
+        (sink_run K.Sink out.old out.new) result }
+{
+    let given = sequence_given(alloc, &picked.block.instance, start)?;
+    solve_instance(rt, alloc, &picked.block.instance, given, request, gate, out)
 }
 
 /// Solves the block that an index names, from the starting sequence of Nawaz, Enscore and Ham, and writes the
@@ -144,17 +144,15 @@ pub fn run_solve<R: Threads + Wait + Sync, S: Source, G: Gate + Sync, K: Sink>(
 ) -> Result<(), CommandFault>
     requires file_works { S.has_failed file.old ≡ false }
     requires out_works { K.has_failed out.old ≡ false }
-    ensures written { OnOk result (WroteFor most_text (AnswersFor index
-        (λ block. AnswersOptions block.instance None (asked_options workers depth budget version)))
-        (source_run S.given S.has_ended file.old file.new) (sink_run K.taken out.old out.new)) }
-    ensures lawful { OnOk result (CameFor index (λ shop. WroteCertificate shop (sink_run K.taken out.old out.new))
-        (source_run S.given S.has_ended file.old file.new)) }
-    ensures ended { IfErr result (Ends most_text (AnswersFor index
-        (λ block. AnswersOptions block.instance None (asked_options workers depth budget version)))
-        (source_run S.given S.has_ended file.old file.new) (sink_run K.taken out.old out.new)) }
-    ensures read_device { IsErrOf result (CommandFault.Read read.Device) ↔ (S.has_failed file.new ≡ true) }
-    ensures write_device { IsErrOf result (CommandFault.Write write.Device) ↔ (K.has_failed out.new ≡ true) }
-    ensures stands { Grows (S.given file.old) (S.given file.new) }
+    ensures ran { Ran FileKind.Text (FromStart (AnswersSolve (record {
+      workers = workers;
+      depth = depth;
+      budget = budget;
+      version = version;
+    }))) index
+        (run_alone (source_run S.Source file.old file.new) (sink_run K.Sink out.old out.new)) result }
+    ensures lawful { OnOk result (CameFor index (λ shop. WroteCertificate shop (sink_run K.Sink out.old out.new))
+        (source_run S.Source file.old file.new)) }
 {
     let request = SolveRequest {
         workers,
@@ -162,20 +160,13 @@ pub fn run_solve<R: Threads + Wait + Sync, S: Source, G: Gate + Sync, K: Sink>(
         budget,
         version,
     };
-    run_solve_as(
-        rt,
-        alloc,
-        file,
-        index,
-        &mut None::<MemorySource>,
-        request,
-        gate,
-        out,
-    )
+    let no_start = &mut None::<MemorySource>;
+    run_solve_as(rt, alloc, file, index, no_start, request, gate, out)
 }
 
 /// Solves the block that an index names as a request says, and writes the certificate of its plan. It starts from the
 /// sequence that a start text gives, or, where there is no such text, from that of Nawaz, Enscore and Ham.
+#[inline(never)]
 pub fn run_solve_as<R: Threads + Wait + Sync, S: Source, T: Source, G: Gate + Sync, K: Sink>(
     rt: &R,
     alloc: Global,
@@ -189,21 +180,14 @@ pub fn run_solve_as<R: Threads + Wait + Sync, S: Source, T: Source, G: Gate + Sy
     requires file_works { S.has_failed file.old ≡ false }
     requires start_works { ForSome start.old (λ source. T.has_failed source ≡ false) }
     requires out_works { K.has_failed out.old ≡ false }
-    ensures written { OnOk result (WroteFrom (AnswersSolve request) index
-        (source_run S.given S.has_ended file.old file.new)
-        (start_run T.given T.has_ended start.old start.new) (sink_run K.taken out.old out.new)) }
-    ensures lawful { OnOk result (CameFor index (λ shop. WroteCertificate shop (sink_run K.taken out.old out.new))
-        (source_run S.given S.has_ended file.old file.new)) }
-    ensures ended { IfErr result (EndsFrom (AnswersSolve request) index
-        (source_run S.given S.has_ended file.old file.new)
-        (start_run T.given T.has_ended start.old start.new) (sink_run K.taken out.old out.new)) }
-    ensures read_device { IsErrOf result (CommandFault.Read read.Device) ↔ ((S.has_failed file.new ≡ true)
-        ⊎ HasFailed T.has_failed (start_run T.given T.has_ended start.old start.new)) }
-    ensures write_device { IsErrOf result (CommandFault.Write write.Device) ↔ (K.has_failed out.new ≡ true) }
-    ensures stands { Grows (S.given file.old) (S.given file.new) }
-    ensures start_stands { IfSome (start_run T.given T.has_ended start.old start.new) Stands }
+    ensures ran { Ran FileKind.Text (FromStart (AnswersSolve request)) index
+        (run_of (source_run S.Source file.old file.new) (second_run T.Source start.old start.new)
+        (sink_run K.Sink out.old out.new)) result }
+    ensures lawful { OnOk result (CameFor index (λ shop. WroteCertificate shop (sink_run K.Sink out.old out.new))
+        (source_run S.Source file.old file.new)) }
     ensures start_stays { is_some start.new ≡ is_some start.old }
 {
-    let (block, given) = read_inputs(alloc, file, index, start)?;
-    solve_block(rt, alloc, &block.instance, given, request, gate, out)
+    let picked = read_picked(alloc, file, index)?;
+    let start = read_second(alloc, start, FileKind::Text)?;
+    solve_block(rt, alloc, picked, start, request, gate, out)
 }

@@ -1,19 +1,24 @@
 //! The command `span`.
 
-ghost use Rattle.std.specs.Prelude.{◌≡◌, ◌↔◌, false, true, Ok, IfOk, OnOk, IfErr, IsErrOf};
-ghost use Rattle.flow_core.specs.Bytes.{Grows};
+ghost use Rattle.std.specs.Prelude.{◌≡◌, false, Ok, IfOk, IfErr};
 ghost use Rattle.flow_core.specs.SequenceFaults.{sequence_fault, but_memory};
-ghost use Rattle.flow_core.specs.declared.bytes.fault.ReadFault.TheVariants as read;
-ghost use Rattle.flow_core.specs.declared.bytes.fault.WriteFault.TheVariants as write;
+ghost use Rattle.flow_commands.specs.Answer.{OfShop};
+ghost use Rattle.flow_commands.specs.Runs.{Ran, run_alone, sink_run, source_run};
 ghost use Rattle.flow_commands.specs.Span.{AnswersSpan, span_answer};
-ghost use Rattle.flow_commands.specs.Runs.{Ends, WroteFor, sink_run, source_run};
-ghost use Rattle.flow_core.specs.Limits.{most_text};
 
-use crate::block::read_block;
+use crate::block::PickedBlock;
+use crate::command::{Answering, Printed, run_over};
 use crate::fault::CommandFault;
+use crate::files::FileKind;
 use crate::printed::makespan_line;
-use flow_core::{Instance, Sequence, SequenceFault, Sink, Source, makespan, put_all};
+use flow_core::{Instance, MemorySource, Sequence, SequenceFault, Sink, Source, makespan};
 use std::alloc::Global;
+
+/// Answers the makespan of jobs in this order.
+#[derive(Drop)]
+pub(crate) struct Span<'a> {
+    pub(crate) jobs: &'a [u16],
+}
 
 /// The line of the makespan of jobs in this order.
 fn span_line(alloc: Global, instance: &Instance, jobs: &[u16]) -> Result<Vec<u8>, SequenceFault>
@@ -22,6 +27,19 @@ fn span_line(alloc: Global, instance: &Instance, jobs: &[u16]) -> Result<Vec<u8>
 {
     let sequence = Sequence::new(alloc, instance, jobs)?;
     Ok(makespan_line(alloc, makespan(instance, &sequence))?)
+}
+
+impl<'a> Answering for Span<'a> {
+    ghost answers = { λ s. OfShop (AnswersSpan s.jobs.now) };
+
+    fn answer(
+        &self,
+        alloc: Global,
+        picked: PickedBlock,
+        _second: Option<Vec<u8>>,
+    ) -> Result<Vec<u8>, CommandFault> {
+        Ok(span_line(alloc, &picked.block.instance, self.jobs)?)
+    }
 }
 
 /// Writes the makespan of a sequence for the block that an index names.
@@ -34,16 +52,17 @@ pub fn run_span<S: Source, K: Sink>(
 ) -> Result<(), CommandFault>
     requires file_works { S.has_failed file.old ≡ false }
     requires out_works { K.has_failed out.old ≡ false }
-    ensures written { OnOk result (WroteFor most_text (AnswersSpan index jobs.now)
-        (source_run S.given S.has_ended file.old file.new) (sink_run K.taken out.old out.new)) }
-    ensures ended { IfErr result (Ends most_text (AnswersSpan index jobs.now)
-        (source_run S.given S.has_ended file.old file.new) (sink_run K.taken out.old out.new)) }
-    ensures read_device { IsErrOf result (CommandFault.Read read.Device) ↔ (S.has_failed file.new ≡ true) }
-    ensures write_device { IsErrOf result (CommandFault.Write write.Device) ↔ (K.has_failed out.new ≡ true) }
-    ensures stands { Grows (S.given file.old) (S.given file.new) }
+    ensures { Ran FileKind.Text (OfShop (AnswersSpan jobs.now)) index
+        (run_alone (source_run S.Source file.old file.new) (sink_run K.Sink out.old out.new)) result }
 {
-    let block = read_block(alloc, file, index)?;
-    let line = span_line(alloc, &block.instance, jobs)?;
-    put_all(out, line.as_slice())?;
-    Ok(())
+    let command = Printed(Span { jobs });
+    run_over(
+        alloc,
+        file,
+        index,
+        FileKind::Text,
+        &mut None::<MemorySource>,
+        &command,
+        out,
+    )
 }

@@ -11,7 +11,7 @@ pub use Rattle.flow_shop.proofs.Taken
 pub use Rattle.flow_shop.proofs.TwoLeast
 pub use Rattle.flow_shop.proofs.RowSteps
 pub use Rattle.flow_shop.proofs.Lists
-pub use Rattle.flow_text.proofs.GeneratorLemmas
+pub use Rattle.flow_generator.proofs.GeneratorLemmas
 pub use Rattle.flow_text.proofs.BytesLemmas
 pub use Rattle.flow_text.proofs.LineLemmas
 pub use Rattle.flow_text.proofs.NumberLemmas

@@ -1,4 +1,5 @@
 pub use Rattle.flow_limits.specs.Limits
+pub use Rattle.flow_shop.specs.LeastMakespan
 pub use Rattle.flow_shop.specs.Shop
 pub use Rattle.flow_shop.specs.Least
 pub use Rattle.flow_shop.specs.Paths
@@ -15,12 +16,13 @@ pub use Rattle.flow_shop.specs.InstanceFaults
 pub use Rattle.flow_shop.specs.SequenceFaults
 pub use Rattle.flow_shop.specs.Characters
 pub use Rattle.flow_shop.specs.Digits
-pub use Rattle.flow_text.specs.Generator
+pub use Rattle.flow_generator.specs.Generator
 pub use Rattle.flow_text.specs.Bytes
 pub use Rattle.flow_text.specs.Devices
 pub use Rattle.flow_text.specs.Lines
 pub use Rattle.flow_text.specs.Text
 pub use Rattle.flow_text.specs.TextFaults
+pub use Rattle.flow_text.specs.Picks
 pub use Rattle.flow_text.specs.Written
 pub use Rattle.flow_text.specs.StartText
 pub mod internal

@@ -1,5 +1,5 @@
-//! The permutation flow shop under one name: limits, instances and bounds, bytes and texts. Each item is one of
-//! flow_limits, flow_shop or flow_text.
+//! The permutation flow shop under one name: limits, instances and bounds, the generator, bytes and texts. Each item is
+//! one of flow_limits, flow_shop, flow_generator or flow_text.
 #![tactic(auto)]
 
 pub mod bytes;
@@ -8,6 +8,7 @@ pub mod row;
 pub mod sequence;
 pub mod text;
 
+pub use flow_generator::{Taillard, generate};
 pub use flow_limits::{
     MAX_BUDGET, MAX_CERTIFICATE, MAX_DEPTH, MAX_DIRECTIONS, MAX_JOBS, MAX_MACHINES, MAX_NUMBER,
     MAX_PREFIXES, MAX_ROUNDS, MAX_SEED, MAX_TEXT, MAX_TIME, MAX_VERSION, MAX_WIDTH, MAX_WORK,
@@ -21,7 +22,8 @@ pub use flow_shop::{
     released_bound_is_stronger, rows, sequences_have_no_fault,
 };
 pub use flow_text::{
-    Block, Claim, MemorySink, MemorySource, ReadFault, Refused, Sink, Source, Start, StartFault,
-    StdSink, StdSource, Taillard, TextFault, WriteFault, block_text, each_start_is_judged,
-    generate, put_all, read_all, read_blocks, read_start, texts_have_no_fault,
+    Block, Claim, MemorySink, MemorySource, Pick, PickFault, ReadFault, Refused, Sink, Source,
+    Start, StartFault, StdSink, StdSource, TextFault, WriteFault, block_text, each_index_is_judged,
+    each_start_is_judged, pick_block, put_all, read_all, read_blocks, read_start,
+    texts_have_no_fault,
 };

@@ -2,4 +2,5 @@
 
 pub mod block;
 pub mod fault;
+pub mod pick;
 pub mod start;

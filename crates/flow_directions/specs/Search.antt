@@ -119,13 +119,13 @@ IsPart shop (Children first last end jobs) =
     AreJobs shop.jobs (first.items ++ last.items) × AreJobs shop.jobs jobs.items
     × All (λ job. AreJobs shop.jobs (first_with end first.items job ++ last_with end last.items job)) jobs.items
 
--- the signs of the nodes that are opened before a sequence is reached
+-- the signs of the nodes that are opened before a sequence is reached (law: directions_prove, directions_by_children)
 abbrev pub signs : List Visit → List ℕ
 signs [] = []
 signs (opens end ∷ more) = sign end ∷ signs more
 signs (reaches jobs ∷ more) = []
 
--- the first sequence that is reached
+-- the first sequence that is reached (law: search_reaches_what_is_below)
 abbrev pub first_reached : List Visit → Option (List ℕ)
 first_reached [] = None
 first_reached (opens end ∷ more) = first_reached more
@@ -136,10 +136,12 @@ abbrev pub Continues : List Visit → List ℕ → List Visit → Type 0
 Continues met text more = (signs met ≡ text ++ signs more) × (first_reached met ≡ first_reached more)
 
 -- the directions that the search writes for a node: all, or those before the first sequence below the number
+-- (law: directions_prove, directions_by_children)
 abbrev pub directions_of : Shop → ℕ → List ℕ → List ℕ → List ℕ
 directions_of shop number first last = signs (visits shop number first last)
 
 -- the first sequence of a node, in the order of the search, that is below the number
+-- (law: search_reaches_what_is_below)
 abbrev pub first_below : Shop → ℕ → List ℕ → List ℕ → Option (List ℕ)
 first_below shop number first last = first_reached (visits shop number first last)
 
@@ -149,19 +151,20 @@ IsOfNode shop first last jobs =
     (between : List ℕ) × (jobs ≡ first ++ between ++ last) × IsSequence shop.jobs jobs
 
 -- where the search reaches no sequence below a number, its directions prove the number for the node
+-- (law: directions_prove)
 abbrev pub DirectionsProve : Type 0
 DirectionsProve =
     (shop : Shop) (number : ℕ) (first last : List ℕ) → AreJobs shop.jobs (first ++ last) →
     first_below shop number first last ≡ None →
     ProvesFrom shop number first last (directions_of shop number first last)
 
--- what it reaches is a sequence of the node, and below the number
+-- what it reaches is a sequence of the node, and below the number (law: search_reaches_what_is_below)
 abbrev pub ReachedIsBelow : Type 0
 ReachedIsBelow =
     (shop : Shop) (number : ℕ) (first last jobs : List ℕ) → AreJobs shop.jobs (first ++ last) →
     first_below shop number first last ≡ Some jobs → IsOfNode shop first last jobs × (span shop jobs < number)
 
--- it reaches none exactly where no sequence of the node is below the number
+-- it reaches none exactly where no sequence of the node is below the number (law: search_reaches_what_is_below)
 abbrev pub ReachesNoneBelow : Type 0
 ReachesNoneBelow =
     (shop : Shop) (number : ℕ) (first last : List ℕ) → AreJobs shop.jobs (first ++ last) →
@@ -169,7 +172,7 @@ ReachesNoneBelow =
     ↔ ((jobs : List ℕ) → IsOfNode shop first last jobs → number ≤ span shop jobs)
 
 -- where it reaches none, the directions of a node are nothing where its bound is at least the number, and else the sign
--- of the end that is taken and the directions of the children there, in order
+-- of the end that is taken and the directions of the children there, in order (law: directions_by_children)
 abbrev pub DirectionsByChildren : Type 0
 DirectionsByChildren =
     (shop : Shop) (number : ℕ) (first last : List ℕ) → AreJobs shop.jobs (first ++ last) →

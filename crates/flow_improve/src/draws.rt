@@ -4,7 +4,7 @@ ghost use Rattle.std.specs.Prelude.{◌<◌, ◌≤◌, length};
 ghost use Rattle.std.specs.List.Sorted.{IsPermutation};
 ghost use Rattle.flow_limits.specs.Limits.{most_jobs};
 
-use flow_text::Taillard;
+use flow_generator::Taillard;
 
 /// A place in a list of so many entries, counted from 0.
 pub(crate) fn place_in(draws: &mut Taillard, count: usize) -> usize

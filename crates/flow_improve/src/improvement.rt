@@ -1,7 +1,6 @@
 //! A better sequence than a given one: by a beam, and then by rounds from the start and from the best of the beam.
 
-ghost use Rattle.std.specs.Prelude.{◌≡◌, ◌<◌, ◌≤◌, length, IfOk};
-ghost use Rattle.flow_text.specs.Generator.{modulus};
+ghost use Rattle.std.specs.Prelude.{◌≡◌, ◌≤◌, length, IfOk};
 ghost use Rattle.flow_shop.specs.Paths.{span};
 ghost use Rattle.flow_shop.specs.Sequences.{IsSequence};
 
@@ -24,8 +23,6 @@ pub fn rounds_of_both(
 ) -> Result<Reached, AllocError>
     requires start { length start.now ≡ instance.now.jobs }
     requires beamed { length beamed.now.sequence ≡ instance.now.jobs }
-    requires seed_from { 1 ≤ effort.now.seed }
-    requires seed_to { effort.now.seed < modulus }
     ensures each { IfOk result (λ reached. IsSequence instance.now.jobs reached.sequence) }
     ensures value { IfOk result (λ reached. reached.value ≡ span instance.now reached.sequence) }
     ensures least { IfOk result (λ reached. reached.value ≤ span instance.now start.now) }
@@ -52,13 +49,11 @@ pub fn improve(
     start: &Sequence,
     effort: &Effort,
 ) -> Result<Reached, AllocError>
-    requires start { length start.now ≡ instance.now.jobs }
-    requires seed_from { 1 ≤ effort.now.seed }
-    requires seed_to { effort.now.seed < modulus }
+    requires { length start.now ≡ instance.now.jobs }
     ensures each { IfOk result (λ reached. IsSequence instance.now.jobs reached.sequence) }
     ensures value { IfOk result (λ reached. reached.value ≡ span instance.now reached.sequence) }
     ensures least { IfOk result (λ reached. reached.value ≤ span instance.now start.now) }
 {
-    let beamed = beam(alloc, instance, start, effort.width, effort.beam_work())?;
+    let beamed = beam(alloc, instance, start, effort.width(), effort.beam_work())?;
     rounds_of_both(alloc, instance, start, &beamed, effort)
 }

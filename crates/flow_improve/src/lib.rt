@@ -11,8 +11,8 @@ mod round;
 mod rounds;
 mod two_ended;
 
-pub use effort::Effort;
+pub use effort::{Effort, EffortFault, RunLimits};
 pub use improvement::{improve, rounds_of_both};
 pub use reached::Reached;
-pub use rounds::{RunLimits, rounds_from};
+pub use rounds::rounds_from;
 pub use two_ended::{beam, beam_below};

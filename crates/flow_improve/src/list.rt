@@ -2,16 +2,16 @@
 
 ghost use Rattle.std.specs.Prelude.{◌≡◌, ◌-◌, ◌<◌, ◌≤◌, length, take, insert, slice_index, IfOk};
 ghost use Rattle.std.specs.List.Sorted.{IsPermutation};
-ghost use Rattle.flow_limits.specs.Limits.{most_jobs};
 ghost use Rattle.flow_shop.specs.Sequences.{IsSequence};
 
+use flow_shop::Instance;
 use std::alloc::{AllocError, Global};
 
 /// The jobs of an instance in the order of their numbers.
-pub(crate) fn numbers(alloc: Global, jobs: u16) -> Result<Vec<u16>, AllocError>
-    requires { jobs ≤ most_jobs }
-    ensures { IfOk result (λ numbers. IsSequence jobs numbers.items) }
+pub(crate) fn numbers(alloc: Global, instance: &Instance) -> Result<Vec<u16>, AllocError>
+    ensures { IfOk result (λ numbers. IsSequence instance.now.jobs numbers.items) }
 {
+    let jobs = instance.jobs();
     let mut numbers = Vec::with_capacity(alloc, usize::from(jobs))?;
     for job in 1..jobs + 1 {
         numbers.push(job)?;

@@ -8,8 +8,8 @@ ghost use Rattle.flow_improve.specs.internal.Rooms.{IsRoundsFor};
 use crate::draws::{place_in, shuffle};
 use crate::list::{numbers, take_out};
 use crate::place::Room;
+use flow_generator::Taillard;
 use flow_shop::Instance;
-use flow_text::Taillard;
 use std::alloc::{AllocError, Global};
 
 /// How many jobs leave the list in a round, where there are so many.
@@ -36,8 +36,8 @@ impl Rounds {
         Ok(Rounds {
             draws,
             room: Room::new(alloc, instance)?,
-            jobs: numbers(alloc, instance.jobs())?,
-            order: numbers(alloc, instance.jobs())?,
+            jobs: numbers(alloc, instance)?,
+            order: numbers(alloc, instance)?,
         })
     }
 

@@ -1,16 +1,16 @@
 //! Rounds of iterated greedy search, each from the best list of late.
 
-ghost use Rattle.std.specs.Prelude.{◌≡◌, ◌<◌, ◌≤◌, length, IfOk};
-ghost use Rattle.flow_text.specs.Generator.{modulus};
+ghost use Rattle.std.specs.Prelude.{◌≡◌, ◌≤◌, length, IfOk};
 ghost use Rattle.flow_shop.specs.Paths.{span};
 ghost use Rattle.flow_shop.specs.Sequences.{IsSequence};
 ghost use Rattle.flow_improve.specs.internal.Rooms.{IsKnown, IsRunOf};
 
+use crate::effort::RunLimits;
 use crate::reached::Reached;
 use crate::round::Rounds;
 use flow_bound::taillard_bound;
+use flow_generator::Taillard;
 use flow_shop::{Instance, Sequence, makespan};
-use flow_text::Taillard;
 use std::alloc::{AllocError, Global};
 
 /// A sequence of an instance, and its makespan.
@@ -57,21 +57,19 @@ struct Run {
 }
 
 impl Run {
-    /// A run from a sequence, with the random numbers of a seed.
+    /// A run from a sequence, with these random numbers.
     fn new(
         alloc: Global,
         instance: &Instance,
         start: &Sequence,
-        seed: u32,
+        draws: Taillard,
     ) -> Result<Run, AllocError>
-        requires start { length start.now ≡ instance.now.jobs }
-        requires seed_from { 1 ≤ seed }
-        requires seed_to { seed < modulus }
+        requires { length start.now ≡ instance.now.jobs }
         ensures run { IfOk result (IsRunOf instance.now) }
         ensures best { IfOk result (λ run. run.best.makespan ≡ span instance.now start.now) }
     {
         Ok(Run {
-            search: Rounds::new(alloc, instance, Taillard::new(seed).unwrap())?,
+            search: Rounds::new(alloc, instance, draws)?,
             best: Known::new(alloc, instance, start)?,
             current: Known::new(alloc, instance, start)?,
             tried: Known::new(alloc, instance, start)?,
@@ -96,30 +94,6 @@ impl Run {
     }
 }
 
-/// When rounds end, and the seed of their random numbers.
-#[derive(Clone, Copy)]
-pub struct RunLimits {
-    /// The most rounds.
-    pub rounds: u32,
-    /// The seed of the random numbers.
-    pub seed: u32,
-    /// How many steps end the rounds: the round that reaches them is the last.
-    pub work: u64,
-}
-
-impl RunLimits {
-    /// The same limits, but with no round where that is so.
-    pub(crate) fn none_if(self, is_done: bool) -> RunLimits
-        ensures { result.seed ≡ self.seed }
-    {
-        RunLimits {
-            rounds: if is_done { 0 } else { self.rounds },
-            seed: self.seed,
-            work: self.work,
-        }
-    }
-}
-
 /// The best sequence of rounds from a start, and its makespan, which is at most that of the start. The rounds also end
 /// where one has Taillard's lower bound.
 pub fn rounds_from(
@@ -128,15 +102,13 @@ pub fn rounds_from(
     start: &Sequence,
     limits: &RunLimits,
 ) -> Result<Reached, AllocError>
-    requires start { length start.now ≡ instance.now.jobs }
-    requires seed_from { 1 ≤ limits.now.seed }
-    requires seed_to { limits.now.seed < modulus }
+    requires { length start.now ≡ instance.now.jobs }
     ensures each { IfOk result (λ reached. IsSequence instance.now.jobs reached.sequence) }
     ensures value { IfOk result (λ reached. reached.value ≡ span instance.now reached.sequence) }
     ensures least { IfOk result (λ reached. reached.value ≤ span instance.now start.now) }
 {
     let least = taillard_bound(instance);
-    let mut run = Run::new(alloc, instance, start, limits.seed)?;
+    let mut run = Run::new(alloc, instance, start, limits.draws())?;
     for _ in 0..limits.rounds {
         if run.best.makespan <= least || run.search.steps() >= limits.work {
             break;

@@ -7,7 +7,7 @@ use Rattle.rtrb.specs.declared.AnyItems.{AnyItems}
 use Rattle.flow_lanes.specs.Lane.{SendingEnd, ReceivingEnd}
 
 module _ {T : Type 0} where
-  -- the end that pushes is the end that sends
+  -- the end that pushes is the end that sends; what it has sent and received say the contracts of `rtrb`
   abbrev pub sending_end : Producer T Global AnyItems → SendingEnd T
   sending_end p = record {
     lane = record {
@@ -18,7 +18,7 @@ module _ {T : Type 0} where
     known_free = known_free p;
   }
 
-  -- the end that pops is the end that receives
+  -- the end that pops is the end that receives; what it has sent and received say the contracts of `rtrb`
   abbrev pub receiving_end : Consumer T Global AnyItems → ReceivingEnd T
   receiving_end c = record {
     lane = record {

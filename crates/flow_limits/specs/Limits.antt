@@ -1,4 +1,5 @@
--- The limits. Contracts name these numbers, and never the code's constants.
+-- The limits. Contracts name these numbers, and never the code's constants, which are the same
+-- (law: limits_are_those_stated).
 use Rattle.std.specs.Prelude.{ℕ}
 
 -- the most jobs of an instance

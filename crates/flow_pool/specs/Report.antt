@@ -58,7 +58,7 @@ pub record AreOne (verdict other : Verdict) : Type 0 where
   pub sequence : verdict.sequence ≡ other.sequence
   pub trees : map (λ tree. tree.items) verdict.trees.items ≡ map (λ tree. tree.items) other.trees.items
 
--- reports of plans that are alike have one verdict, whatever the workers and budgets
+-- reports of plans that are alike have one verdict, whatever the workers and budgets (law: reports_agree)
 abbrev pub ReportsAgree : Type 0
 ReportsAgree =
     (plan other : Planned) (one another : Report) → IsPlan plan → IsPlan other → AreAlike plan other →

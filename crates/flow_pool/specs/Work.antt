@@ -20,10 +20,11 @@ abbrev pub asking : List ℕ → List Task
 asking numbers = map Prefix numbers
 
 -- the tasks of one worker of k, where there are n prefixes: its share, and then one end
+-- (law: each_prefix_is_asked_once)
 abbrev pub tasks_of : ℕ → ℕ → ℕ → List Task
 tasks_of k n worker = asking (share k n worker) ++ End ∷ []
 
--- how often the tasks ask for a prefix
+-- how often the tasks ask for a prefix (law: each_prefix_is_asked_once)
 abbrev pub times_asked : ℕ → List Task → ℕ
 times_asked number [] = 0
 times_asked number (Prefix other ∷ tasks) = cond (nat_eq other number) 1 0 + times_asked number tasks

@@ -44,10 +44,21 @@ pub struct CertifyRequest {
 pub struct CheckRequest {
     /// Whether a two-ended certificate is accepted too, by its first line.
     pub bounds: bool,
-    /// Whether the sequence is printed, in the place of the value or the bounds.
-    pub sequence: bool,
+    /// What is printed of a lawful text.
+    pub output: CheckOutput,
     /// Whether a text is refused whose bounds are not one number.
     pub optimal: bool,
+}
+
+/// What is printed of a lawful text.
+#[derive(Clone, Copy, Debug, PartialEq)]
+pub enum CheckOutput {
+    /// The value that it proves least, or the bounds.
+    Proved,
+    /// Its sequence, and the makespan of that.
+    Sequence,
+    /// The value or the bounds, and then a report: of which block, and by how long a proof.
+    Report,
 }
 
 /// In which form a schedule is written.
@@ -57,4 +68,56 @@ pub enum ScheduleForm {
     Csv,
     /// A picture.
     Svg,
+}
+
+/// What is asked of a block.
+#[derive(Debug, PartialEq, Drop)]
+pub enum Request {
+    /// The makespan of jobs in this order.
+    Span {
+        /// The numbers of the jobs, from 1, as they were given.
+        jobs: Vec<u16>,
+    },
+    /// The starting sequence and its makespan.
+    Neh,
+    /// A certificate of the least makespan.
+    Solve(SolveRequest),
+    /// A better sequence than the starting one.
+    Improve(ImproveRequest),
+    /// A two-ended certificate of the least makespan, or of bounds of it.
+    Certify {
+        /// How the block is certified.
+        request: CertifyRequest,
+        /// Whether it is told how far it is.
+        progress: bool,
+    },
+    /// What a certificate, two-ended or not, proves, or its sequence.
+    Check(CheckRequest),
+    /// The times of a sequence, as a table or a picture.
+    Schedule(ScheduleForm),
+}
+
+/// What a command line asks for.
+#[derive(Debug, PartialEq, Drop)]
+pub enum Invocation<'a> {
+    /// The instance of a seed.
+    Gen {
+        /// The number of jobs.
+        jobs: u32,
+        /// The number of machines.
+        machines: u32,
+        /// The seed of the generator.
+        seed: u32,
+    },
+    /// An answer for a block of a text.
+    OfBlock {
+        /// The name of the text's file.
+        file: &'a str,
+        /// The block's number in the text, from 1.
+        index: u32,
+        /// The name of the second file: a starting sequence, a certificate, or a sequence to be timed.
+        second: Option<&'a str>,
+        /// What is asked of the block.
+        request: Request,
+    },
 }

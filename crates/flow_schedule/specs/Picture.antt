@@ -14,7 +14,8 @@ use Rattle.flow_schedule.specs.declared.operations.Operation.{Operation}
 abbrev pub width_of : ℕ → ℕ
 width_of room = room - min 80 (room / 4)
 
--- eight colours, dark and light in turn, so that neighbours differ in grey too
+-- eight colours, dark and light in turn, so that neighbours differ in grey too; that they do, and that the numbers are
+-- read on them, `tests/pictures` computes
 unfoldable pub palette : List ℕ
 palette = codes "#004C7F#F0C800#8F2D00#7CC4F0#00594A#F2A65A#5B2A86#F2B6D2"
 

@@ -13,10 +13,11 @@ abbrev pub job_at : List ℕ → ℕ → ℕ
 job_at sequence place = slice_index sequence (place - 1)
 
 -- when the job at a place leaves a machine: the completion time of the first so many jobs
+-- (law: operation_starts_when_free)
 abbrev pub end_at : Shop → List ℕ → ℕ → ℕ → ℕ
 end_at shop sequence place machine = completion shop (take place sequence) machine
 
--- when the job at a place starts on a machine: when it leaves, less its time there
+-- when the job at a place starts on a machine: when it leaves, less its time there (law: operation_starts_when_free)
 abbrev pub start_at : Shop → List ℕ → ℕ → ℕ → ℕ
 start_at shop sequence place machine =
     end_at shop sequence place machine - time shop (job_at sequence place) machine

@@ -1,5 +1,6 @@
--- The options of a run, and why numbers are no options.
-use Rattle.std.specs.Prelude.{ℕ, ◌≤◌, nat_le, [], ◌∷◌, Option, Some, None, Result, Ok, Err, cond}
+-- The options of a run, and why numbers are no options. But for these, no definition of the crate names a worker, and
+-- none a thread.
+use Rattle.std.specs.Prelude.{ℕ, ◌≤◌, nat_le, [], ◌∷◌, Option, Some, None, Result, Ok, Err}
 use Rattle.std.specs.Int.{is_in_range}
 use Rattle.flow_shop.specs.Refusals.{fault_unless, first_fault}
 use Rattle.flow_limits.specs.Limits.{greatest_depth, least_version, greatest_version, most_workers, greatest_budget}
@@ -45,7 +46,26 @@ abbrev pub in_version : Choices → ℕ → Choices
 in_version options version =
     record { workers = options.workers; depth = options.depth; budget = options.budget; version = version }
 
+-- why a number is no version, if it is none
+abbrev pub version_fault : ℕ → Option OptionFault
+version_fault version = fault_unless (is_in_range least_version greatest_version version) Version
+
 -- the same options with a version; or the fault that there is no such version
 abbrev pub version_or_fault : Choices → ℕ → Result Choices OptionFault
 version_or_fault options version =
-    cond (is_in_range least_version greatest_version version) (Ok (in_version options version)) (Err Version)
+    elim (version_fault version) [ None ↦ Ok (in_version options version) | Some fault ↦ Err fault ]
+
+-- why four numbers are no options, if they are none
+abbrev pub versioned_fault : ℕ → ℕ → ℕ → ℕ → Option OptionFault
+versioned_fault workers depth budget version = first_fault (
+    option_fault workers depth budget
+    ∷ version_fault version
+    ∷ [])
+
+-- the options of four numbers; or the first fault
+abbrev pub versioned_or_fault : ℕ → ℕ → ℕ → ℕ → Result Choices OptionFault
+versioned_or_fault workers depth budget version =
+    elim (versioned_fault workers depth budget version) [
+      | None ↦ Ok (record { workers = workers; depth = depth; budget = budget; version = version })
+      | Some fault ↦ Err fault
+    ]

@@ -54,10 +54,10 @@ tree_of plan number = tree plan.shop (bound_of plan.options.version) plan.start.
 abbrev pub best_of : Planned → ℕ → Option Found
 best_of plan number = best plan.shop plan.start.value (prefix_of plan number)
 
--- the trees of a plan, in the order of their prefixes
+-- the trees of a plan, in the order of their prefixes (law: plans_agree)
 abbrev pub trees_of : Planned → List (List ℕ)
 trees_of plan = trees plan.shop (bound_of plan.options.version) plan.start.value plan.options.depth
 
--- the verdict of a plan
+-- the verdict of a plan (law: plans_agree)
 abbrev pub verdict_of : Planned → Found
 verdict_of plan = verdict plan.shop plan.start plan.options.depth

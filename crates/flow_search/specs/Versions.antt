@@ -11,7 +11,7 @@ abbrev pub IsStronger : Bound → Bound → Type 0
 IsStronger bound other =
     (shop : Shop) (jobs : List ℕ) (machine : ℕ) → 1 ≤ machine → other shop jobs machine ≤ bound shop jobs machine
 
--- the trees of a stronger bound are never longer
+-- the trees of a stronger bound are never longer (law: stronger_bounds_shorten_trees)
 abbrev pub StrongerBoundsShortenTrees : Type 0
 StrongerBoundsShortenTrees =
     (bound other : Bound) → IsStronger bound other →
@@ -22,12 +22,12 @@ StrongerBoundsShortenTrees =
 abbrev pub plan_in : Planned → ℕ → Planned
 plan_in plan version = record { shop = plan.shop; start = plan.start; options = in_version plan.options version }
 
--- no tree of a plan is longer in version 2 than in version 1
+-- no tree of a plan is longer in version 2 than in version 1 (law: stronger_bounds_shorten_trees)
 abbrev pub SecondVersionShortensTrees : Type 0
 SecondVersionShortensTrees =
     (plan : Planned) (number : ℕ) → length (tree_of (plan_in plan 2) number) ≤ length (tree_of (plan_in plan 1) number)
 
--- a budget that suffices in version 1 suffices in version 2
+-- a budget that suffices in version 1 suffices in version 2 (law: stronger_bounds_shorten_trees)
 abbrev pub SecondVersionKeepsBudget : Type 0
 SecondVersionKeepsBudget =
     (plan : Planned) → first_over_budget (plan_in plan 1) ≡ None → first_over_budget (plan_in plan 2) ≡ None

@@ -1,7 +1,7 @@
 //! The options of a run.
 
 ghost use Rattle.std.specs.Prelude.{◌≡◌};
-ghost use Rattle.flow_search.specs.Choices.{AreWithinLimits, options_or_fault, version_or_fault};
+ghost use Rattle.flow_search.specs.Choices.{AreWithinLimits, options_or_fault, version_or_fault, versioned_or_fault};
 
 use flow_limits::{MAX_BUDGET, MAX_DEPTH, MAX_VERSION, MAX_WORKERS, MIN_VERSION};
 use std::marker::Model;
@@ -91,6 +91,18 @@ impl Options {
             return Err(OptionFault::Version);
         }
         Ok(Options { version, ..self })
+    }
+
+    /// The options of four numbers; or the first fault, that of the version last.
+    pub fn versioned(
+        workers: u32,
+        depth: u32,
+        budget: u32,
+        version: u32,
+    ) -> Result<Options, OptionFault>
+        ensures { result ≡ versioned_or_fault workers depth budget version }
+    {
+        Options::new(workers, depth, budget)?.with_version(version)
     }
 
     /// How many workers there are.

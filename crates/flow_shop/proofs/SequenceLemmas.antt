@@ -9,7 +9,7 @@ use Rattle.std.proofs.lemmas.Bool.Decides.{nat_tests}
 use Rattle.std.proofs.lemmas.List.Folds.{list_any-append}
 use Rattle.std.proofs.lemmas.List.Elements.{All-from_recursion, recursion_from_All}
 use Rattle.flow_shop.specs.Refusals.{fault_unless, first_fault}
-use Rattle.flow_shop.specs.Sequences.{has, AreDistinct, IsSequence}
+use Rattle.flow_shop.specs.Sequences.{AreJobs, has, AreDistinct, IsSequence}
 use Rattle.flow_shop.specs.SequenceFaults.{place_fault, sequence_fault, but_memory}
 use Rattle.flow_shop.specs.declared.sequence.SequenceFault.{SequenceFault}
 use Rattle.flow_shop.specs.declared.sequence.SequenceFault.TheVariants.{Length, Job, Twice}
@@ -92,12 +92,18 @@ placed n earlier (job ∷ jobs) e =
       distinct = (rest.fresh job (has-last earlier job), rest.distinct);
     }
 
--- a list without a fault is a sequence
+-- a list without a fault has distinct jobs
+pub no-fault-jobs : (n : ℕ) (jobs : List ℕ) → place_fault n [] jobs ≡ None → AreJobs n jobs
+no-fault-jobs n jobs none =
+    let each = placed n [] jobs none in
+    record {
+      range = All-from_recursion (λ job. (1 ≤ job) × (job ≤ n)) jobs each.range;
+      distinct = each.distinct;
+    }
+
+-- where it has as many as there are, it is a sequence
 pub fault-none-is : (n : ℕ) (jobs : List ℕ) → length jobs ≡ n → place_fault n [] jobs ≡ None → IsSequence n jobs
-fault-none-is n jobs whole e =
-    let each = placed n [] jobs e in
-    let range = All-from_recursion (λ job. (1 ≤ job) × (job ≤ n)) jobs each.range in
-    record { whole = whole; each = record { range = range; distinct = each.distinct } }
+fault-none-is n jobs whole e = record { whole = whole; each = no-fault-jobs n jobs e }
 
 apart-more : (earlier jobs : List ℕ) (job : ℕ) → has jobs job ≡ false →
     ((other : ℕ) → has earlier other ≡ true → has (job ∷ jobs) other ≡ false) → (other : ℕ) →

@@ -7,7 +7,7 @@ use Rattle.flow_shop.specs.Paths.{completion, span}
 use Rattle.flow_shop.specs.Sequences.{jobs_left, IsSequence, Extends}
 
 -- the machine bound: the front on the machine, plus the times of the jobs left on it, plus the least tail of one of
--- these jobs, which is its time on the later machines
+-- these jobs, which is its time on the later machines (law: bound_is_admissible)
 abbrev pub machine_bound : Shop → List ℕ → List ℕ → ℕ → ℕ
 machine_bound shop front left machine =
     slice_index front (machine - 1) + sum_by (λ job. time shop job machine) left
@@ -17,12 +17,13 @@ machine_bound shop front left machine =
 abbrev pub front_of : Shop → List ℕ → List ℕ
 front_of shop jobs = map (completion shop jobs) (numbers 1 shop.machines)
 
--- the machine bound of a list
+-- the machine bound of a list (law: bound_is_admissible)
 abbrev pub bound_at : Shop → List ℕ → ℕ → ℕ
 bound_at shop jobs machine = machine_bound shop (front_of shop jobs) (jobs_left shop.jobs jobs) machine
 
 -- the release of a machine, before which no job left starts on it: for each machine up to this one, its front plus the
 -- least time that a job left needs from there to this machine; and the greatest of these
+-- (law: released_bound_is_admissible, released_bound_is_stronger)
 abbrev pub release : Shop → List ℕ → List ℕ → ℕ → ℕ
 release shop front left machine =
     greatest (map
@@ -30,12 +31,13 @@ release shop front left machine =
     (numbers 1 machine))
 
 -- the released bound: the machine bound with the release in place of the front
+-- (law: released_bound_is_admissible, released_bound_is_stronger)
 abbrev pub released_bound : Shop → List ℕ → List ℕ → ℕ → ℕ
 released_bound shop front left machine =
     release shop front left machine + sum_by (λ job. time shop job machine) left
     + least (map (λ job. time_between shop job (machine + 1) shop.machines) left)
 
--- the released bound of a list
+-- the released bound of a list (law: released_bound_is_admissible, released_bound_is_stronger)
 abbrev pub released_bound_at : Shop → List ℕ → ℕ → ℕ
 released_bound_at shop jobs machine = released_bound shop (front_of shop jobs) (jobs_left shop.jobs jobs) machine
 
@@ -48,6 +50,7 @@ abbrev pub letter : ℕ → ℕ
 letter machine = 64 + machine
 
 -- the makespan of a sequence that extends a list is at least the bound of the list on each machine
+-- (law: bound_is_admissible)
 abbrev pub BoundIsAdmissible : Type 0
 BoundIsAdmissible =
     (shop : Shop) (jobs sequence : List ℕ) (machine : ℕ) → 1 ≤ machine → machine ≤ shop.machines →
@@ -55,13 +58,14 @@ BoundIsAdmissible =
     bound_at shop jobs machine ≤ span shop sequence
 
 -- the makespan of a sequence that extends a list is at least the released bound of the list on each machine
+-- (law: released_bound_is_admissible)
 abbrev pub ReleasedBoundIsAdmissible : Type 0
 ReleasedBoundIsAdmissible =
     (shop : Shop) (jobs sequence : List ℕ) (machine : ℕ) → 1 ≤ machine → machine ≤ shop.machines →
     IsSequence shop.jobs sequence → Extends sequence jobs → length jobs < shop.jobs →
     released_bound_at shop jobs machine ≤ span shop sequence
 
--- the released bound of a list is at least its machine bound
+-- the released bound of a list is at least its machine bound (law: released_bound_is_stronger)
 abbrev pub ReleasedBoundIsStronger : Type 0
 ReleasedBoundIsStronger =
     (shop : Shop) (jobs : List ℕ) (machine : ℕ) → 1 ≤ machine →

@@ -27,6 +27,7 @@ last_with Back last job = job ∷ last
 -- directions prove a number for a node with so many jobs left in two cases: they are empty, and the node's bound is at
 -- least the number; or the bound is below it and some job is left, and they are the sign of an end, and then, one after
 -- another, directions that prove it for the node's children at that end, in increasing order of the job put there
+-- (law: directions_are_sound, directions_are_one)
 abbrev pub ProvesWith : Shop → ℕ → ℕ → List ℕ → List ℕ → List ℕ → Type 0
 ProvesWith shop number zero first last text = (text ≡ []) × (number ≤ end_bound shop first last)
 ProvesWith shop number (suc left) first last text =
@@ -36,26 +37,27 @@ ProvesWith shop number (suc left) first last text =
     × AllZip (λ job part. ProvesWith shop number left (first_with end first job) (last_with end last job) part)
     (jobs_left shop.jobs (first ++ last)) parts)
 
--- directions prove a number for a node
+-- directions prove a number for a node (law: directions_are_sound, directions_are_one)
 abbrev pub ProvesFrom : Shop → ℕ → List ℕ → List ℕ → List ℕ → Type 0
 ProvesFrom shop number first last text =
     ProvesWith shop number (length (jobs_left shop.jobs (first ++ last))) first last text
 
--- directions prove a number: they do so for the node of two empty lists
+-- directions prove a number: they do so for the node of two empty lists (law: directions_are_sound, directions_are_one)
 abbrev pub Proves : Shop → ℕ → List ℕ → Type 0
 Proves shop number text = ProvesFrom shop number [] [] text
 
--- no sequence of a node is below a number that directions prove for it
+-- no sequence of a node is below a number that directions prove for it (law: directions_are_sound)
 abbrev pub DirectionsAreSound : Type 0
 DirectionsAreSound =
     (shop : Shop) (number : ℕ) (first between last text : List ℕ) → ProvesFrom shop number first last text →
     IsSequence shop.jobs (first ++ between ++ last) → number ≤ span shop (first ++ between ++ last)
 
--- no sequence of the instance is below a number that directions prove
+-- no sequence of the instance is below a number that directions prove (law: directions_are_sound)
 abbrev pub ProvedIsLowerBound : Type 0
 ProvedIsLowerBound = (shop : Shop) (number : ℕ) (text : List ℕ) → Proves shop number text → IsLowerBound shop number
 
 -- a text begins with at most one string of directions that prove a number for a node: so the string needs no end mark
+-- (law: directions_are_one)
 abbrev pub DirectionsAreOne : Type 0
 DirectionsAreOne =
     (shop : Shop) (number : ℕ) (first last one other rest others : List ℕ) →

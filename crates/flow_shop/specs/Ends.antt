@@ -16,28 +16,30 @@ abbrev pub tail : Shop → ℕ → ℕ
 tail shop machine = least (map (λ job. time_between shop job (machine + 1) shop.machines) (numbers 1 shop.jobs))
 
 -- the front of a first list on a machine: when its last job leaves the machine; the head where the list is empty
+-- (tied: ends_by_recurrence)
 abbrev pub front : Shop → List ℕ → ℕ → ℕ
 front shop [] machine = head shop machine
 front shop (job ∷ jobs) machine = completion shop (job ∷ jobs) machine
 
 -- the back of a last list on a machine: the greatest weight of a path over the list from this machine to the last one;
--- the tail where the list is empty
+-- the tail where the list is empty (tied: ends_by_recurrence)
 abbrev pub back : Shop → List ℕ → ℕ → ℕ
 back shop [] machine = tail shop machine
 back shop (job ∷ jobs) machine =
     greatest (map (weight shop (job ∷ jobs) machine) (paths (length (job ∷ jobs)) machine shop.machines))
 
 -- the bound of a node on a machine: its front, plus the times of the jobs in neither list, plus its back
+-- (law: end_bound_is_admissible, end_bound_is_exact)
 abbrev pub end_bound_at : Shop → List ℕ → List ℕ → ℕ → ℕ
 end_bound_at shop first last machine =
     front shop first machine + sum_by (λ job. time shop job machine) (jobs_left shop.jobs (first ++ last))
     + back shop last machine
 
--- the bound of a node: the greatest of its bounds on the machines
+-- the bound of a node: the greatest of its bounds on the machines (law: end_bound_is_admissible, end_bound_is_exact)
 unfoldable pub end_bound : Shop → List ℕ → List ℕ → ℕ
 end_bound shop first last = greatest (map (end_bound_at shop first last) (numbers 1 shop.machines))
 
--- the front once a job is put behind a first list, machine by machine from the first on
+-- the front once a job is put behind a first list, machine by machine from the first on (law: ends_by_recurrence)
 abbrev pub FrontByRecurrence : Type 0
 FrontByRecurrence =
     (shop : Shop) (first : List ℕ) (job machine : ℕ) → All (λ job. (1 ≤ job) × (job ≤ shop.jobs)) first →
@@ -46,7 +48,7 @@ FrontByRecurrence =
     × (front shop (first ++ job ∷ []) (machine + 1)
     ≡ max (front shop first (machine + 1)) (front shop (first ++ job ∷ []) machine) + time shop job (machine + 1))
 
--- the back once a job is put before a last list, machine by machine from the last down
+-- the back once a job is put before a last list, machine by machine from the last down (law: ends_by_recurrence)
 abbrev pub BackByRecurrence : Type 0
 BackByRecurrence =
     (shop : Shop) (last : List ℕ) (job machine : ℕ) → 1 ≤ job → job ≤ shop.jobs → machine ≤ shop.machines →
@@ -54,13 +56,13 @@ BackByRecurrence =
     × (back shop (job ∷ last) machine
     ≡ max (back shop (job ∷ last) (machine + 1)) (back shop last machine) + time shop job machine)
 
--- no sequence of a node is below the node's bound
+-- no sequence of a node is below the node's bound (law: end_bound_is_admissible)
 abbrev pub EndBoundIsAdmissible : Type 0
 EndBoundIsAdmissible =
     (shop : Shop) (first between last : List ℕ) → IsSequence shop.jobs (first ++ between ++ last) →
     end_bound shop first last ≤ span shop (first ++ between ++ last)
 
--- where no job is left, the bound of a node is the makespan of its one sequence
+-- where no job is left, the bound of a node is the makespan of its one sequence (law: end_bound_is_exact)
 abbrev pub EndBoundIsExact : Type 0
 EndBoundIsExact =
     (shop : Shop) (first last : List ℕ) → IsSequence shop.jobs (first ++ last) →

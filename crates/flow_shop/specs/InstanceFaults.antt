@@ -11,7 +11,7 @@ use Rattle.flow_shop.specs.declared.instance.InstanceFault.TheVariants.{Jobs, Ma
 abbrev pub time_fault : List ℕ → Option InstanceFault
 time_fault times = option_map (λ index. Time (index + 1)) (position (λ time. nat_lt greatest_time time) times)
 
--- why these numbers are no instance, if they are none
+-- why these numbers are no instance, if they are none (law: instances_have_no_fault)
 abbrev pub instance_fault : ℕ → ℕ → List ℕ → Option InstanceFault
 instance_fault jobs machines times = first_fault (
     fault_unless (is_in_range 1 most_jobs jobs) Jobs

@@ -1,4 +1,5 @@
 pub use Rattle.flow_limits.specs.Limits
+pub mod LeastMakespan
 pub mod Shop
 pub mod Least
 pub mod Paths

@@ -19,7 +19,8 @@ abbrev pub place_fault : ℕ → List ℕ → List ℕ → Option SequenceFault
 place_fault n earlier [] = None
 place_fault n earlier (job ∷ jobs) = option_or (job_fault n earlier job) (place_fault n (earlier ++ job ∷ []) jobs)
 
--- why a list is no sequence of n jobs, if it is none
+-- why a list is no sequence of n jobs, if it is none: its length first, then the first job at fault
+-- (law: sequences_have_no_fault)
 abbrev pub sequence_fault : ℕ → List ℕ → Option SequenceFault
 sequence_fault n jobs = first_fault (fault_unless (length jobs == n) Length ∷ place_fault n [] jobs ∷ [])
 

@@ -20,4 +20,4 @@ pub use laws::{
     released_bound_is_stronger, sequences_have_no_fault,
 };
 pub use row::{Row, rows};
-pub use sequence::{Sequence, SequenceFault};
+pub use sequence::{Sequence, SequenceFault, first_job_at_fault};

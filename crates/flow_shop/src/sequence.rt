@@ -1,12 +1,11 @@
 //! A sequence: the jobs of an instance in some order.
 
-ghost use Rattle.std.specs.Prelude.{◌≡◌, ℕ, ◌≤◌, nat_eq, [], None, length, IfOk, OnOk, IfErr};
+ghost use Rattle.std.specs.Prelude.{◌≡◌, ℕ, ◌≤◌, nat_eq, [], None, length, IfNone, IfOk, OnOk, IfErr};
 ghost use Rattle.std.specs.Cmp.{partial_equiv_from_equiv};
 ghost use Rattle.std.specs.Cmp.Lexicographic.{pointwise, nat_list_eq_equiv};
-ghost use Rattle.flow_shop.specs.Sequences.{IsSequence};
+ghost use Rattle.flow_shop.specs.Sequences.{AreJobs, IsSequence};
 ghost use Rattle.flow_shop.specs.SequenceFaults.{place_fault, sequence_fault, but_memory};
 ghost use Rattle.flow_shop.specs.declared.sequence.SequenceFault.TheVariants.{Memory};
-ghost use Rattle.flow_limits.specs.Limits.{most_jobs};
 
 use crate::instance::Instance;
 use crate::job_set::JobSet;
@@ -70,11 +69,12 @@ impl Eq for Sequence {
     ghost laws = { nat_list_eq_equiv };
 }
 
-/// The fault of the first job that is not from 1 to `n`, or that stands at an earlier place too.
-fn first_job_at_fault(n: u16, jobs: &[u16]) -> Option<SequenceFault>
-    requires { n ≤ most_jobs }
-    ensures { result ≡ place_fault n [] jobs.now }
+/// The fault of the first job that is not one of the instance, or that stands at an earlier place too.
+pub fn first_job_at_fault(instance: &Instance, jobs: &[u16]) -> Option<SequenceFault>
+    ensures fault { result ≡ place_fault instance.now.jobs [] jobs.now }
+    ensures none { IfNone result (AreJobs instance.now.jobs jobs.now) }
 {
+    let n = instance.jobs();
     let mut earlier = JobSet::none();
     for (index, &job) in jobs.iter().enumerate() {
         if job < 1 || job > n {
@@ -96,11 +96,10 @@ impl Sequence {
         ensures refused { IfErr result (λ fault. sequence_fault instance.now.jobs jobs.now ≡ but_memory fault) }
         ensures each { OnOk result (IsSequence instance.now.jobs jobs.now) }
     {
-        let n = instance.jobs();
-        if jobs.len() != n as usize {
+        if jobs.len() != usize::from(instance.jobs()) {
             return Err(SequenceFault::Length);
         }
-        match first_job_at_fault(n, jobs) {
+        match first_job_at_fault(instance, jobs) {
             Some(fault) => Err(fault),
             None => Ok(Sequence {
                 jobs: Vec::from_slice(alloc, jobs)?,

@@ -1,4 +1,3 @@
-pub mod GeneratorLemmas
 pub mod BytesLemmas
 pub mod LineLemmas
 pub mod NumberLemmas
@@ -9,6 +8,7 @@ pub mod LineNumbers
 pub mod TextFaultLemmas
 pub mod LinesBefore
 pub mod TextAnswers
+pub mod PickLemmas
 pub mod TextWritten
 pub mod RowNumbers
 pub mod StartLemmas

@@ -17,7 +17,7 @@ use Rattle.flow_text.specs.internal.TextWalk.{line_numbers}
 use Rattle.flow_text.specs.internal.TextWalk.{block_of}
 use Rattle.flow_text.specs.Text.{IsBlock}
 use Rattle.flow_text.specs.declared.text.progress.Want.TheVariants.{FirstLabel, HeadNumbers, SecondLabel, Times}
-use Rattle.flow_text.proofs.RestOfText.{at, small, is_time}
+use Rattle.flow_text.proofs.RestOfText.{small, is_time}
 use Rattle.flow_text.proofs.TextGrammar.{and_true}
 
 -- something is still wanted

@@ -15,7 +15,6 @@ use Rattle.flow_text.specs.declared.text.fault.TextFault.{TextFault}
 use Rattle.flow_text.specs.declared.text.fault.TextFault.TheVariants as text
 use Rattle.flow_text.specs.declared.text.progress.Want.TheVariants.{FirstLabel, HeadNumbers, SecondLabel, Times}
 use Rattle.flow_text.proofs.NumberLemmas.{numbers_after, numbers_of-after}
-use Rattle.flow_text.proofs.RestOfText.{at}
 
 -- what the lines before decide, by its parts
 pub record Facts (earlier : List (List ℕ)) (odd none : Bool) (since : List ℕ) (wanted : ℕ) : Type 0 where

@@ -1,5 +1,5 @@
 -- What the rest of a text holds, from a state of its reading.
-use Rattle.std.proofs.Common.{◌≡◌, ◌+◌, ℕ, Bool, true, false, not, cond}
+use Rattle.std.proofs.Common.{◌≡◌, ℕ, Bool, true, false, not, cond}
 use Rattle.std.proofs.Common.{nat_le, List, Ok, Err, Result, ◌++◌, ◌∷◌, [], length, filter, flat_map, slice_index}
 use Rattle.std.proofs.Common.{arith, refl, sym, inl, inr, ◌⊎◌}
 use Rattle.std.specs.List.{list_all, AllByRecursion}

@@ -1,6 +1,6 @@
 -- What the walk over the lines accepts is in the grammar.
 use Rattle.std.proofs.Common.{◌≡◌, ◌∙◌, ap, subst, ◌<◌, ◌≤◌, ◌+◌, ◌*◌, ℕ, Bool, true, false, not, cond, eqb, nat_lt}
-use Rattle.std.proofs.Common.{List, Ok, Err, Result, ◌++◌, ◌∷◌, [], length, flat_map}
+use Rattle.std.proofs.Common.{List, Ok, Err, ◌++◌, ◌∷◌, [], length, flat_map}
 use Rattle.std.proofs.Common.{arith, refl, sym, append_assoc, append-nil, inl, inr, ◌⊎◌, ◌&&◌}
 use Rattle.std.specs.List.{list_all, AllByRecursion}
 use Rattle.std.proofs.lemmas.List.Folds.{list_all-append}
@@ -8,17 +8,15 @@ use Rattle.std.proofs.lemmas.Bool.Decides.{nat_tests}
 use Rattle.flow_text.specs.Lines.{lines_of, after_blanks, is_digit, numbers_of, is_blank_line, is_label_line}
 use Rattle.flow_text.specs.Lines.{is_number_line}
 use Rattle.flow_text.specs.declared.text.block.Block.{Block}
-use Rattle.std.specs.Prelude.{IfOk}
 use Rattle.flow_text.specs.TextFaults.{is_head}
 use Rattle.flow_limits.specs.Limits.{greatest_time}
 use Rattle.std.proofs.lemmas.List.Elements.{All-from_recursion}
-use Rattle.flow_text.specs.internal.TextWalk.{◌>>=◌, TextGives, walk}
+use Rattle.flow_text.specs.internal.TextWalk.{◌>>=◌, walk}
 use Rattle.flow_text.specs.internal.TextState.{SizesFit, Keeps, State, Sizes, sizes_of, start}
 use Rattle.flow_text.specs.internal.TextWalk.{placed, at_end, after_line, after_label, after_numbers}
 use Rattle.flow_text.specs.internal.TextWalk.{after_head_numbers, after_times, line_numbers, block_of}
 use Rattle.flow_text.specs.Text.{head_of, IsBlock, AreGroups, Reads}
 use Rattle.flow_text.specs.declared.text.fault.LineFault.TheVariants as line
-use Rattle.flow_text.specs.declared.text.fault.TextFault.{TextFault}
 use Rattle.flow_text.specs.declared.text.fault.TextFault.TheVariants as text
 use Rattle.flow_text.specs.declared.text.progress.Want.{Want}
 use Rattle.flow_text.specs.declared.text.progress.Want.TheVariants.{FirstLabel, HeadNumbers, SecondLabel, Times}

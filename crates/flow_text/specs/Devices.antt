@@ -1,4 +1,6 @@
--- What contracts see of the sinks and sources of this crate.
+-- What contracts see of the sinks and sources of this crate. What a file or a terminal holds is not known, so nothing
+-- is said of it. Where a writer or reader of the library says what it holds, `put` and `get` say that just those bytes
+-- went through it.
 use Rattle.std.specs.Prelude.{ℕ, Bool, List, Option}
 
 -- a sink in memory: the bytes that it took, how many it takes in all, and whether it refused

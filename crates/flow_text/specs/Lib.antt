@@ -3,12 +3,12 @@ pub use Rattle.flow_shop.specs.Shop
 pub use Rattle.flow_shop.specs.Characters
 pub use Rattle.flow_shop.specs.Refusals
 pub use Rattle.flow_shop.specs.InstanceFaults
-pub mod Generator
 pub mod Bytes
 pub mod Devices
 pub mod Lines
 pub mod Text
 pub mod TextFaults
+pub mod Picks
 pub mod Written
 pub mod StartText
 pub mod internal

@@ -98,12 +98,13 @@ AreStart (line ∷ others) said = (jobs_on line.bytes ≡ Some said.jobs) × Are
 abbrev pub BeginStart : List Numbered → Type 0
 BeginStart lines = (others : List Numbered) × (said : Said) × AreStart (lines ++ others) said
 
--- a text is a start that says this
+-- a text is a start that says this (law: each_start_is_judged)
 abbrev pub IsStart : List ℕ → Said → Type 0
 IsStart text said = AreStart (solid_lines_of text) said
 
 -- the first fault of a text that is no start: the number of the first line that is not blank and with which no start
 -- goes on; or, where the text is only the beginning of a start, the number of the line after the last
+-- (law: each_start_is_judged)
 abbrev pub HasStartFault : List ℕ → StartFault → Type 0
 HasStartFault text Memory = ⊥
 HasStartFault text (Line number) =
@@ -113,13 +114,13 @@ HasStartFault text (Line number) =
     ⊎ (BeginStart (solid_lines_of text) × ((said : Said) → ¬ IsStart text said)
     × (number ≡ length (lines_of text) + 1))
 
--- a text is a start that says one thing, or has one first fault, and not both
+-- a text is a start that says one thing, or has one first fault, and not both (law: each_start_is_judged)
 pub record IsJudgedAsStart (text : List ℕ) : Type 0 where
   pub some : ((said : Said) × IsStart text said) ⊎ ((fault : StartFault) × HasStartFault text fault)
   pub apart : (said : Said) (fault : StartFault) → IsStart text said → ¬ HasStartFault text fault
   pub one : (said other : Said) → IsStart text said → IsStart text other → said ≡ other
   pub one_fault : (fault other : StartFault) → HasStartFault text fault → HasStartFault text other → fault ≡ other
 
--- each text is judged
+-- each text is judged (law: each_start_is_judged)
 abbrev pub EachStartIsJudged : Type 0
 EachStartIsJudged = (text : List ℕ) → IsJudgedAsStart text

@@ -45,6 +45,7 @@ AreGroups (group ∷ groups) [] = ⊥
 AreGroups (group ∷ groups) (block ∷ blocks) = IsGroup group block × AreGroups groups blocks
 
 -- the lines of a text that are not blank are one or more groups, and these are the blocks in order
+-- (law: texts_have_no_fault)
 pub record Reads (text : List ℕ) (blocks : List Block) : Type 0 where
   pub groups : List (List (List ℕ))
   pub split : filter (λ line. not (is_blank_line line)) (lines_of text) ≡ flat_map (λ group. group) groups

@@ -92,6 +92,6 @@ abbrev pub lines_fault : List (List ℕ) → List (List ℕ) → Option TextFaul
 lines_fault earlier [] = end_fault earlier
 lines_fault earlier (line ∷ lines) = option_or (line_fault earlier line) (lines_fault (line ∷ earlier) lines)
 
--- the first fault of a text, if it has one
+-- the first fault of a text, if it has one (law: texts_have_no_fault)
 abbrev pub text_fault : List ℕ → Option TextFault
 text_fault text = lines_fault [] (lines_of text)

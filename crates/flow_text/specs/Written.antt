@@ -22,7 +22,8 @@ times_label = codes "processing times :\n"
 abbrev pub rows_text : Shop → ℕ → List ℕ
 rows_text shop machine = flat_map (λ k. row_text (times_on shop k)) (numbers 1 machine)
 
--- the text of a block: a label, the head, a label, and a line of times for each machine
+-- the text of a block: a label, the head, a label, and a line of times for each machine. That it reads as this block
+-- alone says the contract of `block_text`
 abbrev pub written : Block → List ℕ
 written block =
     head_label ++ row_text (head_of block) ++ times_label ++ rows_text block.instance block.instance.machines

@@ -3,6 +3,7 @@
 ghost use Rattle.std.specs.Prelude.{◌≡◌, ℕ, List, None};
 ghost use Rattle.flow_text.specs.Text.{Reads};
 ghost use Rattle.flow_text.specs.TextFaults.{text_fault};
+ghost use Rattle.flow_text.specs.Picks.{EachIndexIsJudged};
 ghost use Rattle.flow_text.specs.StartText.{EachStartIsJudged};
 ghost use Rattle.flow_text.specs.declared.text.block.Block.{Block};
 
@@ -17,4 +18,9 @@ pub fn texts_have_no_fault()
 /// A text is a start that says one thing, or has one first fault, and not both.
 pub fn each_start_is_judged()
     ensures { EachStartIsJudged }
+{}
+
+/// An index names one block of a text, or has one fault, and not both.
+pub fn each_index_is_judged()
+    ensures { EachIndexIsJudged }
 {}

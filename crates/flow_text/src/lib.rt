@@ -1,9 +1,7 @@
-//! What a flow shop program reads and writes: sinks and sources of bytes, benchmark text, start text, and Taillard's
-//! generator.
+//! What a flow shop program reads and writes: sinks and sources of bytes, benchmark text and start text.
 #![tactic(auto)]
 
 mod bytes;
-mod generator;
 mod laws;
 mod text;
 
@@ -11,6 +9,8 @@ pub use bytes::{
     MemorySink, MemorySource, ReadFault, Refused, Sink, Source, StdSink, StdSource, WriteFault,
     put_all, read_all,
 };
-pub use generator::{Taillard, generate};
-pub use laws::{each_start_is_judged, texts_have_no_fault};
-pub use text::{Block, Claim, Start, StartFault, TextFault, block_text, read_blocks, read_start};
+pub use laws::{each_index_is_judged, each_start_is_judged, texts_have_no_fault};
+pub use text::{
+    Block, Claim, Pick, PickFault, Start, StartFault, TextFault, block_text, pick_block,
+    read_blocks, read_start,
+};

@@ -3,6 +3,7 @@
 mod block;
 mod fault;
 mod line;
+mod pick;
 mod progress;
 mod read;
 mod start;
@@ -11,6 +12,7 @@ mod write;
 
 pub use block::Block;
 pub use fault::TextFault;
+pub use pick::{Pick, PickFault, pick_block};
 pub use read::read_blocks;
 pub use start::{Claim, Start, StartFault, read_start};
 pub use write::block_text;

@@ -1,4 +1,3 @@
-pub mod Asked
-pub mod Failed
 pub mod Inputs
+pub mod Obeyed
 pub mod Status

@@ -1,22 +1,17 @@
 //! Which words of a command line run which command, and on which files.
 
-ghost use Rattle.std.specs.Prelude.{◌≡◌, ◌↔◌, false, true, OnOk, IfErr};
+ghost use Rattle.std.specs.Prelude.{◌≡◌, false};
 ghost use Rattle.flow_commands.specs.Runs.{sink_run};
-ghost use Rattle.flow_tool.specs.Asked.{EndsAsked, WroteAsked, asked};
-ghost use Rattle.flow_tool.specs.Failed.{FailedAsked, IsReadFault, IsWriteFault};
+ghost use Rattle.flow_tool.specs.Obeyed.{Obeys};
 
-use crate::inputs::Inputs;
-use crate::orders::{
-    obey_certify, obey_check, obey_gen, obey_improve, obey_neh, obey_schedule, obey_solve,
-    obey_span,
-};
-use crate::progress::IfAsked;
+use crate::inputs::{Inputs, open_second, open_text};
 use crate::stop::Stop;
 use clap::Error;
 use clap::error::ErrorKind;
-use flow_commands::{CommandFault, Watch};
+use flow_commands::{CommandFault, Watch, run_gen, run_request};
 use flow_core::{Sink, put_all};
-use flow_words::{Order, make_command, order_of};
+use flow_requests::Invocation;
+use flow_words::{invocation_of, make_command};
 use std::alloc::Global;
 use std::convert::AsStr;
 use std::sync::Wait;
@@ -36,8 +31,8 @@ pub(crate) fn run_words<R: Threads + Wait + Sync, I: Inputs, S: AsStr, W: Watch,
 {
     match make_command(alloc)?.try_get_matches_from(words) {
         Ok(matches) => {
-            let order = order_of(alloc, &matches)?.ok_or(Stop::CommandLine)?;
-            obey(rt, alloc, inputs, &order, watch, out)
+            let invocation = invocation_of(alloc, &matches)?.ok_or(Stop::CommandLine)?;
+            obey(rt, alloc, inputs, &invocation, watch, out)
         }
         Err(error) => match error.kind() {
             ErrorKind::DisplayHelp | ErrorKind::DisplayVersion => {
@@ -58,76 +53,38 @@ fn write_help<K: Sink>(alloc: Global, help: &Error, out: &mut K) -> Result<(), C
     Ok(())
 }
 
-/// Runs the command that was asked for.
+/// Does what a command line asks for. All files are opened before a byte is read: first that of the text, then that of
+/// the start, the certificate or the sequence.
+#[inline(never)]
 fn obey<R: Threads + Wait + Sync, I: Inputs, W: Watch, K: Sink>(
     rt: &R,
     alloc: Global,
     inputs: &I,
-    order: &Order,
+    invocation: &Invocation,
     watch: &W,
     out: &mut K,
 ) -> Result<(), Stop>
     requires { K.has_failed out.old ≡ false }
-    ensures written { OnOk result (WroteAsked (I.names inputs.now) (asked order.now)
-        (sink_run K.taken out.old out.new)) }
-    ensures ended { IfErr result (EndsAsked (I.names inputs.now) (asked order.now)
-        (sink_run K.taken out.old out.new)) }
-    ensures read_device { IsReadFault result → FailedAsked (I.names inputs.now) (asked order.now) }
-    ensures write_device { IsWriteFault result ↔ (K.has_failed out.new ≡ true) }
+    ensures { Obeys I.Standard.Source I.File.Source (I.names inputs.now) invocation.now
+        (sink_run K.Sink out.old out.new) result }
 {
-    match order {
-        Order::Gen {
+    match invocation {
+        Invocation::Gen {
             jobs,
             machines,
             seed,
-        } => obey_gen(alloc, *jobs, *machines, *seed, out),
-        Order::Span { file, index, jobs } => obey_span(
-            alloc,
-            inputs,
-            *file,
-            *index,
-            jobs.as_slice(),
-            out,
-        ),
-        Order::Neh { file, index } => obey_neh(alloc, inputs, *file, *index, out),
-        Order::Solve {
+        } => Ok(run_gen(alloc, *jobs, *machines, *seed, out)?),
+        Invocation::OfBlock {
             file,
             index,
-            start,
+            second,
             request,
-        } => { obey_solve(rt, alloc, inputs, *file, *index, *start, *request, out) }
-        Order::Improve {
-            file,
-            index,
-            start,
-            request,
-        } => { obey_improve(alloc, inputs, *file, *index, *start, *request, out) }
-        Order::Certify {
-            file,
-            index,
-            start,
-            request,
-            progress,
         } => {
-            let watch = IfAsked {
-                watch,
-                asked: *progress,
-            };
-            obey_certify(
-                rt, alloc, inputs, *file, *index, *start, *request, &watch, out,
-            )
+            let mut text = open_text(inputs, *file)?;
+            let mut given = open_second(inputs, *second)?;
+            Ok(run_request(
+                rt, alloc, &mut text, *index, &mut given, request, watch, out,
+            )?)
         }
-        Order::Check {
-            file,
-            index,
-            cert,
-            request,
-        } => { obey_check(alloc, inputs, *file, *index, *cert, *request, out) }
-        Order::Schedule {
-            file,
-            index,
-            sequence,
-            form,
-        } => { obey_schedule(alloc, inputs, *file, *index, *sequence, *form, out) }
     }
 }

@@ -1,7 +1,8 @@
 //! The inputs that a command line names: standard input, and files.
 
-ghost use Rattle.std.specs.Prelude.{◌≡◌, false, IfNone, IfSome, IfOk, IfErr, refl};
-ghost use Rattle.flow_tool.specs.Inputs.{IsText, Names, RefusedText, shown, unknown_names, views};
+ghost use Rattle.std.specs.Prelude.{◌≡◌, false, IfNone, IfSome, IfOk, IfErr, OnErr};
+ghost use Rattle.std.specs.Option.{ForSome};
+ghost use Rattle.flow_tool.specs.Inputs.{IsSecond, IsText, Names, RefusedSecond, RefusedText, shown, unknown_names};
 
 use crate::stop::Stop;
 use flow_core::{Refused, Source, StdSource};
@@ -30,14 +31,6 @@ pub(crate) trait Inputs {
         ensures works { IfSome result (λ file. Self.File.has_failed file ≡ false) }
         ensures opened { IfSome result (λ file. (names self.now).opened name.now file) }
         ensures refused { IfNone result ((names self.now).refused name.now) };
-
-    // What standard input shows is what its source shows.
-    ghost views_standard: { (s : Self) → (names s).of_standard
-        ≡ views Self.Standard.given Self.Standard.has_ended Self.Standard.has_failed };
-
-    // What a file shows is what its source shows.
-    ghost views_file: { (s : Self) → (names s).of_file
-        ≡ views Self.File.given Self.File.has_ended Self.File.has_failed };
 }
 
 /// The word that stands for standard input in the place of a text's file.
@@ -81,12 +74,29 @@ pub(crate) fn open_text<I: Inputs>(
 ) -> Result<Text<I::Standard, I::File>, Stop>
     ensures works { IfOk result (λ text. shown I.Standard.has_failed I.File.has_failed text ≡ false) }
     ensures opened { IfOk result (IsText (I.names inputs.now) name.now) }
-    ensures refused { IfErr result (RefusedText (I.names inputs.now) name.now) }
+    ensures refused { OnErr result (RefusedText (I.names inputs.now) name.now) }
+    ensures stop { IfErr result (λ stop. stop ≡ Stop.Open) }
 {
     if name == STANDARD {
         return Ok(Text::Standard(inputs.standard()));
     }
     Ok(Text::File(inputs.open(name).ok_or(Stop::Open)?))
+}
+
+/// The second file, opened for reading, where one is named.
+pub(crate) fn open_second<I: Inputs>(
+    inputs: &I,
+    name: Option<&str>,
+) -> Result<Option<I::File>, Stop>
+    ensures works { IfOk result (λ second. ForSome second (λ file. I.File.has_failed file ≡ false)) }
+    ensures opened { IfOk result (IsSecond (I.names inputs.now) name.entry) }
+    ensures refused { OnErr result (RefusedSecond (I.names inputs.now) name.entry) }
+    ensures stop { IfErr result (λ stop. stop ≡ Stop.Open) }
+{
+    match name {
+        Some(name) => Ok(Some(inputs.open(name).ok_or(Stop::Open)?)),
+        None => Ok(None),
+    }
 }
 
 /// Standard input and the files of the system.
@@ -113,13 +123,7 @@ impl<'a, R: Input + Files> Inputs for StdInputs<'a, R> {
     type File = StdSource<R::File>;
 
     // Of what the system has open nothing is known.
-    ghost names = { λ _. unknown_names
-        (let s = ⟦<StdSource<R::Reader> as Source>⟧ in views s.given s.has_ended s.has_failed)
-        (let s = ⟦<StdSource<R::File> as Source>⟧ in views s.given s.has_ended s.has_failed) };
-
-    ghost views_standard = { λ _. refl };
-
-    ghost views_file = { λ _. refl };
+    ghost names = { λ _. unknown_names };
 
     fn standard(&self) -> StdSource<R::Reader> {
         StdSource::new(self.rt.reader())

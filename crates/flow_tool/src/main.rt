@@ -3,7 +3,6 @@
 
 mod dispatch;
 mod inputs;
-mod orders;
 mod progress;
 mod status;
 mod stop;

@@ -4,25 +4,6 @@ use flow_commands::{News, Watch};
 use std::cell::Cell;
 use std::rt::Clock;
 
-/// A watch that is told where that was asked for.
-#[derive(Clone, Copy)]
-pub(crate) struct IfAsked<'a, W> {
-    pub(crate) watch: &'a W,
-    pub(crate) asked: bool,
-}
-
-impl<'a, W: Watch> Watch for IfAsked<'a, W> {
-    fn is_on(&self) -> bool {
-        self.asked && self.watch.is_on()
-    }
-
-    fn tell(&self, news: News) {
-        if self.asked {
-            self.watch.tell(news);
-        }
-    }
-}
-
 /// The least time between two lines, in milliseconds; only the last line may come sooner.
 const PAUSE: u64 = 1_000;
 

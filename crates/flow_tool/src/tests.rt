@@ -2,6 +2,6 @@
 
 mod dispatch;
 mod files;
+mod invocations;
 mod lines;
-mod orders;
 mod stop;

@@ -3,11 +3,11 @@
 use clap::{Arg, ArgAction, Command, value_parser};
 use std::alloc::{AllocError, Global};
 
-/// The version of the program, those of the texts that it writes and reads, and the line of the kit. The first is that
-/// of the file VERSION at the top of the repository, and the last that of `rt version`; `build` refuses others.
+/// The version of the program, those of the texts that it writes and reads, and the kit of the release. The first is
+/// that of the file VERSION at the top of the repository; `build` refuses another, and a release by another kit.
 const VERSION: &str =
-    "2.0.0, certificates of versions 1 and 2, two-ended certificates of version 1, \
-proved and built with rattle-kit-13f logic dac8208d650f15bf";
+    "2.0.0, certificates of versions 1 and 2, two-ended certificates of version 1; \
+its release is proved and built with rattle-kit-13b logic dac8208d650f15bf";
 
 /// A word of a command: its name, how it is read, and what the help says of it.
 struct Word {
@@ -192,18 +192,24 @@ static SOLVE: [Word; 7] = [
     START,
 ];
 
-static CHECK: [Word; 5] = [
+static CHECK: [Word; 6] = [
     FILE,
     INDEX,
     Word {
         name: "CERT",
         kind: Kind::Word,
-        help: "The file of the certificate, two-ended or not",
+        help: "The file of the certificate, two-ended or not; /dev/stdin for standard input",
     },
     Word {
         name: "sequence",
         kind: Kind::Flag,
         help: "Prints the sequence of the text, and its makespan, in the form that neh prints",
+    },
+    Word {
+        name: "verbose",
+        kind: Kind::Flag,
+        help: "Prints then the block, its size, whether the times are those of its seed, how long the proof is, and the \
+SHA-256 of FILE and CERT",
     },
     Word {
         name: "optimal",
@@ -218,7 +224,7 @@ static SCHEDULE: [Word; 4] = [
     Word {
         name: "SEQUENCE",
         kind: Kind::Word,
-        help: "The file of a sequence, in the form that neh prints",
+        help: "The file of a sequence, in the form that neh prints, or of a certificate; /dev/stdin for standard input",
     },
     Word {
         name: "form",
@@ -307,8 +313,9 @@ fn check_command<'a>(alloc: Global) -> Result<Command<'a>, AllocError> {
 
 fn schedule_command<'a>(alloc: Global) -> Result<Command<'a>, AllocError> {
     let about =
-        "Writes when each job of a sequence starts and ends on each machine, as a table or a picture";
-    let example = "Example: ./flowshop schedule examples/three_machines.txt 1 sequence --form svg";
+        "Writes when each job of a sequence or a certificate starts and ends on each machine, as a table or a picture";
+    let example =
+        "Example: ./flowshop schedule examples/three_machines.txt 1 certificate --form svg";
     command_of(alloc, "schedule", about, example, &SCHEDULE)
 }
 

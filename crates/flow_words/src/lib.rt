@@ -1,8 +1,8 @@
-//! The words of the command line, and what they ask for. What each order does is not known here.
+//! The words of the command line, and what they ask for. What is done is not known here.
 #![tactic(auto)]
 
 mod grammar;
-mod order;
+mod invocation;
 
 pub use grammar::make_command;
-pub use order::{Order, order_of};
+pub use invocation::invocation_of;

@@ -1,5 +1,5 @@
 -- What is met, one after the other.
-use Rattle.std.proofs.Common.{◌≡◌, List, ℕ, [], ◌++◌, Option, Some, None, refl, ap, ◌∙◌, append_assoc, append-nil}
+use Rattle.std.proofs.Common.{◌≡◌, List, ℕ, [], Option, Some, None, refl, ap, ◌∙◌, append_assoc, append-nil}
 use Rattle.flow_workers.specs.internal.Pieces.{Met, joined, behind}
 
 -- two pairs

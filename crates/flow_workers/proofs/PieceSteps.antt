@@ -11,7 +11,7 @@ use Rattle.flow_directions.specs.declared.found.Part.TheVariants.{Node, Children
 use Rattle.flow_shop.specs.declared.end.End.{End}
 use Rattle.flow_shop.specs.Directions.{first_with, last_with}
 use Rattle.std.specs.Global.{Vec}
-use Rattle.std.specs.List.{flat_map}
+use Rattle.std.specs.List.{flat_map, remove}
 use Rattle.flow_workers.specs.internal.Units.{IsNodeOf}
 use Rattle.flow_directions.specs.declared.found.Part.{Part}
 use Rattle.flow_directions.proofs.VisitSteps.{none-or-reached, signs-append, first_reached-append}
@@ -42,6 +42,13 @@ met-append xs ys = elim (none-or-reached (first_reached xs)) [
 pub none-written : (parts : List Part) → written (map Left parts) ≡ 0
 none-written [] = refl
 none-written (part ∷ parts) = none-written parts
+
+-- the first of some jobs, and the others
+pub first-and-others : (jobs others : List ℕ) (job : ℕ) → 0 < length jobs → job ≡ slice_index_or jobs 0 job →
+    others ≡ remove jobs 0 → jobs ≡ job ∷ others
+first-and-others [] others job some is left = absurd (omega (arith, some))
+first-and-others (x ∷ jobs) others job some is left =
+    ap (λ j. j ∷ jobs) (sym is) ∙ ap (λ rest. job ∷ rest) (sym left)
 
 module _ (shop : Shop) (number : ℕ) where
   -- pieces that are joined
@@ -170,18 +177,16 @@ module _ (shop : Shop) (number : ℕ) where
   unit-visits first last (Children begin end side jobs) is = absurd is
 
   -- the first child of a part, and then the others
-  pub children-met : (end : End) (begin behind_list named others_list : Vec ℕ) (job : ℕ) (others : List ℕ)
-      (unit : Part) (rest : List Piece) →
+  pub children-met : (end : End) (begin behind_list named others : Vec ℕ) (job : ℕ) (unit : Part) (rest : List Piece) →
       IsNodeOf (first_with end begin.items job) (last_with end behind_list.items job) unit →
-      named.items ≡ job ∷ others → others_list.items ≡ others →
+      named.items ≡ job ∷ others.items →
       behind (met (part_visits shop number unit))
-      (pieces_met shop number (Left (Children begin behind_list end others_list) ∷ rest))
+      (pieces_met shop number (Left (Children begin behind_list end others) ∷ rest))
       ≡ pieces_met shop number (Left (Children begin behind_list end named) ∷ rest)
-  children-met end begin behind_list named others_list job others unit rest is named_is others_is =
+  children-met end begin behind_list named others job unit rest is named_is =
       let f : ℕ → List Visit = child_visits shop number end begin.items behind_list.items in
-      ap (λ v. behind (met v) (behind (met (flat_map f others_list.items)) (pieces_met shop number rest)))
+      ap (λ v. behind (met v) (behind (met (flat_map f others.items)) (pieces_met shop number rest)))
       (unit-visits (first_with end begin.items job) (last_with end behind_list.items job) unit is)
-      ∙ ap (λ xs. behind (met (f job)) (behind (met (flat_map f xs)) (pieces_met shop number rest))) others_is
-      ∙ sym (behind-assoc (met (f job)) (met (flat_map f others)) (pieces_met shop number rest))
-      ∙ ap (λ m. behind m (pieces_met shop number rest)) (sym (met-append (f job) (flat_map f others)))
+      ∙ sym (behind-assoc (met (f job)) (met (flat_map f others.items)) (pieces_met shop number rest))
+      ∙ ap (λ m. behind m (pieces_met shop number rest)) (sym (met-append (f job) (flat_map f others.items)))
       ∙ sym (ap (λ xs. behind (met (flat_map f xs)) (pieces_met shop number rest)) named_is)

@@ -2,3 +2,4 @@ pub mod Pieces
 pub mod Answers
 pub mod Units
 pub mod Found
+pub mod Paces

@@ -49,11 +49,12 @@ fn take_unit(alloc: Global, pieces: &mut VecDeque<Piece>) -> Result<Option<Piece
     else {
         return Ok(Some(piece));
     };
-    let Some((job, others)) = jobs.as_slice().split_first() else {
+    if jobs.is_empty() {
         return Ok(Some(Piece::Done(Vec::new(alloc))));
-    };
-    let unit = child(alloc, first.as_slice(), last.as_slice(), end, *job)?;
-    let jobs = Vec::from_slice(alloc, others)?;
+    }
+    let mut jobs = jobs;
+    let job = jobs.remove(0);
+    let unit = child(alloc, first.as_slice(), last.as_slice(), end, job)?;
     pieces.push_front(Piece::Left(Part::Children {
         first,
         last,
@@ -64,7 +65,7 @@ fn take_unit(alloc: Global, pieces: &mut VecDeque<Piece>) -> Result<Option<Piece
 }
 
 /// Takes the first pieces off, as far as the pace goes: it counts the nodes, and the directions that are known to come
-/// before the next piece.
+/// before the next piece. Those behind a node may be found in vain, so no more of them are kept than a round has.
 pub(crate) fn deal(
     alloc: Global,
     pieces: &mut VecDeque<Piece>,
@@ -78,7 +79,7 @@ pub(crate) fn deal(
     let mut nodes: usize = 0;
     let mut known: u64 = 0;
     'units: for _ in 0..usize::MAX {
-        if nodes >= pace.nodes || known >= pace.left {
+        if nodes >= pace.nodes || known >= pace.whole {
             break;
         }
         let Some(unit) = take_unit(alloc, pieces)? else {

@@ -1,8 +1,8 @@
 //! The search of one node.
 
-ghost use Rattle.std.specs.Prelude.{◌≡◌, ◌≤◌, [], ◌∷◌, map, IfOk};
+ghost use Rattle.std.specs.Prelude.{◌≡◌, ◌≤◌, ◌⊎◌, [], ◌∷◌, All, map, IfOk};
 ghost use Rattle.flow_directions.specs.Search.{visits};
-ghost use Rattle.flow_workers.specs.internal.Pieces.{met, pieces_met, written};
+ghost use Rattle.flow_workers.specs.internal.Pieces.{IsSearched, met, pieces_met, written};
 ghost use Rattle.flow_workers.specs.declared.piece.Piece.TheVariants.{Left};
 
 use crate::piece::Piece;
@@ -61,7 +61,7 @@ fn found(searched: Piece, left: VecDeque<Piece>) -> Result<Searched, AllocError>
     })
 }
 
-/// Searches the node of two lists with a budget of directions.
+/// Searches the node of two lists with a budget of directions, until they are written or nothing is left.
 pub(crate) fn search_node(
     aim: &Aim,
     first: &[u16],
@@ -72,6 +72,7 @@ pub(crate) fn search_node(
         ≡ met (visits aim.now.instance.now aim.now.number first.now last.now)) }
     ensures written { IfOk result (λ found. found.written ≡ written found.pieces.items) }
     ensures within { IfOk result (λ found. found.written ≤ budget) }
+    ensures goes_on { IfOk result (λ found. (found.written ≡ budget) ⊎ All IsSearched found.pieces.items) }
 {
     let none = VecDeque::new(aim.alloc);
     match advance(aim.alloc, aim.instance, first, last, aim.number, budget) {

@@ -1,20 +1,19 @@
 //! How much is searched in a round.
 
-/// The least directions of a round.
-const LEAST: u64 = 1_000;
+ghost use Rattle.std.specs.Prelude.{◌≡◌, ◌≤◌, ◌<◌, ◌*◌};
+ghost use Rattle.flow_workers.specs.internal.Paces.{GoesOn, bytes_of_piece, most_bytes};
+
+/// So many directions times jobs come first, which one worker searches: threads would cost more than they save.
+const ALONE: u64 = 240_000;
+
+/// The least directions of a round, for each worker, where there are as many so far.
+const LEAST: u64 = 2_000;
 
 /// The most directions of a round, for each worker.
-const MOST: u64 = 250_000;
+const MOST: u64 = 50_000;
 
-/// The least directions of a piece, so that dealing it costs little beside its search.
-const LEAST_OF_PIECE: u64 = 200;
-
-/// How many nodes each worker searches in a round that have as many directions as a node is given, or more. What is left
-/// of each of them has up to a part for each job.
-const CUTS: u64 = 8;
-
-/// Such nodes times jobs are no more than this for each worker, so with many jobs there are fewer of them.
-const JOBS_CUT: u64 = 400;
+/// The least directions that a node is given, so that dealing it costs little beside its search.
+const LEAST_OF_NODE: u64 = 500;
 
 /// The most bytes of pieces before a round, as they are reckoned here. With more of them one node is searched in a
 /// round, so that few pieces are added.
@@ -27,44 +26,101 @@ pub(crate) struct Pace {
     pub(crate) workers: usize,
     /// How many nodes are dealt.
     pub(crate) nodes: usize,
-    /// The most directions of one node.
-    pub(crate) grant: u64,
-    /// After so many directions no further node is searched.
+    /// The directions of the round: after so many no further node is searched, and behind so many that are known no
+    /// further piece is dealt.
     pub(crate) whole: u64,
+    /// The least directions that a node is given.
+    pub(crate) least: u64,
     /// With so many more directions the search is over its budget.
     pub(crate) left: u64,
 }
 
 impl Pace {
-    /// The pace of the next round, with so many workers, after so many directions, where so many more are over the
-    /// budget. A round has an eighth of the directions so far: what it searches in vain, where a sequence is reached or
-    /// the budget is over, is little beside them.
-    pub(crate) fn new(workers: usize, jobs: u16, pieces: usize, written: u64, left: u64) -> Pace {
-        let workers = workers.max(1);
-        let most = MOST.saturating_mul(workers as u64);
-        let whole = (written / 8).max(LEAST).min(most).min(left);
-        if pieces.saturating_mul(bytes_of_piece(jobs)) > MOST_BYTES {
-            return Pace {
-                workers,
-                nodes: 1,
-                grant: whole,
-                whole,
-                left,
-            };
+    /// The pace of the next round, with so many workers and pieces, after so many directions, where so many more are
+    /// over the budget. A round has an eighth of the directions so far, so that what is searched in vain, behind a
+    /// sequence or behind the place where the budget ends, is little beside them.
+    pub(crate) fn new(workers: usize, jobs: u16, pieces: usize, written: u64, left: u64) -> Pace
+        requires { 1 ≤ left }
+        ensures goes_on { GoesOn result }
+        ensures left { result.left ≡ left }
+        ensures few { most_bytes < pieces * bytes_of_piece jobs → result.nodes ≡ 1 }
+    {
+        let first = (ALONE / u64::from(jobs.max(1))).max(LEAST_OF_NODE);
+        if written < first {
+            return Pace::of_one(first.min(left), left);
         }
-        let cuts = (JOBS_CUT / u64::from(jobs.max(1))).max(1).min(CUTS);
-        let cuts = cuts.saturating_mul(workers as u64).max(1);
+        let workers = workers.max(1);
+        let least = LEAST.saturating_mul(workers as u64).min(written);
+        let most = MOST.saturating_mul(workers as u64);
+        let whole = (written / 8).max(least).min(most).min(left);
+        if pieces.saturating_mul(bytes_of_piece(jobs)) > MOST_BYTES {
+            return Pace::of_one(whole, left);
+        }
         Pace {
             workers,
-            nodes: ((whole / 50) as usize).saturating_add(workers.saturating_mul(8)),
-            grant: (whole / cuts).max(LEAST_OF_PIECE).min(left),
+            nodes: ((whole / 100) as usize).saturating_add(workers.saturating_mul(8)),
             whole,
+            least: LEAST_OF_NODE,
             left,
         }
+    }
+
+    /// The pace of a round in which one worker searches one node for so many directions.
+    fn of_one(whole: u64, left: u64) -> Pace
+        ensures { (result.nodes ≡ 1) × (result.whole ≡ whole) × (result.least ≡ whole) × (result.left ≡ left) }
+    {
+        Pace {
+            workers: 1,
+            nodes: 1,
+            whole,
+            least: whole,
+            left,
+        }
+    }
+
+    /// How many directions the next node is given after so many of the round: fewer towards its end, so that all
+    /// workers end at about the same time.
+    pub(crate) fn grant(&self, written: u64) -> u64
+        ensures some { GoesOn self.now → 1 ≤ result }
+        ensures within { result ≤ self.now.left }
+    {
+        let share = self.whole.saturating_sub(written) / 2 / self.workers.max(1) as u64;
+        share.max(self.least).min(self.left)
     }
 }
 
 /// About how many bytes a piece has of so many jobs.
-fn bytes_of_piece(jobs: u16) -> usize {
+fn bytes_of_piece(jobs: u16) -> usize
+    ensures { result ≡ bytes_of_piece jobs }
+{
     150 + 2 * jobs as usize
+}
+
+/// Workers, jobs, pieces, directions so far, and how many more are over the budget; then how many nodes are dealt, how
+/// many directions the round has, and how many its first node is given.
+#[cfg(test)]
+static PACES: [(usize, u16, usize, u64, u64, usize, u64, u64); 10] = [
+    (4, 20, 1, 0, 1_000_001, 1, 12_000, 12_000),
+    (4, 20, 1, 0, 101, 1, 101, 101),
+    (64, 800, 1, 0, 1_000_001, 1, 500, 500),
+    (64, 20, 10, 12_000, 1_000_001, 632, 12_000, 500),
+    (4, 20, 10, 12_000, 1_000_001, 112, 8_000, 1_000),
+    (4, 20, 500, 400_000, 1_000_001, 532, 50_000, 6_250),
+    (0, 20, 500, 400_000, 1_000_001, 508, 50_000, 25_000),
+    (4, 20, 500, 400_000, 300, 35, 300, 300),
+    (4, 20, 526_315, 8_000_000, 1_000_001, 2_032, 200_000, 25_000),
+    (4, 20, 526_316, 8_000_000, 1_000_001, 1, 200_000, 200_000),
+];
+
+#[test]
+fn paces_are_those_stated(rt: HostRuntime) {
+    for row in &PACES {
+        let (workers, jobs, pieces, written, left, nodes, whole, grant) = *row;
+        let pace = Pace::new(workers, jobs, pieces, written, left);
+        let found = (pace.nodes, pace.whole, pace.grant(0));
+        assert!(rt;
+            found == (nodes, whole, grant),
+            "after {written} of {pieces} pieces, {workers} workers"
+        );
+    }
 }

@@ -66,12 +66,8 @@ impl<'a> Round<'a> {
                 break;
             };
             if let Dealt::Open(Piece::Left(Part::Node { first, last })) = &self.dealt[place] {
-                let found = search_node(
-                    self.aim,
-                    first.as_slice(),
-                    last.as_slice(),
-                    self.pace.grant,
-                )?;
+                let grant = self.pace.grant(self.written.load(Ordering::SeqCst));
+                let found = search_node(self.aim, first.as_slice(), last.as_slice(), grant)?;
                 self.count(found.written, found.reached);
                 answers.push(Answer {
                     place,

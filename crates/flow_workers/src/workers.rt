@@ -5,7 +5,7 @@ ghost use denote.Param.Send.{IsSync};
 ghost use Rattle.flow_shop.specs.Shop.{Shop};
 ghost use Rattle.flow_shop.specs.Sequences.{IsSequence};
 ghost use Rattle.flow_directions.specs.Search.{IsFound, Shows};
-ghost use Rattle.flow_workers.specs.internal.Pieces.{behind, pieces_met};
+ghost use Rattle.flow_workers.specs.internal.Pieces.{IsSettled, behind, pieces_met};
 ghost use Rattle.flow_workers.specs.internal.Found.{ReachedWithin};
 
 use crate::node::Aim;
@@ -21,9 +21,10 @@ use std::thread::Threads;
 
 /// Puts the directions of the first pieces, as far as they were searched, behind others.
 fn settle(text: &mut Vec<u8>, pieces: &mut VecDeque<Piece>) -> Result<(), AllocError>
-    ensures { (shop : Shop) (number : ℕ) → IfOk result (λ _.
+    ensures met { (shop : Shop) (number : ℕ) → IfOk result (λ _.
         behind (text.new.items, None) (pieces_met shop number pieces.new.items)
         ≡ behind (text.old.items, None) (pieces_met shop number pieces.old.items)) }
+    ensures settled { IfOk result (λ _. IsSettled pieces.new.items) }
 {
     'pieces: while let Some(piece) = pieces.pop_front() {
         match piece {

@@ -36,7 +36,7 @@ impl Entry {
         Ok(Entry {
             node: Node::root(instance),
             ends: EndTimes::root(rows),
-            jobs: numbers(alloc, instance.jobs())?,
+            jobs: numbers(alloc, instance)?,
             first: 0,
             before: usize::from(instance.jobs()),
         })
@@ -92,7 +92,7 @@ impl Entry {
         let job = self.jobs[place];
         self.node.put(instance, end, job);
         let times = &rows[usize::from(job) - 1].times;
-        self.ends.put(usize::from(instance.machines()), end, times);
+        self.ends.put(instance, end, times);
         match end {
             End::Front => {
                 self.jobs.as_mut_slice().swap(place, self.first);

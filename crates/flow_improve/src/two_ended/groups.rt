@@ -1,8 +1,7 @@
 //! The times of all jobs side by side, sixteen to a group.
 
-ghost use Rattle.std.specs.Prelude.{◌≡◌, ℕ, ◌+◌, ◌*◌, ◌<◌, ◌≤◌, min, length, slice_index, IfOk};
-ghost use Rattle.flow_limits.specs.Limits.{most_jobs};
-ghost use Rattle.flow_improve.specs.internal.Beams.{AreGroups};
+ghost use Rattle.std.specs.Prelude.{◌≡◌, ◌<◌, length, IfOk};
+ghost use Rattle.flow_improve.specs.internal.Beams.{AreGroups, AreNames};
 
 use flow_nodes::{Lanes, write_group};
 use flow_shop::Instance;
@@ -12,13 +11,12 @@ use std::alloc::{AllocError, Global};
 pub(crate) const LANES: usize = 16;
 
 /// The jobs of a group. The places behind the last job of the instance have that job.
-fn names_of(group: usize, jobs: u16) -> [u16; LANES]
-    requires some { 1 ≤ jobs }
-    requires few { jobs ≤ most_jobs }
-    requires group { group < 50 }
+fn names_of(instance: &Instance, group: usize) -> [u16; LANES]
+    requires { group < 50 }
     ensures count { length result ≡ 16 }
-    ensures each { (lane : ℕ) → lane < 16 → slice_index result lane ≡ min (group * 16 + lane + 1) jobs }
+    ensures each { AreNames instance.now group result }
 {
+    let jobs = instance.jobs();
     let mut names = [0; LANES];
     for lane in 0..LANES {
         names[lane] = ((group * LANES + lane + 1) as u16).min(jobs);
@@ -34,13 +32,12 @@ pub(crate) fn groups<V: Lanes>(
     requires wide { V.WIDTH ≡ 16 }
     ensures { IfOk result (λ groups. AreGroups V.list V.CAP V.WIDTH instance.now groups.items) }
 {
-    let jobs = instance.jobs();
     let machines = usize::from(instance.machines());
-    let count = (usize::from(jobs) + (LANES - 1)) / LANES;
+    let count = (usize::from(instance.jobs()) + (LANES - 1)) / LANES;
     let mut groups = Vec::with_capacity(alloc, count)?;
     'groups: while groups.len() < count {
         let mut group = vec![in alloc; V::all(0); machines]?;
-        let names = names_of(groups.len(), jobs);
+        let names = names_of(instance, groups.len());
         write_group(instance, &names, group.as_mut_slice());
         groups.push(group)?;
     }

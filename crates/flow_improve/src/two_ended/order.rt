@@ -4,7 +4,7 @@ ghost use Rattle.std.specs.Prelude.{◌≤◌};
 ghost use Rattle.flow_limits.specs.Limits.{most_machines};
 
 use flow_limits::MAX_MACHINES;
-use flow_shop::{End, Row};
+use flow_shop::{End, Instance, Row};
 
 /// A time for each machine, with machine 1 first.
 type MachineTimes = [u32; MAX_MACHINES];
@@ -26,6 +26,9 @@ pub(crate) struct Order {
     pub(crate) mode: Mode,
     /// The greatest time of a job on a machine.
     pub(crate) greatest: u32,
+    /// How many machines there are.
+    pub(crate) machines: usize,
+    ghost few: { machines ≤ most_machines },
 }
 
 /// What a bound counts in a sum with the deficit, in greatest times.
@@ -76,9 +79,8 @@ impl EndTimes {
     }
 
     /// Puts a job with these times at an end.
-    pub(crate) fn put(&mut self, machines: usize, end: End, times: &MachineTimes)
-        requires { machines ≤ most_machines }
-    {
+    pub(crate) fn put(&mut self, instance: &Instance, end: End, times: &MachineTimes) {
+        let machines = usize::from(instance.machines());
         let mut free = 0;
         match end {
             End::Front => {
@@ -101,28 +103,6 @@ impl EndTimes {
 fn lack(cap: u32, later: u32, earlier: u32) -> u64 {
     let below = u64::from(cap.saturating_sub(later.wrapping_sub(earlier)));
     below.wrapping_mul(below)
-}
-
-/// The deficit of a front.
-fn front_deficit(front: &MachineTimes, machines: usize, cap: u32) -> u64
-    requires { machines ≤ most_machines }
-{
-    let mut deficit: u64 = 0;
-    for place in 1..machines {
-        deficit = deficit.wrapping_add(lack(cap, front[place], front[place - 1]));
-    }
-    deficit
-}
-
-/// The deficit of a back.
-fn back_deficit(back: &MachineTimes, machines: usize, cap: u32) -> u64
-    requires { machines ≤ most_machines }
-{
-    let mut deficit: u64 = 0;
-    for place in 1..machines {
-        deficit = deficit.wrapping_add(lack(cap, back[place - 1], back[place]));
-    }
-    deficit
 }
 
 impl Order {
@@ -186,13 +166,31 @@ impl Order {
         }
     }
 
+    /// The deficit of a front.
+    fn front_deficit(&self, front: &MachineTimes) -> u64 {
+        let cap = self.cap();
+        let mut deficit: u64 = 0;
+        for place in 1..self.machines {
+            deficit = deficit.wrapping_add(lack(cap, front[place], front[place - 1]));
+        }
+        deficit
+    }
+
+    /// The deficit of a back.
+    fn back_deficit(&self, back: &MachineTimes) -> u64 {
+        let cap = self.cap();
+        let mut deficit: u64 = 0;
+        for place in 1..self.machines {
+            deficit = deficit.wrapping_add(lack(cap, back[place - 1], back[place]));
+        }
+        deficit
+    }
+
     /// The deficit of the end of a node at which no job is put.
-    pub(crate) fn kept_deficit(&self, times: &EndTimes, end: End, machines: usize) -> u64
-        requires { machines ≤ most_machines }
-    {
+    pub(crate) fn kept_deficit(&self, times: &EndTimes, end: End) -> u64 {
         match end {
-            End::Front => back_deficit(&times.back, machines, self.cap()),
-            End::Back => front_deficit(&times.front, machines, self.cap()),
+            End::Front => self.back_deficit(&times.back),
+            End::Back => self.front_deficit(&times.front),
         }
     }
 
@@ -202,11 +200,9 @@ impl Order {
         times: &EndTimes,
         end: End,
         job: &MachineTimes,
-        machines: usize,
         most: u64,
-    ) -> u64
-        requires { machines ≤ most_machines }
-    {
+    ) -> u64 {
+        let machines = self.machines;
         let cap = self.cap();
         let mut deficit: u64 = 0;
         let mut earlier: u32 = 0;

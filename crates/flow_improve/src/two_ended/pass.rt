@@ -97,8 +97,7 @@ impl Offers {
         requires entry { IsEntry instance.now entry.now }
         requires bounds { HasBounds instance.now entry.now bounds.now }
     {
-        let machines = usize::from(instance.machines());
-        let same = self.order.kept_deficit(&entry.ends, self.end, machines);
+        let same = self.order.kept_deficit(&entry.ends, self.end);
         let mut limit = self.below.min(kept.limit(&self.order, same));
         for place in entry.first..entry.before {
             let bound = bounds.at(instance, entry, self.end, place);
@@ -110,7 +109,7 @@ impl Offers {
             let most = kept.most_deficit(&self.order, bound).saturating_sub(same);
             let changed = self
                 .order
-                .changed_deficit(&entry.ends, self.end, times, machines, most);
+                .changed_deficit(&entry.ends, self.end, times, most);
             kept.offer(Child {
                 key: self.order.key(bound, same.wrapping_add(changed)),
                 parent: self.parent,
@@ -163,13 +162,15 @@ impl<V: Lanes> Passes<V> {
         ensures count { self.new.count ≡ self.old.count }
     {
         let entry = &self.list[place];
-        let steps = 2 * entry.left(instance) * usize::from(instance.machines());
+        let machines = usize::from(instance.machines());
+        let steps = 2 * entry.left(instance) * machines;
         self.steps = self.steps.saturating_add(steps as u64);
         self.bounds.fill(instance, self.groups.as_slice(), entry);
         let offers = Offers {
             order: Order {
                 mode: plan.mode,
                 greatest: self.greatest,
+                machines,
             },
             below: plan.below,
             parent: place,

@@ -10,7 +10,6 @@ use Rattle.flow_text.specs.declared.text.fault.LineFault.TheVariants as line
 use Rattle.flow_text.specs.declared.text.fault.TextFault.{TextFault}
 use Rattle.flow_text.specs.declared.text.fault.TextFault.TheVariants as text
 use Rattle.flow_text.specs.declared.text.progress.Want.TheVariants.{FirstLabel, HeadNumbers, SecondLabel, Times}
-use Rattle.flow_text.specs.declared.text.progress.Head.{Head}
 use Rattle.flow_text.specs.internal.TextState.{Sizes, sizes_of, State}
 
 -- what a second step returns for the value of the first, or the fault of the first

@@ -1,7 +1,6 @@
 //! Files in memory, by the names that command lines give.
 
-ghost use Rattle.std.specs.Prelude.{refl};
-ghost use Rattle.flow_tool.specs.Inputs.{unknown_names, views};
+ghost use Rattle.flow_tool.specs.Inputs.{unknown_names};
 
 use crate::inputs::Inputs;
 use flow_core::{MemorySource, Source};
@@ -80,13 +79,7 @@ impl Inputs for Named {
 
     type File = MemorySource<'static>;
 
-    ghost names = { λ _. unknown_names
-        (let s = ⟦<MemorySource<'static> as Source>⟧ in views s.given s.has_ended s.has_failed)
-        (let s = ⟦<MemorySource<'static> as Source>⟧ in views s.given s.has_ended s.has_failed) };
-
-    ghost views_standard = { λ _. refl };
-
-    ghost views_file = { λ _. refl };
+    ghost names = { λ _. unknown_names };
 
     fn standard(&self) -> MemorySource<'static> {
         MemorySource::new(BOTH, 7, None)

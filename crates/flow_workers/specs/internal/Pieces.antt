@@ -51,3 +51,16 @@ written [] = 0
 written (Done text ∷ pieces) = length text.items + written pieces
 written (Reached sequence text ∷ pieces) = length text.items + written pieces
 written (Left part ∷ pieces) = written pieces
+
+-- a piece of which nothing is still to be searched
+abbrev pub IsSearched : Piece → Type 0
+IsSearched (Done text) = Unit {0}
+IsSearched (Reached sequence text) = Unit {0}
+IsSearched (Left part) = ⊥
+
+-- no directions of the first piece are known yet, unless it has reached a sequence
+abbrev pub IsSettled : List Piece → Type 0
+IsSettled [] = Unit {0}
+IsSettled (Done text ∷ pieces) = ⊥
+IsSettled (Reached sequence text ∷ pieces) = Unit {0}
+IsSettled (Left part ∷ pieces) = Unit {0}

@@ -6,7 +6,7 @@ use Rattle.flow_c.proofs.prove.search_numbers.Goals as goal
 pub returns-clause-refused : goal.returns-clause-refused
 returns-clause-refused c =
     let none = no-prove-fault c.args.shop.now c.args.node.now _ c.in_ok-instance.ensures.accepted
-    (rw (c.jobs.ensures.value, c.in_ok-instance.ensures.value) at c.in_ok-test.ensures.accepted)
+    (rw c.in_ok-instance.ensures.value at c.in_ok-test.ensures.accepted)
     c.in_ok-need.ensures.accepted in
     IfErr-weaker c.search.result _ _
     (λ fault is. elim is [

@@ -1,46 +1,15 @@
-use Rattle.std.proofs.Common.{refl}
-use Rattle.std.proofs.lemmas.Result.{IfErr-weaker, err_from_is_err_and, on_ok_weaker}
 use Rattle.flow_commands.specs.Certify.{AnswersCertify, WroteTwoEnded}
-use Rattle.flow_commands.specs.Runs.{sink_run, source_run, start_run}
-use Rattle.flow_commands.proofs.Given.{came-for, ended-from, stopped-from, wrote-from}
+use Rattle.flow_commands.specs.Runs.{run_of, second_run, sink_run, source_run}
+use Rattle.flow_commands.specs.Start.{FromStart}
+use Rattle.flow_commands.specs.declared.files.FileKind.TheVariants.{Text}
+use Rattle.flow_commands.proofs.Truths.{certify-is-lawful}
+use Rattle.flow_commands.proofs.Written.{came-for}
 use Rattle.flow_commands.proofs.certify.run_certify.Goals as goal
-
-pub returns-in_err-block-clause-ended : goal.returns-in_err-block-clause-ended
-returns-in_err-block-clause-ended g c =
-    let p = err_from_is_err_and c.from_residual.result c.from_residual.ensures.1 in
-    rw (p.1, p.2)
-    (stopped-from (AnswersCertify c.args.request) c.args.index
-    (source_run g.S.Source.given g.S.Source.has_ended c.args.file.now c.read_inputs.new.file)
-    (start_run g.T.Source.given g.T.Source.has_ended c.args.start.now c.read_inputs.new.start)
-    (sink_run g.K.Sink.taken c.args.out.now c.args.out.now) _ refl c.in_err-block.ensures.refused)
-
-pub returns-clause-written : goal.returns-clause-written
-returns-clause-written g c =
-    on_ok_weaker c.certify_block.result
-    (wrote-from (AnswersCertify c.args.request) c.args.index c.in_ok-block.block c.in_ok-block.given
-    (source_run g.S.Source.given g.S.Source.has_ended c.args.file.now c.read_inputs.new.file)
-    (start_run g.T.Source.given g.T.Source.has_ended c.args.start.now c.read_inputs.new.start)
-    (sink_run g.K.Sink.taken c.args.out.now c.certify_block.new.out) c.in_ok-block.ensures.picked
-    c.in_ok-block.ensures.given)
-    c.certify_block.ensures.written
-
-pub returns-clause-ended : goal.returns-clause-ended
-returns-clause-ended g c =
-    IfErr-weaker c.certify_block.result _ _
-    (λ fault. ended-from (AnswersCertify c.args.request) c.args.index
-    c.in_ok-block.block c.in_ok-block.given
-    (source_run g.S.Source.given g.S.Source.has_ended c.args.file.now c.read_inputs.new.file)
-    (start_run g.T.Source.given g.T.Source.has_ended c.args.start.now c.read_inputs.new.start)
-    (sink_run g.K.Sink.taken c.args.out.now c.certify_block.new.out) fault c.in_ok-block.ensures.picked
-    c.in_ok-block.ensures.given)
-    c.certify_block.ensures.ended
 
 pub returns-clause-lawful : goal.returns-clause-lawful
 returns-clause-lawful g c =
-    on_ok_weaker c.certify_block.result
-    (came-for c.args.index
-    (λ shop. WroteTwoEnded shop (sink_run g.K.Sink.taken c.args.out.now c.certify_block.new.out))
-    c.in_ok-block.block
-    (source_run g.S.Source.given g.S.Source.has_ended c.args.file.now c.read_inputs.new.file)
-    c.in_ok-block.ensures.picked)
-    c.certify_block.ensures.lawful
+    let sink = sink_run g.K.Sink c.args.out.now c.run_over.new.out in
+    came-for Text (FromStart (AnswersCertify c.args.request)) c.args.index
+    (run_of (source_run g.S.Source c.args.file.now c.run_over.new.file)
+    (second_run g.T.Source c.args.start.now c.run_over.new.second) sink) c.run_over.result
+    (λ shop. WroteTwoEnded shop sink) (certify-is-lawful c.args.request sink) c.run_over.ensures.ran.written

@@ -1,18 +1,17 @@
-use Rattle.std.proofs.lemmas.Result.{on_ok_weaker, IfErr-weaker}
 use Rattle.flow_commands.specs.Runs.{sink_run}
-use Rattle.flow_commands.proofs.Solved.{ends-weaker, with-options, wrote-weaker}
+use Rattle.flow_commands.specs.Solve.{AnswersSolve}
+use Rattle.flow_commands.specs.Start.{FromStart}
+use Rattle.flow_commands.specs.internal.Picked.{origin_of}
+use Rattle.flow_commands.specs.internal.Reading.{bytes_of}
+use Rattle.flow_commands.proofs.Responses.{weaker}
+use Rattle.flow_commands.proofs.Starts.{given-answers}
 use Rattle.flow_commands.proofs.solve.solve_block.Goals as goal
 
-pub returns-clause-written : goal.returns-clause-written
-returns-clause-written g c =
-    on_ok_weaker c.solve_instance.result
-    (wrote-weaker _ _ (sink_run g.K.Sink.taken c.args.out.now c.solve_instance.new.out)
-    (with-options c.args.instance.now c.args.given _ c.in_ok-options.options c.in_ok-options.ensures))
-    c.solve_instance.ensures.written
-
-pub returns-clause-ended : goal.returns-clause-ended
-returns-clause-ended g c =
-    IfErr-weaker c.solve_instance.result _ _
-    (λ fault. ends-weaker _ _ (sink_run g.K.Sink.taken c.args.out.now c.solve_instance.new.out) fault
-    (with-options c.args.instance.now c.args.given _ c.in_ok-options.options c.in_ok-options.ensures))
-    c.solve_instance.ensures.ended
+pub returns : goal.returns
+returns g c =
+    let A = AnswersSolve c.args.request in
+    let origin = origin_of c.args.picked in
+    weaker (A origin.block.instance c.in_ok-given.given) (FromStart A origin (bytes_of c.args.start))
+    (sink_run g.K.Sink c.args.out.now c.solve_instance.new.out) c.solve_instance.result
+    (λ answer. given-answers A origin (bytes_of c.args.start) c.in_ok-given.given answer c.in_ok-given.ensures.given)
+    c.solve_instance.ensures

@@ -1,73 +1,46 @@
+use Rattle.std.proofs.Common.{ap, inl, inr, refl, Err}
+use Rattle.std.proofs.lemmas.Result.{err_from_is_err_and}
 use Rattle.flow_tool.proofs.dispatch.obey.Goals as goal
 
-pub returns-in-Gen-clause-written : goal.returns-in-Gen-clause-written
-returns-in-Gen-clause-written g c = rw c.in-Gen.is c.obey_gen.ensures.written
+pub returns-in_ok-run_gen-in-Gen : goal.returns-in_ok-run_gen-in-Gen
+returns-in_ok-run_gen-in-Gen g c = rw c.in-Gen.is c.in_ok-run_gen-in-Gen.ensures
 
-pub returns-in-Gen-clause-ended : goal.returns-in-Gen-clause-ended
-returns-in-Gen-clause-ended g c = rw c.in-Gen.is c.obey_gen.ensures.ended
+pub returns-in_err-run_gen-in-Gen : goal.returns-in_err-run_gen-in-Gen
+returns-in_err-run_gen-in-Gen g c =
+    let p = err_from_is_err_and c.from_residual.result c.from_residual.ensures.1 in
+    rw (c.in-Gen.is, p.1, p.2) c.in_err-run_gen-in-Gen.ensures
 
-pub returns-in-Gen-clause-read_device : goal.returns-in-Gen-clause-read_device
-returns-in-Gen-clause-read_device g c = rw c.in-Gen.is c.obey_gen.ensures.read_device
+pub returns-in_err-given-in-OfBlock : goal.returns-in_err-given-in-OfBlock
+returns-in_err-given-in-OfBlock g c =
+    let text = c.in_ok-text-in-OfBlock in
+    let p =
+    err_from_is_err_and c.from_residual-in_err-given-in-OfBlock.result
+    c.from_residual-in_err-given-in-OfBlock.ensures.1 in
+    let says = c.in_err-given-in-OfBlock.ensures in
+    rw (c.in-OfBlock.is, p.1, p.2)
+    (inr (text.text, text.text, text.ensures.opened, inl (ap Err says.stop, says.refused, refl, refl)))
 
-pub returns-in-Span-clause-written : goal.returns-in-Span-clause-written
-returns-in-Span-clause-written g c = rw c.in-Span.is (rw c.as_slice.ensures.value at c.obey_span.ensures.written)
+pub returns-in_err-run_request-in-OfBlock : goal.returns-in_err-run_request-in-OfBlock
+returns-in_err-run_request-in-OfBlock g c =
+    let text = c.in_ok-text-in-OfBlock in
+    let given = c.in_ok-given-in-OfBlock in
+    let p =
+    err_from_is_err_and c.from_residual-in_err-run_request-in-OfBlock.result
+    c.from_residual-in_err-run_request-in-OfBlock.ensures.1 in
+    rw (c.in-OfBlock.is, p.1, p.2) (inr (
+      text.text,
+      c.run_request.new.file,
+      text.ensures.opened,
+      inr (given.given, c.run_request.new.second, given.ensures.opened, c.in_err-run_request-in-OfBlock.ensures.ran),
+    ))
 
-pub returns-in-Span-clause-ended : goal.returns-in-Span-clause-ended
-returns-in-Span-clause-ended g c = rw c.in-Span.is (rw c.as_slice.ensures.value at c.obey_span.ensures.ended)
-
-pub returns-in-Span-clause-read_device : goal.returns-in-Span-clause-read_device
-returns-in-Span-clause-read_device g c = rw c.in-Span.is c.obey_span.ensures.read_device
-
-pub returns-in-Neh-clause-written : goal.returns-in-Neh-clause-written
-returns-in-Neh-clause-written g c = rw c.in-Neh.is c.obey_neh.ensures.written
-
-pub returns-in-Neh-clause-ended : goal.returns-in-Neh-clause-ended
-returns-in-Neh-clause-ended g c = rw c.in-Neh.is c.obey_neh.ensures.ended
-
-pub returns-in-Neh-clause-read_device : goal.returns-in-Neh-clause-read_device
-returns-in-Neh-clause-read_device g c = rw c.in-Neh.is c.obey_neh.ensures.read_device
-
-pub returns-in-Solve-clause-written : goal.returns-in-Solve-clause-written
-returns-in-Solve-clause-written g c = rw c.in-Solve.is c.obey_solve.ensures.written
-
-pub returns-in-Solve-clause-ended : goal.returns-in-Solve-clause-ended
-returns-in-Solve-clause-ended g c = rw c.in-Solve.is c.obey_solve.ensures.ended
-
-pub returns-in-Solve-clause-read_device : goal.returns-in-Solve-clause-read_device
-returns-in-Solve-clause-read_device g c = rw c.in-Solve.is c.obey_solve.ensures.read_device
-
-pub returns-in-Improve-clause-written : goal.returns-in-Improve-clause-written
-returns-in-Improve-clause-written g c = rw c.in-Improve.is c.obey_improve.ensures.written
-
-pub returns-in-Improve-clause-ended : goal.returns-in-Improve-clause-ended
-returns-in-Improve-clause-ended g c = rw c.in-Improve.is c.obey_improve.ensures.ended
-
-pub returns-in-Improve-clause-read_device : goal.returns-in-Improve-clause-read_device
-returns-in-Improve-clause-read_device g c = rw c.in-Improve.is c.obey_improve.ensures.read_device
-
-pub returns-in-Certify-clause-written : goal.returns-in-Certify-clause-written
-returns-in-Certify-clause-written g c = rw c.in-Certify.is c.obey_certify.ensures.written
-
-pub returns-in-Certify-clause-ended : goal.returns-in-Certify-clause-ended
-returns-in-Certify-clause-ended g c = rw c.in-Certify.is c.obey_certify.ensures.ended
-
-pub returns-in-Certify-clause-read_device : goal.returns-in-Certify-clause-read_device
-returns-in-Certify-clause-read_device g c = rw c.in-Certify.is c.obey_certify.ensures.read_device
-
-pub returns-in-Check-clause-written : goal.returns-in-Check-clause-written
-returns-in-Check-clause-written g c = rw c.in-Check.is c.obey_check.ensures.written
-
-pub returns-in-Check-clause-ended : goal.returns-in-Check-clause-ended
-returns-in-Check-clause-ended g c = rw c.in-Check.is c.obey_check.ensures.ended
-
-pub returns-in-Check-clause-read_device : goal.returns-in-Check-clause-read_device
-returns-in-Check-clause-read_device g c = rw c.in-Check.is c.obey_check.ensures.read_device
-
-pub returns-in-Schedule-clause-written : goal.returns-in-Schedule-clause-written
-returns-in-Schedule-clause-written g c = rw c.in-Schedule.is c.obey_schedule.ensures.written
-
-pub returns-in-Schedule-clause-ended : goal.returns-in-Schedule-clause-ended
-returns-in-Schedule-clause-ended g c = rw c.in-Schedule.is c.obey_schedule.ensures.ended
-
-pub returns-in-Schedule-clause-read_device : goal.returns-in-Schedule-clause-read_device
-returns-in-Schedule-clause-read_device g c = rw c.in-Schedule.is c.obey_schedule.ensures.read_device
+pub returns-in_ok-run_request-in-OfBlock : goal.returns-in_ok-run_request-in-OfBlock
+returns-in_ok-run_request-in-OfBlock g c =
+    let text = c.in_ok-text-in-OfBlock in
+    let given = c.in_ok-given-in-OfBlock in
+    rw c.in-OfBlock.is (inr (
+      text.text,
+      c.run_request.new.file,
+      text.ensures.opened,
+      inr (given.given, c.run_request.new.second, given.ensures.opened, c.in_ok-run_request-in-OfBlock.ensures.ran),
+    ))

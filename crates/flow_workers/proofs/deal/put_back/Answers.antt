@@ -1,6 +1,5 @@
-use Rattle.std.proofs.Common.{ap, sym, ◌∙◌}
-use Rattle.flow_workers.specs.internal.Pieces.{behind, dealt_met, piece_met, pieces_met, all_met}
-use Rattle.flow_workers.specs.declared.piece.Dealt.{Dealt}
+use Rattle.std.proofs.Common.{ap, ◌∙◌}
+use Rattle.flow_workers.specs.internal.Pieces.{dealt_met, piece_met, pieces_met}
 use Rattle.flow_workers.proofs.PieceSteps.{put-more}
 use Rattle.flow_workers.proofs.deal.put_back.Goals as goal
 

@@ -1,9 +1,8 @@
-use Rattle.std.proofs.Common.{◌≡◌, ◌+◌, ◌∷◌, length, map, None, ap, sym, ◌∙◌, subst}
+use Rattle.std.proofs.Common.{◌≡◌, ◌+◌, ◌∷◌, length, None, ap, sym, ◌∙◌, subst}
 use Rattle.std.proofs.lemmas.Result.{IfOk-weaker}
 use Rattle.flow_directions.specs.Search.{IsAdvanced}
 use Rattle.flow_workers.specs.internal.Pieces.{behind, pieces_met, written}
 use Rattle.flow_workers.specs.declared.piece.Piece.TheVariants.{Done}
-use Rattle.flow_workers.specs.declared.node.Searched.{Searched}
 use Rattle.flow_workers.proofs.PieceSteps.{none-written, rest-met}
 use Rattle.flow_workers.proofs.Results.{IfOk-both}
 use Rattle.flow_workers.proofs.node.search_node.Goals as goal
@@ -14,7 +13,7 @@ returns-in_ok-left-in-Ok-Rest-clause-met c =
     let number = c.args.aim.now.number in
     let text = c.in-Ok-Rest.directions in
     let left = c.in_ok-left-in-Ok-Rest.left.items in
-    let is = subst (IsAdvanced shop number c.args.budget c.args.first.now c.args.last.now) c.in-Ok-Rest.field-0-is
+    let is = subst (IsAdvanced shop number _ c.args.first.now c.args.last.now) c.in-Ok-Rest.field-0-is
     c.in-Ok-Rest.ensures.advanced in
     IfOk-weaker c.found-in-Ok-Rest.result (λ found. found.pieces.items ≡ Done text ∷ left) _ (λ found are.
     ap (pieces_met shop number) are

@@ -1,6 +1,3 @@
-use Rattle.std.proofs.Common.{rules, arith, ◌≡◌, ◌<◌, All, length, ap, ◌∙◌}
-use Rattle.std.proofs.lemmas.List.Elements.{All-pop}
-use Rattle.flow_workers.specs.internal.Answers.{HasPlace, StandsFor}
 use Rattle.flow_workers.proofs.PieceSteps.{all-same}
 use Rattle.flow_workers.proofs.round.put_answers.Goals as goal
 

@@ -11,7 +11,7 @@ returns-in-None-clause-shown g c =
     let none : c.settle.new.pieces.items ≡ [] = search rules in
     found-shows shop number c.args.budget [] [] (Proved c.settle.new.text) (no-jobs shop.jobs)
     (none-left shop number c.args.budget c.settle.new.text c.settle.new.pieces.items none
-    (c.in_ok-settle.ensures shop number ∙ c.rounds.invariant)
+    (c.in_ok-settle.ensures.met shop number ∙ c.rounds.invariant)
     (omega (arith, c.if-written-budget.false, c.len-written.ensures, c.settle.new.text.ok.0)))
 
 pub reached-requires : goal.reached-requires
@@ -22,7 +22,7 @@ reached-requires g c =
     is-reached shop number c.args.budget c.settle.new.text c.settle.new.pieces.items c.in-Some-Reached.sequence
     c.in-Some-Reached.directions rest
     (c.in-Some-Reached.ensures.items ∙ ap (λ p. p ∷ rest) c.in-Some-Reached.field-0-is)
-    (c.in_ok-settle.ensures shop number ∙ c.rounds.invariant)
+    (c.in_ok-settle.ensures.met shop number ∙ c.rounds.invariant)
 
 pub returns-in-Some-Reached-clause-found : goal.returns-in-Some-Reached-clause-found
 returns-in-Some-Reached-clause-found g c =
@@ -32,7 +32,7 @@ returns-in-Some-Reached-clause-found g c =
     found-reached shop number c.args.budget c.settle.new.text c.settle.new.pieces.items c.in-Some-Reached.sequence
     c.in-Some-Reached.directions rest
     (c.in-Some-Reached.ensures.items ∙ ap (λ p. p ∷ rest) c.in-Some-Reached.field-0-is)
-    (c.in_ok-settle.ensures shop number ∙ c.rounds.invariant)
+    (c.in_ok-settle.ensures.met shop number ∙ c.rounds.invariant)
     (c.len.result + c.len-in-Some-Reached.result) c.reached.result
     (omega (
       arith,

@@ -27,7 +27,7 @@ groups-preserved g c =
     let count : c.len-in-groups.result ≡ length groups =
     omega (arith, c.len-in-groups.ensures, c.groups.groups.ok.0) in
     let named : AreNames shop (length groups) names =
-    λ lane low. omega (arith, c.names_of-names.ensures.each lane low, c.jobs-jobs.ensures.value, count) in
+    subst (λ group. AreNames shop group names) count c.names_of-names.ensures.each in
     record {
       few = omega (
         arith,

@@ -1,0 +1,3 @@
+//! Blocks that an index names, and why it names none.
+
+pub use flow_text::{Pick, PickFault};

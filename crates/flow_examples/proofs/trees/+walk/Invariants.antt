@@ -1,4 +1,0 @@
-use Rattle.flow_examples.proofs.trees.+walk.Given as goal
-
-abbrev pub decreases-walk : goal.decreases-walk
-decreases-walk l = l.left

@@ -1,6 +1,0 @@
-use Rattle.flow_text.proofs.GeneratorLemmas.{state_after-step}
-use Rattle.flow_text.proofs.generator.Taillard.next.Goals as goal
-
-pub returns-clause-state : goal.returns-clause-state
-returns-clause-state c seed steps before =
-    state_after-step seed steps c.args.self.now c.step.new.self before c.step.ensures

@@ -1,5 +1,0 @@
-use Rattle.std.proofs.Common.{◌≡◌}
-use Rattle.flow_threads.proofs.lanes.are_right.Given as goal
-
-abbrev pub invariant-steps : goal.invariant-steps
-invariant-steps l = l.sender.lane ≡ l.receiver.lane

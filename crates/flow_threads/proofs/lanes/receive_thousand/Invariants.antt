@@ -1,5 +1,0 @@
-use Rattle.std.proofs.Common.{◌≡◌, ◌≤◌}
-use Rattle.flow_threads.proofs.lanes.receive_thousand.Given as goal
-
-abbrev pub invariant-receiving : goal.invariant-receiving
-invariant-receiving g l = (l.receiver.lane ≡ l.fn.receiver.lane) × (l.next ≤ 1001)

@@ -1,5 +1,0 @@
-use Rattle.std.proofs.Common.{◌≡◌, ◌≤◌}
-use Rattle.flow_threads.proofs.lanes.send_thousand.Given as goal
-
-abbrev pub invariant-sending : goal.invariant-sending
-invariant-sending g l = (l.sender.lane ≡ l.fn.sender.lane) × (l.next ≤ 1001)

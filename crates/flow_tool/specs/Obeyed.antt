@@ -1,0 +1,33 @@
+-- What the program does that a command line asks for, by what its names stand for.
+use Rattle.std.specs.Prelude.{◌≡◌, ◌⊎◌, List, ℕ, Result, Ok, Err, IsErrOf}
+use Rattle.flow_text.specs.declared.bytes.device.Source as sources
+use Rattle.flow_requests.specs.declared.Invocation.{Invocation}
+use Rattle.flow_requests.specs.declared.Invocation.TheVariants.{Gen, OfBlock}
+use Rattle.flow_commands.specs.Generate.{AnswersGen}
+use Rattle.flow_commands.specs.Request.{answers, kind_of}
+use Rattle.flow_commands.specs.Runs.{IsUnwritten, Ran, Responds, SinkRun, run_of}
+use Rattle.flow_commands.specs.declared.fault.CommandFault.{CommandFault}
+use Rattle.flow_tool.specs.Inputs.{Names, RefusedSecond, RefusedText, RunOfSecond, RunOfText}
+use Rattle.flow_tool.specs.declared.stop.Stop.{Stop}
+use Rattle.flow_tool.specs.declared.stop.Stop.TheVariants.{Fault, Open}
+
+-- the program ended as its command did
+abbrev pub EndsAs : (Result (Unit {0}) CommandFault → Type 0) → Result (Unit {0}) Stop → Type 0
+EndsAs Comes (Ok done) = Comes (Ok done)
+EndsAs Comes (Err (Fault fault)) = Comes (Err fault)
+EndsAs Comes (Err stop) = ⊥
+
+-- the program did what a command line asks for: it ran a command that reads nothing; or it ran the command of a request
+-- over the files that the names stand for; or it stopped, since it could not open the text, or else the second file,
+-- and had read and written nothing
+abbrev pub Obeys :
+    {A : Type 0} → {B : Type 0} → {K : Type 0} → sources.Ghosts A → sources.Ghosts B → Names A B → Invocation
+    → SinkRun K → Result (Unit {0}) Stop → Type 0
+Obeys standard file names (Gen jobs machines seed) sink result =
+    EndsAs (Responds (AnswersGen jobs machines seed) sink) result
+Obeys standard file names (OfBlock name index second request) sink result =
+    (IsErrOf result Open × RefusedText names name.now × IsUnwritten sink)
+    ⊎ RunOfText standard file names name.now (λ text.
+    (IsErrOf result Open × RefusedSecond names second × (text.after ≡ text.before) × IsUnwritten sink)
+    ⊎ RunOfSecond file names second (λ given.
+    EndsAs (Ran (kind_of request) (answers request) index (run_of text given sink)) result))

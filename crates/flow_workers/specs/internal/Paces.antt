@@ -1,0 +1,15 @@
+-- How much is searched in a round.
+use Rattle.std.specs.Prelude.{ℕ, ◌+◌, ◌*◌, ◌≤◌}
+use Rattle.flow_workers.specs.declared.pace.Pace.{Pace}
+
+-- in a round of this pace some node is dealt, and searched for some directions
+abbrev pub GoesOn : Pace → Type 0
+GoesOn pace = (1 ≤ pace.nodes) × (1 ≤ pace.whole) × (1 ≤ pace.least) × (1 ≤ pace.left)
+
+-- about how many bytes a piece has of so many jobs
+abbrev pub bytes_of_piece : ℕ → ℕ
+bytes_of_piece jobs = 150 + 2 * jobs
+
+-- the most bytes of pieces with which many nodes are dealt in a round
+abbrev pub most_bytes : ℕ
+most_bytes = 100000000

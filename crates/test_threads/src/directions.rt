@@ -1,0 +1,135 @@
+//! The search for directions on several threads.
+
+use flow_directions::{Found, prove};
+use flow_generator::generate;
+use flow_workers::{News, Watch, Workers, prove_by};
+use sha2::{Digest, Sha256};
+use std::alloc::Global;
+use std::cell::Cell;
+use std::thread::Threads;
+
+/// Jobs, machines and seed of a published instance, its least makespan, how many directions prove it, and how the
+/// SHA-256 of the directions begins. The program in plain Rust, bench/plain.rs, found the same.
+type Published = (u32, u32, u32, u64, u64, [u8; 8]);
+
+static PUBLISHED: [Published; 5] = [
+    (
+        20,
+        5,
+        873_654_221,
+        1_278,
+        7,
+        [0x02, 0xa9, 0x5d, 0xc3, 0x66, 0x0c, 0xb8, 0x3b],
+    ),
+    (
+        20,
+        10,
+        587_595_453,
+        1_582,
+        116_565,
+        [0xbc, 0xc0, 0x60, 0xb7, 0x9c, 0x20, 0xdf, 0x75],
+    ),
+    (
+        20,
+        10,
+        1_672_900_551,
+        1_591,
+        198_674,
+        [0x6e, 0x97, 0xbf, 0x64, 0x61, 0xa5, 0x28, 0x18],
+    ),
+    (
+        50,
+        10,
+        655_816_003,
+        2_839,
+        636_142,
+        [0x18, 0x64, 0x60, 0x89, 0x82, 0xe5, 0x61, 0x10],
+    ),
+    (
+        500,
+        20,
+        1_368_624_604,
+        26_040,
+        2_226,
+        [0x75, 0x00, 0x64, 0x5f, 0xe1, 0x97, 0x34, 0xec],
+    ),
+];
+
+/// How many workers there are.
+const WORKERS: [usize; 6] = [0, 1, 2, 3, 4, 64];
+
+/// Keeps how many directions it was told of last, and whether they ever became fewer.
+#[derive(Drop)]
+struct Told {
+    last: Cell<u64>,
+    fell: Cell<bool>,
+}
+
+impl Watch for Told {
+    fn is_on(&self) -> bool {
+        true
+    }
+
+    fn tell(&self, news: News) {
+        if let News::Directions(directions) = news {
+            if directions < self.last.get() {
+                self.fell.set(true);
+            }
+            self.last.set(directions);
+        }
+    }
+}
+
+/// Whether so many workers find these directions with a budget of as many, and below the next number what one thread
+/// finds, and tell a watch of all directions. With a budget of one less, of half, or next to nothing, they find none.
+fn is_published<R: Threads + Sync>(rt: &R, alloc: Global, row: &Published, workers: usize) -> bool {
+    let (jobs, machines, seed, number, length, digest) = *row;
+    let Ok(instance) = generate(alloc, jobs, machines, seed) else {
+        return false;
+    };
+    let told = Told {
+        last: Cell::new(0),
+        fell: Cell::new(false),
+    };
+    let workers = Workers {
+        rt,
+        count: workers,
+        watch: &told,
+    };
+    let Ok(Found::Proved(text)) = prove_by(&workers, alloc, &instance, number, length) else {
+        return false;
+    };
+    let begins = Sha256::digest(text.as_slice()).starts_with(&digest);
+    if told.fell.get() || told.last.get() != length {
+        return false;
+    }
+    for budget in [0, 1, length / 2, length.saturating_sub(1)] {
+        if prove_by(&workers, alloc, &instance, number, budget) != Ok(Found::Over) {
+            return false;
+        }
+    }
+    let next = number.saturating_add(1);
+    let below = prove_by(&workers, alloc, &instance, next, length);
+    let Ok(alone) = prove(alloc, &instance, &[], &[], next, length) else {
+        return false;
+    };
+    if let Found::Below { directions, .. } = &alone {
+        if told.last.get() != *directions {
+            return false;
+        }
+    }
+    begins && text.len() as u64 == length && below == Ok(alone)
+}
+
+#[test]
+fn workers_find_the_published_directions(rt: HostRuntime) {
+    for row in &PUBLISHED {
+        for workers in &WORKERS {
+            assert!(rt;
+                is_published(&rt, rt.alloc(), row, *workers),
+                "seed {}, {workers} workers",
+                row.2
+            );
+        }
+    }
+}
