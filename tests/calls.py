@@ -538,7 +538,7 @@ def compare_pictures(draw):
     with open(os.path.join(TOP, "docs", "schedule.svg"), "rb") as drawing:
         shown = drawing.read()
     sequence = [int(job) for job in re.findall(rb"job (\d+), machine 1,", shown)]
-    equal("the picture of docs/", picture(shop, sequence), shown)
+    equal("the picture of docs/, with its least makespan", picture(shop, sequence, lower=1278), shown)
     if not os.path.exists(PROGRAM):
         print("no program is built: its pictures were passed over")
         return
