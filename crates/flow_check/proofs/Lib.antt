@@ -27,7 +27,6 @@ pub mod ReaderSteps
 pub mod LineSteps
 pub mod TreesGiven
 pub mod MarkSteps
-pub mod NodeBounds
 pub mod OpenSteps
 pub mod DirectionSteps
 pub mod FrameSteps

@@ -19,7 +19,7 @@ use Rattle.flow_check.specs.declared.two_ended.marks.Marks.{Marks}
 use Rattle.flow_check.specs.internal.Marks.{mark}
 use Rattle.flow_check.specs.internal.Frames.{AreLeft, IsGroupFrom}
 use Rattle.flow_check.proofs.MarkSteps.{mark-there, mark-elsewhere}
-use Rattle.flow_check.proofs.NodeBounds.{child-bound-small}
+use Rattle.flow_nodes.proofs.ChildBounds.{child-bound-small}
 
 -- the mark of a job is the one wanted
 pub record IsOpen (shop : Shop) (number : ℕ) (end : End) (first last : List ℕ) (marks : Marks) (job : ℕ) : Type 0 where

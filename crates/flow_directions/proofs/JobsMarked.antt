@@ -25,7 +25,7 @@ use Rattle.flow_directions.specs.declared.pack.Pack.{Pack}
 use Rattle.flow_directions.proofs.MarkedNames.{kept, kept-yes, kept-no}
 use Rattle.flow_directions.proofs.ChosenNames.{chosen-kept}
 use Rattle.flow_directions.proofs.MarkSteps.{mark-there, mark-elsewhere}
-use Rattle.flow_directions.proofs.ChildBounds.{child-bound-small}
+use Rattle.flow_nodes.proofs.ChildBounds.{child-bound-small}
 
 -- what holds of the names kept holds of the name of a marked place
 kept-each : (P : ℕ → Type 0) (marks : ℕ → ℕ) (names : List ℕ) → AllByRecursion P (kept marks names) → (place : ℕ) →

@@ -10,7 +10,6 @@ pub mod WalkSteps
 pub mod ChildSteps
 pub mod PackedSteps
 pub mod LeftSteps
-pub mod ChildBounds
 pub mod JobsMarked
 pub mod BoundSums
 pub mod PackSteps

@@ -3,3 +3,4 @@ pub mod NodeSteps
 pub mod KeptNodes
 pub mod ChildSteps
 pub mod GroupSteps
+pub mod ChildBounds

@@ -6,7 +6,7 @@ use Rattle.std.proofs.lemmas.Nat.Bits.{shr_and_one}
 use Rattle.flow_nodes.specs.Groups.{child_bound}
 use Rattle.flow_directions.specs.internal.Words.{picked}
 use Rattle.flow_directions.proofs.BoundSums.{lane-picked, lane-passed, none-picked}
-use Rattle.flow_directions.proofs.ChildBounds.{child-bound-small}
+use Rattle.flow_nodes.proofs.ChildBounds.{child-bound-small}
 use Rattle.flow_directions.proofs.open.sum_of_group.Goals as goal
 use Rattle.flow_directions.proofs.open.sum_of_group.Goals.{then-left-lane-eq1+then-bound-CAP}
 use Rattle.flow_directions.proofs.open.sum_of_group.Goals.{then-left-lane-eq1+else-bound-CAP, else-left-lane-eq1}
