@@ -201,7 +201,7 @@ typedef struct flowshop_effort {
 typedef struct flowshop_plan {
     uint32_t depth; /* 0 to 3: there is a tree for each list of so many jobs */
     uint32_t budget; /* how many bytes each tree may have */
-    uint32_t version; /* by which bound the search cuts: 2 gives shorter trees, and takes longer for each byte */
+    uint32_t version; /* by which bound the search prunes: 2 gives shorter trees, and takes longer for each byte */
 } flowshop_plan;
 
 /* The options of a beam search. */

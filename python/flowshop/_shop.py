@@ -428,7 +428,7 @@ class Shop:
     ) -> Certificate:
         """The least makespan with its certificate, by a search in one thread from a sequence, or from that of `neh`.
         There is a tree for each list of `depth` jobs, 0 to 3, of at most `budget` bytes, 1 to 100,000,000; `version`, 1
-        or 2, says by which bound the search cuts. OverBudget where a tree is longer, NotASequence where the start is
+        or 2, says by which bound the search prunes. OverBudget where a tree is longer, NotASequence where the start is
         none, OptionError where a number is not as said here. The search can take long, and no time limit ends it. An
         interrupt does, within a second.
 

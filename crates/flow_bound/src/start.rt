@@ -1,5 +1,5 @@
 //! The starting sequence.
 
 pub(crate) mod insertion;
+mod job_order;
 pub(crate) mod neh;
-mod order;

@@ -4,7 +4,7 @@ use Rattle.std.proofs.Common.{length-append, length-drop}
 use Rattle.std.proofs.Common.{subst}
 use Rattle.std.proofs.Math.Seq.{take-append-add, drop-append-add, take-length}
 use Rattle.std.proofs.lemmas.List.{append-nil, drop-drop, length-take-le, nil_from_length}
-use Rattle.flow_c.specs.internal.Frames.{with_directions}
+use Rattle.flow_c.specs.internal.Around.{with_directions}
 use borrow.Rule.Slice.PartMut.{put_mid}
 
 -- the rest of a slice, from a place on
@@ -75,80 +75,80 @@ put-length a xs ys low =
     omega (arith, ap length (rest-put a xs ys low), length-append (take a xs) ys, own)
 
 -- the parts of a text fit a slice that has room for it
-parts-fit : (frame directions before own second : List ℕ) → 5 ≤ length frame →
-    length frame + length directions ≤ length before → length own ≡ length before →
-    length second ≡ length (take (length own - (length frame - 5)) (drop (length frame - 5) own)) →
-    (length frame - 5 ≤ length own)
-    × (length frame - 5 + length directions
-    ≤ length (put_mid (length frame - 5) (length own - (length frame - 5)) own second))
-parts-fit frame directions before own second framed enough same whole =
-    let end : ℕ = length frame - 5 in
-    let low : end ≤ length own = omega (arith, framed, enough, same) in
+parts-fit : (around directions before own second : List ℕ) → 5 ≤ length around →
+    length around + length directions ≤ length before → length own ≡ length before →
+    length second ≡ length (take (length own - (length around - 5)) (drop (length around - 5) own)) →
+    (length around - 5 ≤ length own)
+    × (length around - 5 + length directions
+    ≤ length (put_mid (length around - 5) (length own - (length around - 5)) own second))
+parts-fit around directions before own second long_enough enough same whole =
+    let end : ℕ = length around - 5 in
+    let low : end ≤ length own = omega (arith, long_enough, enough, same) in
     let size : length second ≡ length own - end =
     whole ∙ ap length (rest-of end own) ∙ length-drop end own in
-    (low, omega (arith, framed, enough, same, size, put-length end own second low))
+    (low, omega (arith, long_enough, enough, same, size, put-length end own second low))
 
 -- the ending is the last five bytes
-ending-size : (frame : List ℕ) → 5 ≤ length frame →
-    length (take (length frame - (length frame - 5)) (drop (length frame - 5) frame)) ≡ 5
-ending-size frame framed =
-    let end : ℕ = length frame - 5 in
-    omega (arith, framed, ap length (rest-of end frame), length-drop end frame)
+ending-size : (around : List ℕ) → 5 ≤ length around →
+    length (take (length around - (length around - 5)) (drop (length around - 5) around)) ≡ 5
+ending-size around long_enough =
+    let end : ℕ = length around - 5 in
+    omega (arith, long_enough, ap length (rest-of end around), length-drop end around)
 
 -- a text whose parts are put into a slice stands at its front
-pub text-put : (frame directions before own second third : List ℕ) → 5 ≤ length frame →
-    length frame + length directions ≤ length before → length own ≡ length before →
-    length second ≡ length (take (length own - (length frame - 5)) (drop (length frame - 5) own)) →
-    take (length (take (length frame - 5) frame)) own ≡ take (length frame - 5) frame →
+pub text-put : (around directions before own second third : List ℕ) → 5 ≤ length around →
+    length around + length directions ≤ length before → length own ≡ length before →
+    length second ≡ length (take (length own - (length around - 5)) (drop (length around - 5) own)) →
+    take (length (take (length around - 5) around)) own ≡ take (length around - 5) around →
     take (length directions) second ≡ directions →
-    take (length (take (length frame - (length frame - 5)) (drop (length frame - 5) frame))) third
-    ≡ take (length frame - (length frame - 5)) (drop (length frame - 5) frame) →
-    take (length frame - 5 + length directions + 5)
-    (put_mid (length frame - 5 + length directions)
-    (length (put_mid (length frame - 5) (length own - (length frame - 5)) own second)
-    - (length frame - 5 + length directions))
-    (put_mid (length frame - 5) (length own - (length frame - 5)) own second) third)
-    ≡ with_directions frame directions
-text-put frame directions before own second third framed enough same whole one two three =
-    let end : ℕ = length frame - 5 in
-    let fit = parts-fit frame directions before own second framed enough same whole in
-    let first : take end own ≡ take end frame =
-    subst (λ k. take k own ≡ take end frame) (length-take-le end frame (omega arith)) one in
-    let last : take 5 third ≡ drop end frame =
-    subst (λ k. take k third ≡ drop end frame) (ending-size frame framed) (three ∙ rest-of end frame) in
-    parts-put (take end frame) directions (drop end frame) own second third end (length directions) 5 fit.0 fit.1 first
+    take (length (take (length around - (length around - 5)) (drop (length around - 5) around))) third
+    ≡ take (length around - (length around - 5)) (drop (length around - 5) around) →
+    take (length around - 5 + length directions + 5)
+    (put_mid (length around - 5 + length directions)
+    (length (put_mid (length around - 5) (length own - (length around - 5)) own second)
+    - (length around - 5 + length directions))
+    (put_mid (length around - 5) (length own - (length around - 5)) own second) third)
+    ≡ with_directions around directions
+text-put around directions before own second third long_enough enough same whole one two three =
+    let end : ℕ = length around - 5 in
+    let fit = parts-fit around directions before own second long_enough enough same whole in
+    let first : take end own ≡ take end around =
+    subst (λ k. take k own ≡ take end around) (length-take-le end around (omega arith)) one in
+    let last : take 5 third ≡ drop end around =
+    subst (λ k. take k third ≡ drop end around) (ending-size around long_enough) (three ∙ rest-of end around) in
+    parts-put (take end around) directions (drop end around) own second third end (length directions) 5 fit.0 fit.1 first
     two last
 
 -- and what stands behind it stays
-pub text-leaves : (frame directions before own second third : List ℕ) → 5 ≤ length frame →
-    length frame + length directions ≤ length before → length own ≡ length before →
-    length second ≡ length (take (length own - (length frame - 5)) (drop (length frame - 5) own)) →
-    drop (length (take (length frame - 5) frame)) own ≡ drop (length (take (length frame - 5) frame)) before →
+pub text-leaves : (around directions before own second third : List ℕ) → 5 ≤ length around →
+    length around + length directions ≤ length before → length own ≡ length before →
+    length second ≡ length (take (length own - (length around - 5)) (drop (length around - 5) own)) →
+    drop (length (take (length around - 5) around)) own ≡ drop (length (take (length around - 5) around)) before →
     drop (length directions) second
-    ≡ drop (length directions) (take (length own - (length frame - 5)) (drop (length frame - 5) own)) →
-    drop (length (take (length frame - (length frame - 5)) (drop (length frame - 5) frame))) third
-    ≡ drop (length (take (length frame - (length frame - 5)) (drop (length frame - 5) frame)))
+    ≡ drop (length directions) (take (length own - (length around - 5)) (drop (length around - 5) own)) →
+    drop (length (take (length around - (length around - 5)) (drop (length around - 5) around))) third
+    ≡ drop (length (take (length around - (length around - 5)) (drop (length around - 5) around)))
     (take
-    (length (put_mid (length frame - 5) (length own - (length frame - 5)) own second)
-    - (length frame - 5 + length directions))
-    (drop (length frame - 5 + length directions)
-    (put_mid (length frame - 5) (length own - (length frame - 5)) own second))) →
-    drop (length frame - 5 + length directions + 5)
-    (put_mid (length frame - 5 + length directions)
-    (length (put_mid (length frame - 5) (length own - (length frame - 5)) own second)
-    - (length frame - 5 + length directions))
-    (put_mid (length frame - 5) (length own - (length frame - 5)) own second) third)
-    ≡ drop (length frame - 5 + length directions + 5) before
-text-leaves frame directions before own second third framed enough same whole one two three =
-    let end : ℕ = length frame - 5 in
+    (length (put_mid (length around - 5) (length own - (length around - 5)) own second)
+    - (length around - 5 + length directions))
+    (drop (length around - 5 + length directions)
+    (put_mid (length around - 5) (length own - (length around - 5)) own second))) →
+    drop (length around - 5 + length directions + 5)
+    (put_mid (length around - 5 + length directions)
+    (length (put_mid (length around - 5) (length own - (length around - 5)) own second)
+    - (length around - 5 + length directions))
+    (put_mid (length around - 5) (length own - (length around - 5)) own second) third)
+    ≡ drop (length around - 5 + length directions + 5) before
+text-leaves around directions before own second third long_enough enough same whole one two three =
+    let end : ℕ = length around - 5 in
     let place : ℕ = end + length directions in
     let now : List ℕ = put_mid end (length own - end) own second in
-    let fit = parts-fit frame directions before own second framed enough same whole in
+    let fit = parts-fit around directions before own second long_enough enough same whole in
     let first : drop end own ≡ drop end before =
-    subst (λ k. drop k own ≡ drop k before) (length-take-le end frame (omega arith)) one in
+    subst (λ k. drop k own ≡ drop k before) (length-take-le end around (omega arith)) one in
     let middle : drop (length directions) second ≡ drop (length directions) (drop end own) =
     two ∙ ap (drop (length directions)) (rest-of end own) in
     let last : drop 5 third ≡ drop 5 (drop place now) =
-    subst (λ k. drop k third ≡ drop k (drop place now)) (ending-size frame framed)
-    (three ∙ ap (drop (length (take (length frame - end) (drop end frame)))) (rest-of place now)) in
+    subst (λ k. drop k third ≡ drop k (drop place now)) (ending-size around long_enough)
+    (three ∙ ap (drop (length (take (length around - end) (drop end around)))) (rest-of place now)) in
     parts-leave before own second third end (length directions) 5 fit.0 fit.1 first middle last

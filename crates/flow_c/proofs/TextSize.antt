@@ -21,7 +21,7 @@ use Rattle.flow_c.specs.Statuses.{number, memory}
 use Rattle.flow_c.specs.Certify.{IsTextFrom, IsTextTooLong}
 use Rattle.flow_c.specs.declared.fault.Fault.{Fault}
 use Rattle.flow_c.specs.declared.fault.Fault.TheVariants.{Room}
-use Rattle.flow_c.specs.internal.Frames.{with_directions}
+use Rattle.flow_c.specs.internal.Around.{with_directions}
 
 -- a number of at most so many digits
 abbrev IsShort : ℕ → ℕ → Type 0
@@ -89,24 +89,24 @@ abbrev tail : List ℕ
 tail = line [] ++ line ending
 
 -- the text with no directions
-frame-length : (shop : Shop) (bounds : Bounds) (sequence : List ℕ) →
+around-length : (shop : Shop) (bounds : Bounds) (sequence : List ℕ) →
     length (two_ended_text shop bounds sequence []) ≡ length (sequence_lines shop bounds sequence) + 5
-frame-length shop bounds sequence =
+around-length shop bounds sequence =
     let first : length (line []) ≡ 1 = refl in
     let last : length (line ending) ≡ 4 = refl in
     let lines = sequence_lines shop bounds sequence in
     omega (arith, first, last, length-append (lines ++ line []) (line ending), length-append lines (line []))
 
 -- it has at least the bytes behind the directions
-pub framed : (shop : Shop) (bounds : Bounds) (sequence : List ℕ) →
+pub long_enough : (shop : Shop) (bounds : Bounds) (sequence : List ℕ) →
     5 ≤ length (two_ended_text shop bounds sequence [])
-framed shop bounds sequence = omega (arith, frame-length shop bounds sequence)
+long_enough shop bounds sequence = omega (arith, around-length shop bounds sequence)
 
 -- it is short
-frame-short : (shop : Shop) (bounds : Bounds) (sequence : List ℕ) → IsWithinLimits shop → bounds.lower < 2 ^ 64 →
+around-short : (shop : Shop) (bounds : Bounds) (sequence : List ℕ) → IsWithinLimits shop → bounds.lower < 2 ^ 64 →
     bounds.upper < 2 ^ 64 → IsSequence shop.jobs sequence → length (two_ended_text shop bounds sequence []) ≤ 3300
-frame-short shop bounds sequence limits low high is =
-    omega (arith, frame-length shop bounds sequence, lines-short shop bounds sequence limits low high is)
+around-short shop bounds sequence limits low high is =
+    omega (arith, around-length shop bounds sequence, lines-short shop bounds sequence limits low high is)
 
 -- lines, and what stands behind the directions, once these are put in
 put-in : (lines directions : List ℕ) →
@@ -126,21 +126,21 @@ text-with : (shop : Shop) (bounds : Bounds) (sequence directions : List ℕ) →
     ≡ two_ended_text shop bounds sequence directions
 text-with shop bounds sequence directions =
     let lines = sequence_lines shop bounds sequence in
-    ap (λ frame. with_directions frame directions) (append_assoc lines (line []) (line ending))
+    ap (λ around. with_directions around directions) (append_assoc lines (line []) (line ending))
     ∙ put-in lines directions
 
 -- how long a text is once directions are put in
-pub length-with : (frame directions : List ℕ) → 5 ≤ length frame →
-    length (with_directions frame directions) ≡ length frame + length directions
-length-with frame directions enough =
-    let end : ℕ = length frame - 5 in
+pub length-with : (around directions : List ℕ) → 5 ≤ length around →
+    length (with_directions around directions) ≡ length around + length directions
+length-with around directions enough =
+    let end : ℕ = length around - 5 in
     omega (
       arith,
       enough,
-      length-append (take end frame ++ directions) (drop end frame),
-      length-append (take end frame) directions,
-      length-take-le end frame (omega arith),
-      length-drop end frame,
+      length-append (take end around ++ directions) (drop end around),
+      length-append (take end around) directions,
+      length-take-le end around (omega arith),
+      length-drop end around,
     )
 
 -- a number that directions prove is at most the makespan of each sequence
@@ -149,17 +149,17 @@ lower-low : (shop : Shop) (number : ℕ) (sequence directions : List ℕ) → Pr
 lower-low shop number sequence directions proves is = proved_is_lower_bound shop number directions proves sequence is
 
 -- the text of what was found, once the directions are put in
-pub text-found : (shop : Shop) (start : List ℕ) (most : ℕ) (bounds : Bounds) (sequence directions frame : List ℕ) →
+pub text-found : (shop : Shop) (start : List ℕ) (most : ℕ) (bounds : Bounds) (sequence directions around : List ℕ) →
     IsWithinLimits shop → IsSequence shop.jobs sequence → span shop sequence ≡ bounds.upper →
     bounds.upper ≤ span shop start → Proves shop bounds.lower directions → end_bound shop [] [] ≤ bounds.lower →
-    length directions ≤ most → frame ≡ two_ended_text shop bounds sequence [] →
-    IsTextFrom shop start most (with_directions frame directions) bounds sequence
-text-found shop start most bounds sequence directions frame limits is attained no_worse proves floor few text =
+    length directions ≤ most → around ≡ two_ended_text shop bounds sequence [] →
+    IsTextFrom shop start most (with_directions around directions) bounds sequence
+text-found shop start most bounds sequence directions around limits is attained no_worse proves floor few text =
     let fits : span shop sequence < 2 ^ 64 = span-fits shop sequence limits is in
     let low : bounds.lower ≤ span shop sequence = lower-low shop bounds.lower sequence directions proves is in
     let high : bounds.upper < 2 ^ 64 = omega (arith, fits, attained) in
     let lower : bounds.lower < 2 ^ 64 = omega (arith, fits, low) in
-    let enough : 5 ≤ length frame = omega (arith, ap length text, framed shop bounds sequence) in
+    let enough : 5 ≤ length around = omega (arith, ap length text, long_enough shop bounds sequence) in
     record {
       lawful = record {
         directions = directions;
@@ -179,24 +179,24 @@ text-found shop start most bounds sequence directions frame limits is attained n
           omega (
             arith,
             few,
-            length-with frame directions enough,
+            length-with around directions enough,
             ap length text,
-            frame-short shop bounds sequence limits lower high is,
+            around-short shop bounds sequence limits lower high is,
           );
     }
 
 -- a text that has no room
 pub too-long : (shop : Shop) (start : List ℕ) (most entries : ℕ) (bounds : Bounds)
-    (sequence directions frame : List ℕ) (fault : Fault) →
-    IsTextFrom shop start most (with_directions frame directions) bounds sequence →
-    frame ≡ two_ended_text shop bounds sequence [] →
-    (fault ≡ Room (length frame + length directions)) × (entries < length frame + length directions) →
+    (sequence directions around : List ℕ) (fault : Fault) →
+    IsTextFrom shop start most (with_directions around directions) bounds sequence →
+    around ≡ two_ended_text shop bounds sequence [] →
+    (fault ≡ Room (length around + length directions)) × (entries < length around + length directions) →
     (number fault ≡ memory) ⊎ IsTextTooLong shop start most entries fault
-too-long shop start most entries bounds sequence directions frame fault is text (refused, short) =
-    let enough : 5 ≤ length frame = omega (arith, ap length text, framed shop bounds sequence) in
-    let same = length-with frame directions enough in
+too-long shop start most entries bounds sequence directions around fault is text (refused, short) =
+    let enough : 5 ≤ length around = omega (arith, ap length text, long_enough shop bounds sequence) in
+    let same = length-with around directions enough in
     inr (
-      with_directions frame directions,
+      with_directions around directions,
       bounds,
       sequence,
       is,

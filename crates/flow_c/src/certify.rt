@@ -11,7 +11,7 @@ ghost use Rattle.flow_c.specs.Faults.{shop_of, numbers_fault};
 ghost use Rattle.flow_c.specs.Certify.{IsTextFrom, IsTextTooLong, certify_fault, directions_fault, most_beside};
 ghost use Rattle.flow_c.specs.Checks.{ReportsCheck};
 ghost use Rattle.flow_c.specs.Rooms.{IsSameRoom, bounds_in, text_in};
-ghost use Rattle.flow_c.specs.internal.Frames.{behind, with_directions};
+ghost use Rattle.flow_c.specs.internal.Around.{behind, with_directions};
 
 use crate::bounds::BoundsRoom;
 use crate::effort::EffortNumbers;
@@ -39,7 +39,7 @@ struct Written {
     bounds: Bounds,
     sequence: Sequence,
     /// The text with no directions.
-    frame: MemorySink,
+    around: MemorySink,
     directions: Vec<u8>,
 }
 
@@ -56,7 +56,7 @@ fn most(directions: u32) -> Result<u32, Fault>
 }
 
 /// The text of bounds and a sequence, with no directions.
-fn frame(
+fn around(
     alloc: Global,
     instance: &Instance,
     bounds: Bounds,
@@ -82,9 +82,9 @@ fn certify_from(
     requires limits { IsWithinLimits instance.now }
     requires is_sequence { IsSequence instance.now.jobs start.now }
     ensures text { IfOk result (λ found. IsTextFrom instance.now start.now directions
-        (with_directions found.frame.bytes found.directions.items) found.bounds found.sequence) }
-    ensures framed { IfOk result (λ found. behind ≤ length found.frame.bytes) }
-    ensures enough { IfOk result (λ found. length found.frame.bytes + length found.directions.items ≤ room) }
+        (with_directions found.around.bytes found.directions.items) found.bounds found.sequence) }
+    ensures long_enough { IfOk result (λ found. behind ≤ length found.around.bytes) }
+    ensures enough { IfOk result (λ found. length found.around.bytes + length found.directions.items ≤ room) }
     ensures refused { IfErr result (λ fault. (number fault ≡ memory)
         ⊎ IsTextTooLong instance.now start.now directions room fault) }
 {
@@ -93,12 +93,12 @@ fn certify_from(
         lower: found.lower,
         upper: found.upper,
     };
-    let frame = frame(alloc, instance, bounds, &found.sequence)?;
-    need(frame.bytes().len() + found.directions.len(), room)?;
+    let around = around(alloc, instance, bounds, &found.sequence)?;
+    need(around.bytes().len() + found.directions.len(), room)?;
     Ok(Written {
         bounds,
         sequence: found.sequence,
-        frame,
+        around,
         directions: found.directions,
     })
 }
@@ -113,14 +113,14 @@ fn certify_numbers(
     entries: Entries,
 ) -> Result<Written, Fault>
     ensures text { IfOk result (λ found. IsTextFrom (shop_of shop.now) start.now directions
-        (with_directions found.frame.bytes found.directions.items) found.bounds found.sequence) }
-    ensures framed { IfOk result (λ found. behind ≤ length found.frame.bytes) }
+        (with_directions found.around.bytes found.directions.items) found.bounds found.sequence) }
+    ensures long_enough { IfOk result (λ found. behind ≤ length found.around.bytes) }
     ensures bounds { IfOk result (λ found. AreBounds (shop_of shop.now) found.bounds) }
     ensures each { IfOk result (λ found. IsSequence shop.now.jobs found.sequence) }
     ensures upper { IfOk result (λ found. span (shop_of shop.now) found.sequence ≡ found.bounds.upper) }
     ensures room { OnOk result (shop.now.jobs ≤ entries.sequence) }
     ensures enough { IfOk result
-        (λ found. length found.frame.bytes + length found.directions.items ≤ entries.text) }
+        (λ found. length found.around.bytes + length found.directions.items ≤ entries.text) }
     ensures accepted { OnOk result
         (certify_fault shop.now start.now effort.now directions entries.sequence ≡ None) }
     ensures refused { IfErr result (λ fault. (number fault ≡ memory)
@@ -138,18 +138,18 @@ fn certify_numbers(
 }
 
 /// Puts a text with these directions at the front of a slice that has room for it, and returns its length.
-fn put(frame: &[u8], directions: &[u8], room: &mut [u8]) -> usize
-    requires framed { behind ≤ length frame.now }
-    requires enough { length frame.now + length directions.now ≤ length room.old }
-    ensures count { result ≡ length frame.now + length directions.now }
-    ensures front { take result room.new ≡ with_directions frame.now directions.now }
+fn put(around: &[u8], directions: &[u8], room: &mut [u8]) -> usize
+    requires long_enough { behind ≤ length around.now }
+    requires enough { length around.now + length directions.now ≤ length room.old }
+    ensures count { result ≡ length around.now + length directions.now }
+    ensures front { take result room.new ≡ with_directions around.now directions.now }
     ensures rest { drop result room.new ≡ drop result room.old }
 {
-    let lines = frame.len() - BEHIND;
+    let lines = around.len() - BEHIND;
     let end = lines + directions.len();
-    fill(&frame[..lines], room);
+    fill(&around[..lines], room);
     fill(directions, &mut room[lines..]);
-    fill(&frame[lines..], &mut room[end..]);
+    fill(&around[lines..], &mut room[end..]);
     end + BEHIND
 }
 
@@ -195,7 +195,11 @@ pub extern "C" fn flowshop_certify(
     match certify_numbers(alloc, shop, start, effort, directions, entries) {
         Ok(found) => {
             bounds.put(&found.sequence, found.bounds);
-            text.length = put(found.frame.bytes(), found.directions.as_slice(), text.bytes);
+            text.length = put(
+                found.around.bytes(),
+                found.directions.as_slice(),
+                text.bytes,
+            );
             Outcome::done()
         }
         Err(fault) => Outcome::refused(fault),

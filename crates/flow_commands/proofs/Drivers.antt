@@ -4,7 +4,7 @@ use Rattle.std.proofs.Common.{Result, Ok, Err}
 use Rattle.std.specs.Prelude.{IfSome, IsErrOf, OnOk, IfErr}
 use Rattle.flow_core.specs.declared.bytes.fault.ReadFault.TheVariants as read
 use Rattle.flow_core.specs.declared.bytes.fault.WriteFault.TheVariants as write
-use Rattle.flow_commands.specs.Answer.{Answer}
+use Rattle.flow_commands.specs.Output.{Output}
 use Rattle.flow_commands.specs.Block.{IsPicked, Origin, Picks}
 use Rattle.flow_commands.specs.Files.{IsWithin, most_bytes}
 use Rattle.flow_commands.specs.Runs.{Came, CameBoth, CameSecond, Ends, EndsAlone, HasFailed, IsUnread}
@@ -20,7 +20,7 @@ use Rattle.std.specs.declared.vec.Vec.{Vec}
 
 -- a relation of a block, of the bytes of a second file, and of an answer
 abbrev pub Relation : Type 1
-Relation = Origin → Option (List ℕ) → Answer → Type 0
+Relation = Origin → Option (List ℕ) → Output → Type 0
 
 -- a run that stopped at its second file
 stops-second : {T : Type 0} (kind : FileKind) (Refuses : Option (List ℕ) → CommandFault → Type 0)
@@ -47,7 +47,7 @@ within-most Certificate bytes within = within
 within-most StartOrCertificate bytes within = within.0
 
 -- how a run ended whose second file came, and whose command refused
-ends-second : {T A : Type 0} (kind : FileKind) (Answers : Option (List ℕ) → Answer → Type 0)
+ends-second : {T A : Type 0} (kind : FileKind) (Answers : Option (List ℕ) → Output → Type 0)
     (second : Option (SourceRun T)) (bytes : Option (Vec ℕ A)) (fault : CommandFault) → SecondCame kind second bytes →
     (fault ≡ command.Memory) ⊎ Answers (bytes_of bytes) (Err fault) →
     StopsAtSecond kind (λ given refusal. Answers given (Err refusal)) second fault

@@ -4,7 +4,7 @@ use Rattle.std.specs.Prelude.{IfErr, IfOk, IsErrOf, OnOk}
 use Rattle.flow_core.specs.Bytes.{AddsProperPrefix}
 use Rattle.flow_core.specs.declared.bytes.fault.WriteFault.{WriteFault}
 use Rattle.flow_core.specs.declared.bytes.fault.WriteFault.TheVariants as write
-use Rattle.flow_commands.specs.Answer.{Answer}
+use Rattle.flow_commands.specs.Output.{Output}
 use Rattle.flow_commands.specs.internal.Devices.{NamesNoDevice}
 use Rattle.flow_commands.specs.Runs.{EndsAlone, IsUnwritten, Responds, SinkFailed, SinkRun, Took, Wrote}
 use Rattle.flow_commands.specs.declared.fault.CommandFault.{CommandFault}
@@ -14,7 +14,7 @@ write-is : (fault : WriteFault) → command.Write fault ≡ command.Write write.
 write-is write.Device = refl
 
 -- nothing was written, since there is no text to write
-pub not-written : {K A : Type 0} (Answers : Answer → Type 0) (sink : SinkRun K) (fault : CommandFault) →
+pub not-written : {K A : Type 0} (Answers : Output → Type 0) (sink : SinkRun K) (fault : CommandFault) →
     IsUnwritten sink → (SinkFailed sink → ⊥) → (fault ≡ command.Memory) ⊎ Answers (Err fault) →
     NamesNoDevice {T = A} (Err fault) → Responds Answers sink (Err fault)
 not-written Answers sink fault unwritten works why no_device = record {
@@ -25,7 +25,7 @@ not-written Answers sink fault unwritten works why no_device = record {
 }
 
 -- the sink refused
-pub part-written : {K : Type 0} (Answers : Answer → Type 0) (sink : SinkRun K) (fault : WriteFault) (text : List ℕ) →
+pub part-written : {K : Type 0} (Answers : Output → Type 0) (sink : SinkRun K) (fault : WriteFault) (text : List ℕ) →
     Answers (Ok text) → AddsProperPrefix (sink.taken sink.before) (sink.taken sink.after) text → SinkFailed sink →
     Responds Answers sink (Err (command.Write fault))
 part-written Answers sink fault text answers part failed = record {
@@ -36,7 +36,7 @@ part-written Answers sink fault text answers part failed = record {
 }
 
 -- the sink took the text
-pub all-written : {K : Type 0} (Answers : Answer → Type 0) (sink : SinkRun K) (text : List ℕ) →
+pub all-written : {K : Type 0} (Answers : Output → Type 0) (sink : SinkRun K) (text : List ℕ) →
     Answers (Ok text) → Took text sink → (SinkFailed sink → ⊥) → Responds Answers sink (Ok tt)
 all-written Answers sink text answers took works = record {
   written = (text, answers, took);
@@ -46,8 +46,8 @@ all-written Answers sink text answers took works = record {
 }
 
 -- one kind of answer is also one of another kind
-pub weaker : {K : Type 0} (A B : Answer → Type 0) (sink : SinkRun K) (result : Result (Unit {0}) CommandFault) →
-    ((answer : Answer) → A answer → B answer) → Responds A sink result → Responds B sink result
+pub weaker : {K : Type 0} (A B : Output → Type 0) (sink : SinkRun K) (result : Result (Unit {0}) CommandFault) →
+    ((answer : Output) → A answer → B answer) → Responds A sink result → Responds B sink result
 weaker A B sink result implies responds = record {
   written = wrote result responds.written;
   ended = ended result responds.ended;

@@ -1,15 +1,15 @@
 -- What is answered for the sequence that a start text gives, or without one.
 use Rattle.std.proofs.Common.{◌≡◌, ◌⊎◌, refl, inl, inr, ℕ, List, Option, Some, None, Err}
 use Rattle.flow_core.specs.Shop.{Shop}
-use Rattle.flow_commands.specs.Answer.{Answer}
+use Rattle.flow_commands.specs.Output.{Output}
 use Rattle.flow_commands.specs.Block.{Origin}
 use Rattle.flow_commands.specs.Start.{FromStart}
 use Rattle.flow_commands.specs.declared.fault.CommandFault.{CommandFault}
 use Rattle.flow_commands.specs.internal.Given.{GivesSequence, RefusesStart}
 
-module _ (A : Shop → Option (List ℕ) → Answer → Type 0) (origin : Origin) where
+module _ (A : Shop → Option (List ℕ) → Output → Type 0) (origin : Origin) where
   -- the answer for the sequence that it gives
-  pub given-answers : (text jobs : Option (List ℕ)) (answer : Answer) →
+  pub given-answers : (text jobs : Option (List ℕ)) (answer : Output) →
       GivesSequence origin.block.instance text jobs → A origin.block.instance jobs answer →
       FromStart A origin text answer
   given-answers None None answer gives answers = answers

@@ -17,7 +17,7 @@ use Rattle.flow_requests.specs.declared.SolveRequest.{SolveRequest}
 use Rattle.flow_search.specs.Choices.{Choices}
 use Rattle.flow_search.specs.Plans.{verdict_of}
 use Rattle.flow_search.specs.declared.options.OptionFault.{OptionFault}
-use Rattle.flow_commands.specs.Answer.{Answer}
+use Rattle.flow_commands.specs.Output.{Output}
 use Rattle.flow_commands.specs.Block.{Origin}
 use Rattle.flow_commands.specs.Certify.{AnswersCertify, Certifies, WroteTwoEnded, certify_fault}
 use Rattle.flow_commands.specs.Request.{SaysTrue, answers}
@@ -30,7 +30,7 @@ use Rattle.flow_commands.specs.declared.timed.TimedSequence.{TimedSequence}
 use Rattle.flow_commands.proofs.Least.{says-proved, wrote-optimum}
 
 -- a text that is answered for a start is answered for some sequence, or for none
-from-start : (A : Shop → Option (List ℕ) → Answer → Type 0) (origin : Origin) (given : Option (List ℕ))
+from-start : (A : Shop → Option (List ℕ) → Output → Type 0) (origin : Origin) (given : Option (List ℕ))
     (text : List ℕ) → FromStart A origin given (Ok text) →
     (jobs : Option (List ℕ)) × A origin.block.instance jobs (Ok text)
 from-start A origin None text answers = (None, answers)
@@ -68,11 +68,11 @@ of-numbers {K} request shop given text sink answers took = go (certify_fault req
   where
     go : (refusal : Option CommandFault) → certify_fault request ≡ refusal → WroteTwoEnded shop sink
     go (Some fault) e =
-        let never : ◌≡◌ {A = Answer} (Ok text) (Err fault) = rw (AnswersCertify, e) at answers in
+        let never : ◌≡◌ {A = Output} (Ok text) (Err fault) = rw (AnswersCertify, e) at answers in
         absurd cc
     go None e =
         let found : (own : List ℕ) × Certifies shop given request.directions own
-        × ◌≡◌ {A = Answer} (Ok text) (Ok own) =
+        × ◌≡◌ {A = Output} (Ok text) (Ok own) =
         rw (AnswersCertify, e) at answers in
         let here : text ≡ found.0 = let same = found.2 in cc in (
           found.0,

@@ -2,14 +2,14 @@
 use Rattle.std.proofs.Common.{ℕ, List, Option, None, Some, Result, Ok, Err}
 use Rattle.std.specs.Prelude.{OnOk}
 use Rattle.flow_core.specs.Shop.{Shop}
-use Rattle.flow_commands.specs.Answer.{Answer}
+use Rattle.flow_commands.specs.Output.{Output}
 use Rattle.flow_commands.specs.Block.{Origin}
 use Rattle.flow_commands.specs.Runs.{CameBoth, CameFor, CameSecond, Run, SinkRun, SourceRun, Took, Wrote}
 use Rattle.flow_commands.specs.declared.fault.CommandFault.{CommandFault}
 use Rattle.flow_commands.specs.declared.files.FileKind.{FileKind}
 use Rattle.flow_commands.proofs.Drivers.{Relation}
 
-module _ {T K : Type 0} (kind : FileKind) (A : Option (List ℕ) → Answer → Type 0) (sink : SinkRun K) where
+module _ {T K : Type 0} (kind : FileKind) (A : Option (List ℕ) → Output → Type 0) (sink : SinkRun K) where
   -- a fact that follows of the text that a sink took
   holds-of : (Holds : Type 0) (second : Option (SourceRun T)) →
       ((given : Option (List ℕ)) (text : List ℕ) → A given (Ok text) → Took text sink → Holds) →

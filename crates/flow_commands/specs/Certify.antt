@@ -8,7 +8,7 @@ use Rattle.flow_core.specs.Refusals.{fault_unless, first_fault}
 use Rattle.flow_check.specs.TwoEnded.{AreProved, IsTwoEnded}
 use Rattle.flow_check.specs.declared.bounds.Bounds.{Bounds}
 use Rattle.flow_requests.specs.declared.CertifyRequest.{CertifyRequest}
-use Rattle.flow_commands.specs.Answer.{Answer}
+use Rattle.flow_commands.specs.Output.{Output}
 use Rattle.flow_commands.specs.Improve.{IsImproved, improve_fault}
 use Rattle.flow_commands.specs.Runs.{SinkRun, Took}
 use Rattle.flow_commands.specs.declared.fault.CommandFault.{CommandFault}
@@ -31,7 +31,7 @@ Certifies shop given most text =
 
 -- what `certify` answers for a shop and a given sequence: such a text; or why its numbers are refused. Which text it
 -- is, is not said
-abbrev pub AnswersCertify : CertifyRequest → Shop → Option (List ℕ) → Answer → Type 0
+abbrev pub AnswersCertify : CertifyRequest → Shop → Option (List ℕ) → Output → Type 0
 AnswersCertify request shop given answer = elim (certify_fault request) [
   | Some fault ↦ answer ≡ Err fault
   | None ↦ (text : List ℕ) × Certifies shop given request.directions text × (answer ≡ Ok text)

@@ -14,7 +14,7 @@ use Rattle.flow_check.specs.declared.kind.TextKind.TheVariants.{Certificate}
 use Rattle.flow_requests.specs.declared.CheckOutput.{CheckOutput}
 use Rattle.flow_requests.specs.declared.CheckOutput.TheVariants.{Proved, Report, Sequence}
 use Rattle.flow_requests.specs.declared.CheckRequest.{CheckRequest}
-use Rattle.flow_commands.specs.Answer.{Answer}
+use Rattle.flow_commands.specs.Output.{Output}
 use Rattle.flow_commands.specs.Block.{Origin}
 use Rattle.flow_commands.specs.Printed.{bounds_line, optimal_line, sequence_lines}
 use Rattle.flow_commands.specs.Report.{report_lines}
@@ -63,7 +63,7 @@ RefusesText kind shop bytes fault =
 
 -- what `check` answers for a block and bytes that are read as a text of a kind: what is printed of a lawful text, where
 -- its bounds suffice
-abbrev pub AnswersAs : TextKind → CheckRequest → Origin → List ℕ → Answer → Type 0
+abbrev pub AnswersAs : TextKind → CheckRequest → Origin → List ℕ → Output → Type 0
 AnswersAs kind request origin bytes (Ok text) =
     (bounds : Bounds) × (jobs : List ℕ) × GivesAs kind origin.block.instance bytes bounds jobs
     × SufficesFor request bounds × (text ≡ printed_text request.output origin kind bytes bounds jobs)
@@ -71,7 +71,7 @@ AnswersAs kind request origin bytes (Err fault) =
     RefusesText kind origin.block.instance bytes fault ⊎ RefusesBounds kind request origin.block.instance bytes fault
 
 -- what `check` answers for a block and the bytes of a text
-abbrev pub AnswersCheck : CheckRequest → Origin → List ℕ → Answer → Type 0
+abbrev pub AnswersCheck : CheckRequest → Origin → List ℕ → Output → Type 0
 AnswersCheck request origin bytes answer =
     (kind : TextKind) × IsTakenAs request.bounds bytes kind × AnswersAs kind request origin bytes answer
 
@@ -81,7 +81,7 @@ ProvesAs kind shop bounds = AreProved shop bounds × (kind ≡ Certificate → b
 
 -- what is answered is true of the shop: the bounds that are printed are proved by a text of the kind of the bytes, and
 -- suffice; or the sequence has the upper one
-abbrev pub SaysProved : CheckRequest → Origin → List ℕ → Answer → Type 0
+abbrev pub SaysProved : CheckRequest → Origin → List ℕ → Output → Type 0
 SaysProved request origin bytes (Ok text) =
     (kind : TextKind) × IsTakenAs request.bounds bytes kind
     × (bounds : Bounds) × ProvesAs kind origin.block.instance bounds × SufficesFor request bounds

@@ -7,7 +7,7 @@ use Rattle.flow_core.specs.Written.{written}
 use Rattle.flow_core.specs.declared.instance.InstanceFault.{InstanceFault}
 use Rattle.flow_bound.specs.Neh.{IsNeh}
 use Rattle.flow_bound.specs.Taillard.{taillard_bound}
-use Rattle.flow_commands.specs.Answer.{Answer}
+use Rattle.flow_commands.specs.Output.{Output}
 use Rattle.flow_commands.specs.declared.fault.CommandFault.TheVariants.{Instance}
 
 -- the text of a generated instance: upper bound is the makespan of the starting sequence, lower bound Taillard's
@@ -22,7 +22,7 @@ IsGeneratedText seed shop text =
     }))
 
 -- what `gen` answers for its numbers
-abbrev pub AnswersGen : ℕ → ℕ → ℕ → Answer → Type 0
+abbrev pub AnswersGen : ℕ → ℕ → ℕ → Output → Type 0
 AnswersGen jobs machines seed (Ok text) =
     (generator_fault jobs machines seed ≡ None) × IsGeneratedText seed (generated jobs machines seed) text
 AnswersGen jobs machines seed (Err fault) =

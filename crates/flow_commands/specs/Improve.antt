@@ -6,7 +6,7 @@ use Rattle.flow_core.specs.Paths.{span}
 use Rattle.flow_core.specs.Sequences.{IsSequence}
 use Rattle.flow_improve.specs.Effort.{effort_fault}
 use Rattle.flow_requests.specs.declared.ImproveRequest.{ImproveRequest}
-use Rattle.flow_commands.specs.Answer.{Answer}
+use Rattle.flow_commands.specs.Output.{Output}
 use Rattle.flow_commands.specs.Printed.{sequence_lines}
 use Rattle.flow_commands.specs.Start.{StartsFrom}
 use Rattle.flow_commands.specs.declared.fault.CommandFault.{CommandFault}
@@ -24,7 +24,7 @@ IsImproved shop given jobs =
 
 -- what `improve` answers for a shop and a given sequence: the lines of a sequence that is no worse than the one to
 -- start from, or why its numbers are refused
-abbrev pub AnswersImprove : ImproveRequest → Shop → Option (List ℕ) → Answer → Type 0
+abbrev pub AnswersImprove : ImproveRequest → Shop → Option (List ℕ) → Output → Type 0
 AnswersImprove request shop given answer = elim (improve_fault request) [
   | Some fault ↦ answer ≡ Err fault
   | None ↦ (jobs : List ℕ) × IsImproved shop given jobs × (answer ≡ Ok (sequence_lines shop jobs))

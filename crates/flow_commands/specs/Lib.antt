@@ -1,4 +1,4 @@
-pub mod Answer
+pub mod Output
 pub mod Block
 pub mod Certify
 pub mod Check

@@ -2,7 +2,7 @@
 use Rattle.std.specs.Prelude.{◌≡◌, ℕ, true, List, Option}
 use Rattle.flow_requests.specs.declared.Request.{Request}
 use Rattle.flow_requests.specs.declared.Request.TheVariants.{Certify, Check, Improve, Neh, Schedule, Solve, Span}
-use Rattle.flow_commands.specs.Answer.{Answer, OfBytes, OfShop}
+use Rattle.flow_commands.specs.Output.{Output, OfBytes, OfShop}
 use Rattle.flow_commands.specs.Block.{Origin}
 use Rattle.flow_commands.specs.Certify.{AnswersCertify, WroteTwoEnded}
 use Rattle.flow_commands.specs.Check.{AnswersCheck, SaysProved, WroteOptimum}
@@ -23,7 +23,7 @@ kind_of (Schedule form) = file.StartOrCertificate
 kind_of request = file.Text
 
 -- what is answered for a request, for a block and the bytes of a second file where there is one
-abbrev pub answers : Request → Origin → Option (List ℕ) → Answer → Type 0
+abbrev pub answers : Request → Origin → Option (List ℕ) → Output → Type 0
 answers (Span jobs) = OfShop (AnswersSpan jobs.items)
 answers Neh = OfShop AnswersNeh
 answers (Solve request) = FromStart (AnswersSolve request)

@@ -8,7 +8,7 @@ use Rattle.flow_text.specs.declared.bytes.device.Sink as sinks
 use Rattle.flow_text.specs.declared.bytes.device.Source as sources
 use Rattle.flow_core.specs.declared.bytes.fault.ReadFault.TheVariants as read
 use Rattle.flow_core.specs.declared.bytes.fault.WriteFault.TheVariants as write
-use Rattle.flow_commands.specs.Answer.{Answer}
+use Rattle.flow_commands.specs.Output.{Output}
 use Rattle.flow_commands.specs.Block.{IsPicked, Origin, Picks}
 use Rattle.flow_commands.specs.Files.{IsWithin, most_bytes}
 use Rattle.flow_commands.specs.declared.fault.CommandFault.{CommandFault}
@@ -109,25 +109,25 @@ abbrev pub Took : {K : Type 0} → List ℕ → SinkRun K → Type 0
 Took text sink = Appends (sink.taken sink.before) (sink.taken sink.after) text
 
 -- a sink took the whole text of an answer
-abbrev pub Wrote : {K : Type 0} → (Answer → Type 0) → SinkRun K → Type 0
+abbrev pub Wrote : {K : Type 0} → (Output → Type 0) → SinkRun K → Type 0
 Wrote Answers sink = (text : List ℕ) × Answers (Ok text) × Took text sink
 
 -- a sink took a proper prefix of the text of an answer
-abbrev pub WrotePart : {K : Type 0} → (Answer → Type 0) → SinkRun K → Type 0
+abbrev pub WrotePart : {K : Type 0} → (Output → Type 0) → SinkRun K → Type 0
 WrotePart Answers sink =
     (text : List ℕ) × Answers (Ok text)
     × AddsProperPrefix (sink.taken sink.before) (sink.taken sink.after) text
 
 -- how a refused command ended that read nothing: nothing was written, since memory ran out or by its answer; or the
 -- sink refused, and took a part
-abbrev pub EndsAlone : {K : Type 0} → (Answer → Type 0) → SinkRun K → CommandFault → Type 0
+abbrev pub EndsAlone : {K : Type 0} → (Output → Type 0) → SinkRun K → CommandFault → Type 0
 EndsAlone Answers sink fault =
     (IsUnwritten sink × ((fault ≡ command.Memory) ⊎ Answers (Err fault)))
     ⊎ ((fault ≡ command.Write write.Device) × WrotePart Answers sink)
 
 -- what a command does that reads nothing: it writes its answer, or ends as a refused one; and it says that the sink
 -- refused where that is so, and there alone
-pub record Responds {K : Type 0} (Answers : Answer → Type 0) (sink : SinkRun K)
+pub record Responds {K : Type 0} (Answers : Output → Type 0) (sink : SinkRun K)
     (result : Result (Unit {0}) CommandFault) : Type 0 where
   pub written : OnOk result (Wrote Answers sink)
   pub ended : IfErr result (EndsAlone Answers sink)
@@ -178,7 +178,7 @@ CameBoth kind index Holds run = CameOf index (λ origin. CameSecond kind (Holds 
 -- how a refused run ends: at the text or its index, before the second file is read; at the second file, or by the
 -- answer, before a byte is written; or the sink refused, and took a part
 abbrev pub Ends :
-    {S : Type 0} → {T : Type 0} → {K : Type 0} → FileKind → (Origin → Option (List ℕ) → Answer → Type 0) → ℕ
+    {S : Type 0} → {T : Type 0} → {K : Type 0} → FileKind → (Origin → Option (List ℕ) → Output → Type 0) → ℕ
     → Run S T K → CommandFault → Type 0
 Ends kind Answers index run fault =
     (StopsAt Text (λ bytes refusal. Picks bytes index (Err refusal)) run.text fault
@@ -192,7 +192,7 @@ Ends kind Answers index run fault =
 -- what a run comes to: it writes the answer for the block that an index names and for the second file, of this kind, or
 -- ends as a refused one; it says that a source or the sink refused where that is so, and there alone; and no source
 -- takes back a byte
-pub record Ran {S T K : Type 0} (kind : FileKind) (Answers : Origin → Option (List ℕ) → Answer → Type 0)
+pub record Ran {S T K : Type 0} (kind : FileKind) (Answers : Origin → Option (List ℕ) → Output → Type 0)
     (index : ℕ) (run : Run S T K) (result : Result (Unit {0}) CommandFault) : Type 0 where
   pub written : OnOk result (CameBoth kind index (λ origin second. Wrote (Answers origin second) run.sink) run)
   pub ended : IfErr result (Ends kind Answers index run)

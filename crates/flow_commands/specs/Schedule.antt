@@ -10,7 +10,7 @@ use Rattle.flow_schedule.specs.Table.{csv_text}
 use Rattle.flow_schedule.specs.Picture.{IsPicture}
 use Rattle.flow_requests.specs.declared.ScheduleForm.{ScheduleForm}
 use Rattle.flow_requests.specs.declared.ScheduleForm.TheVariants.{Csv, Svg}
-use Rattle.flow_commands.specs.Answer.{Answer}
+use Rattle.flow_commands.specs.Output.{Output}
 use Rattle.flow_commands.specs.Check.{RefusesText}
 use Rattle.flow_commands.specs.Files.{BeginsAsCertificate}
 use Rattle.flow_commands.specs.Runs.{SinkRun, Took}
@@ -43,7 +43,7 @@ GivesTimed shop text given =
 
 -- what `schedule` answers for a shop and a text: the schedule of the sequence that the text gives, or the fault that it
 -- gives
-abbrev pub AnswersSchedule : ScheduleForm → Shop → List ℕ → Answer → Type 0
+abbrev pub AnswersSchedule : ScheduleForm → Shop → List ℕ → Output → Type 0
 AnswersSchedule form shop text answer =
     ((timed : TimedSequence) × GivesTimed shop text (Ok timed)
     × (schedule : List ℕ) × IsSchedule form shop timed schedule × (answer ≡ Ok schedule))

@@ -11,28 +11,28 @@ use Rattle.flow_pool.specs.declared.run.solve.SolveFault.TheVariants.{Threads, O
 use Rattle.flow_check.specs.Certificate.{IsCertificate}
 use Rattle.flow_cert.specs.PlanCertificates.{certificate_of}
 use Rattle.flow_requests.specs.declared.SolveRequest.{SolveRequest}
-use Rattle.flow_commands.specs.Answer.{Answer}
+use Rattle.flow_commands.specs.Output.{Output}
 use Rattle.flow_commands.specs.Runs.{SinkRun, Took}
 use Rattle.flow_commands.specs.Start.{StartsFrom}
 use Rattle.flow_commands.specs.declared.fault.CommandFault.TheVariants.{Choice, Plan, Run}
 
 -- what `solve` answers for a plan: its certificate, where each tree is within the budget; or the first prefix whose
 -- tree is not; or that a worker could not be started, of which nothing more is said
-abbrev pub AnswersRun : Planned → Answer → Type 0
+abbrev pub AnswersRun : Planned → Output → Type 0
 AnswersRun plan (Ok text) = (first_over_budget plan ≡ None) × (text ≡ certificate_of plan)
 AnswersRun plan (Err fault) =
     (fault ≡ Run Threads)
     ⊎ ((number : ℕ) × (first_over_budget plan ≡ Some number) × (fault ≡ Run (OverBudget number)))
 
 -- what it answers for a shop, a given sequence and options: the answer for their plan, or why they have none
-abbrev pub AnswersPlan : Shop → Option (List ℕ) → Choices → Answer → Type 0
+abbrev pub AnswersPlan : Shop → Option (List ℕ) → Choices → Output → Type 0
 AnswersPlan shop given options answer =
     ((plan : Planned) × IsPlan plan × StartsFrom shop given plan.start.sequence × (plan.shop ≡ shop)
     × (plan.options ≡ options) × (plan_fault shop options ≡ None) × AnswersRun plan answer)
     ⊎ ((fault : PlanFault) × (plan_fault shop options ≡ Some fault) × (answer ≡ Err (Plan fault)))
 
 -- the same, where the options are read
-abbrev pub AnswersOptions : Shop → Option (List ℕ) → Result Choices OptionFault → Answer → Type 0
+abbrev pub AnswersOptions : Shop → Option (List ℕ) → Result Choices OptionFault → Output → Type 0
 AnswersOptions shop given (Ok options) answer = AnswersPlan shop given options answer
 AnswersOptions shop given (Err fault) answer = answer ≡ Err (Choice fault)
 
@@ -43,7 +43,7 @@ asked_options workers depth budget version =
     [ Ok options ↦ version_or_fault options version | Err fault ↦ Err fault ]
 
 -- what `solve` answers for a shop and a given sequence
-abbrev pub AnswersSolve : SolveRequest → Shop → Option (List ℕ) → Answer → Type 0
+abbrev pub AnswersSolve : SolveRequest → Shop → Option (List ℕ) → Output → Type 0
 AnswersSolve request shop given =
     AnswersOptions shop given (asked_options request.workers request.depth request.budget request.version)
 

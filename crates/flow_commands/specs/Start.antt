@@ -8,7 +8,7 @@ use Rattle.flow_core.specs.StartText.{HasStartFault, IsStart}
 use Rattle.flow_core.specs.declared.text.start.Claim.{Claim}
 use Rattle.flow_core.specs.declared.text.start.StartFault.TheVariants.{Line}
 use Rattle.flow_bound.specs.Neh.{IsNeh}
-use Rattle.flow_commands.specs.Answer.{Answer}
+use Rattle.flow_commands.specs.Output.{Output}
 use Rattle.flow_commands.specs.Block.{Origin}
 use Rattle.flow_commands.specs.declared.fault.CommandFault.{CommandFault}
 use Rattle.flow_commands.specs.declared.fault.CommandFault.TheVariants.{Sequence, Start}
@@ -41,14 +41,14 @@ StartsFrom shop (Some given) start = start ≡ given
 StartsFrom shop None start = IsNeh shop start
 
 -- what is answered for the sequence that a start text gives for a shop, or the fault that it gives
-abbrev pub FromText : (Shop → List ℕ → Answer → Type 0) → Shop → List ℕ → Answer → Type 0
+abbrev pub FromText : (Shop → List ℕ → Output → Type 0) → Shop → List ℕ → Output → Type 0
 FromText Answers shop text answer =
     ((jobs : List ℕ) × GivesStart shop text (Ok jobs) × Answers shop jobs answer)
     ⊎ ((fault : CommandFault) × GivesStart shop text (Err fault) × (answer ≡ Err fault))
 
 -- what is answered for the shop of a block and the sequence of a start text, or without one where there is no such text
 abbrev pub FromStart :
-    (Shop → Option (List ℕ) → Answer → Type 0) → Origin → Option (List ℕ) → Answer → Type 0
+    (Shop → Option (List ℕ) → Output → Type 0) → Origin → Option (List ℕ) → Output → Type 0
 FromStart Answers origin None answer = Answers origin.block.instance None answer
 FromStart Answers origin (Some text) answer =
     FromText (λ shop jobs. Answers shop (Some jobs)) origin.block.instance text answer

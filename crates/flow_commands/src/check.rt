@@ -3,7 +3,7 @@
 ghost use Rattle.std.specs.Prelude.{◌≡◌, ◌⊎◌, false, true, Some, Ok, Err, IfOk, OnOk, IfErr};
 ghost use Rattle.flow_core.specs.Paths.{span};
 ghost use Rattle.flow_requests.specs.declared.CheckOutput.TheVariants.{Proved};
-ghost use Rattle.flow_commands.specs.Answer.{OfBytes};
+ghost use Rattle.flow_commands.specs.Output.{OfBytes};
 ghost use Rattle.flow_commands.specs.internal.Devices.{NamesNoDevice};
 ghost use Rattle.flow_commands.specs.Check.{AnswersCheck, FallsShortOf, IsTakenAs, SaysProved, SufficesFor};
 ghost use Rattle.flow_commands.specs.Check.{WroteLeast, WroteOptimum, printed_text, proved_line};

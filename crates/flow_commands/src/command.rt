@@ -15,7 +15,7 @@ use std::alloc::Global;
 /// What a command does once its files have come.
 pub(crate) trait Command {
     ghost use Rattle.std.specs.Prelude.{◌≡◌, ℕ, List, Option, false};
-    ghost use Rattle.flow_commands.specs.Answer.{Answer};
+    ghost use Rattle.flow_commands.specs.Output.{Output};
     ghost use Rattle.flow_commands.specs.Runs.{Responds, sink_run};
     ghost use Rattle.flow_commands.specs.Block.{Origin};
     ghost use Rattle.flow_commands.specs.internal.Picked.{origin_of};
@@ -25,7 +25,7 @@ pub(crate) trait Command {
     ghost is_ready: { Self → Type 0 };
 
     // What it may answer for a block, and for the bytes of a second file where there is one.
-    ghost answers: { Self → Origin → Option (List ℕ) → Answer → Type 0 };
+    ghost answers: { Self → Origin → Option (List ℕ) → Output → Type 0 };
 
     /// Writes its answer.
     fn respond<K: Sink>(
@@ -44,14 +44,14 @@ pub(crate) trait Command {
 /// What a command answers whose text is made before a byte of it is written.
 pub(crate) trait Answering {
     ghost use Rattle.std.specs.Prelude.{◌≡◌, ◌⊎◌, ℕ, List, Option, Ok, Err, IfOk, IfErr};
-    ghost use Rattle.flow_commands.specs.Answer.{Answer};
+    ghost use Rattle.flow_commands.specs.Output.{Output};
     ghost use Rattle.flow_commands.specs.internal.Devices.{NamesNoDevice};
     ghost use Rattle.flow_commands.specs.Block.{Origin};
     ghost use Rattle.flow_commands.specs.internal.Picked.{origin_of};
     ghost use Rattle.flow_commands.specs.internal.Reading.{bytes_of};
 
     // What it may answer for a block, and for the bytes of a second file where there is one.
-    ghost answers: { Self → Origin → Option (List ℕ) → Answer → Type 0 };
+    ghost answers: { Self → Origin → Option (List ℕ) → Output → Type 0 };
 
     /// The text of its answer, or the fault.
     fn answer(

@@ -1,7 +1,7 @@
 //! The command `neh`.
 
 ghost use Rattle.std.specs.Prelude.{◌≡◌, false, IfOk, Ok};
-ghost use Rattle.flow_commands.specs.Answer.{OfShop};
+ghost use Rattle.flow_commands.specs.Output.{OfShop};
 ghost use Rattle.flow_commands.specs.Neh.{AnswersNeh};
 ghost use Rattle.flow_commands.specs.Runs.{Ran, run_alone, sink_run, source_run};
 

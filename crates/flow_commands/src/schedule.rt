@@ -1,7 +1,7 @@
 //! The command `schedule`.
 
 ghost use Rattle.std.specs.Prelude.{◌≡◌, ◌⊎◌, false, length, Some, Ok, Err, IfOk, OnOk, IfErr};
-ghost use Rattle.flow_commands.specs.Answer.{OfBytes};
+ghost use Rattle.flow_commands.specs.Output.{OfBytes};
 ghost use Rattle.flow_commands.specs.internal.Devices.{NamesNoDevice};
 ghost use Rattle.flow_commands.specs.Runs.{CameFor, Ran, run_of, sink_run, source_run};
 ghost use Rattle.flow_commands.specs.Schedule.{AnswersSchedule, IsSchedule, WroteSchedule};

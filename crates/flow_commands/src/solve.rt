@@ -4,7 +4,7 @@ ghost use Rattle.std.specs.Prelude.{◌≡◌, ◌⊎◌, false, None, Ok, Err, 
 ghost use Rattle.std.specs.Option.{ForSome};
 ghost use Rattle.flow_core.specs.Sequences.{IsSequence};
 ghost use Rattle.flow_search.specs.Plans.{IsPlan, but_memory, plan_fault};
-ghost use Rattle.flow_commands.specs.Answer.{Answer};
+ghost use Rattle.flow_commands.specs.Output.{Output};
 ghost use Rattle.flow_commands.specs.internal.Devices.{NamesNoDevice};
 ghost use Rattle.flow_commands.specs.Runs.{CameFor, Ran, Responds, run_alone, run_of, second_run, sink_run, source_run};
 ghost use Rattle.flow_commands.specs.Solve.{AnswersRun, AnswersSolve, WroteCertificate, asked_options};
@@ -81,7 +81,7 @@ fn asked_plan<'a>(
 ) -> Result<Plan<'a>, CommandFault>
     requires { IfSome given (IsSequence instance.now.jobs) }
     ensures plan { IfOk result (λ plan. IsPlan plan) }
-    ensures answers { IfOk result (λ plan. (answer : Answer) → AnswersRun plan answer →
+    ensures answers { IfOk result (λ plan. (answer : Output) → AnswersRun plan answer →
         AnswersSolve request instance.now given answer) }
     ensures refused { IfErr result (λ fault. (fault ≡ CommandFault.Memory)
         ⊎ AnswersSolve request instance.now given (Err fault)) }

@@ -2,7 +2,7 @@
 
 ghost use Rattle.std.specs.Prelude.{◌≡◌, false, Ok, IfOk, IfErr};
 ghost use Rattle.flow_core.specs.SequenceFaults.{sequence_fault, but_memory};
-ghost use Rattle.flow_commands.specs.Answer.{OfShop};
+ghost use Rattle.flow_commands.specs.Output.{OfShop};
 ghost use Rattle.flow_commands.specs.Runs.{Ran, run_alone, sink_run, source_run};
 ghost use Rattle.flow_commands.specs.Span.{AnswersSpan, span_answer};
 

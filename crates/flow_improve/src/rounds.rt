@@ -49,26 +49,26 @@ impl Known {
 
 /// Rounds one after the other: the best list, the current one, and the one that a round changes.
 #[derive(Drop)]
-struct Run {
+struct RoundsRun {
     search: Rounds,
     best: Known,
     current: Known,
     tried: Known,
 }
 
-impl Run {
+impl RoundsRun {
     /// A run from a sequence, with these random numbers.
     fn new(
         alloc: Global,
         instance: &Instance,
         start: &Sequence,
         draws: Taillard,
-    ) -> Result<Run, AllocError>
+    ) -> Result<RoundsRun, AllocError>
         requires { length start.now ≡ instance.now.jobs }
         ensures run { IfOk result (IsRunOf instance.now) }
         ensures best { IfOk result (λ run. run.best.makespan ≡ span instance.now start.now) }
     {
-        Ok(Run {
+        Ok(RoundsRun {
             search: Rounds::new(alloc, instance, draws)?,
             best: Known::new(alloc, instance, start)?,
             current: Known::new(alloc, instance, start)?,
@@ -108,7 +108,7 @@ pub fn rounds_from(
     ensures least { IfOk result (λ reached. reached.value ≤ span instance.now start.now) }
 {
     let least = taillard_bound(instance);
-    let mut run = Run::new(alloc, instance, start, limits.draws())?;
+    let mut run = RoundsRun::new(alloc, instance, start, limits.draws())?;
     for _ in 0..limits.rounds {
         if run.best.makespan <= least || run.search.steps() >= limits.work {
             break;

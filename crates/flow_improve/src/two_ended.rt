@@ -7,15 +7,15 @@ ghost use Rattle.flow_shop.specs.Sequences.{IsSequence};
 ghost use Rattle.flow_improve.specs.internal.Beams.{ArePasses};
 ghost use Rattle.flow_improve.specs.internal.Reaches.{IsReached};
 
+mod best_children;
 mod bounds;
+mod child_order;
 mod entry;
 mod groups;
-mod kept;
-mod order;
 mod pass;
 
 use crate::reached::Reached;
-use crate::two_ended::order::Mode;
+use crate::two_ended::child_order::Mode;
 use crate::two_ended::pass::{Passes, Plan, greatest_time};
 use flow_bound::taillard_bound;
 use flow_nodes::Lanes;

@@ -5,5 +5,5 @@ pub mod Timetable
 pub mod Table
 pub mod HeaviestPath
 pub mod Scale
-pub mod Frame
+pub mod PictureHead
 pub mod Picture

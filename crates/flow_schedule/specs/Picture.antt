@@ -6,7 +6,7 @@ use Rattle.flow_shop.specs.Shop.{Shop}
 use Rattle.flow_shop.specs.Paths.{span}
 use Rattle.flow_schedule.specs.Timetable.{timetable}
 use Rattle.flow_schedule.specs.Scale.{breadth_of, x_of, y_of, steps_of, IsTickStep}
-use Rattle.flow_schedule.specs.Frame.{frame_text}
+use Rattle.flow_schedule.specs.PictureHead.{head_text}
 use Rattle.flow_schedule.specs.HeaviestPath.{IsHeaviestPath}
 use Rattle.flow_schedule.specs.declared.operations.Operation.{Operation}
 
@@ -90,6 +90,6 @@ pub record IsPicture (shop : Shop) (sequence : List ℕ) (lower : Option ℕ) (t
   pub path : List ℕ
   pub ticks : IsTickStep (span shop sequence) (steps_of (breadth_of shop)) step
   pub heaviest : IsHeaviestPath shop sequence path
-  pub whole : text ≡ frame_text shop (breadth_of shop) (span shop sequence) lower step
+  pub whole : text ≡ head_text shop (breadth_of shop) (span shop sequence) lower step
       ++ flat_map (bar_text (breadth_of shop) (span shop sequence) path) (timetable shop sequence)
       ++ codes "</g></svg>\n"

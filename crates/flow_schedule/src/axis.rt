@@ -3,7 +3,7 @@
 ghost use Rattle.std.specs.Prelude.{◌≡◌, ◌≤◌, ◌++◌, OnOk};
 ghost use Rattle.flow_limits.specs.Limits.{greatest_completion};
 ghost use Rattle.flow_schedule.specs.Scale.{steps_of, IsRoundUp, IsTickStep};
-ghost use Rattle.flow_schedule.specs.Frame.{line_text, time_text, ticks_text, axis_name_text};
+ghost use Rattle.flow_schedule.specs.PictureHead.{line_text, time_text, ticks_text, axis_name_text};
 
 use crate::scale::{LEFT, TOP, x_of};
 use crate::text::push_words;

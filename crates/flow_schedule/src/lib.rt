@@ -3,11 +3,11 @@
 
 mod axis;
 mod bar;
-mod frame;
 mod laws;
 mod operations;
 mod path;
 mod picture;
+mod picture_head;
 mod scale;
 mod table;
 mod text;

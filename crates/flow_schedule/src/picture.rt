@@ -5,9 +5,9 @@ ghost use Rattle.flow_schedule.specs.Picture.{IsPicture};
 
 use crate::axis::tick_step;
 use crate::bar::push_bar;
-use crate::frame::frame;
 use crate::operations::timetable;
 use crate::path::heaviest_path;
+use crate::picture_head::head;
 use crate::scale::breadth_of;
 use flow_shop::{Instance, Sequence, makespan};
 use std::alloc::{AllocError, Global};
@@ -30,7 +30,7 @@ pub fn timetable_picture(
     let path = heaviest_path(alloc, instance, sequence.jobs(), operations.as_slice())?;
     let breadth = breadth_of(instance);
     let step = tick_step(breadth, makespan);
-    let mut out = frame(alloc, instance, breadth, makespan, lower, step)?;
+    let mut out = head(alloc, instance, breadth, makespan, lower, step)?;
     for operation in &operations {
         push_bar(&mut out, breadth, makespan, path.as_slice(), operation)?;
     }

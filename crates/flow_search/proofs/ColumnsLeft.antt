@@ -195,9 +195,9 @@ module _ {shop : Shop} {bound : Bound} {budget : ℕ} {group : Group} {root : Li
       let deeper : Incumbent → Walk = λ s. columns_walked shop bound left (column_path root group (later ∷ fs)) group
       (drop made.next (columns_of made)) s in
       let rest : Incumbent → Walk = columns_left shop bound root group below (later ∷ fs) in
-      let uncut : find (λ machine. nat_le st.0 (bound shop node machine)) (numbers 1 shop.machines) ≡ None =
+      let unpruned : find (λ machine. nat_le st.0 (bound shop node machine)) (numbers 1 shop.machines) ≡ None =
       ap (λ q. find (λ machine. nat_le st.0 (bound shop (child q group column) machine)) (numbers 1 shop.machines))
-      (sym i.node) ∙ opens.uncut in
+      (sym i.node) ∙ opens.unpruned in
       let children : List ℕ → Walk =
       λ q. walk_each (λ job. walk shop bound left (q ++ job ∷ [])) (jobs_left shop.jobs q) st in
       let below_is : deeper st ≡ children node =
@@ -206,7 +206,7 @@ module _ {shop : Shop} {bound : Bound} {budget : ℕ} {group : Group} {root : Li
       ∙ ap children path_is in
       let first_is : first ≡ (43 ∷ (deeper st).0, (deeper st).1) =
       ap (λ n. walk shop bound n node st) more
-      ∙ ap (answer_of st (children node)) uncut
+      ∙ ap (answer_of st (children node)) unpruned
       ∙ ap (λ w. (43 ∷ w.0, w.1)) (sym below_is) in
       let all : columns_left shop bound root group below (here ∷ fs) st ≡ then_walk first rest =
       left-next shop bound root group below column here later fs st step in

@@ -177,7 +177,7 @@ moved-column frame next = record {
   front = frame.front;
   sum = frame.sum;
   gone = frame.gone;
-  uncut = frame.uncut;
+  unpruned = frame.unpruned;
   value = frame.value;
   columns = frame.columns;
   next = next;
@@ -187,7 +187,7 @@ pub tested-moved : (shop : Shop) (bound : Bound) (list : List ℕ) (group : Grou
     IsTested shop bound list group frame → IsTested shop bound list group (moved-column frame next)
 tested-moved shop bound list group frame next is = record {
   opened = opened-same shop list group frame (moved-column frame next) refl refl refl refl is.opened.at is.opened.free;
-  uncut = λ column other here there.
-      is.uncut column other (record { within = here.within; left = here.left })
+  unpruned = λ column other here there.
+      is.unpruned column other (record { within = here.within; left = here.left })
       (record { within = there.within; left = there.left });
 }

@@ -21,7 +21,7 @@ use Rattle.flow_search.specs.declared.eight.group.Group.{Group}
 use Rattle.flow_search.specs.declared.eight.group.ColumnFrame.{ColumnFrame}
 use Rattle.flow_search.specs.Search.{Bound}
 use Rattle.flow_search.specs.internal.Columns.{IsLeastOfOthers}
-use Rattle.flow_search.specs.internal.Columns.{IsColumnLeft, IsFrameOf, IsUncutCount, IsSmallRow, job_of, child}
+use Rattle.flow_search.specs.internal.Columns.{IsColumnLeft, IsFrameOf, IsUnprunedCount, IsSmallRow, job_of, child}
 use Rattle.flow_shop.proofs.Taken.{left-sum, has-other}
 use Rattle.flow_search.proofs.JobsTaken.{left-here, left-child, least-is}
 
@@ -144,10 +144,10 @@ bound-is shop list group frame row column other place free start behind tails at
     in
     omega (arith, leaves, row_is, front, load, sum, tail)
 
--- the state of a child's uncut after some machines: still open, or cut before
-pub record IsPassed (shop : Shop) (bound : Bound) (list : List ℕ) (limit machines uncut flag : ℕ) : Type 0 where
-  pub is : IsUncutCount shop bound list limit machines uncut
-  pub state : ((flag ≡ 1) × (uncut ≡ machines)) ⊎ ((flag ≡ 0) × (uncut < machines))
+-- the state of a child's unpruned after some machines: still open, or cut before
+pub record IsPassed (shop : Shop) (bound : Bound) (list : List ℕ) (limit machines unpruned flag : ℕ) : Type 0 where
+  pub is : IsUnprunedCount shop bound list limit machines unpruned
+  pub state : ((flag ≡ 1) × (unpruned ≡ machines)) ⊎ ((flag ≡ 0) × (unpruned < machines))
 
 passed-none : (shop : Shop) (bound : Bound) (list : List ℕ) (limit : ℕ) → IsPassed shop bound list limit 0 0 1
 passed-none shop bound list limit = record {
@@ -160,12 +160,12 @@ passed-none shop bound list limit = record {
   state = inl (refl, refl);
 }
 
-pub passed-more : (shop : Shop) (bound : Bound) (list : List ℕ) (limit place uncut flag next more : ℕ) →
-    IsPassed shop bound list limit place uncut flag →
+pub passed-more : (shop : Shop) (bound : Bound) (list : List ℕ) (limit place unpruned flag next more : ℕ) →
+    IsPassed shop bound list limit place unpruned flag →
     (bound shop list (place + 1) < limit → next ≡ flag) → (limit ≤ bound shop list (place + 1) → next ≡ 0) →
-    more ≡ uncut + next →
+    more ≡ unpruned + next →
     IsPassed shop bound list limit (place + 1) more next
-passed-more shop bound list limit place uncut flag next more was kept cut is = elim was.state [
+passed-more shop bound list limit place unpruned flag next more was kept cut is = elim was.state [
   | inl still ↦ elim (cases_lt (bound shop list (place + 1)) limit) [
     | inl under ↦
         let one : next ≡ 1 = kept under ∙ still.0 in
@@ -200,7 +200,7 @@ passed-more shop bound list limit place uncut flag next more was kept cut is = e
             ∙ closed.0
         | inr over ↦ cut over
       ] in
-      let same : more ≡ uncut = omega (arith, is, none) in
+      let same : more ≡ unpruned = omega (arith, is, none) in
       record {
         is = record {
           within = omega (arith, same, closed.1);
@@ -247,9 +247,9 @@ all-same zero v column h = absurd (omega (arith, h))
 all-same (suc n) v zero h = refl
 all-same (suc n) v (suc column) h = all-same n v column (omega (arith, h))
 
-pub passed-start : (shop : Shop) (bound : Bound) (list : List ℕ) (limit uncut flag : ℕ) → uncut ≡ 0 → flag ≡ 1 →
-    IsPassed shop bound list limit 0 uncut flag
-passed-start shop bound list limit uncut flag none whole =
+pub passed-start : (shop : Shop) (bound : Bound) (list : List ℕ) (limit unpruned flag : ℕ) → unpruned ≡ 0 → flag ≡ 1 →
+    IsPassed shop bound list limit 0 unpruned flag
+passed-start shop bound list limit unpruned flag none whole =
     subst (λ a. IsPassed shop bound list limit 0 a flag) (sym none) (subst (λ b. IsPassed shop bound list limit 0 0 b)
     (sym whole)
     (passed-none shop bound list limit))

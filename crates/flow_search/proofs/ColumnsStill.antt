@@ -3,15 +3,15 @@ use Rattle.std.proofs.Common.{◌≡◌, ℕ, ◌+◌, ◌<◌, ◌≤◌, List,
 use Rattle.std.proofs.lemmas.Bool.{cases_lt}
 use Rattle.flow_shop.specs.Shop.{Shop}
 use Rattle.flow_search.specs.Search.{Bound}
-use Rattle.flow_search.specs.internal.Columns.{IsUncutCount}
+use Rattle.flow_search.specs.internal.Columns.{IsUnprunedCount}
 use Rattle.flow_search.proofs.ColumnsPassed.{IsPassed}
 
 -- a column that the weaker of two bounds has cut so far was cut by the stronger one, or is cut now
-pub cut-sooner : (shop : Shop) (weak strong : Bound) (list : List ℕ) (limit place machines first uncut flag : ℕ) →
+pub pruned-sooner : (shop : Shop) (weak strong : Bound) (list : List ℕ) (limit place machines first unpruned flag : ℕ) →
     ((machine : ℕ) → 1 ≤ machine → weak shop list machine ≤ strong shop list machine) →
-    IsUncutCount shop weak list limit machines first → IsPassed shop strong list limit place uncut flag →
+    IsUnprunedCount shop weak list limit machines first → IsPassed shop strong list limit place unpruned flag →
     place < machines → strong shop list (place + 1) < limit → first ≤ place → flag ≡ 0
-cut-sooner shop weak strong list limit place machines first uncut flag stronger is was to under low = elim was.state [
+pruned-sooner shop weak strong list limit place machines first unpruned flag stronger is was to under low = elim was.state [
   | inl still ↦
       let cut : limit ≤ weak shop list (first + 1) = is.cut (omega (arith, low, to)) in
       let more = stronger (first + 1) (omega arith) in
@@ -28,12 +28,12 @@ cut-sooner shop weak strong list limit place machines first uncut flag stronger 
 ]
 
 -- a column that one of two bounds has cut so far needs no further machine
-pub still-none : (shop : Shop) (weak strong : Bound) (list : List ℕ) (limit place machines first uncut flag still : ℕ) →
+pub still-none : (shop : Shop) (weak strong : Bound) (list : List ℕ) (limit place machines first unpruned flag still : ℕ) →
     ((machine : ℕ) → 1 ≤ machine → weak shop list machine ≤ strong shop list machine) →
-    IsUncutCount shop weak list limit machines first → IsPassed shop strong list limit place uncut flag →
+    IsUnprunedCount shop weak list limit machines first → IsPassed shop strong list limit place unpruned flag →
     place < machines → (place < first → still ≡ flag) → still ≡ 0 →
-    IsUncutCount shop strong list limit machines uncut
-still-none shop weak strong list limit place machines first uncut flag still stronger is was to kept none =
+    IsUnprunedCount shop strong list limit machines unpruned
+still-none shop weak strong list limit place machines first unpruned flag still stronger is was to kept none =
     elim was.state [
       | inl still_open ↦ record {
         within = omega (arith, still_open.1, to);
@@ -49,7 +49,7 @@ still-none shop weak strong list limit place machines first uncut flag still str
                     (omega (arith, under, still_open.1)) in
                     absurd (omega (arith, cut, more, missed))
                 | inr here ↦
-                    let e : first ≡ uncut = omega (arith, here, low, still_open.1) in
+                    let e : first ≡ unpruned = omega (arith, here, low, still_open.1) in
                     omega (arith, cut, more, ap (λ k. strong shop list (k + 1)) e)
               ]
         ];

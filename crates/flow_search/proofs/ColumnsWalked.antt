@@ -10,7 +10,7 @@ use Rattle.flow_shop.specs.Bound.{letter}
 use Rattle.flow_search.specs.Search.{Bound}
 use Rattle.flow_search.specs.internal.Walk.{Incumbent, walk, walk_each}
 use Rattle.flow_search.specs.internal.Nodes.{Wrote, Entered, Gave, Walked, walked, children_walked, incumbent_of}
-use Rattle.flow_search.specs.internal.Columns.{IsFrameOf, IsColumnLeft, IsUncutCount, IsTested, job_of, child}
+use Rattle.flow_search.specs.internal.Columns.{IsFrameOf, IsColumnLeft, IsUnprunedCount, IsTested, job_of, child}
 use Rattle.flow_search.specs.internal.ColumnWalks.{column_walked}
 use Rattle.flow_search.specs.declared.state.SearchState.{SearchState}
 use Rattle.flow_search.specs.declared.eight.group.Group.{Group}
@@ -18,7 +18,7 @@ use Rattle.flow_search.specs.declared.eight.group.ColumnFrame.{ColumnFrame}
 use Rattle.flow_search.proofs.Walk.{answer_of}
 use Rattle.flow_shop.proofs.Taken.{left-count}
 use Rattle.flow_search.proofs.JobsTaken.{left-child}
-use Rattle.flow_search.proofs.UncutFound.{count-found}
+use Rattle.flow_search.proofs.UnprunedFound.{count-found}
 
 -- The walk at a node.
 
@@ -27,29 +27,29 @@ children shop bound left node incumbent =
     walk_each (λ job. walk shop bound left (node ++ job ∷ [])) (jobs_left shop.jobs node) incumbent
 
 -- what a letter says of it
-lettered : (shop : Shop) (bound : Bound) (count uncut : ℕ) (node : List ℕ) (st : Incumbent) → 0 < count →
-    IsUncutCount shop bound node st.0 shop.machines uncut →
+lettered : (shop : Shop) (bound : Bound) (count unpruned : ℕ) (node : List ℕ) (st : Incumbent) → 0 < count →
+    IsUnprunedCount shop bound node st.0 shop.machines unpruned →
     walk shop bound count node st
-    ≡ answer_of st (children shop bound (count - 1) node st) (cond (nat_lt uncut shop.machines) (Some (uncut
+    ≡ answer_of st (children shop bound (count - 1) node st) (cond (nat_lt unpruned shop.machines) (Some (unpruned
     + 1)) None)
-lettered shop bound count uncut node st some is =
+lettered shop bound count unpruned node st some is =
     let e : count ≡ suc (count - 1) = omega (arith, some) in
     ap (λ c. walk shop bound c node st) e
-    ∙ ap (answer_of st (children shop bound (count - 1) node st)) (count-found shop bound node st.0 uncut is)
+    ∙ ap (answer_of st (children shop bound (count - 1) node st)) (count-found shop bound node st.0 unpruned is)
 
-pub column-cut : (shop : Shop) (bound : Bound) (budget count uncut : ℕ) (group : Group) (column : ℕ)
+pub column-pruned : (shop : Shop) (bound : Bound) (budget count unpruned : ℕ) (group : Group) (column : ℕ)
     (old new : SearchState) →
     0 < count →
-    IsUncutCount shop bound (child old.node.items group column) old.value shop.machines uncut →
-    uncut < shop.machines →
-    Wrote budget (65 + uncut) old new → Gave budget (column_walked shop bound count group column old) old new
-column-cut shop bound budget count uncut group column old new some is low wrote =
-    let byte : 65 + uncut ≡ letter (uncut + 1) = omega arith in
+    IsUnprunedCount shop bound (child old.node.items group column) old.value shop.machines unpruned →
+    unpruned < shop.machines →
+    Wrote budget (65 + unpruned) old new → Gave budget (column_walked shop bound count group column old) old new
+column-pruned shop bound budget count unpruned group column old new some is low wrote =
+    let byte : 65 + unpruned ≡ letter (unpruned + 1) = omega arith in
     let node : List ℕ = child old.node.items group column in
-    let here : column_walked shop bound count group column old ≡ (letter (uncut + 1) ∷ [], incumbent_of old) =
-    lettered shop bound count uncut node (incumbent_of old) some is
+    let here : column_walked shop bound count group column old ≡ (letter (unpruned + 1) ∷ [], incumbent_of old) =
+    lettered shop bound count unpruned node (incumbent_of old) some is
     ∙ ap (λ b. answer_of (incumbent_of old) (children shop bound (count - 1) node (incumbent_of old)) (cond b (Some
-    (uncut + 1)) None)) (lt-ltb uncut shop.machines low) in
+    (unpruned + 1)) None)) (lt-ltb unpruned shop.machines low) in
     record {
       tree = wrote.tree ∙ ap (λ b. old.tree.items ++ b ∷ []) byte ∙ ap (λ w. old.tree.items ++ w.0) (sym here);
       incumbent = wrote.incumbent ∙ sym (ap (λ w. w.1) here);
@@ -58,53 +58,53 @@ column-cut shop bound budget count uncut group column old new some is low wrote 
       within = wrote.within;
     }
 
--- no machine cuts: a plus, and the walks of the children
-abbrev pub IsUncut : Shop → Bound → ℕ → List ℕ → Incumbent → Type 0
-IsUncut shop bound count node incumbent =
+-- no machine prunes: a plus, and the walks of the children
+abbrev pub IsUnpruned : Shop → Bound → ℕ → List ℕ → Incumbent → Type 0
+IsUnpruned shop bound count node incumbent =
     walk shop bound count node incumbent
     ≡ (43 ∷ (children shop bound (count - 1) node incumbent).0, (children shop bound (count - 1) node incumbent).1)
 
 -- nor at a child, before it is entered
-pub uncut-child : (shop : Shop) (bound : Bound) (count job : ℕ) (old in_child : SearchState) → 0 < count →
+pub unpruned-child : (shop : Shop) (bound : Bound) (count job : ℕ) (old in_child : SearchState) → 0 < count →
     Entered job old
     in_child →
     find (λ machine. nat_le old.value (bound shop (old.node.items ++ job ∷ []) machine)) (numbers 1 shop.machines)
     ≡ None →
-    IsUncut shop bound count in_child.node.items (incumbent_of in_child)
-uncut-child shop bound count job old in_child some entered finds =
+    IsUnpruned shop bound count in_child.node.items (incumbent_of in_child)
+unpruned-child shop bound count job old in_child some entered finds =
     let node : List ℕ = old.node.items ++ job ∷ [] in
     let e : count ≡ suc (count - 1) = omega (arith, some) in
-    let uncut : IsUncut shop bound count node (incumbent_of old) =
+    let unpruned : IsUnpruned shop bound count node (incumbent_of old) =
     ap (λ c. walk shop bound c node (incumbent_of old)) e
     ∙ ap (answer_of (incumbent_of old) (children shop bound (count - 1) node (incumbent_of old))) finds in
-    subst (λ st. IsUncut shop bound count in_child.node.items st) (sym entered.incumbent)
-    (subst (λ q. IsUncut shop bound count q (incumbent_of old)) (sym entered.node) uncut)
+    subst (λ st. IsUnpruned shop bound count in_child.node.items st) (sym entered.incumbent)
+    (subst (λ q. IsUnpruned shop bound count q (incumbent_of old)) (sym entered.node) unpruned)
 
-pub uncut-found : (shop : Shop) (bound : Bound) (count : ℕ) (search : SearchState) → 0 < count →
+pub unpruned-found : (shop : Shop) (bound : Bound) (count : ℕ) (search : SearchState) → 0 < count →
     None ≡ find (λ machine. nat_le search.value (bound shop search.node.items machine)) (numbers 1 shop.machines) →
-    IsUncut shop bound count search.node.items (incumbent_of search)
-uncut-found shop bound count search some finds =
+    IsUnpruned shop bound count search.node.items (incumbent_of search)
+unpruned-found shop bound count search some finds =
     let e : count ≡ suc (count - 1) = omega (arith, some) in
     ap (λ c. walked shop bound c search) e
     ∙ ap (answer_of (incumbent_of search) (children shop bound (count - 1) search.node.items (incumbent_of search)))
     (sym finds)
 
 -- once the plus is written, at the node
-plus-is : (shop : Shop) (bound : Bound) (count : ℕ) (node : List ℕ) (st : Incumbent) (mid : SearchState) → IsUncut shop
+plus-is : (shop : Shop) (bound : Bound) (count : ℕ) (node : List ℕ) (st : Incumbent) (mid : SearchState) → IsUnpruned shop
     bound count node st →
     mid.node.items ≡ node → incumbent_of mid ≡ st →
     walk shop bound count node st
     ≡ (43 ∷ (children_walked shop bound (count - 1) mid).0, (children_walked shop bound (count - 1) mid).1)
-plus-is shop bound count node st mid uncut at is =
+plus-is shop bound count node st mid unpruned at is =
     let same : children_walked shop bound (count - 1) mid ≡ children shop bound (count - 1) node st =
     ap (λ q. children shop bound (count - 1) q (incumbent_of mid)) at ∙ ap (children shop bound (count - 1) node) is in
-    uncut ∙ sym (ap (λ w. (43 ∷ w.0, w.1)) same)
+    unpruned ∙ sym (ap (λ w. (43 ∷ w.0, w.1)) same)
 
 pub node-done : (shop : Shop) (bound : Bound) (budget count : ℕ) (old mid new : SearchState) →
-    IsUncut shop bound count old.node.items (incumbent_of old) → Wrote budget 43 old mid →
+    IsUnpruned shop bound count old.node.items (incumbent_of old) → Wrote budget 43 old mid →
     Gave budget (children_walked shop bound (count - 1) mid) mid new → Walked shop bound budget count old new
-node-done shop bound budget count old mid new uncut wrote made =
-    let here = plus-is shop bound count old.node.items (incumbent_of old) mid uncut wrote.node wrote.incumbent in
+node-done shop bound budget count old mid new unpruned wrote made =
+    let here = plus-is shop bound count old.node.items (incumbent_of old) mid unpruned wrote.node wrote.incumbent in
     let below : List ℕ × Incumbent = children_walked shop bound (count - 1) mid in
     record {
       tree = made.tree ∙ ap (λ xs. xs ++ below.0) wrote.tree ∙ append_assoc old.tree.items (43 ∷ []) below.0
@@ -116,12 +116,12 @@ node-done shop bound budget count old mid new uncut wrote made =
     }
 
 pub node-over : (shop : Shop) (bound : Bound) (budget count : ℕ) (old mid : SearchState) →
-    IsUncut shop bound count old.node.items (incumbent_of old) → Wrote budget 43 old mid →
+    IsUnpruned shop bound count old.node.items (incumbent_of old) → Wrote budget 43 old mid →
     budget < length mid.tree.items + length (children_walked shop bound (count - 1) mid).0 →
     budget < length old.tree.items + length (walked shop bound count old).0
-node-over shop bound budget count old mid uncut wrote over =
+node-over shop bound budget count old mid unpruned wrote over =
     let here = ap (λ w. length w.0) (plus-is shop bound count old.node.items
-    (incumbent_of old) mid uncut wrote.node wrote.incumbent) in
+    (incumbent_of old) mid unpruned wrote.node wrote.incumbent) in
     omega (arith, over, here, ap length wrote.tree, length-append old.tree.items (43 ∷ []))
 
 first-of : (xs : List ℕ) → 0 < length xs → (job : ℕ) × (has xs job ≡ true)
@@ -141,9 +141,9 @@ another shop list group frame column at here two =
     (stands.0, stands.1, λ e. parts.3 (sym stands.2 ∙ ap (job_of group) e))
 
 -- the test of a child that leaves a job
-pub uncut-here : (shop : Shop) (bound : Bound) (list : List ℕ) (group : Group) (frame : ColumnFrame) (column : ℕ) →
+pub unpruned-here : (shop : Shop) (bound : Bound) (list : List ℕ) (group : Group) (frame : ColumnFrame) (column : ℕ) →
     IsTested shop bound list group frame → IsColumnLeft frame column → length list + 2 ≤ shop.jobs →
-    IsUncutCount shop bound (child list group column) frame.value shop.machines (slice_index frame.uncut column)
-uncut-here shop bound list group frame column is here two =
+    IsUnprunedCount shop bound (child list group column) frame.value shop.machines (slice_index frame.unpruned column)
+unpruned-here shop bound list group frame column is here two =
     let other = another shop list group frame column is.opened.at here two in
-    is.uncut column other.0 here other.1 other.2
+    is.unpruned column other.0 here other.1 other.2

@@ -240,11 +240,11 @@ put-back (flag ∷ flags) (suc place) e = ap (λ ys. flag ∷ ys) (put-back flag
 
 -- What the code does at a node is what the walk does.
 
-pub cut-here : (shop : Shop) (bound : Bound) (budget count left machine : ℕ) (old new : SearchState) →
+pub pruned-here : (shop : Shop) (bound : Bound) (budget count left machine : ℕ) (old new : SearchState) →
     count ≡ suc left →
     Some machine ≡ find (λ k. nat_le old.value (bound shop old.node.items k)) (numbers 1 shop.machines) →
     Wrote budget (64 + machine) old new → Walked shop bound budget count old new
-cut-here shop bound budget count left machine old new e finds wrote =
+pruned-here shop bound budget count left machine old new e finds wrote =
     let here : walked shop bound count old ≡ (letter machine ∷ [], incumbent_of old) =
     ap (λ c. walked shop bound c old) e
     ∙ ap (answer_of (incumbent_of old) (children_walked shop bound left old)) (sym finds) in

@@ -69,13 +69,13 @@ child-over shop bound budget below job old in_child entered over =
           entered),
     )
 
--- a child that a bound cuts
-pub cut-done : (shop : Shop) (bound : Bound) (budget below job machine : ℕ) (old new : SearchState) → below ≢ 0 →
+-- a child that a bound prunes
+pub pruned-done : (shop : Shop) (bound : Bound) (budget below job machine : ℕ) (old new : SearchState) → below ≢ 0 →
     Some machine ≡ find (λ m. nat_le old.value (bound shop (old.node.items ++ job
     ∷ []) m)) (numbers 1 shop.machines) →
     Wrote budget (64 + machine) old new →
     Gave budget (walk shop bound below (old.node.items ++ job ∷ []) (incumbent_of old)) old new
-cut-done shop bound budget below job machine old new some found w =
+pruned-done shop bound budget below job machine old new some found w =
     let node : List ℕ = old.node.items ++ job ∷ [] in
     let st : Incumbent = incumbent_of old in
     let more : below ≡ suc (below - 1) = omega arith in
@@ -247,14 +247,14 @@ module _ {shop : Shop} {bound : Bound} {budget : ℕ} {root : List ℕ} {whole :
       let first : Walk = walk shop bound below (path root fs ++ job ∷ []) st in
       let deeper : Incumbent → Walk = walk_from shop bound left (path root (later ∷ fs)) 1 in
       let rest : Incumbent → Walk = resume shop bound root below (later ∷ fs) in
-      let uncut : find (λ machine. nat_le st.0 (bound shop (path root fs ++ job
+      let unpruned : find (λ machine. nat_le st.0 (bound shop (path root fs ++ job
       ∷ []) machine)) (numbers 1 shop.machines) ≡ None =
       ap (λ q. find (λ machine. nat_le st.0 (bound shop (q ++ job
-      ∷ []) machine)) (numbers 1 shop.machines)) (sym i.node) ∙ opens.uncut in
+      ∷ []) machine)) (numbers 1 shop.machines)) (sym i.node) ∙ opens.unpruned in
       let first_is : first ≡ (43 ∷ (deeper st).0, (deeper st).1) =
       ap (λ n. walk shop bound n (path root fs ++ job ∷ []) st) more
       ∙ ap (answer_of st (walk_each (λ k. walk shop bound left ((path root fs ++ job ∷ []) ++ k
-      ∷ [])) (jobs_left shop.jobs (path root fs ++ job ∷ [])) st)) uncut
+      ∷ [])) (jobs_left shop.jobs (path root fs ++ job ∷ [])) st)) unpruned
       ∙ ap (λ q. (43 ∷ (walk_from shop bound left q 1 st).0, (walk_from shop bound left q 1 st).1)) (ap (λ j. path
       root fs ++ j
       ∷ []) (sym back)) in

@@ -10,7 +10,7 @@ use Rattle.flow_shop.specs.Shop.{Shop}
 use Rattle.flow_shop.specs.Sequences.{jobs_left}
 use Rattle.flow_shop.specs.Bound.{letter, bound_at, released_bound_at}
 use Rattle.flow_shop.proofs.Admissible.{released_bound_is_stronger}
-use Rattle.flow_search.specs.Search.{Bound, in_force, tree_at, tree, cutting_machine}
+use Rattle.flow_search.specs.Search.{Bound, in_force, tree_at, tree, pruning_machine}
 use Rattle.flow_search.specs.Plans.{prefix_of, prefixes_of}
 use Rattle.flow_search.specs.Versions.{IsStronger, StrongerBoundsShortenTrees, SecondVersionShortensTrees}
 use Rattle.flow_search.specs.Versions.{SecondVersionKeepsBudget}
@@ -37,7 +37,7 @@ none-stricter p q from (suc n) low h none = elim (cases_Bool (p from)) [
 
 -- the tree of a node, by its cut
 abbrev node_text : List ℕ → Option ℕ → List ℕ
-node_text texts cuts = option_map_or (λ machine. letter machine ∷ []) cuts (43 ∷ texts)
+node_text texts prunes = option_map_or (λ machine. letter machine ∷ []) prunes (43 ∷ texts)
 
 texts-shorter : (f g : ℕ → List ℕ) (jobs : List ℕ) → ((job : ℕ) → length (f job) ≤ length (g job)) →
     length (flat_map f jobs) ≤ length (flat_map g jobs)
@@ -51,14 +51,14 @@ texts-shorter f g (job ∷ jobs) h =
       length-append (g job) (flat_map g jobs),
     )
 
-some-text : (texts : List ℕ) (cuts : Option ℕ) → 1 ≤ length (node_text texts cuts)
+some-text : (texts : List ℕ) (prunes : Option ℕ) → 1 ≤ length (node_text texts prunes)
 some-text texts None = omega arith
 some-text texts (Some machine) = omega arith
 
-node-shorter : (texts others : List ℕ) (cuts other_cuts : Option ℕ) → length texts ≤ length others →
-    (cuts ≡ None → other_cuts ≡ None) → length (node_text texts cuts) ≤ length (node_text others other_cuts)
-node-shorter texts others (Some machine) other_cuts short h = some-text others other_cuts
-node-shorter texts others None other_cuts short h =
+node-shorter : (texts others : List ℕ) (prunes other_prunes : Option ℕ) → length texts ≤ length others →
+    (prunes ≡ None → other_prunes ≡ None) → length (node_text texts prunes) ≤ length (node_text others other_prunes)
+node-shorter texts others (Some machine) other_prunes short h = some-text others other_prunes
+node-shorter texts others None other_prunes short h =
     omega (arith, short, ap (λ o. length (node_text others o)) (h refl))
 
 module _ (bound other : Bound) (stronger : IsStronger bound other) (shop : Shop) (start : ℕ) (prefix : List ℕ) where
@@ -70,17 +70,17 @@ module _ (bound other : Bound) (stronger : IsStronger bound other) (shop : Shop)
       node-shorter (flat_map (λ job. tree_at shop bound start prefix left (node ++ job ∷ [])) (jobs_left shop.jobs
       node))
       (flat_map (λ job. tree_at shop other start prefix left (node ++ job ∷ [])) (jobs_left shop.jobs node))
-      (cutting_machine shop bound start prefix node) (cutting_machine shop other start prefix node)
+      (pruning_machine shop bound start prefix node) (pruning_machine shop other start prefix node)
       (texts-shorter (λ job. tree_at shop bound start prefix left (node ++ job ∷ []))
       (λ job. tree_at shop other start prefix left (node ++ job ∷ [])) (jobs_left shop.jobs node)
       (λ job. tree_at-shorter left (node ++ job ∷ [])))
       (none-stricter (λ machine. nat_le (in_force shop start prefix node) (bound shop node machine))
       (λ machine. nat_le (in_force shop start prefix node) (other shop node machine)) 1 (shop.machines + 1 - 1)
       (omega arith)
-      (λ k low cuts. le-leb (in_force shop start prefix node) (bound shop node k)
+      (λ k low prunes. le-leb (in_force shop start prefix node) (bound shop node k)
       (omega (
         arith,
-        leb-true (in_force shop start prefix node) (other shop node k) cuts,
+        leb-true (in_force shop start prefix node) (other shop node k) prunes,
         stronger shop node k low,
       ))))
 

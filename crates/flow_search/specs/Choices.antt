@@ -8,7 +8,7 @@ use Rattle.flow_search.specs.declared.options.OptionFault.{OptionFault}
 use Rattle.flow_search.specs.declared.options.OptionFault.TheVariants.{Workers, Depth, Budget, Version}
 
 -- options: how many workers there are, the depth of the cut, how many bytes a tree may have, and the version of the
--- certificate, which says by which bound the search cuts
+-- certificate, which says by which bound the search prunes
 pub record Choices : Type 0 where
   pub workers : ℕ
   pub depth : ℕ

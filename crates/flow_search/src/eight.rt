@@ -3,8 +3,8 @@
 mod children;
 mod entry;
 mod group;
-mod numbers;
 mod releases;
+mod vectors;
 mod walk;
 
 pub(crate) use group::{ColumnMemory, FEW};

@@ -50,8 +50,8 @@ impl Frame {
         }
     }
 
-    /// The first machine that cuts a child by the machine bound: whose machine bound there reaches a value.
-    pub fn cutting_child_plain(&self, setting: &Setting, job: u16, value: u64) -> Option<u16>
+    /// The first machine that prunes a child by the machine bound: whose machine bound there reaches a value.
+    pub fn pruning_of_child_plain(&self, setting: &Setting, job: u16, value: u64) -> Option<u16>
         requires at { (node : List ℕ) × (left : ℕ) × IsFrame (shop_of setting.now) node (suc (suc left)) self.now
             × IsChild (shop_of setting.now).jobs node job }
         ensures { (node : List ℕ) (left : ℕ) → IsFrame (shop_of setting.now) node (suc (suc left)) self.now →
@@ -77,10 +77,10 @@ impl Frame {
         None
     }
 
-    /// The first machine that cuts a child by the released bound: whose released bound there reaches a value. It goes
+    /// The first machine that prunes a child by the released bound: whose released bound there reaches a value. It goes
     /// by the lags of the jobs left.
     #[inline(never)]
-    pub fn cutting_child_released(
+    pub fn pruning_of_child_released(
         &self,
         setting: &Setting,
         lags: &LeastLags,

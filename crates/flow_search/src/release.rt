@@ -39,8 +39,8 @@ fn release_at_node(front: &Front, times: &[u32; MAX_MACHINES], machine: u16) -> 
     made
 }
 
-/// The first machine that cuts a node by the released bound: whose released bound there reaches a value.
-pub fn cutting_node_released(
+/// The first machine that prunes a node by the released bound: whose released bound there reaches a value.
+pub fn pruning_of_node_released(
     setting: &Setting,
     loads: &Loads,
     front: &Front,

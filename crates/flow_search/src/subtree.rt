@@ -7,13 +7,13 @@ ghost use Rattle.flow_shop.specs.JobSet.{contains};
 ghost use Rattle.flow_search.specs.internal.Columns.{most_columns};
 ghost use Rattle.flow_search.specs.internal.Jobs.{IsJobIn};
 ghost use Rattle.flow_search.specs.internal.Nodes.{Gave, Opens};
-ghost use Rattle.flow_search.specs.internal.Settings.{shop_of, cut_bound, cut_at, StandsAt, HasFrame, HasLags};
+ghost use Rattle.flow_search.specs.internal.Settings.{shop_of, pruning_bound, pruned_at, StandsAt, HasFrame, HasLags};
 ghost use Rattle.flow_search.specs.internal.Settings.{node_walk, children_walk, child_walk, IsTooLong};
 
 use crate::budget::SearchFault;
-use crate::cutting::{cutting_child, cutting_node};
 use crate::eight::{ColumnMemory, FEW, walk_few};
 use crate::frame::Frame;
+use crate::pruning::{pruning_of_child, pruning_of_node};
 use crate::setting::Setting;
 use crate::state::SearchState;
 use crate::two_least::{LeastLags, TwoLeast, renew_lags};
@@ -35,7 +35,7 @@ fn first_of(set: &JobSet, from: u16, last: u16) -> Option<u16>
     None
 }
 
-/// Walks the subtree of a child that no bound cuts and that leaves one to eight jobs. The front is the node's.
+/// Walks the subtree of a child that no bound prunes and that leaves one to eight jobs. The front is the node's.
 fn walk_small(
     setting: &Setting,
     mut front: Front,
@@ -48,7 +48,7 @@ fn walk_small(
     requires job { IsJobIn (shop_of setting.now) search.old.unscheduled job }
     requires some { 1 ≤ left }
     requires few { left ≤ most_columns }
-    requires uncut { cut_at setting.now search.old.value (search.old.node.items ++ job ∷ []) ≡ None }
+    requires unpruned { pruned_at setting.now search.old.value (search.old.node.items ++ job ∷ []) ≡ None }
     ensures done { OnOk result (Gave setting.now.budget (child_walk setting.now left job search.old)
         search.old search.new) }
     ensures over { result ≡ Err SearchFault.OverBudget →
@@ -81,12 +81,12 @@ fn visit(
     ensures whole { result ≡ Ok false →
         Gave setting.now.budget (child_walk setting.now left job search.old) search.old search.new }
     ensures opens { result ≡ Ok true →
-        Opens (shop_of setting.now) (cut_bound setting.now) setting.now.budget job search.old search.new }
+        Opens (shop_of setting.now) (pruning_bound setting.now) setting.now.budget job search.old search.new }
     ensures more { result ≡ Ok true → most_columns < left }
     ensures over { result ≡ Err SearchFault.OverBudget →
         IsTooLong setting.now (child_walk setting.now left job search.old) search.old }
 {
-    if let Some(machine) = cutting_child(setting, here, lags, job, search) {
+    if let Some(machine) = pruning_of_child(setting, here, lags, job, search) {
         search.write(setting.budget, b'@' + machine as u8)?;
         return Ok(false);
     }
@@ -171,7 +171,13 @@ pub fn explore(
         return Ok(());
     }
     let loads = Loads::of(instance, &search.unscheduled);
-    if let Some(machine) = cutting_node(setting, &loads, front, &search.unscheduled, search.value) {
+    if let Some(machine) = pruning_of_node(
+        setting,
+        &loads,
+        front,
+        &search.unscheduled,
+        search.value,
+    ) {
         search.write(setting.budget, b'@' + machine as u8)?;
         return Ok(());
     }

@@ -48,12 +48,12 @@ pub record FromSecond (s : State) (ls : List (List ℕ)) (all : List Block) : Ty
   pub times : FromTimes (record s { want = Times; numbers = [] }) rest all
 
 pub record FromHead (s : State) (ls : List (List ℕ)) (all : List Block) : Type 0 where
-  pub heads : List (List ℕ)
+  pub head_lines : List (List ℕ)
   pub rest : List (List ℕ)
   pub ns : List ℕ
-  pub split : ls ≡ heads ++ rest
-  pub heads_are : AllByRecursion IsNumbers heads
-  pub numbers : s.numbers ++ flat_map numbers_of heads ≡ ns
+  pub split : ls ≡ head_lines ++ rest
+  pub head_lines_are : AllByRecursion IsNumbers head_lines
+  pub numbers : s.numbers ++ flat_map numbers_of head_lines ≡ ns
   pub five : length ns ≡ 5
   pub second : FromSecond (record s { want = SecondLabel; numbers = []; head = sizes_of ns }) rest all
 

@@ -37,17 +37,17 @@ first-group h bs l rest all [] more each e whole = cc
 first-group h bs l rest all (g ∷ gs) [] each e whole = absurd each
 first-group h bs l rest all (g ∷ gs) (c ∷ cs) each e whole =
     let i = each.0 in
-    let lines : l ∷ rest ≡ i.first_label ∷ ((i.heads ++ i.second_label ∷ i.rows) ++ flat_map (λ g. g) gs) = e
+    let lines : l ∷ rest ≡ i.first_label ∷ ((i.head_lines ++ i.second_label ∷ i.rows) ++ flat_map (λ g. g) gs) = e
     ∙ ap (λ x. x ++ flat_map (λ g. g) gs) i.split in
     let first : l ≡ i.first_label = cc in
-    let others : rest ≡ (i.heads ++ i.second_label ∷ i.rows) ++ flat_map (λ g. g) gs = cc in (
+    let others : rest ≡ (i.head_lines ++ i.second_label ∷ i.rows) ++ flat_map (λ g. g) gs = cc in (
       rw first i.first_is,
       record {
-        heads = i.heads;
+        head_lines = i.head_lines;
         rest = i.second_label ∷ (i.rows ++ flat_map (λ g. g) gs);
         ns = head_of c;
-        split = others ∙ append_assoc i.heads (i.second_label ∷ i.rows) (flat_map (λ g. g) gs);
-        heads_are = i.heads_are;
+        split = others ∙ append_assoc i.head_lines (i.second_label ∷ i.rows) (flat_map (λ g. g) gs);
+        head_lines_are = i.head_lines_are;
         numbers = i.head;
         five = refl;
         second = record {
@@ -87,10 +87,10 @@ forward-label FirstLabel ns h bs l rest all lab k g =
       goes =
           (first-group h bs l rest all g.groups g.more g.each g.split g.whole).1;
     }
-forward-label HeadNumbers ns h bs l rest all lab k g = absurd (go g.heads g.heads_are g.split g.numbers)
+forward-label HeadNumbers ns h bs l rest all lab k g = absurd (go g.head_lines g.head_lines_are g.split g.numbers)
   where
-    go : (heads : List (List ℕ)) → AllByRecursion IsNumbers heads → l ∷ rest ≡ heads ++ g.rest →
-        ns ++ flat_map numbers_of heads ≡ g.ns → ⊥
+    go : (head_lines : List (List ℕ)) → AllByRecursion IsNumbers head_lines → l ∷ rest ≡ head_lines ++ g.rest →
+        ns ++ flat_map numbers_of head_lines ≡ g.ns → ⊥
     go [] are e n = let same : ns ≡ g.ns = sym (append-nil ns) ∙ n in omega (arith, g.five, ap length same)
     go (x ∷ xs) are e n = let same : l ≡ x = cc in not-both l lab (rw same are.0.number)
 forward-label SecondLabel ns h bs l rest all lab k g =
@@ -157,8 +157,8 @@ bind-is (Err d) f x y e k = cc
 -- the numbers of a line in the midst of those of its group
 head-line : (ns : List ℕ) (h : Sizes) (bs : List Block) (l : List ℕ) (rest : List (List ℕ)) (all : List Block) →
     is_number_line l ≡ true → length ns < 5
-    → (g : FromHead (at HeadNumbers ns h bs) (l ∷ rest) all) (heads : List (List ℕ)) → AllByRecursion IsNumbers heads →
-    l ∷ rest ≡ heads ++ g.rest → ns ++ flat_map numbers_of heads ≡ g.ns
+    → (g : FromHead (at HeadNumbers ns h bs) (l ∷ rest) all) (head_lines : List (List ℕ)) → AllByRecursion IsNumbers head_lines →
+    l ∷ rest ≡ head_lines ++ g.rest → ns ++ flat_map numbers_of head_lines ≡ g.ns
     → On (at HeadNumbers ns h bs) (line_numbers l >>= λ new. after_head_numbers (at HeadNumbers ns h bs) (ns
     ++ new)) rest all
 head-line ns h bs l rest all num k g [] are e n =
@@ -202,11 +202,11 @@ head-line ns h bs l rest all num k g (x ∷ y ∷ ys) are e n =
       is = bind-is (line_numbers l) _ (numbers_of l) _ read (head-more HeadNumbers ns h bs (ns ++ numbers_of l) fewer);
       wants = fewer;
       goes = record {
-        heads = y ∷ ys;
+        head_lines = y ∷ ys;
         rest = g.rest;
         ns = g.ns;
         split = others;
-        heads_are = are.1;
+        head_lines_are = are.1;
         numbers = now;
         five =
             g.five;
@@ -292,7 +292,7 @@ unfolding after_numbers
 forward-number FirstLabel ns h bs l rest all num k g =
     absurd (not-both l (first-group h bs l rest all g.groups g.more g.each g.split g.whole).0 num)
 forward-number HeadNumbers ns h bs l rest all num k g =
-    head-line ns h bs l rest all num k g g.heads g.heads_are g.split g.numbers
+    head-line ns h bs l rest all num k g g.head_lines g.head_lines_are g.split g.numbers
 forward-number SecondLabel ns h bs l rest all num k g =
     let same : l ≡ g.label = (let e = g.split in cc) in absurd (not-both l (rw same g.label_is) num)
 forward-number Times ns h bs l rest all num k g =
@@ -344,12 +344,12 @@ end-is FirstLabel ns h bs n all some k g = go g.groups g.more g.each g.split g.w
     go (x ∷ xs) [] each e whole = absurd each
     go (x ∷ xs) (c ∷ cs) each e whole =
         let i = each.0 in
-        let bad : [] ≡ i.first_label ∷ ((i.heads ++ i.second_label ∷ i.rows) ++ flat_map (λ z. z) xs) = e
+        let bad : [] ≡ i.first_label ∷ ((i.head_lines ++ i.second_label ∷ i.rows) ++ flat_map (λ z. z) xs) = e
         ∙ ap (λ z. z ++ flat_map (λ y. y) xs) i.split in
         cc
-end-is HeadNumbers ns h bs n all some k g = absurd (go g.heads g.split g.second.split)
+end-is HeadNumbers ns h bs n all some k g = absurd (go g.head_lines g.split g.second.split)
   where
-    go : (heads : List (List ℕ)) → [] ≡ heads ++ g.rest → g.rest ≡ g.second.label ∷ g.second.rest → ⊥
+    go : (head_lines : List (List ℕ)) → [] ≡ head_lines ++ g.rest → g.rest ≡ g.second.label ∷ g.second.rest → ⊥
     go [] e f = cc
     go (x ∷ xs) e f = cc
 end-is SecondLabel ns h bs n all some k g = let e = g.split in cc

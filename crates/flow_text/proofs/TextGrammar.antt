@@ -32,24 +32,24 @@ group-back ns h bs l rest all lab p =
     let r = q.times in
     let block = block_of (sizes_of p.ns) r.times in
     let others = flat_map (λ g. g) r.groups in
-    let head : flat_map numbers_of p.heads ≡ head_of block = p.numbers ∙ five p.ns p.five in
+    let head : flat_map numbers_of p.head_lines ≡ head_of block = p.numbers ∙ five p.ns p.five in
     record {
-      groups = (l ∷ p.heads ++ q.label ∷ r.rows) ∷ r.groups;
+      groups = (l ∷ p.head_lines ++ q.label ∷ r.rows) ∷ r.groups;
       more = block ∷ r.more;
-      split = ap (λ x. l ∷ x) (p.split ∙ ap (λ x. p.heads ++ x) q.split ∙ ap (λ x. p.heads ++ q.label ∷ x) r.split
-          ∙ sym (append_assoc p.heads (q.label ∷ r.rows) others));
+      split = ap (λ x. l ∷ x) (p.split ∙ ap (λ x. p.head_lines ++ x) q.split ∙ ap (λ x. p.head_lines ++ q.label ∷ x) r.split
+          ∙ sym (append_assoc p.head_lines (q.label ∷ r.rows) others));
       each = (
         record {
           first_label = l;
-          heads =
-              p.heads;
+          head_lines =
+              p.head_lines;
           second_label = q.label;
           rows =
               r.rows;
           split = refl;
           first_is = lab;
           second_is = q.label_is;
-          heads_are = p.heads_are;
+          head_lines_are = p.head_lines_are;
           rows_are =
               r.rows_are;
           head = head;
@@ -177,12 +177,12 @@ number-back HeadNumbers ns h bs t l rest all num k e =
       | inl c ↦ (
         rw c.1 smalls,
         λ g. let p : FromHead (at HeadNumbers (ns ++ new) h bs) rest all = rw c.1 at g in record {
-          heads = l ∷ p.heads;
+          head_lines = l ∷ p.head_lines;
           rest = p.rest;
           ns = p.ns;
           split = ap (λ x. l ∷ x) p.split;
-          heads_are = (record { number = num; plain = facts.0 }, p.heads_are);
-          numbers = rw (← facts.2) (sym (append_assoc ns new (flat_map numbers_of p.heads)) ∙ p.numbers);
+          head_lines_are = (record { number = num; plain = facts.0 }, p.head_lines_are);
+          numbers = rw (← facts.2) (sym (append_assoc ns new (flat_map numbers_of p.head_lines)) ∙ p.numbers);
           five = p.five;
           second = p.second;
         },
@@ -190,11 +190,11 @@ number-back HeadNumbers ns h bs t l rest all num k e =
       | inr c ↦ (
         rw c.2 (sizes-fit _ c.0 smalls c.1),
         λ g. let p : FromSecond (at SecondLabel [] (sizes_of (ns ++ new)) bs) rest all = rw c.2 at g in record {
-          heads = l ∷ [];
+          head_lines = l ∷ [];
           rest = rest;
           ns = ns ++ new;
           split = refl;
-          heads_are = (record { number = num; plain = facts.0 }, tt);
+          head_lines_are = (record { number = num; plain = facts.0 }, tt);
           numbers = rw (← facts.2) (ap (λ x. ns ++ x) (append-nil new));
           five = c.0;
           second = p;

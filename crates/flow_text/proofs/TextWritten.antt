@@ -240,13 +240,13 @@ Reads-written block w =
       each = (
         record {
           first_label = first_label;
-          heads = row_line (head_of block) ∷ [];
+          head_lines = row_line (head_of block) ∷ [];
           second_label = second_label;
           rows = lines;
           split = refl;
           first_is = first-is.0;
           second_is = second-is.0;
-          heads_are = (head, tt);
+          head_lines_are = (head, tt);
           rows_are = rows.0;
           head = append-nil (numbers_of (row_line (head_of block)))
               ∙ numbers_of-row shop.jobs (shop.machines ∷ block.seed ∷ block.upper ∷ block.lower

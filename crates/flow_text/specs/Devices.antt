@@ -4,14 +4,14 @@
 use Rattle.std.specs.Prelude.{ℕ, Bool, List, Option}
 
 -- a sink in memory: the bytes that it took, how many it takes in all, and whether it refused
-pub record Kept : Type 0 where
+pub record BytesTaken : Type 0 where
   pub bytes : List ℕ
   pub limit : ℕ
   pub failed : Bool
 
 -- a source in memory: its bytes, how many of them it gave, the most that it gives in a call and in all, whether its
 -- last call found the end, and whether it refused
-pub record Held : Type 0 where
+pub record BytesToGive : Type 0 where
   pub bytes : List ℕ
   pub given : ℕ
   pub piece : ℕ

@@ -25,15 +25,15 @@ pub record IsBlock (block : Block) : Type 0 where
 -- the lines are a label line, number lines with the head of the block, a label line, and number lines with its times
 pub record IsGroup (lines : List (List ℕ)) (block : Block) : Type 0 where
   pub first_label : List ℕ
-  pub heads : List (List ℕ)
+  pub head_lines : List (List ℕ)
   pub second_label : List ℕ
   pub rows : List (List ℕ)
-  pub split : lines ≡ first_label ∷ heads ++ second_label ∷ rows
+  pub split : lines ≡ first_label ∷ head_lines ++ second_label ∷ rows
   pub first_is : is_label_line first_label ≡ true
   pub second_is : is_label_line second_label ≡ true
-  pub heads_are : AllByRecursion IsNumbers heads
+  pub head_lines_are : AllByRecursion IsNumbers head_lines
   pub rows_are : AllByRecursion IsNumbers rows
-  pub head : flat_map numbers_of heads ≡ head_of block
+  pub head : flat_map numbers_of head_lines ≡ head_of block
   pub times : flat_map numbers_of rows ≡ block.instance.times
   pub within : IsBlock block
 

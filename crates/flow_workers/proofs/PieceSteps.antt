@@ -21,7 +21,7 @@ use Rattle.flow_workers.specs.declared.piece.Piece.{Piece}
 use Rattle.flow_workers.specs.declared.piece.Piece.TheVariants.{Left}
 use Rattle.flow_workers.specs.declared.piece.Dealt.{Dealt}
 use Rattle.flow_workers.specs.declared.piece.Dealt.TheVariants.{Searched}
-use Rattle.flow_workers.specs.declared.piece.Answer.{Answer}
+use Rattle.flow_workers.specs.declared.piece.Reply.{Reply}
 use Rattle.flow_workers.specs.internal.Answers.{HasPlace, StandsFor}
 use Rattle.flow_workers.proofs.Behind.{pair, behind-nil, behind-assoc}
 
@@ -99,7 +99,7 @@ module _ (shop : Shop) (number : ℕ) where
       (all-same xs ys (omega (arith, same)) (λ k d within. each (suc k) d (omega (arith, within))))
 
   -- an answer in the place of its piece
-  pub answer-put : (first now : List Dealt) (answer : Answer) (one : Dealt) → one ≡ Searched answer.pieces →
+  pub answer-put : (first now : List Dealt) (answer : Reply) (one : Dealt) → one ≡ Searched answer.pieces →
       length now ≡ length first → HasPlace first answer → StandsFor shop number first answer →
       ((k : ℕ) (d : Dealt) → k < length first → dealt_met shop number (slice_index_or now k d)
       ≡ dealt_met shop number (slice_index_or first k d)) →

@@ -31,7 +31,7 @@ pub(crate) enum Dealt {
 
 /// What a worker found for a piece that was dealt.
 #[derive(Drop)]
-pub(crate) struct Answer {
+pub(crate) struct Reply {
     /// The place of the piece among those that were dealt.
     pub(crate) place: usize,
     /// What stands for the piece.

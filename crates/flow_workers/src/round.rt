@@ -10,7 +10,7 @@ ghost use Rattle.flow_workers.specs.declared.piece.Dealt.TheVariants.{Searched};
 use crate::deal::{deal, put_back};
 use crate::node::{Aim, search_node};
 use crate::pace::Pace;
-use crate::piece::{Answer, Dealt, Piece};
+use crate::piece::{Dealt, Piece, Reply};
 use flow_directions::Part;
 use std::alloc::AllocError;
 use std::collections::VecDeque;
@@ -55,7 +55,7 @@ impl<'a> Round<'a> {
     }
 
     /// Takes one piece after the other, and searches those that are nodes.
-    fn work(&self) -> Result<Vec<Answer>, AllocError>
+    fn work(&self) -> Result<Vec<Reply>, AllocError>
         ensures places { IfOk result (λ answers. All (HasPlace self.now.dealt.now) answers.items) }
         ensures stand { IfOk result (λ answers. All
             (StandsFor self.now.aim.now.instance.now self.now.aim.now.number self.now.dealt.now) answers.items) }
@@ -69,7 +69,7 @@ impl<'a> Round<'a> {
                 let grant = self.pace.grant(self.written.load(Ordering::SeqCst));
                 let found = search_node(self.aim, first.as_slice(), last.as_slice(), grant)?;
                 self.count(found.written, found.reached);
-                answers.push(Answer {
+                answers.push(Reply {
                     place,
                     pieces: found.pieces,
                 })?;
@@ -85,7 +85,7 @@ fn search_dealt<R: Threads + Sync>(
     aim: &Aim,
     dealt: &[Dealt],
     pace: Pace,
-) -> Result<Vec<Answer>, AllocError>
+) -> Result<Vec<Reply>, AllocError>
     ensures places { IfOk result (λ answers. All (HasPlace dealt.now) answers.items) }
     ensures stand { IfOk result (λ answers. All (StandsFor aim.now.instance.now aim.now.number dealt.now) answers.items) }
 {
@@ -114,7 +114,7 @@ fn put_answer(one: &mut Dealt, pieces: VecDeque<Piece>)
 }
 
 /// Puts each answer in the place of its piece.
-fn put_answers(dealt: &mut [Dealt], answers: Vec<Answer>)
+fn put_answers(dealt: &mut [Dealt], answers: Vec<Reply>)
     requires { All (HasPlace dealt.old) answers.items }
     ensures len { length dealt.new ≡ length dealt.old }
     ensures met { (shop : _) (number : _) → All (StandsFor shop number dealt.old) answers.items →

@@ -211,7 +211,7 @@ fn is_read_alike(alloc: Global, text: &[u8]) -> bool {
 }
 
 #[test]
-fn cut_starts_are_read_alike(rt: HostRuntime) {
+fn truncated_starts_are_read_alike(rt: HostRuntime) {
     for length in 0..A_START.len() + 1 {
         let text = A_START.get(..length).unwrap_or(b"");
         assert!(rt; is_read_alike(rt.alloc(), text), "cut at {length}");

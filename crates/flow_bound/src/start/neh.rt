@@ -7,7 +7,7 @@ ghost use Rattle.flow_shop.specs.Rows.{AreRows};
 ghost use Rattle.flow_bound.specs.Neh.{IsNeh};
 
 use crate::start::insertion::{Times, fill_spans};
-use crate::start::order::by_total;
+use crate::start::job_order::by_total;
 use flow_limits::MAX_MACHINES;
 use flow_shop::{Instance, Row, Sequence, rows};
 use std::alloc::{AllocError, Global};

@@ -7,7 +7,7 @@ use Rattle.flow_shop.specs.Sequences.{IsSequence}
 use Rattle.flow_improve.specs.declared.place.Room.{Room}
 use Rattle.flow_improve.specs.declared.round.Rounds.{Rounds}
 use Rattle.flow_improve.specs.declared.rounds.Known.{Known}
-use Rattle.flow_improve.specs.declared.rounds.Run.{Run}
+use Rattle.flow_improve.specs.declared.rounds.RoundsRun.{RoundsRun}
 
 -- there is room for all places of an instance's jobs
 pub record IsRoomFor (shop : Shop) (room : Room) : Type 0 where
@@ -27,7 +27,7 @@ pub record IsKnown (shop : Shop) (known : Known) : Type 0 where
   pub makespan : known.makespan ≡ span shop known.jobs.items
 
 -- a run of rounds holds three sequences, and room for the next one
-pub record IsRunOf (shop : Shop) (run : Run) : Type 0 where
+pub record IsRunOf (shop : Shop) (run : RoundsRun) : Type 0 where
   pub search : IsRoundsFor shop run.search
   pub best : IsKnown shop run.best
   pub current : IsKnown shop run.current

@@ -6,7 +6,7 @@ ghost use Rattle.flow_shop.specs.Rows.{AreRows};
 ghost use Rattle.flow_improve.specs.internal.Beams.{AreEntries, IsEntry};
 
 use crate::list::numbers;
-use crate::two_ended::order::EndTimes;
+use crate::two_ended::child_order::EndTimes;
 use flow_nodes::Node;
 use flow_shop::{End, Instance, Row};
 use std::alloc::{AllocError, Global};

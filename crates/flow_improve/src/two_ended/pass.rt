@@ -5,11 +5,11 @@ ghost use Rattle.flow_shop.specs.Rows.{AreRows};
 ghost use Rattle.flow_shop.specs.Sequences.{IsSequence};
 ghost use Rattle.flow_improve.specs.internal.Beams.{ArePasses, HasBounds, IsEntry};
 
+use crate::two_ended::best_children::{BestChildren, Child};
 use crate::two_ended::bounds::Bounds;
+use crate::two_ended::child_order::{ChildOrder, Mode};
 use crate::two_ended::entry::{Entry, copies};
 use crate::two_ended::groups::groups;
-use crate::two_ended::kept::{Child, Kept};
-use crate::two_ended::order::{Mode, Order};
 use flow_nodes::Lanes;
 use flow_shop::{End, Instance, Row};
 use std::alloc::{AllocError, Global};
@@ -54,7 +54,7 @@ pub(crate) struct Passes<V> {
     count: usize,
     /// Room for the next list.
     next: Vec<Entry>,
-    kept: Kept,
+    kept: BestChildren,
     /// The steps of all passes: a node whose children are bounded takes two for each job left and machine.
     pub(crate) steps: u64,
 }
@@ -74,7 +74,7 @@ pub(crate) fn greatest_time(rows: &[Row]) -> u32 {
 /// What the children of a node are offered by.
 #[derive(Clone, Copy)]
 struct Offers {
-    order: Order,
+    order: ChildOrder,
     /// Children are offered whose bound is below this number.
     below: u64,
     /// The place of the node in the list.
@@ -91,7 +91,7 @@ impl Offers {
         rows: &[Row],
         entry: &Entry,
         bounds: &Bounds,
-        kept: &mut Kept,
+        kept: &mut BestChildren,
     ) -> Result<(), AllocError>
         requires rows { AreRows instance.now rows.now }
         requires entry { IsEntry instance.now entry.now }
@@ -148,7 +148,7 @@ impl<V: Lanes> Passes<V> {
             list,
             count: 0,
             next,
-            kept: Kept::new(alloc, width)?,
+            kept: BestChildren::new(alloc, width)?,
             steps: 0,
         })
     }
@@ -167,7 +167,7 @@ impl<V: Lanes> Passes<V> {
         self.steps = self.steps.saturating_add(steps as u64);
         self.bounds.fill(instance, self.groups.as_slice(), entry);
         let offers = Offers {
-            order: Order {
+            order: ChildOrder {
                 mode: plan.mode,
                 greatest: self.greatest,
                 machines,

@@ -5,8 +5,8 @@ use Rattle.flow_search.specs.Plans.{Planned}
 use Rattle.flow_search.specs.Outcomes.{first_over_budget}
 use Rattle.flow_search.specs.declared.verdict.RunFault.{RunFault}
 use Rattle.flow_search.specs.declared.verdict.RunFault.TheVariants.{OverBudget, Memory}
-use Rattle.flow_pool.specs.declared.run.solve.Run.{Run}
-use Rattle.flow_pool.specs.declared.run.solve.Run.TheVariants.{Whole, Fault, UsedUp, Refused}
+use Rattle.flow_pool.specs.declared.run.solve.RunOutcome.{RunOutcome}
+use Rattle.flow_pool.specs.declared.run.solve.RunOutcome.TheVariants.{Whole, Fault, UsedUp, Refused}
 use Rattle.flow_pool.specs.declared.run.make.Made.{Made}
 use Rattle.flow_pool.specs.Deal.{by_worker}
 use Rattle.flow_pool.specs.Work.{prefix_count}
@@ -22,7 +22,7 @@ IsRunFault plan Memory = Unit {0}
 
 -- a run of so many starts has a report or a fault only where they are enough, and has used them up only where they are
 -- not
-abbrev pub IsRun : Planned → ℕ → Run → Type 0
+abbrev pub IsRun : Planned → ℕ → RunOutcome → Type 0
 IsRun plan starts (Whole report) = IsReport plan report × (plan.options.workers ≤ starts)
 IsRun plan starts (Fault fault) = IsRunFault plan fault × (plan.options.workers ≤ starts)
 IsRun plan starts UsedUp = starts < plan.options.workers

@@ -29,7 +29,7 @@ pub struct Report {
 
 /// What comes of a run that may start only some of its workers.
 #[derive(Drop)]
-enum Run {
+enum RunOutcome {
     /// The report of all workers.
     Whole(Report),
     /// All workers were started, and there is no verdict.
@@ -95,7 +95,7 @@ fn run_made<R: Threads + Wait + Sync, G: Gate + Sync>(
     gate: &HubGate<G>,
     starts: u32,
     made: Made,
-) -> Run
+) -> RunOutcome
     requires { IsMade plan.now made }
     ensures { IsRun plan.now starts result }
 {
@@ -115,16 +115,16 @@ fn run_made<R: Threads + Wait + Sync, G: Gate + Sync>(
     settle_all(hubs, workers, &mut lanes);
     match start {
         Start::Complete => {}
-        Start::UsedUp => return Run::UsedUp,
-        Start::Refused(refusal) => return Run::Refused(refusal),
+        Start::UsedUp => return RunOutcome::UsedUp,
+        Start::Refused(refusal) => return RunOutcome::Refused(refusal),
     }
     let outcomes = outcomes_of(answers, room);
     if let Some(fault) = first_refusal(&outcomes) {
-        return Run::Fault(fault);
+        return RunOutcome::Fault(fault);
     }
     match conclude(alloc, plan, outcomes) {
-        Ok(verdict) => Run::Whole(Report { verdict, lanes }),
-        Err(fault) => Run::Fault(fault),
+        Ok(verdict) => RunOutcome::Whole(Report { verdict, lanes }),
+        Err(fault) => RunOutcome::Fault(fault),
     }
 }
 
@@ -136,7 +136,7 @@ fn run_limited<R: Threads + Wait + Sync, G: Gate + Sync>(
     plan: &Plan,
     gate: &G,
     starts: u32,
-) -> Result<Run, AllocError>
+) -> Result<RunOutcome, AllocError>
     ensures { IfOk result (λ run. IsRun plan.now starts run) }
 {
     let made = make_run(alloc, plan)?;
@@ -159,9 +159,9 @@ pub fn solve_limited<R: Threads + Wait + Sync, G: Gate + Sync>(
     ensures limited { starts < plan.now.options.workers → (result ≡ Err Memory) ⊎ (result ≡ Err Threads) }
 {
     match run_limited(rt, alloc, plan, gate, starts)? {
-        Run::Whole(report) => Ok(report),
-        Run::Fault(fault) => Err(SolveFault::from(fault)),
-        Run::UsedUp | Run::Refused(_) => Err(SolveFault::Threads),
+        RunOutcome::Whole(report) => Ok(report),
+        RunOutcome::Fault(fault) => Err(SolveFault::from(fault)),
+        RunOutcome::UsedUp | RunOutcome::Refused(_) => Err(SolveFault::Threads),
     }
 }
 
@@ -179,9 +179,9 @@ pub fn solve<R: Threads + Wait + Sync, G: Gate + Sync>(
     ensures fault { IfErr result (λ fault. IsSolveFault plan.now fault) }
 {
     match run_limited(rt, alloc, plan, gate, plan.options().workers())? {
-        Run::Whole(report) => Ok(report),
-        Run::Fault(fault) => Err(SolveFault::from(fault)),
-        Run::UsedUp => unreachable!(),
-        Run::Refused(_) => Err(SolveFault::Threads),
+        RunOutcome::Whole(report) => Ok(report),
+        RunOutcome::Fault(fault) => Err(SolveFault::from(fault)),
+        RunOutcome::UsedUp => unreachable!(),
+        RunOutcome::Refused(_) => Err(SolveFault::Threads),
     }
 }

@@ -57,4 +57,4 @@ pub record IsInColumns (shop : Shop) (bound : Bound) (budget : ℕ) (group : Gro
 abbrev pub frame_at : List ColumnFrame → ℕ → ColumnFrame
 frame_at frames depth =
     slice_index_or frames depth
-    (record { free = []; front = []; sum = []; gone = []; uncut = []; value = 0; columns = []; next = 0 })
+    (record { free = []; front = []; sum = []; gone = []; unpruned = []; value = 0; columns = []; next = 0 })

@@ -98,16 +98,16 @@ AreSmallFrees shop frame =
     slice_index (slice_index_or frame.free place []) column ≤ greatest_completion + most_machines * greatest_time
 
 -- so many machines, of the first ones, stand before the first whose bound reaches a limit; all of them where none does
-pub record IsUncutCount (shop : Shop) (bound : Bound) (list : List ℕ) (limit machines uncut : ℕ) : Type 0 where
-  pub within : uncut ≤ machines
-  pub above : (machine : ℕ) → 1 ≤ machine → machine ≤ uncut → bound shop list machine < limit
-  pub cut : uncut < machines → limit ≤ bound shop list (uncut + 1)
+pub record IsUnprunedCount (shop : Shop) (bound : Bound) (list : List ℕ) (limit machines unpruned : ℕ) : Type 0 where
+  pub within : unpruned ≤ machines
+  pub above : (machine : ℕ) → 1 ≤ machine → machine ≤ unpruned → bound shop list machine < limit
+  pub cut : unpruned < machines → limit ≤ bound shop list (unpruned + 1)
 
 -- the children are opened, and each that leaves a job was tested against the frame's value
 pub record IsTested (shop : Shop) (bound : Bound) (list : List ℕ) (group : Group) (frame : ColumnFrame) : Type 0 where
   pub opened : IsOpened shop list group frame
-  pub uncut : (column other : ℕ) → IsColumnLeft frame column → IsColumnLeft frame other → other ≢ column →
-      IsUncutCount shop bound (child list group column) frame.value shop.machines (slice_index frame.uncut column)
+  pub unpruned : (column other : ℕ) → IsColumnLeft frame column → IsColumnLeft frame other → other ≢ column →
+      IsUnprunedCount shop bound (child list group column) frame.value shop.machines (slice_index frame.unpruned column)
 
 -- a frame has the same columns left, in the same order, and the same next place as before
 pub record KeepsColumns (old new : ColumnFrame) : Type 0 where

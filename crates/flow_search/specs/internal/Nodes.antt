@@ -99,7 +99,7 @@ Walked shop bound budget left old new = Gave budget (walked shop bound left old)
 abbrev pub then_walk : Walk → (Incumbent → Walk) → Walk
 then_walk first more = (first.0 ++ (more first.1).0, (more first.1).1)
 
--- the plus of a job's child, which no bound cuts, is written
+-- the plus of a job's child, which no bound prunes, is written
 pub record Opens (shop : Shop) (bound : Bound) (budget job : ℕ) (old new : SearchState) : Type 0 where
   pub wrote : Wrote budget 43 old new
-  pub uncut : first_reaching shop old.value (bound shop (old.node.items ++ job ∷ [])) ≡ None
+  pub unpruned : first_reaching shop old.value (bound shop (old.node.items ++ job ∷ [])) ≡ None

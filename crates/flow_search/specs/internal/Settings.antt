@@ -18,12 +18,12 @@ abbrev pub shop_of : Setting → Shop
 shop_of setting = setting.instance.now
 
 -- the bound by which nodes are cut: that of the version
-abbrev pub cut_bound : Setting → Bound
-cut_bound setting = bound_of setting.version
+abbrev pub pruning_bound : Setting → Bound
+pruning_bound setting = bound_of setting.version
 
--- the first machine that cuts a node, where the makespan of the incumbent is this value
-abbrev pub cut_at : Setting → ℕ → List ℕ → Option ℕ
-cut_at setting value node = first_reaching (shop_of setting) value (cut_bound setting (shop_of setting) node)
+-- the first machine that prunes a node, where the makespan of the incumbent is this value
+abbrev pub pruned_at : Setting → ℕ → List ℕ → Option ℕ
+pruned_at setting value node = first_reaching (shop_of setting) value (pruning_bound setting (shop_of setting) node)
 
 -- the search stands at a node with this front and so many jobs left
 abbrev pub StandsAt : Setting → SearchState → List ℕ → ℕ → Type 0
@@ -39,15 +39,15 @@ HasLags setting set lags = setting.version ≡ 2 → AreLeastLags (shop_of setti
 
 -- the walk from the search's node, with so many jobs left
 abbrev pub node_walk : Setting → ℕ → SearchState → Walk
-node_walk setting count search = walked (shop_of setting) (cut_bound setting) count search
+node_walk setting count search = walked (shop_of setting) (pruning_bound setting) count search
 
 -- the walks of the children of the search's node, one after another, with so many jobs left at each
 abbrev pub children_walk : Setting → ℕ → SearchState → Walk
-children_walk setting left search = children_walked (shop_of setting) (cut_bound setting) left search
+children_walk setting left search = children_walked (shop_of setting) (pruning_bound setting) left search
 
 -- the walk of the child of a job, with so many jobs left there
 abbrev pub child_walk : Setting → ℕ → ℕ → SearchState → Walk
-child_walk setting left job search = child_walked (shop_of setting) (cut_bound setting) left job search
+child_walk setting left job search = child_walked (shop_of setting) (pruning_bound setting) left job search
 
 -- with what a walk writes, the tree of a search is longer than the budget
 abbrev pub IsTooLong : Setting → Walk → SearchState → Type 0

@@ -4,11 +4,11 @@ ghost use Rattle.std.specs.Prelude.{◌≡◌, ℕ, ◌<◌, List, length, slice
 ghost use Rattle.flow_shop.specs.Bound.{bound_at};
 ghost use Rattle.flow_search.specs.internal.Columns.{IsFrameOf, IsOpened, IsTested, KeepsColumns, AreSmallFrees};
 ghost use Rattle.flow_search.specs.internal.Columns.{child, columns_of};
-ghost use Rattle.flow_search.specs.internal.Settings.{shop_of, cut_bound};
+ghost use Rattle.flow_search.specs.internal.Settings.{shop_of, pruning_bound};
 
 use crate::eight::group::{COLUMNS, ColumnFrame, GONE, Group};
-use crate::eight::numbers::{at_least, greater, others, sums, where_less, without_place};
 use crate::eight::releases::test_releases;
+use crate::eight::vectors::{at_least, greater, others, sums, where_less, without_place};
 use crate::setting::Setting;
 use flow_shop::Instance;
 
@@ -31,7 +31,7 @@ fn test_plain(instance: &Instance, group: &Group, frame: &mut ColumnFrame, value
     let gone = frame.gone;
     let mut free = [0u32; COLUMNS];
     let mut flags = [1u32; COLUMNS];
-    let mut uncut = [0u32; COLUMNS];
+    let mut unpruned = [0u32; COLUMNS];
     for place in 0..machines {
         let row = &group.rows[place];
         let front = frame.front[place];
@@ -39,11 +39,11 @@ fn test_plain(instance: &Instance, group: &Group, frame: &mut ColumnFrame, value
         let start = at_least(&free, front);
         let behind = others(&greater(&row.tail, &gone));
         flags = where_less(&flags, &sums(&start, &behind), room);
-        uncut = sums(&uncut, &flags);
+        unpruned = sums(&unpruned, &flags);
         free = sums(&start, &row.time);
         frame.free[place] = free;
     }
-    frame.uncut = uncut;
+    frame.unpruned = unpruned;
     frame.value = value;
 }
 
@@ -55,7 +55,7 @@ pub fn test_children(setting: &Setting, group: &Group, frame: &mut ColumnFrame, 
     ensures kept { KeepsColumns frame.old frame.new }
     ensures value { frame.new.value ≡ value }
     ensures tested { (list : List ℕ) → IsFrameOf (shop_of setting.now) list group.now frame.old →
-        IsTested (shop_of setting.now) (cut_bound setting.now) list group.now frame.new }
+        IsTested (shop_of setting.now) (pruning_bound setting.now) list group.now frame.new }
 {
     test_plain(setting.instance, group, frame, value);
     if setting.version == 2 {
@@ -66,11 +66,11 @@ pub fn test_children(setting: &Setting, group: &Group, frame: &mut ColumnFrame, 
 /// Tests the children of a node again, where they were tested against another value.
 #[inline(always)]
 pub fn retest_children(setting: &Setting, group: &Group, frame: &mut ColumnFrame, value: u64)
-    requires { (list : List ℕ) × IsTested (shop_of setting.now) (cut_bound setting.now) list group.now frame.old }
+    requires { (list : List ℕ) × IsTested (shop_of setting.now) (pruning_bound setting.now) list group.now frame.old }
     ensures kept { KeepsColumns frame.old frame.new }
     ensures value { frame.new.value ≡ value }
-    ensures tested { (list : List ℕ) → IsTested (shop_of setting.now) (cut_bound setting.now) list group.now frame.old →
-        IsTested (shop_of setting.now) (cut_bound setting.now) list group.now frame.new }
+    ensures tested { (list : List ℕ) → IsTested (shop_of setting.now) (pruning_bound setting.now) list group.now frame.old →
+        IsTested (shop_of setting.now) (pruning_bound setting.now) list group.now frame.new }
 {
     if value != frame.value {
         test_children(setting, group, frame, value);

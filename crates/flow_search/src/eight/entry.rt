@@ -7,7 +7,7 @@ ghost use Rattle.flow_search.specs.internal.Columns.{AreJobsOf, IsFew, IsFrameOf
 ghost use Rattle.flow_search.specs.declared.eight.group.TheConstants.{GONE};
 
 use crate::eight::group::{COLUMNS, ColumnFrame, GONE, Group, MachineRow};
-use crate::eight::numbers::sums;
+use crate::eight::vectors::sums;
 use flow_shop::{Front, Instance};
 
 /// The times of some jobs on a machine, each in its column; 0 in the other columns.

@@ -53,8 +53,8 @@ pub struct ColumnFrame {
     pub sum: [u32; MAX_MACHINES],
     /// For each column 0 where its job is left, else `GONE`.
     pub gone: [u32; COLUMNS],
-    /// For each child, how many machines there are before the first that cuts it.
-    pub uncut: [u32; COLUMNS],
+    /// For each child, how many machines there are before the first that prunes it.
+    pub unpruned: [u32; COLUMNS],
     /// The makespan against which the children were tested.
     pub value: u64,
     /// The columns whose jobs are left, in increasing order, from the first place on.
@@ -71,7 +71,7 @@ impl ColumnFrame {
             front: [0; MAX_MACHINES],
             sum: [0; MAX_MACHINES],
             gone: [0; COLUMNS],
-            uncut: [0; COLUMNS],
+            unpruned: [0; COLUMNS],
             value: 0,
             columns: [0; COLUMNS],
             next: 0,

@@ -4,12 +4,12 @@ ghost use Rattle.std.specs.Prelude.{◌≡◌, ◌≢◌, ℕ, ◌+◌, ◌*◌,
 ghost use Rattle.flow_limits.specs.Limits.{most_machines, greatest_time, greatest_completion};
 ghost use Rattle.flow_shop.specs.Sequences.{jobs_left};
 ghost use Rattle.flow_shop.specs.Bound.{bound_at, released_bound_at, release, front_of};
-ghost use Rattle.flow_search.specs.internal.Columns.{IsOpened, IsTested, IsUncutCount, IsColumnLeft, KeepsColumns};
+ghost use Rattle.flow_search.specs.internal.Columns.{IsOpened, IsTested, IsUnprunedCount, IsColumnLeft, KeepsColumns};
 ghost use Rattle.flow_search.specs.internal.Columns.{AreSmallFrees, child, most_columns};
 ghost use Rattle.flow_search.specs.declared.eight.group.TheConstants.{GONE};
 
 use crate::eight::group::{COLUMNS, ColumnFrame, Group};
-use crate::eight::numbers::{
+use crate::eight::vectors::{
     are_zeros, differences, greater, others, sums, where_greater, where_less,
 };
 use flow_shop::Instance;
@@ -51,7 +51,7 @@ fn releases(
 /// released bound is less than the machine bound.
 /// What `late` holds does not matter.
 #[inline(never)]
-fn uncut_by_releases(
+fn unpruned_by_releases(
     instance: &Instance,
     group: &Group,
     frame: &ColumnFrame,
@@ -61,17 +61,17 @@ fn uncut_by_releases(
     requires small { AreSmallFrees instance.now frame.now }
     ensures { (list : List ℕ) (column other : ℕ) → IsTested instance.now bound_at list group.now frame.now →
         IsColumnLeft frame.now column → IsColumnLeft frame.now other → other ≢ column →
-        IsUncutCount instance.now released_bound_at (child list group.now column) frame.now.value instance.now.machines
+        IsUnprunedCount instance.now released_bound_at (child list group.now column) frame.now.value instance.now.machines
         (slice_index result column) }
 {
     // No bound is so great.
     let limit = frame.value.min(u64::from(u32::MAX)) as u32;
     let mut flags = where_less(&[1u32; COLUMNS], &frame.gone, 1);
-    let mut uncut = [0u32; COLUMNS];
+    let mut unpruned = [0u32; COLUMNS];
     for place in 0..instance.machines() as usize {
-        let still = where_greater(&flags, &frame.uncut, place as u32);
+        let still = where_greater(&flags, &frame.unpruned, place as u32);
         if are_zeros(&still) {
-            return uncut;
+            return unpruned;
         }
         let row = &group.rows[place];
         let room = limit.saturating_sub(frame.sum[place]);
@@ -79,9 +79,9 @@ fn uncut_by_releases(
         let start = differences(late, &row.time);
         let behind = others(&greater(&row.tail, &frame.gone));
         flags = where_less(&still, &sums(&start, &behind), room);
-        uncut = sums(&uncut, &flags);
+        unpruned = sums(&unpruned, &flags);
     }
-    uncut
+    unpruned
 }
 
 /// Computes how many machines there are before the first whose released bound reaches the value against which the
@@ -95,5 +95,5 @@ pub fn test_releases(instance: &Instance, group: &Group, frame: &mut ColumnFrame
         IsTested instance.now released_bound_at list group.now frame.new }
 {
     let mut late = [0u32; COLUMNS];
-    frame.uncut = uncut_by_releases(instance, group, frame, &mut late);
+    frame.unpruned = unpruned_by_releases(instance, group, frame, &mut late);
 }

@@ -6,7 +6,7 @@ ghost use Rattle.flow_shop.specs.JobSet.{contains};
 ghost use Rattle.flow_search.specs.internal.Nodes.{Gave, Opens};
 ghost use Rattle.flow_search.specs.internal.Columns.{IsTested, IsColumnLeft, job_of, most_columns};
 ghost use Rattle.flow_search.specs.internal.ColumnWalks.{frame_at};
-ghost use Rattle.flow_search.specs.internal.Settings.{shop_of, cut_bound, StandsAt};
+ghost use Rattle.flow_search.specs.internal.Settings.{shop_of, pruning_bound, StandsAt};
 ghost use Rattle.flow_search.specs.internal.Settings.{children_walk, child_walk, IsTooLong};
 
 use crate::budget::SearchFault;
@@ -47,7 +47,7 @@ fn visit_column(
     left: usize,
     search: &mut SearchState,
 ) -> Result<bool, SearchFault>
-    requires tested { IsTested (shop_of setting.now) (cut_bound setting.now)
+    requires tested { IsTested (shop_of setting.now) (pruning_bound setting.now)
         search.old.node.items group.now frame.now }
     requires value { frame.now.value ≡ search.old.value }
     requires left { IsColumnLeft frame.now column }
@@ -55,7 +55,7 @@ fn visit_column(
     ensures whole { result ≡ Ok false →
         Gave setting.now.budget (child_walk setting.now left (job_of group.now column) search.old)
         search.old search.new }
-    ensures opens { result ≡ Ok true → Opens (shop_of setting.now) (cut_bound setting.now)
+    ensures opens { result ≡ Ok true → Opens (shop_of setting.now) (pruning_bound setting.now)
         setting.now.budget (job_of group.now column) search.old search.new }
     ensures more { result ≡ Ok true → 1 ≤ left }
     ensures over { result ≡ Err SearchFault.OverBudget →
@@ -69,9 +69,9 @@ fn visit_column(
         search.node.pop();
         return Ok(false);
     }
-    let uncut = frame.uncut[column];
-    if uncut < machines as u32 {
-        search.write(setting.budget, b'A' + uncut as u8)?;
+    let unpruned = frame.unpruned[column];
+    if unpruned < machines as u32 {
+        search.write(setting.budget, b'A' + unpruned as u8)?;
         return Ok(false);
     }
     search.write(setting.budget, b'+')?;
@@ -86,7 +86,7 @@ fn walk_columns(
     frames: &mut [ColumnFrame],
     search: &mut SearchState,
 ) -> Result<(), SearchFault>
-    requires tested { IsTested (shop_of setting.now) (cut_bound setting.now)
+    requires tested { IsTested (shop_of setting.now) (pruning_bound setting.now)
         search.old.node.items group.now (frame_at frames.old 0) }
     requires next { (frame_at frames.old 0).next ≡ 0 }
     requires some { 1 ≤ length frames.old }

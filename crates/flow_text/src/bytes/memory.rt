@@ -21,9 +21,9 @@ pub struct MemorySink {
 
 impl Model for MemorySink {
     ghost use Rattle.std.specs.Prelude.{◌≤◌, length};
-    ghost use Rattle.flow_text.specs.Devices.{Kept};
+    ghost use Rattle.flow_text.specs.Devices.{BytesTaken};
 
-    ghost Value = { Kept };
+    ghost Value = { BytesTaken };
 
     ghost view = { λ s. record { bytes = s.bytes.items; limit = s.limit; failed = s.failed } };
 
@@ -93,9 +93,9 @@ pub struct MemorySource<'a> {
 impl<'a> Model for MemorySource<'a> {
     ghost use Rattle.std.specs.Prelude.{◌≤◌, length};
     ghost use Rattle.std.specs.Option.{ForSome};
-    ghost use Rattle.flow_text.specs.Devices.{Held};
+    ghost use Rattle.flow_text.specs.Devices.{BytesToGive};
 
-    ghost Value = { Held };
+    ghost Value = { BytesToGive };
 
     ghost view = { λ s. record {
       bytes = s.bytes.now;

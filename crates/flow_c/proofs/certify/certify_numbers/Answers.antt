@@ -2,7 +2,7 @@ use Rattle.std.proofs.lemmas.Result.{IfErr-weaker, IfOk-weaker}
 use Rattle.flow_check.specs.Certificate.{AreBounds}
 use Rattle.flow_check.proofs.TwoEndedLaws.{two_ended_is_sound}
 use Rattle.flow_c.specs.Faults.{shop_of}
-use Rattle.flow_c.specs.internal.Frames.{with_directions}
+use Rattle.flow_c.specs.internal.Around.{with_directions}
 use Rattle.flow_c.proofs.Asked.{is-refused}
 use Rattle.flow_c.proofs.certify.certify_numbers.Goals as goal
 
@@ -10,7 +10,7 @@ pub returns-clause-bounds : goal.returns-clause-bounds
 returns-clause-bounds c =
     let shop = shop_of c.args.shop.now in
     IfOk-weaker c.certify_from.result _ (λ found. AreBounds shop found.bounds)
-    (λ found is. (two_ended_is_sound shop (with_directions found.frame.bytes found.directions.items) found.bounds
+    (λ found is. (two_ended_is_sound shop (with_directions found.around.bytes found.directions.items) found.bounds
     found.sequence is.lawful).hold)
     (rw c.in_ok-instance.ensures.value at c.certify_from.ensures.text)
 

@@ -1,6 +1,6 @@
 use Rattle.std.proofs.Common.{Some, unwrap_or, [], false}
 use Rattle.flow_requests.specs.declared.CheckOutput.TheVariants.{Proved}
-use Rattle.flow_commands.specs.Answer.{OfBytes}
+use Rattle.flow_commands.specs.Output.{OfBytes}
 use Rattle.flow_commands.specs.Check.{AnswersCheck, WroteLeast}
 use Rattle.flow_commands.specs.Runs.{run_of, sink_run, source_run}
 use Rattle.flow_commands.specs.declared.files.FileKind.TheVariants.{Certificate}

@@ -1,5 +1,5 @@
 use Rattle.std.proofs.Common.{Some, unwrap_or, []}
-use Rattle.flow_commands.specs.Answer.{OfBytes}
+use Rattle.flow_commands.specs.Output.{OfBytes}
 use Rattle.flow_commands.specs.Check.{AnswersCheck, SaysProved, WroteOptimum}
 use Rattle.flow_commands.specs.Runs.{Wrote, run_of, sink_run, source_run}
 use Rattle.flow_commands.specs.declared.files.FileKind.TheVariants.{Certificate}

@@ -1,6 +1,6 @@
 use Rattle.std.proofs.Common.{◌≡◌, ◌∙◌, suc, ◌+◌, ◌++◌, flat_map, ap, sym, arith}
 use Rattle.std.specs.List.{range_with_len}
-use Rattle.flow_schedule.specs.Frame.{tick_text}
+use Rattle.flow_schedule.specs.PictureHead.{tick_text}
 use Rattle.flow_schedule.proofs.Texts.{text-next, numbers-more}
 use Rattle.flow_schedule.proofs.axis.push_ticks.Goals as goal
 

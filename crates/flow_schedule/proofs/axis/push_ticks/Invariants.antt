@@ -1,6 +1,6 @@
 use Rattle.std.proofs.Common.{◌≡◌, ◌++◌, flat_map}
 use Rattle.std.specs.List.{range_with_len}
-use Rattle.flow_schedule.specs.Frame.{tick_text}
+use Rattle.flow_schedule.specs.PictureHead.{tick_text}
 use Rattle.flow_schedule.proofs.axis.push_ticks.Given as goal
 
 -- the ticks so far

@@ -4,7 +4,7 @@ use Rattle.flow_shop.specs.Paths.{span}
 use Rattle.flow_schedule.specs.Timetable.{timetable}
 use Rattle.flow_schedule.specs.HeaviestPath.{IsHeaviestPath}
 use Rattle.flow_schedule.specs.Scale.{breadth_of, steps_of, IsTickStep}
-use Rattle.flow_schedule.specs.Frame.{frame_text}
+use Rattle.flow_schedule.specs.PictureHead.{head_text}
 use Rattle.flow_schedule.proofs.Texts.{pieces-more}
 use Rattle.flow_schedule.proofs.Times.{made}
 use Rattle.flow_schedule.specs.Picture.{bar_text}
@@ -24,7 +24,7 @@ returns c =
     let bars : ℕ → ℕ → List ℕ = λ breadth makespan. flat_map (bar_text breadth makespan c.in_ok-path.path.items)
     (timetable c.args.instance.now c.args.sequence.now) in
     let text : ℕ → ℕ → List ℕ = λ breadth makespan.
-    frame_text c.args.instance.now breadth makespan c.args.lower step ++ bars breadth makespan in
+    head_text c.args.instance.now breadth makespan c.args.lower step ++ bars breadth makespan in
     record {
       step = step;
       path = c.in_ok-path.path.items;

@@ -9,11 +9,11 @@ use Rattle.flow_bound.specs.Loads.{AreLoadsOf}
 use Rattle.flow_search.specs.internal.TwoLeast.{second_tail}
 use Rattle.flow_search.specs.internal.Nodes.{IsAt, incumbent_of}
 use Rattle.flow_search.specs.internal.Frames.{IsFrame}
-use Rattle.flow_search.proofs.Nodes.{left-count, machine-is, cut-here}
+use Rattle.flow_search.proofs.Nodes.{left-count, machine-is, pruned-here}
 use Rattle.flow_search.proofs.NextChild.{frame-of}
-use Rattle.flow_search.proofs.ColumnsWalked.{IsUncut, uncut-found, node-done, node-over}
+use Rattle.flow_search.proofs.ColumnsWalked.{IsUnpruned, unpruned-found, node-done, node-over}
 use Rattle.flow_search.proofs.subtree.explore.Goals as goal
-use Rattle.flow_search.proofs.subtree.explore.Goals.{After-cutting_node, In_default}
+use Rattle.flow_search.proofs.subtree.explore.Goals.{After-pruning_of_node, In_default}
 
 suc-back : (n : ℕ) → 1 ≤ n → n ≡ suc (n - 1)
 suc-back n some = omega (arith, some)
@@ -24,8 +24,8 @@ of-loads-requires-clause-some c =
     c.args.search.now.unscheduled c.args.count c.requires.at in
     omega (arith, size, c.if-count-eq0.false)
 
-pub cutting_node-requires-clause-at : goal.cutting_node-requires-clause-at
-cutting_node-requires-clause-at c =
+pub pruning_of_node-requires-clause-at : goal.pruning_of_node-requires-clause-at
+pruning_of_node-requires-clause-at c =
     let more : c.args.count ≡ suc (c.args.count - 1) = omega (arith, c.if-count-eq0.false) in (
       c.args.search.now.node.items,
       c.args.count - 1,
@@ -34,14 +34,14 @@ cutting_node-requires-clause-at c =
     )
 
 -- what the search for the machine found
-found : (c : After-cutting_node) →
-    c.cutting_node.result
+found : (c : After-pruning_of_node) →
+    c.pruning_of_node.result
     ≡ find (λ machine. nat_le c.args.search.now.value
     (bound_of c.args.setting.now.version c.args.setting.now.instance.now c.args.search.now.node.items machine))
     (numbers 1 c.args.setting.now.instance.now.machines)
 found c =
     let more : c.args.count ≡ suc (c.args.count - 1) = omega (arith, c.if-count-eq0.false) in
-    c.cutting_node.ensures c.args.search.now.node.items (c.args.count - 1)
+    c.pruning_of_node.ensures c.args.search.now.node.items (c.args.count - 1)
     (subst (IsAt c.args.setting.now.instance.now c.args.search.now.node.items c.args.front.now
     c.args.search.now.unscheduled) more c.requires.at)
 
@@ -49,23 +49,23 @@ pub overflow_cast-machine : goal.overflow_cast-machine
 overflow_cast-machine c =
     let is = machine-is c.args.setting.now.instance.now _ c.in-Some.machine c.args.setting.now.are_rows.limits
     (sym c.in-Some.is
-    ∙ found (goal.at.overflow_cast-machine c).After-cutting_node) in
+    ∙ found (goal.at.overflow_cast-machine c).After-pruning_of_node) in
     omega (arith, is.1)
 
 pub overflow_add-machine : goal.overflow_add-machine
 overflow_add-machine c =
     let is = machine-is c.args.setting.now.instance.now _ c.in-Some.machine c.args.setting.now.are_rows.limits
     (sym c.in-Some.is
-    ∙ found (goal.at.overflow_add-machine c).After-cutting_node) in
+    ∙ found (goal.at.overflow_add-machine c).After-pruning_of_node) in
     omega (arith, is.1)
 
 pub returns-in-Some-clause-done : goal.returns-in-Some-clause-done
 returns-in-Some-clause-done c =
-    cut-here c.args.setting.now.instance.now (bound_of c.args.setting.now.version) c.args.setting.now.budget
+    pruned-here c.args.setting.now.instance.now (bound_of c.args.setting.now.version) c.args.setting.now.budget
     c.args.count
     (c.args.count - 1) c.in-Some.machine c.args.search.now c.write-in-Some.new.self
     (omega (arith, c.if-count-eq0.false)) (sym c.in-Some.is
-    ∙ found (goal.at.returns-in-Some-clause-done c).After-cutting_node) c.in_ok-write-2.ensures.done
+    ∙ found (goal.at.returns-in-Some-clause-done c).After-pruning_of_node) c.in_ok-write-2.ensures.done
 
 pub walk_children-requires-clause-frame : goal.walk_children-requires-clause-frame
 walk_children-requires-clause-frame c =
@@ -82,16 +82,16 @@ walk_children-requires-clause-frame c =
     (λ machine from to. c.new-here.ensures.second machine from to
     ∙ ap (λ u. second_tail shop (members u) machine) w.unscheduled))
 
--- no machine cuts the root
-uncut : (c : In_default) →
-    IsUncut c.args.setting.now.instance.now (bound_of c.args.setting.now.version) c.args.count
+-- no machine prunes the root
+unpruned : (c : In_default) →
+    IsUnpruned c.args.setting.now.instance.now (bound_of c.args.setting.now.version) c.args.count
     c.args.search.now.node.items
     (incumbent_of c.args.search.now)
-uncut c =
-    uncut-found c.args.setting.now.instance.now (bound_of c.args.setting.now.version) c.args.count c.args.search.now
+unpruned c =
+    unpruned-found c.args.setting.now.instance.now (bound_of c.args.setting.now.version) c.args.count c.args.search.now
     (omega (arith, c.if-count-eq0.false))
     (sym c.in_default.is
-    ∙ c.cutting_node.ensures c.args.search.now.node.items (c.args.count - 1)
+    ∙ c.pruning_of_node.ensures c.args.search.now.node.items (c.args.count - 1)
     (subst (IsAt c.args.setting.now.instance.now c.args.search.now.node.items c.args.front.now
     c.args.search.now.unscheduled) (suc-back c.args.count (omega (arith, c.if-count-eq0.false))) c.requires.at))
 
@@ -101,7 +101,7 @@ returns-then-count-le-FEW-clause-done c =
     (node-done c.args.setting.now.instance.now (bound_of c.args.setting.now.version) c.args.setting.now.budget
     c.args.count c.args.search.now
     c.write-2.new.self c.walk_few.new.search
-    (uncut (goal.at.returns-then-count-le-FEW-clause-done c).In_default) c.in_ok-write-3.ensures.done)
+    (unpruned (goal.at.returns-then-count-le-FEW-clause-done c).In_default) c.in_ok-write-3.ensures.done)
     c.walk_few.ensures.done
 
 pub returns-then-count-le-FEW-clause-over : goal.returns-then-count-le-FEW-clause-over
@@ -109,7 +109,7 @@ returns-then-count-le-FEW-clause-over c e =
     node-over c.args.setting.now.instance.now (bound_of c.args.setting.now.version) c.args.setting.now.budget
     c.args.count c.args.search.now
     c.write-2.new.self
-    (uncut (goal.at.returns-then-count-le-FEW-clause-over c).In_default) c.in_ok-write-3.ensures.done
+    (unpruned (goal.at.returns-then-count-le-FEW-clause-over c).In_default) c.in_ok-write-3.ensures.done
     (c.walk_few.ensures.over e)
 
 pub returns-clause-done : goal.returns-clause-done
@@ -118,7 +118,7 @@ returns-clause-done c =
     (node-done c.args.setting.now.instance.now (bound_of c.args.setting.now.version) c.args.setting.now.budget
     c.args.count c.args.search.now
     c.write-2.new.self c.walk_children.new.search
-    (uncut (goal.at.returns-clause-done c).In_default) c.in_ok-write-3.ensures.done)
+    (unpruned (goal.at.returns-clause-done c).In_default) c.in_ok-write-3.ensures.done)
     c.walk_children.ensures.done
 
 pub returns-clause-over : goal.returns-clause-over
@@ -126,4 +126,4 @@ returns-clause-over c e =
     node-over c.args.setting.now.instance.now (bound_of c.args.setting.now.version) c.args.setting.now.budget
     c.args.count c.args.search.now
     c.write-2.new.self
-    (uncut (goal.at.returns-clause-over c).In_default) c.in_ok-write-3.ensures.done (c.walk_children.ensures.over e)
+    (unpruned (goal.at.returns-clause-over c).In_default) c.in_ok-write-3.ensures.done (c.walk_children.ensures.over e)

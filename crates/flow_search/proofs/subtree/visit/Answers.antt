@@ -6,12 +6,12 @@ use Rattle.flow_search.specs.internal.Nodes.{IsAt, incumbent_of}
 use Rattle.flow_search.specs.declared.budget.SearchFault.{SearchFault}
 use Rattle.flow_search.specs.declared.budget.SearchFault.TheVariants.{OverBudget}
 use Rattle.flow_search.proofs.Nodes.{machine-is}
-use Rattle.flow_search.proofs.Resume.{cut-done}
+use Rattle.flow_search.proofs.Resume.{pruned-done}
 use Rattle.flow_search.proofs.NextChild.{walk-some}
 use Rattle.flow_search.proofs.subtree.visit.Goals as goal
 
-pub cutting_child-requires-clause-at : goal.cutting_child-requires-clause-at
-cutting_child-requires-clause-at c =
+pub pruning_of_child-requires-clause-at : goal.pruning_of_child-requires-clause-at
+pruning_of_child-requires-clause-at c =
     let more : c.args.left ≡ suc (c.args.left - 1) = omega (arith, c.requires.many) in (
       c.args.left - 1,
       subst (λ n. IsAt c.args.setting.now.instance.now c.args.search.now.node.items c.args.here.now.front
@@ -24,32 +24,32 @@ pub overflow_cast-machine : goal.overflow_cast-machine
 overflow_cast-machine c =
     let shop = c.args.setting.now.instance.now in
     let is = machine-is shop _ c.in-Some.machine c.args.setting.now.are_rows.limits (sym c.in-Some.is
-    ∙ c.cutting_child.ensures) in
+    ∙ c.pruning_of_child.ensures) in
     omega (arith, is.1)
 
 pub overflow_add-machine : goal.overflow_add-machine
 overflow_add-machine c =
     let shop = c.args.setting.now.instance.now in
     let is = machine-is shop _ c.in-Some.machine c.args.setting.now.are_rows.limits (sym c.in-Some.is
-    ∙ c.cutting_child.ensures) in
+    ∙ c.pruning_of_child.ensures) in
     omega (arith, is.1)
 
 pub returns-in-Some-clause-whole : goal.returns-in-Some-clause-whole
 returns-in-Some-clause-whole c e =
-    cut-done c.args.setting.now.instance.now (bound_of c.args.setting.now.version) c.args.setting.now.budget
+    pruned-done c.args.setting.now.instance.now (bound_of c.args.setting.now.version) c.args.setting.now.budget
     c.args.left c.args.job c.in-Some.machine
     c.args.search.now c.write.new.self
     (omega (arith, c.requires.many)) (sym c.in-Some.is
-    ∙ c.cutting_child.ensures) c.in_ok-write.ensures.done
+    ∙ c.pruning_of_child.ensures) c.in_ok-write.ensures.done
 
 pub returns-clause-opens : goal.returns-clause-opens
 returns-clause-opens c e = record {
   wrote = c.in_ok-write-2.ensures.done;
-  uncut = sym (c.cutting_child.ensures) ∙ c.in_default.is;
+  unpruned = sym (c.pruning_of_child.ensures) ∙ c.in_default.is;
 }
 
-pub walk_small-requires-clause-uncut : goal.walk_small-requires-clause-uncut
-walk_small-requires-clause-uncut c = sym (c.cutting_child.ensures)
+pub walk_small-requires-clause-unpruned : goal.walk_small-requires-clause-unpruned
+walk_small-requires-clause-unpruned c = sym (c.pruning_of_child.ensures)
     ∙ c.in_default.is
 
 pub returns-clause-more : goal.returns-clause-more

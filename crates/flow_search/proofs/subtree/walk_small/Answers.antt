@@ -6,7 +6,7 @@ use Rattle.flow_search.specs.declared.budget.SearchFault.{SearchFault}
 use Rattle.flow_search.specs.declared.budget.SearchFault.TheVariants.{OverBudget}
 use Rattle.flow_search.proofs.Nodes.{at-child, within-front}
 use Rattle.flow_search.proofs.Resume.{child-done, child-over}
-use Rattle.flow_search.proofs.ColumnsWalked.{IsUncut, uncut-child, node-done, node-over}
+use Rattle.flow_search.proofs.ColumnsWalked.{IsUnpruned, unpruned-child, node-done, node-over}
 use Rattle.flow_search.proofs.subtree.walk_small.Goals as goal
 use Rattle.flow_search.proofs.subtree.walk_small.Goals.{In_ok-write}
 
@@ -30,13 +30,13 @@ walk_few-requires-clause-at c =
     (subst (λ u. IsAt shop (old.node.items ++ c.args.job
     ∷ []) c.front_push.new.front u c.args.left) (sym (wrote.unscheduled ∙ in_child.unscheduled)) kid)
 
--- no machine cuts the child that was entered
-uncut : (c : In_ok-write) →
-    IsUncut c.args.setting.now.instance.now (bound_of c.args.setting.now.version) c.args.left
+-- no machine prunes the child that was entered
+unpruned : (c : In_ok-write) →
+    IsUnpruned c.args.setting.now.instance.now (bound_of c.args.setting.now.version) c.args.left
     c.enter.new.self.node.items (incumbent_of c.enter.new.self)
-uncut c = uncut-child c.args.setting.now.instance.now (bound_of c.args.setting.now.version) c.args.left c.args.job
+unpruned c = unpruned-child c.args.setting.now.instance.now (bound_of c.args.setting.now.version) c.args.left c.args.job
     c.args.search.now c.enter.new.self
-    c.requires.some c.in_ok-enter.ensures c.requires.uncut
+    c.requires.some c.in_ok-enter.ensures c.requires.unpruned
 
 pub returns-in_err-walk_few-clause-over : goal.returns-in_err-walk_few-clause-over
 returns-in_err-walk_few-clause-over c e =
@@ -49,7 +49,7 @@ returns-in_err-walk_few-clause-over c e =
     c.in_ok-enter.ensures
     (node-over shop (bound_of c.args.setting.now.version) c.args.setting.now.budget c.args.left c.enter.new.self
     c.write.new.self
-    (uncut (goal.at.returns-in_err-walk_few-clause-over c).In_ok-write) c.in_ok-write.ensures.done
+    (unpruned (goal.at.returns-in_err-walk_few-clause-over c).In_ok-write) c.in_ok-write.ensures.done
     (c.in_err-walk_few.ensures.over same))
 
 pub returns-clause-done : goal.returns-clause-done
@@ -60,7 +60,7 @@ returns-clause-done c =
     c.walk_few.new.search =
     node-done shop (bound_of c.args.setting.now.version) c.args.setting.now.budget c.args.left c.enter.new.self
     c.write.new.self c.walk_few.new.search
-    (uncut (goal.at.returns-clause-done c).In_ok-write) c.in_ok-write.ensures.done c.in_ok-walk_few.ensures.done in
+    (unpruned (goal.at.returns-clause-done c).In_ok-write) c.in_ok-write.ensures.done c.in_ok-walk_few.ensures.done in
     child-done shop (bound_of c.args.setting.now.version) c.args.setting.now.budget c.args.left c.args.job old
     c.enter.new.self c.walk_few.new.search
     c.leave.new.self

@@ -7,7 +7,7 @@ use Rattle.flow_limits.specs.Limits.{most_machines, greatest_time, greatest_comp
 use Rattle.flow_shop.specs.Shop.{Shop}
 use Rattle.flow_shop.specs.Paths.{completion}
 use Rattle.flow_shop.specs.Bound.{bound_at}
-use Rattle.flow_search.specs.internal.Columns.{IsColumnLeft, IsFrameOf, IsUncutCount, child, job_of}
+use Rattle.flow_search.specs.internal.Columns.{IsColumnLeft, IsFrameOf, IsUnprunedCount, child, job_of}
 use Rattle.flow_search.proofs.ColumnsPassed.{all-same, passed-start, passed-more, free-none, free-is, bound-is}
 use Rattle.flow_search.proofs.ColumnsPassed.{start-small, behind-small, sum-small, row-small, done-more}
 use Rattle.flow_search.proofs.ColumnsOpened.{opened-same}
@@ -22,7 +22,7 @@ loop-place-init c = record {
   next = refl;
   size = search rules;
   free_small = λ column low. omega (arith, all-same 8 0 column low);
-  uncut_small = λ column low. omega (arith, all-same 8 0 column low);
+  unpruned_small = λ column low. omega (arith, all-same 8 0 column low);
   flags_small = λ column low. omega (arith, all-same 8 1 column low);
   free = λ list column at here. all-same 8 0 column here.within ∙ free-none c.args.instance.now list (job_of
       c.args.group.now column);
@@ -115,7 +115,7 @@ loop-place-preserved c =
       next = c.loop-place.invariant.next;
       size = length-set c.loop-place.frame.free place c.sums-free.result ∙ c.loop-place.invariant.size;
       free_small = leaves_small;
-      uncut_small = λ column low.
+      unpruned_small = λ column low.
           let flag : slice_index c.where_less-flags.result column ≤ 1 = elim
           (cases_lt (slice_index c.sums.result column) c.saturating_sub-room.result) [
             | inl under ↦ omega (
@@ -126,7 +126,7 @@ loop-place-preserved c =
             )
             | inr over ↦ omega (arith, c.where_less-flags.ensures.cut column low over)
           ] in
-          omega (arith, c.sums-uncut.ensures.each column low, flag, c.loop-place.invariant.uncut_small column low);
+          omega (arith, c.sums-unpruned.ensures.each column low, flag, c.loop-place.invariant.unpruned_small column low);
       flags_small = λ column low. elim (cases_lt (slice_index c.sums.result column) c.saturating_sub-room.result) [
         | inl under ↦ omega (
           arith,
@@ -154,8 +154,8 @@ loop-place-preserved c =
           let load = sum-small shop c.requires.0 c.args.group.now c.args.frame.now place
           c.machines-machines.ensures.limits c.requires.1 to in
           passed-more shop bound_at (child list c.args.group.now column) c.args.value place
-          (slice_index c.loop-place.uncut column) (slice_index c.loop-place.flags column)
-          (slice_index c.where_less-flags.result column) (slice_index c.sums-uncut.result column)
+          (slice_index c.loop-place.unpruned column) (slice_index c.loop-place.flags column)
+          (slice_index c.where_less-flags.result column) (slice_index c.sums-unpruned.result column)
           (c.loop-place.invariant.passed list column other at here there differ)
           (λ under. c.where_less-flags.ensures.kept column here.within
           (omega (
@@ -174,7 +174,7 @@ loop-place-preserved c =
           )))
           (λ over. c.where_less-flags.ensures.cut column here.within
           (omega (arith, over, bound, whole, sum, c.saturating_sub-room.ensures, c.min-limit.ensures)))
-          (c.sums-uncut.ensures.each column here.within);
+          (c.sums-unpruned.ensures.each column here.within);
       done_small = λ there column earlier low.
           done-more (λ k times. slice_index times column ≤ greatest_completion + most_machines * greatest_time)
           c.loop-place.frame.free [] place c.sums-free.result
@@ -202,9 +202,9 @@ returns-clause-tested c list at =
       opened = opened-same c.args.instance.now list c.args.group.now c.args.frame.now _ c.loop-place.invariant.front
           c.loop-place.invariant.sum c.loop-place.invariant.gone c.loop-place.invariant.columns at
           (λ place column left low. c.loop-place.invariant.done list place column at left (omega (arith, low, e)));
-      uncut = λ column other here there differ.
-          subst (λ m. IsUncutCount c.args.instance.now bound_at (child list c.args.group.now column) c.args.value m
-          (slice_index c.loop-place.uncut column)) e
+      unpruned = λ column other here there differ.
+          subst (λ m. IsUnprunedCount c.args.instance.now bound_at (child list c.args.group.now column) c.args.value m
+          (slice_index c.loop-place.unpruned column)) e
           (c.loop-place.invariant.passed list column other at
           (record { within = here.within; left = back column here.left })
           (record { within = there.within; left = back other there.left }) differ).is;

@@ -16,13 +16,13 @@ invariant-loop-place l = record {
   next : l.frame.next ≡ l.fn.frame.next;
   size : length l.frame.free ≡ most_machines;
   free_small : (column : ℕ) → column < 8 → slice_index l.free column ≤ greatest_completion + l.place * greatest_time;
-  uncut_small : (column : ℕ) → column < 8 → slice_index l.uncut column ≤ l.place;
+  unpruned_small : (column : ℕ) → column < 8 → slice_index l.unpruned column ≤ l.place;
   flags_small : (column : ℕ) → column < 8 → slice_index l.flags column ≤ 1;
   free : (list : List ℕ) (column : ℕ) → IsFrameOf l.instance list l.group l.fn.frame → IsColumnLeft l.fn.frame column →
       slice_index l.free column ≡ completion l.instance (child list l.group column) l.place;
   passed : (list : List ℕ) (column other : ℕ) → IsFrameOf l.instance list l.group l.fn.frame → IsColumnLeft l.fn.frame
       column → IsColumnLeft l.fn.frame other → other ≢ column →
-      IsPassed l.instance bound_at (child list l.group column) l.value l.place (slice_index l.uncut column)
+      IsPassed l.instance bound_at (child list l.group column) l.value l.place (slice_index l.unpruned column)
       (slice_index l.flags column);
   done_small : (place column : ℕ) → place < l.place → column < 8 →
       slice_index (slice_index_or l.frame.free place []) column ≤ greatest_completion + most_machines * greatest_time;

@@ -6,7 +6,7 @@ pub returns-clause-tested : goal.returns-clause-tested
 returns-clause-tested c list tested = record {
   opened = opened-same c.args.instance.now list c.args.group.now c.args.frame.now _ refl refl refl refl
       tested.opened.at tested.opened.free;
-  uncut = λ column other here there differ.
-      c.uncut_by_releases-frame.ensures list column other tested (record { within = here.within; left = here.left })
+  unpruned = λ column other here there differ.
+      c.unpruned_by_releases-frame.ensures list column other tested (record { within = here.within; left = here.left })
       (record { within = there.within; left = there.left }) differ;
 }

@@ -6,19 +6,19 @@ use Rattle.flow_shop.specs.Bound.{bound_at, released_bound_at}
 use Rattle.flow_shop.proofs.Admissible.{released_bound_is_stronger}
 use Rattle.flow_search.specs.declared.eight.group.TheConstants.{GONE}
 use Rattle.flow_search.specs.declared.eight.group.MachineRow.{MachineRow}
-use Rattle.flow_search.specs.internal.Columns.{IsUncutCount, child}
+use Rattle.flow_search.specs.internal.Columns.{IsUnprunedCount, child}
 use Rattle.flow_search.proofs.ColumnsPassed.{all-same, passed-start, passed-more, behind-small, sum-small}
-use Rattle.flow_search.proofs.ColumnsStill.{cut-sooner, still-none}
+use Rattle.flow_search.proofs.ColumnsStill.{pruned-sooner, still-none}
 use Rattle.flow_search.proofs.ColumnsReleased.{released-is}
-use Rattle.flow_search.proofs.eight.releases.uncut_by_releases.Goals as goal
-use Rattle.flow_search.proofs.eight.releases.uncut_by_releases.Goals.{After-where_greater-still, After-others-behind}
+use Rattle.flow_search.proofs.eight.releases.unpruned_by_releases.Goals as goal
+use Rattle.flow_search.proofs.eight.releases.unpruned_by_releases.Goals.{After-where_greater-still, After-others-behind}
 
 abbrev none : MachineRow
 none = record { time = []; tail = [] }
 
 pub loop-place-init : goal.loop-place-init
 loop-place-init c = record {
-  uncut_small = λ column low. omega (arith, all-same 8 0 column low);
+  unpruned_small = λ column low. omega (arith, all-same 8 0 column low);
   flags_small = λ column low. elim (cases_lt (slice_index c.args.frame.now.gone column) 1) [
     | inl under ↦ omega (arith, c.where_less-flags.ensures.kept column low under, all-same 8 1 column low)
     | inr over ↦ omega (arith, c.where_less-flags.ensures.cut column low over)
@@ -38,10 +38,10 @@ returns-then-are_zeros c list column other tested here there differ =
     let place : ℕ = c.loop-place.place in
     let to : place < shop.machines = omega (arith, c.loop-place-test.true, c.machines-place-end.ensures.value) in
     still-none shop bound_at released_bound_at (child list c.args.group.now column) c.args.frame.now.value place
-    shop.machines (slice_index c.args.frame.now.uncut column) (slice_index c.loop-place.uncut column)
+    shop.machines (slice_index c.args.frame.now.unpruned column) (slice_index c.loop-place.unpruned column)
     (slice_index c.loop-place.flags column) (slice_index c.where_greater-still.result column)
     (released_bound_is_stronger shop (child list c.args.group.now column))
-    (tested.uncut column other here there differ)
+    (tested.unpruned column other here there differ)
     (c.loop-place.invariant.passed list column other tested here there differ) to
     (c.where_greater-still.ensures.kept column here.within)
     (c.are_zeros.ensures c.if-are_zeros.true column here.within)
@@ -49,7 +49,7 @@ returns-then-are_zeros c list column other tested here there differ =
 -- a flag is 0 or 1
 still-small : (c : After-where_greater-still) (column : ℕ) → column < 8 →
     slice_index c.where_greater-still.result column ≤ 1
-still-small c column low = elim (cases_lt c.loop-place.place (slice_index c.args.frame.now.uncut column)) [
+still-small c column low = elim (cases_lt c.loop-place.place (slice_index c.args.frame.now.unpruned column)) [
   | inl before ↦ omega (
     arith,
     c.where_greater-still.ensures.kept column low before,
@@ -76,22 +76,22 @@ sums-requires c = record {
   fits = λ column low. omega (arith, total-small (goal.at.sums-requires c).After-others-behind column low);
 }
 
-pub sums-uncut-requires : goal.sums-uncut-requires
-sums-uncut-requires c = record {
+pub sums-unpruned-requires : goal.sums-unpruned-requires
+sums-unpruned-requires c = record {
   fits = λ column low.
       let flag : slice_index c.where_less-flags-in-loop-place.result column ≤ 1 = elim
       (cases_lt (slice_index c.sums.result column) c.saturating_sub-room.result) [
         | inl under ↦ omega (
           arith,
           c.where_less-flags-in-loop-place.ensures.kept column low under,
-          still-small (goal.at.sums-uncut-requires c).After-where_greater-still column low,
+          still-small (goal.at.sums-unpruned-requires c).After-where_greater-still column low,
         )
         | inr over ↦ omega (arith, c.where_less-flags-in-loop-place.ensures.cut column low over)
       ] in
       omega (
         arith,
         flag,
-        c.loop-place.invariant.uncut_small column low,
+        c.loop-place.invariant.unpruned_small column low,
         c.loop-place-test.true,
         c.machines-place-end.ensures.limits.machines,
         c.machines-place-end.ensures.value,
@@ -113,12 +113,12 @@ loop-place-preserved c =
       | inr over ↦ omega (arith, c.where_less-flags-in-loop-place.ensures.cut column low over)
     ] in
     record {
-      uncut_small = λ column low.
+      unpruned_small = λ column low.
           omega (
             arith,
-            c.sums-uncut.ensures.each column low,
+            c.sums-unpruned.ensures.each column low,
             flag column low,
-            c.loop-place.invariant.uncut_small
+            c.loop-place.invariant.unpruned_small
                 column low,
           );
       flags_small = flag;
@@ -136,8 +136,8 @@ loop-place-preserved c =
           let was = c.loop-place.invariant.passed list column other tested here there differ in
           let most = total-small (goal.at.loop-place-preserved c).After-others-behind column here.within in
           passed-more shop released_bound_at (child list c.args.group.now column) c.args.frame.now.value place
-          (slice_index c.loop-place.uncut column) (slice_index c.loop-place.flags column)
-          (slice_index c.where_less-flags-in-loop-place.result column) (slice_index c.sums-uncut.result column)
+          (slice_index c.loop-place.unpruned column) (slice_index c.loop-place.flags column)
+          (slice_index c.where_less-flags-in-loop-place.result column) (slice_index c.sums-unpruned.result column)
           was
           (λ under. c.where_less-flags-in-loop-place.ensures.kept column here.within
           (omega (
@@ -151,25 +151,25 @@ loop-place-preserved c =
             c.min-limit.ensures,
             c.from.ensures,
           ))
-          ∙ elim (cases_lt place (slice_index c.args.frame.now.uncut column)) [
+          ∙ elim (cases_lt place (slice_index c.args.frame.now.unpruned column)) [
             | inl before ↦ c.where_greater-still.ensures.kept column here.within before
             | inr past ↦
-                let none = cut-sooner shop bound_at released_bound_at (child list c.args.group.now column)
-                c.args.frame.now.value place shop.machines (slice_index c.args.frame.now.uncut column)
-                (slice_index c.loop-place.uncut column) (slice_index c.loop-place.flags column)
+                let none = pruned-sooner shop bound_at released_bound_at (child list c.args.group.now column)
+                c.args.frame.now.value place shop.machines (slice_index c.args.frame.now.unpruned column)
+                (slice_index c.loop-place.unpruned column) (slice_index c.loop-place.flags column)
                 (released_bound_is_stronger shop (child list c.args.group.now column))
-                (tested.uncut column other here there differ) was to under past in
+                (tested.unpruned column other here there differ) was to under past in
                 c.where_greater-still.ensures.cut column here.within past ∙ sym none
           ])
           (λ over. c.where_less-flags-in-loop-place.ensures.cut column here.within
           (omega (arith, over, bound, whole, c.saturating_sub-room.ensures, c.min-limit.ensures, c.from.ensures)))
-          (c.sums-uncut.ensures.each column here.within);
+          (c.sums-unpruned.ensures.each column here.within);
     }
 
 pub returns : goal.returns
 returns c list column other tested here there differ =
     let e : c.loop-place.place ≡ c.args.instance.now.machines = omega
     (arith, c.loop-place-test.false, c.loop-place.auto.place-end, c.machines-place-end.ensures.value) in
-    subst (λ m. IsUncutCount c.args.instance.now released_bound_at (child list c.args.group.now column)
-    c.args.frame.now.value m (slice_index c.loop-place.uncut column)) e
+    subst (λ m. IsUnprunedCount c.args.instance.now released_bound_at (child list c.args.group.now column)
+    c.args.frame.now.value m (slice_index c.loop-place.unpruned column)) e
     (c.loop-place.invariant.passed list column other tested here there differ).is

@@ -1,0 +1,237 @@
+//! The order in which the children of a list of nodes are kept.
+
+ghost use Rattle.std.specs.Prelude.{◌≤◌};
+ghost use Rattle.flow_limits.specs.Limits.{most_machines};
+
+use flow_limits::MAX_MACHINES;
+use flow_shop::{End, Instance, Row};
+
+/// A time for each machine, with machine 1 first.
+type MachineTimes = [u32; MAX_MACHINES];
+
+/// What the order goes by.
+#[derive(Clone, Copy)]
+pub(crate) enum Mode {
+    /// By the bound, and then by the deficit.
+    Bound,
+    /// By a sum of the bound and the deficit.
+    Sum,
+    /// By the deficit, and then by the bound.
+    Deficit,
+}
+
+/// The order of the children in a pass.
+#[derive(Clone, Copy)]
+pub(crate) struct ChildOrder {
+    pub(crate) mode: Mode,
+    /// The greatest time of a job on a machine.
+    pub(crate) greatest: u32,
+    /// How many machines there are.
+    pub(crate) machines: usize,
+    ghost few: { machines ≤ most_machines },
+}
+
+/// What a bound counts in a sum with the deficit, in greatest times.
+const BOUND_WEIGHT: u64 = 30;
+
+/// What children are ordered by: the first number, and then the second.
+#[derive(Clone, Copy, PartialEq, Eq, PartialOrd, Ord)]
+pub(crate) struct Key {
+    first: u64,
+    second: u64,
+}
+
+/// The front and the back of a node on each machine.
+#[derive(Clone, Copy)]
+pub(crate) struct EndTimes {
+    front: MachineTimes,
+    back: MachineTimes,
+}
+
+/// Makes each time the least of it and of another one.
+fn at_most(least: &mut MachineTimes, times: &MachineTimes) {
+    for place in 0..MAX_MACHINES {
+        least[place] = least[place].min(times[place]);
+    }
+}
+
+/// The times of a job before each machine.
+fn heads_of(row: &Row) -> MachineTimes {
+    let mut heads = [0; MAX_MACHINES];
+    let mut sum: u32 = 0;
+    for place in 0..MAX_MACHINES {
+        heads[place] = sum;
+        sum = sum.wrapping_add(row.times[place]);
+    }
+    heads
+}
+
+impl EndTimes {
+    /// Those of the node at which all jobs are left: the heads and the tails.
+    pub(crate) fn root(rows: &[Row]) -> EndTimes {
+        let mut front = [u32::MAX; MAX_MACHINES];
+        let mut back = front;
+        for row in rows {
+            at_most(&mut front, &heads_of(row));
+            at_most(&mut back, &row.tails);
+        }
+        EndTimes { front, back }
+    }
+
+    /// Puts a job with these times at an end.
+    pub(crate) fn put(&mut self, instance: &Instance, end: End, times: &MachineTimes) {
+        let machines = usize::from(instance.machines());
+        let mut free = 0;
+        match end {
+            End::Front => {
+                for place in 0..machines {
+                    free = self.front[place].max(free).wrapping_add(times[place]);
+                    self.front[place] = free;
+                }
+            }
+            End::Back => {
+                for place in (0..machines).rev() {
+                    free = self.back[place].max(free).wrapping_add(times[place]);
+                    self.back[place] = free;
+                }
+            }
+        }
+    }
+}
+
+/// The square of what a machine's work in store is below the cap.
+fn lack(cap: u32, later: u32, earlier: u32) -> u64 {
+    let below = u64::from(cap.saturating_sub(later.wrapping_sub(earlier)));
+    below.wrapping_mul(below)
+}
+
+impl ChildOrder {
+    /// The work in store from which on a machine lacks none.
+    fn cap(&self) -> u32 {
+        match self.mode {
+            Mode::Bound => self.greatest.wrapping_mul(2),
+            Mode::Sum => self.greatest,
+            Mode::Deficit => self.greatest.wrapping_add(self.greatest / 2),
+        }
+    }
+
+    /// What a bound counts in a sum.
+    fn weight(&self) -> u64 {
+        BOUND_WEIGHT.wrapping_mul(u64::from(self.greatest))
+    }
+
+    /// The key of a bound and a deficit. It is below 2^56, since bounds are below 2^30, and times below 2^20.
+    pub(crate) fn key(&self, bound: u32, deficit: u64) -> Key {
+        let bound = u64::from(bound);
+        match self.mode {
+            Mode::Bound => Key {
+                first: bound,
+                second: deficit,
+            },
+            Mode::Sum => Key {
+                first: self.weight().wrapping_mul(bound).wrapping_add(deficit),
+                second: 0,
+            },
+            Mode::Deficit => Key {
+                first: deficit,
+                second: bound,
+            },
+        }
+    }
+
+    /// The least bound whose key with a deficit is above a key.
+    pub(crate) fn bound_above(&self, key: &Key, deficit: u64) -> u64 {
+        match self.mode {
+            Mode::Bound => key.first.wrapping_add(u64::from(deficit <= key.second)),
+            Mode::Sum if key.first < deficit => 0,
+            Mode::Sum => match (key.first - deficit).checked_div(self.weight()) {
+                Some(most) => most.wrapping_add(1),
+                None => u64::MAX,
+            },
+            Mode::Deficit if deficit < key.first => u64::MAX,
+            Mode::Deficit if deficit == key.first => key.second.wrapping_add(1),
+            Mode::Deficit => 0,
+        }
+    }
+
+    /// The greatest deficit with which the key of a bound is not above a key; or, where the deficit comes first in the
+    /// order, one that no such deficit exceeds.
+    pub(crate) fn most_deficit(&self, key: &Key, bound: u32) -> u64 {
+        let bound = u64::from(bound);
+        match self.mode {
+            Mode::Bound if bound < key.first => u64::MAX,
+            Mode::Bound => key.second,
+            Mode::Sum => key.first.saturating_sub(self.weight().wrapping_mul(bound)),
+            Mode::Deficit => key.first,
+        }
+    }
+
+    /// The deficit of a front.
+    fn front_deficit(&self, front: &MachineTimes) -> u64 {
+        let cap = self.cap();
+        let mut deficit: u64 = 0;
+        for place in 1..self.machines {
+            deficit = deficit.wrapping_add(lack(cap, front[place], front[place - 1]));
+        }
+        deficit
+    }
+
+    /// The deficit of a back.
+    fn back_deficit(&self, back: &MachineTimes) -> u64 {
+        let cap = self.cap();
+        let mut deficit: u64 = 0;
+        for place in 1..self.machines {
+            deficit = deficit.wrapping_add(lack(cap, back[place - 1], back[place]));
+        }
+        deficit
+    }
+
+    /// The deficit of the end of a node at which no job is put.
+    pub(crate) fn kept_deficit(&self, times: &EndTimes, end: End) -> u64 {
+        match end {
+            End::Front => self.back_deficit(&times.back),
+            End::Back => self.front_deficit(&times.front),
+        }
+    }
+
+    /// The deficit of the end of a node at which a job is put; or a part of it that is above the most.
+    pub(crate) fn changed_deficit(
+        &self,
+        times: &EndTimes,
+        end: End,
+        job: &MachineTimes,
+        most: u64,
+    ) -> u64 {
+        let machines = self.machines;
+        let cap = self.cap();
+        let mut deficit: u64 = 0;
+        let mut earlier: u32 = 0;
+        match end {
+            End::Front => {
+                for place in 0..machines {
+                    let free = times.front[place].max(earlier).wrapping_add(job[place]);
+                    if place > 0 {
+                        deficit = deficit.wrapping_add(lack(cap, free, earlier));
+                    }
+                    if deficit > most {
+                        break;
+                    }
+                    earlier = free;
+                }
+            }
+            End::Back => {
+                for place in (0..machines).rev() {
+                    let free = times.back[place].max(earlier).wrapping_add(job[place]);
+                    if place + 1 < machines {
+                        deficit = deficit.wrapping_add(lack(cap, free, earlier));
+                    }
+                    if deficit > most {
+                        break;
+                    }
+                    earlier = free;
+                }
+            }
+        }
+        deficit
+    }
+}
