@@ -133,6 +133,9 @@ def sequence_of(text: bytes) -> Tuple[List[int], Optional[int], int]:
             sentence = f"line {number} is {_line(text, number)}, and has to be {wanted}"
             raise TextError("SEQUENCE", number, sentence)
         found.append([int(word) for word in match[1].split()])
+    if not found:
+        number = text.count(b"\n") + bool(text.rpartition(b"\n")[2]) + 1
+        raise TextError("SEQUENCE", number, f"there is no line with {_SEQUENCE_LINES[0][1]}")
     return found[0], found[1][0] if len(found) == 2 else None, number
 
 
