@@ -293,15 +293,15 @@ class Shop:
         '<svg'
         """
         lower = self.check(sequence).lower if isinstance(sequence, Certificate) else 0
-        return self._picture(sequence, lower)
-
-    def _picture(self, sequence: Jobs, lower: int) -> Picture:
-        """The picture of a sequence, with a lower bound where it is above 0."""
-        jobs, room = packed(sequence, self.jobs), 16_384 + 400 * self.jobs * self.machines
-        picture = written(room, lambda text: self._call("picture", jobs, lower, text)).decode("ascii")
+        picture = self._picture(sequence, lower)
         if self._parts[3:5] != (None, None):
             picture = with_names(picture, self.job_names, self.machine_names)
         return Picture(picture)
+
+    def _picture(self, sequence: Jobs, lower: int) -> str:
+        """The picture of a sequence without names, with a lower bound where it is above 0."""
+        jobs, room = packed(sequence, self.jobs), 16_384 + 400 * self.jobs * self.machines
+        return written(room, lambda text: self._call("picture", jobs, lower, text)).decode("ascii")
 
     def report(
         self,
@@ -323,13 +323,14 @@ class Shop:
         times = times_of(self._parts[5], start, unit)
         certificate = self.check(order) if isinstance(order, Certificate) else None
         timetable = self.schedule(certificate or order)
+        lower = certificate.lower if certificate else self.bound()
         facts = Facts(
             title=title or f"Schedule of {counted(self.jobs, 'job')} on {counted(self.machines, 'machine')}",
             timetable=timetable,
-            lower=certificate.lower if certificate else self.bound(),
+            lower=lower,
             is_certified=certificate is not None,
             listed=self.makespan(range(1, self.jobs + 1)),
-            picture=self._picture(certificate or timetable, 0) if self.jobs * self.machines <= MOST_BARS else "",
+            picture=self._picture(timetable, lower) if self.jobs * self.machines <= MOST_BARS else "",
             times=times,
         )
         return Report(page(facts))
