@@ -136,5 +136,5 @@ END {
   find_shop()
   if (line[1] == "job,machine,start,end") name_schedule()
   else if (line[1] ~ /^sequence( [0-9]+)+$/) name_sequence()
-  else stop(ARGV[ARGC - 1], "there is no schedule and no sequence")
+  else stop(ARGV[ARGC - 1], "there is no schedule and no sequence, as schedule and check --sequence write them")
 }
