@@ -336,6 +336,11 @@ def draw_pictures():
     texts = [element.text() for element in next(root.all("svg")).all("text")]
     marks = ["22:30", "22:55", "23:20", "23:45", "day 2, 00:10", "00:35", "01:00"]
     equal("marks without seconds", [text for text in texts if re.search(r"\d\d:\d\d$", text)], marks)
+    # A picture alone has the unit of the table too: 29 and 6 quarters.
+    picture = shop_of([[29], [6]], 4, "comma", ["Bed", "Door"], ["Saw"]).gantt([2, 1])
+    titles = re.findall("<title>(.*?)</title>", picture)
+    wanted = ["makespan 8,75, jobs 2, machines 1", "Door, Saw, start 0, end 1,5", "Bed, Saw, start 1,5, end 8,75"]
+    equal("the titles of a picture alone", titles, wanted)
     # What is proved stands in the title, and over the picture.
     for order, words, head in [
         (SHOP.check(LEAST), {}, "optimal 12"),

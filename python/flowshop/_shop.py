@@ -7,7 +7,8 @@ from math import perm
 from typing import Any, Callable, Hashable, Iterable, List, NamedTuple, NoReturn, Optional, Tuple, Union
 
 from ._certify import Better, Effort, Known, Run
-from ._clock import times_of
+from ._clock import Plain, times_of
+from ._drawing import with_times
 from ._errors import Interrupted, NotASequence, NotLawful, OptionError, OverBudget, counted
 from ._found import Below, Over, Proved, numbers_of, part_of
 from ._labels import Unit, label_lines
@@ -285,9 +286,9 @@ class Shop:
 
     def gantt(self, sequence: Jobs) -> Picture:
         """The picture of the timetable of a sequence, as SVG text: a row for each machine, and a bar for each job and
-        machine where the time is not 0. The outlined operations leave no room: together they take the whole time. Of a
-        Certificate, which is checked, the title says also what it proves; NotLawful where it is none of the shop. The
-        other errors are those of `makespan`.
+        machine where the time is not 0. Times are in the unit of the table, where the shop has one. The outlined
+        operations leave no room: together they take the whole time. Of a Certificate, which is checked, the title says
+        also what it proves; NotLawful where it is none of the shop. The other errors are those of `makespan`.
 
         >>> shop.gantt(shop.neh())[:4]
         '<svg'
@@ -296,7 +297,7 @@ class Shop:
         picture = self._picture(sequence, lower)
         if self._parts[3:5] != (None, None):
             picture = with_names(picture, self.job_names, self.machine_names)
-        return Picture(picture)
+        return Picture(with_times(picture, Plain(self._parts[5])) if self.scale > 1 else picture)
 
     def _picture(self, sequence: Jobs, lower: int) -> str:
         """The picture of a sequence without names, with a lower bound where it is above 0."""
