@@ -536,6 +536,7 @@ FILES = {
     "short": "sequence 1 2\nmakespan 2\n",
     "other": "sequence 1 2 3\n12\n",
     "table.csv": "Job;Cut\nA;1\n",
+    "pairs": "1 2\n0 5 1 7\n",
 }
 
 
@@ -563,11 +564,15 @@ def refuse_by_the_command():
     """Each way in which the command is refused, with its status and its line on standard error."""
     blocks = "two.txt has 2 blocks: write the number of one behind it"
     head = "line 2 of table.csv is 'A;1': the head of a block is five numbers: jobs, machines, seed, upper bound and"
+    converters = "examples/from_csv.awk makes such a file of a table, and examples/from_pairs.awk of pairs of machine "
+    converters += "and time"
     for words, status, said in [
         ("nothing", 3, "[Errno 2] No such file or directory: 'nothing'"),
         ("shop.txt 1 nothing", 3, "[Errno 2] No such file or directory: 'nothing'"),
         ("shop.txt 1 least --out nothing/a.html", 3, "[Errno 2] No such file or directory: 'nothing/a.html'"),
-        ("table.csv", 1, f"{head} lower bound; examples/from_csv.awk turns a table into such a file"),
+        ("table.csv", 1, f"{head} lower bound; {converters}"),
+        ("pairs", 1, f"line 1 of pairs is '1 2': a line of words is wanted before the head of a block, and before its "
+         f"times; {converters}"),
         ("two.txt", 2, blocks),
         ("two.txt least", 2, blocks),
         ("two.txt 3", 2, "INDEX is '3', and two.txt has the blocks 1 to 2"),
