@@ -137,7 +137,7 @@ function find_separator(    i, bare, tabs, semicolons, commas) {
     commas += (bare ~ /,/)
   }
   for (i = 1; i <= lines && !tabs && !semicolons && !commas; i++)
-    if (line[i] ~ /[0-9] +[0-9]/) stop("nothing separates the fields: write commas, semicolons or tabs between them")
+    if (line[i] ~ /[0-9][ |]+[0-9]/) stop("nothing separates the fields: write commas, semicolons or tabs between them")
   if (tabs && tabs >= semicolons && tabs >= commas) separator = "\t"
   else separator = semicolons && semicolons >= commas ? ";" : ","
 }
@@ -470,6 +470,30 @@ function doubt_machine(k, why,    name, word) {
   ask(machine_place(k) " " why, with_name("skip", skip, word) " or " with_name("keep", keep, word))
 }
 
+# The unit that stands in parentheses at the end of a name, or nothing.
+function unit_of(name,    unit, units, i) {
+  if (name !~ /[([][^([]*[])]$/) return ""
+  sub(/.*[([] */, "", name)
+  sub(/ *[])]$/, "", name)
+  split("s sec secs sek seconds sekunden|min mins minutes minuten|h hr hrs std hours stunden|d days tage", units, "|")
+  for (i = 1; i in units; i++) {
+    split(units[i], unit, " ")
+    if (is_name(name, " " units[i] " ")) return unit[1]
+  }
+  return ""
+}
+
+# Stops where the names of two machines have different units.
+function test_units(    k, unit, first) {
+  for (k = 1; k <= machines; k++) {
+    unit = unit_of(machine_name(k))
+    if (unit == "") continue
+    if (first && unit != unit_of(machine_name(first)))
+      stop(machine_place(k) " is in another unit than " machine_place(first) ": write all times in one unit")
+    if (!first) first = k
+  }
+}
+
 # Stops at names that are no machine's, at a name that two machines have, and where keep= has a word that names none.
 function test_machine_names(    k, name, seen) {
   for (k = 1; k <= machines; k++) {
@@ -758,6 +782,7 @@ END {
   list_jobs_and_machines()
   test_total_names()
   test_machine_names()
+  test_units()
   read_times()
   test_sums()
   test_times()

@@ -136,5 +136,6 @@ END {
   find_shop()
   if (line[1] == "job,machine,start,end") name_schedule()
   else if (line[1] ~ /^sequence( [0-9]+)+$/) name_sequence()
-  else stop(ARGV[ARGC - 1], "there is no schedule and no sequence")
+  else if (line[1] ~ /^<svg/) stop(ARGV[ARGC - 1], "this is a picture: python3 -m flowshop report draws one with names")
+  else stop(ARGV[ARGC - 1], "there is no schedule and no sequence, as schedule and check --sequence write them")
 }

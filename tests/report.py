@@ -16,7 +16,7 @@ import time
 
 from counts import end, equal, refused
 
-from flowshop import Certificate, Report, Shop, _clock, _labels, _page
+from flowshop import Certificate, Report, Shop
 
 TOP = os.path.dirname(os.path.dirname(os.path.abspath(__file__)))
 PROGRAM = os.environ.get("FLOWSHOP_PROGRAM", os.path.join(TOP, "crates", "flow_tool", "out", "flow_tool"))
@@ -336,15 +336,132 @@ def draw_pictures():
     texts = [element.text() for element in next(root.all("svg")).all("text")]
     marks = ["22:30", "22:55", "23:20", "23:45", "day 2, 00:10", "00:35", "01:00"]
     equal("marks without seconds", [text for text in texts if re.search(r"\d\d:\d\d$", text)], marks)
-    # A picture whose title has a bound.
-    clock = _clock.times_of(_labels.Unit(), "07:30", "1min")
-    drawing = "<title>optimal {}, jobs 2</title><text>makespan {}, lower bound {}, jobs 3</text>".format
-    mark = '<line x="1"/><text x="2">{}</text>'.format
-    got = _page._with_times(drawing(61, 61, 5) + mark(61), clock)
-    equal("a title with a bound", got, drawing("1:01", "1:01", "0:05") + mark("08:31"))
+    # A picture alone has the unit of the table too: 29 and 6 quarters.
+    picture = shop_of([[29], [6]], 4, "comma", ["Bed", "Door"], ["Saw"]).gantt([2, 1])
+    titles = re.findall("<title>(.*?)</title>", picture)
+    wanted = ["makespan 8,75, jobs 2, machines 1", "Door, Saw, start 0, end 1,5", "Bed, Saw, start 1,5, end 8,75"]
+    equal("the titles of a picture alone", titles, wanted)
+    # What is proved stands in the title, and over the picture.
+    for order, words, head in [
+        (SHOP.check(LEAST), {}, "optimal 12"),
+        (SHOP.check(BOUNDS), {}, "makespan 13, lower bound 11"),
+        (SHOP.check(NOTHING), {}, "makespan 13"),
+        ([2, 1, 3], {}, "makespan 13, lower bound 10"),
+        (SHOP.check(BOUNDS), {"start": "07:30", "unit": "15min"}, "makespan 3:15, lower bound 2:45"),
+    ]:
+        (drawing,) = read(SHOP.report(order, **words)).all("svg")
+        heads = [next(drawing.all(name)).text() for name in ("title", "text")]
+        equal(f"the title of the picture of {order!r}", heads, [f"{head}, jobs 3, machines 3"] * 2)
     for jobs, bars in [(200, 4000), (201, 0)]:
         shop = Shop.generate(jobs, 20, 1)
         equal(f"the bars of {jobs} x 20", shop.report(shop.neh()).count("<rect "), bars)
+
+
+def label_bars():
+    """The names of jobs in the bars, or where a third of these has no room for one, the places in the order. Bars take
+    8, 4, 4, 2 and 1 of 13; 96,000 are the whole time, and a character has 670."""
+    says = "A number in a bar is the place of its job in the order."
+    for length, labels in [(8, "BAACC"), (20, "BAAC"), (30, "12233"), (60, "12233")]:
+        names = [name * length for name in "ABC"]
+        root = read(Shop.from_jobs(ROWS, job_names=names).report([2, 1, 3]))
+        (drawing,) = root.all("svg")
+        wanted = [label if label.isdigit() else label * length for label in labels]
+        equal(f"bars of names of {length} characters", [bar[2] for bar in bars_of(drawing) if bar[2]], wanted)
+        equal("what is said of them", line_of(root, "A number"), says if labels[0] == "1" else None)
+
+
+def bars_of(drawing):
+    """The bars of a picture: where each begins and ends, its text or nothing, and whether the text stands on the screen
+    alone."""
+    (group,) = [each for each in drawing.all("g") if each.attributes.get("font-size") == "1000"]
+    bars = []
+    for part in group.parts:
+        if isinstance(part, Element) and part.name == "rect":
+            begin = int(part.attributes["x"])
+            bars.append((begin, begin + int(part.attributes["width"]), "", False))
+        elif isinstance(part, Element):
+            bars[-1] = (*bars[-1][:2], part.text(), part.attributes.get("class") == "cut")
+    return bars
+
+
+def box_of(element):
+    """The left side, the top, the width and the height of what an element shows of a picture."""
+    return tuple(map(int, element.attributes["viewbox"].split()))
+
+
+def compare_texts(what, drawing, windows):
+    """Compares the texts of bars in the parts of a picture: one that an end would cut stands in no part, but in the
+    middle of what each part has of the bar, where that has room."""
+    sides = [(box_of(window)[0], box_of(window)[0] + box_of(window)[2]) for window in windows]
+    bars = [bar for bar in bars_of(drawing) if bar[2]]
+    is_cut = [any(begin < end < last for _, end in sides) for begin, last, _, _ in bars]
+    equal(f"{what}: the texts that are cut", [bar[3] for bar in bars], is_cut)
+    for number, (window, (left, right)) in enumerate(zip(windows, sides)):
+        wanted = []
+        for (begin, last, text, _), cut in zip(bars, is_cut):
+            begin, last = max(begin, left), min(last, right)
+            if cut and 670 * len(text) <= last - begin:
+                wanted.append((str((begin + last) // 2), text))
+        got = [(each.attributes["x"], each.text()) for each in window.all("text")]
+        equal(f"{what}: the texts in part {number}", got, wanted)
+
+
+def compare_parts(what, root, before):
+    """Compares the parts of a picture for paper: sheets of one size have all of it once, in order, each with the names
+    of the machines, and with what stands before its first mark."""
+    (whole,) = [each for figure in root.all("figure", "whole") for each in figure.parts if isinstance(each, Element)]
+    parts = [each for division in root.all("div", "parts") for each in division.parts if isinstance(each, Element)]
+    (drawing,) = [each for each in whole.all("g") if each.attributes.get("id") == "drawing"]
+    left, _, wide, _ = box_of(whole)
+    windows = [list(part.all("svg")) for part in parts]
+    shown = [box_of(each[0]) for each in windows]
+    ends = [box[0] + box[2] for box in shown]
+    equal(f"{what}: where parts begin", [box[0] for box in shown], [left, *ends[:-1]])
+    equal(f"{what}: where the last one ends", ends[-1], left + wide)
+    equal(f"{what}: the sheets", len({box_of(part)[2] for part in parts}), 1)
+    fits = [1.7 * box_of(part)[3] < box_of(part)[2] and box[2] <= box_of(part)[2] for part, box in zip(parts, shown)]
+    equal(f"{what}: that each fits a page", all(fits), True)
+    names = [[(box_of(each)[0], box_of(each)[2]) for each in others[1:]] for others in windows]
+    equal(f"{what}: the names of the machines", names, [[], *[[(left, 8500 - left)]] * (len(parts) - 1)])
+    links = {each.attributes["href"] for part in parts for each in part.all("use")}
+    equal(f"{what}: what is shown", links, {"#drawing"})
+    texts = [[each.text() for each in part.parts if each.name == "text"] for part in parts]
+    equal(f"{what}: before the first mark", texts, [[], *([text] for text in before)])
+    compare_texts(what, drawing, [each[0] for each in windows])
+
+
+def days_before(shop, sequence, ends, at):
+    """What stands before the first mark of each part but the first one: its day, where the mark before it has the same
+    one, and that is not the first day."""
+    marks = re.findall(r'<line x1="(\d+)" [^>]*/><text [^>]*>(\d+)<', shop.gantt(sequence))
+    days = [(int(place), at(int(number)).rpartition(", ")[0]) for place, number in marks]
+    first = [next(number for number, (place, _) in enumerate(days) if place >= end) for end in ends]
+    return [days[number][1] if days[number - 1][1] == days[number][1] else "" for number in first]
+
+
+def cut_for_paper():
+    """Pictures that are wider than an upright page stand on paper in parts: those of 25 to 153 jobs, with long names
+    and short ones, in the unit of the table, and by the clock."""
+    for jobs, machines, name, least in [
+        (26, 5, "", 1), (25, 10, "{}", 1), (60, 6, "Bed {}", 2), (120, 12, "{:012}", 4), (40, 3, "<&{}", 2),
+        (153, 26, "", 5),
+    ]:
+        drawn = Shop.generate(jobs, machines, 1)
+        names = [name.format(job) for job in range(1, jobs + 1)] if name else None
+        long_names = [f"Machine of a long name {machine}" for machine in range(1, machines + 1)] if name else None
+        shop = Shop.from_machines(drawn.times, job_names=names, machine_names=long_names)
+        sequence = shop.neh().sequence
+        root = read(shop.report(sequence))
+        count = len(list(root.all("svg", "part")))
+        equal(f"the parts of {jobs} x {machines}", least <= count <= least + 1, True)
+        compare_parts(f"{jobs} x {machines}", root, ["time"] * (count - 1))
+        root = read(shop.report(sequence, start="22:30", unit="1min"))
+        ends = [box_of(next(part.all("svg")))[0] for part in root.all("svg", "part")][1:]
+        compare_parts(f"{jobs} x {machines} by the clock", root,
+                      days_before(shop, sequence, ends, by_clock("22:30", 60, False)[0]))
+    for jobs, machines in [(8, 4), (23, 1)]:
+        root = read(Shop.generate(jobs, machines, 1).report(range(1, jobs + 1)))
+        equal(f"the pictures of {jobs} x {machines}", len(list(root.all("svg"))), 1)
 
 
 def compare_drawn_shops():
@@ -419,6 +536,7 @@ FILES = {
     "short": "sequence 1 2\nmakespan 2\n",
     "other": "sequence 1 2 3\n12\n",
     "table.csv": "Job;Cut\nA;1\n",
+    "pairs": "1 2\n0 5 1 7\n",
 }
 
 
@@ -446,11 +564,15 @@ def refuse_by_the_command():
     """Each way in which the command is refused, with its status and its line on standard error."""
     blocks = "two.txt has 2 blocks: write the number of one behind it"
     head = "line 2 of table.csv is 'A;1': the head of a block is five numbers: jobs, machines, seed, upper bound and"
+    converters = "examples/from_csv.awk makes such a file of a table, and examples/from_pairs.awk of pairs of machine "
+    converters += "and time"
     for words, status, said in [
         ("nothing", 3, "[Errno 2] No such file or directory: 'nothing'"),
         ("shop.txt 1 nothing", 3, "[Errno 2] No such file or directory: 'nothing'"),
         ("shop.txt 1 least --out nothing/a.html", 3, "[Errno 2] No such file or directory: 'nothing/a.html'"),
-        ("table.csv", 1, f"{head} lower bound; examples/from_csv.awk turns a table into such a file"),
+        ("table.csv", 1, f"{head} lower bound; {converters}"),
+        ("pairs", 1, f"line 1 of pairs is '1 2': a line of words is wanted before the head of a block, and before its "
+         f"times; {converters}"),
         ("two.txt", 2, blocks),
         ("two.txt least", 2, blocks),
         ("two.txt 3", 2, "INDEX is '3', and two.txt has the blocks 1 to 2"),
@@ -571,6 +693,8 @@ def main():
     show_times()
     show_names()
     draw_pictures()
+    label_bars()
+    cut_for_paper()
     compare_drawn_shops()
     write_the_greatest()
     keep_reports()

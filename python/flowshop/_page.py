@@ -1,27 +1,21 @@
 """A schedule as one page of HTML: its order, a picture, what is proved of it, and a sheet for each machine."""
 
 import html
-import re
 from collections import Counter
 from dataclasses import dataclass
 from typing import Any, Hashable, Iterable, List, NamedTuple, Tuple
 
-from ._clock import Clock, Times
+from ._clock import Times
+from ._drawing import drawn
 from ._errors import counted
 from ._library import version
 from ._results import Timetable
 
-# Of a picture: the makespan and a bound in its title and over it, a mark of its time axis, and the title of a bar.
-_HEAD = re.compile(r"\b(makespan|optimal|lower bound) (\d+)")
-_MARK = re.compile(r"(<line [^>]*/><text [^>]*>)(\d+)(?=</text>)")
-_SPAN = re.compile(r"\bstart (\d+), end (\d+)(?=</title>)")
-# A time of day without seconds.
-_WHOLE = re.compile(r"^(\d\d:\d\d):00$")
 # How many bars a picture has at most, to be of use on a page.
 MOST_BARS = 4000
 # Up to so many jobs the sheets of several machines share a page of paper; above so many the rows of a sheet stand in
-# columns; and above so many jobs the picture has a page across.
-_MOST_SHARED, _MOST_IN_LINE, _MOST_UPRIGHT = 12, 28, 30
+# columns.
+_MOST_SHARED, _MOST_IN_LINE = 12, 28
 _STYLE = """
 body { font: 11pt/1.4 system-ui, "Segoe UI", "Liberation Sans", Arial, sans-serif; color: #000; background: #fff;
   max-width: 1110px; margin: 1.5em auto; padding: 0 1em; }
@@ -44,6 +38,7 @@ tr { break-inside: avoid; }
 a { color: inherit; }
 .shared, .rows { overflow-x: auto; }
 .rows table { width: 100%; max-width: 45em; }
+.parts { display: none; }
 .rows td:first-child, .rows th:first-child { width: 1%; }
 @page { size: A4; margin: 14mm; }
 @page across { size: A4 landscape; }
@@ -52,14 +47,17 @@ a { color: inherit; }
   figure { overflow: visible; }
   svg { width: 100%; min-width: 0; }
   a { text-decoration: none; }
-  .picture, .shared { break-inside: avoid; }
-  .across { page: across; }
+  .whole, .cut { display: none; }
+  .parts { display: block; }
+  .part { margin-bottom: 4mm; }
+  .picture, .shared, .part { break-inside: avoid; }
+  .across { page: across; break-inside: auto; }
   .first, .own { break-before: page; }
   .sheet { font-size: 12pt; }
   .rows { columns: var(--width, auto) auto; column-gap: 2em; }
   .rows table { max-width: none; }
   .shared, .rows { overflow: visible; }
-  .many { font-size: 9pt; }
+  .many { font-size: 8.5pt; }
   .many th, .many td { padding: .1em .4em; }
 }
 """
@@ -69,7 +67,8 @@ _NAME = ' class="name"'
 @dataclass(frozen=True)
 class Facts:
     """What a page says of a schedule: its timetable; a number below which no order has a makespan, and whether a text
-    proves it; the makespan of the jobs in the order of the table; a picture, or nothing; and how times are shown."""
+    proves it; the makespan of the jobs in the order of the table; a picture without names, or nothing; and how times
+    are shown."""
 
     title: str
     timetable: Timetable
@@ -213,7 +212,7 @@ def _sheet(machine: _Machine, facts: Facts, title: str) -> List[str]:
             f"<td>{times.at(turn.start)}</td><td>{times.at(turn.end)}</td></tr>"
             for turn in turns
         ]
-        width = max(10, *(len(turn.job) for turn in turns)) + 2 * max(5, len(times.at(turns[-1].end))) + 12
+        width = max(10, *(len(turn.job) for turn in turns)) + 2 * max(5, len(times.at(turns[-1].end))) + 6
         columns = f' style="--width: {width}ch"' if jobs > _MOST_IN_LINE else ""
         job = f"Job on {machine.name}" if jobs > _MOST_IN_LINE else "Job"
         heads = [("", "Place"), (_NAME, job), ("", "Start"), ("", "End")]
@@ -221,37 +220,19 @@ def _sheet(machine: _Machine, facts: Facts, title: str) -> List[str]:
     return [*lines, "</section>"]
 
 
-def _with_times(picture: str, times: Times) -> str:
-    """A picture with the times as the page shows them. A mark of the time axis has the day where that begins, and no
-    seconds where there are none."""
-    last = ""
-
-    def mark(found: "re.Match[str]") -> str:
-        nonlocal last
-        day, comma, at = times.at(int(found[2])).rpartition(", ")
-        text = (day + comma if day != last else "") + _WHOLE.sub(r"\1", at)
-        last = day
-        return found[1] + text
-
-    def span(found: "re.Match[str]") -> str:
-        return f"start {times.at(int(found[1]))}, end {times.at(int(found[2]))}"
-
-    head, axis, rest = picture.partition("<line ")
-    head = _HEAD.sub(lambda found: f"{found[1]} {times.lasting(int(found[2]))}", head)
-    # By the clock, the first mark takes the place of the word before the axis.
-    body = rest.replace(">time</text>", "></text>", 1) if isinstance(times, Clock) else rest
-    return head + _SPAN.sub(span, _MARK.sub(mark, axis + body))
-
-
 def _picture(facts: Facts) -> List[str]:
     """The picture, or a sentence where it is left out."""
     if not facts.picture:
         return ['<p class="small">The picture is left out: it has too many bars for a page.</p>']
     label = f"A row for each machine, with a bar for each job from its start to its end. {_proved(facts)}"
-    picture = _with_times(facts.picture, facts.times).rstrip("\n")
-    picture = picture.replace("<svg ", f'<svg role="img" aria-label="{label}" ', 1)
-    kind = "picture across" if len(facts.timetable.names) > _MOST_UPRIGHT else "picture"
-    return [f'<section class="{kind}">', "<h2>Picture</h2>", "<figure>", picture, "</figure>", "</section>"]
+    picture, parts, has_places = drawn(facts.picture, facts.timetable, facts.times)
+    picture = picture.rstrip("\n").replace("<svg ", f'<svg role="img" aria-label="{label}" ', 1)
+    places = ['<p class="small">A number in a bar is the place of its job in the order.</p>'] if has_places else []
+    figure, paper, kinds = "<figure>", [], "picture"
+    if parts:
+        figure, paper, kinds = '<figure class="whole">', ['<div class="parts">', *parts, "</div>"], "picture across"
+    lines = [f'<section class="{kinds}">', "<h2>Picture</h2>", *places, figure, picture, "</figure>", *paper]
+    return [*lines, "</section>"]
 
 
 def page(facts: Facts) -> str:

@@ -10,6 +10,11 @@ from ._sequences import Jobs
 from ._shop import Shop
 from ._texts import sequence_of
 
+# What to do with a file that is no benchmark text.
+_CONVERTERS = (
+    "examples/from_csv.awk makes such a file of a table, and examples/from_pairs.awk of pairs of machine and time"
+)
+
 
 def words(parsers: "argparse._SubParsersAction[argparse.ArgumentParser]") -> None:
     """Adds the command and its words."""
@@ -41,7 +46,7 @@ def _picked(path: str, index: Optional[str]) -> Shop:
     try:
         blocks = Shop.read(path)
     except TextError as error:
-        sentence = f"{error}; examples/from_csv.awk turns a table into such a file"
+        sentence = f"{error}; {_CONVERTERS}"
         raise TextError(error.name, error.place, sentence) from None
     if index is None and len(blocks) == 1:
         return blocks[0].shop

@@ -5,7 +5,7 @@ import importlib
 import os
 import re
 from dataclasses import dataclass, field
-from typing import Any, Dict, Hashable, Iterator, List, NamedTuple, Sequence, Tuple, Union, overload
+from typing import Any, Dict, Hashable, Iterator, List, NamedTuple, Optional, Sequence, Tuple, Union, overload
 
 from ._errors import counted
 
@@ -227,9 +227,10 @@ def _escaped(name: Hashable) -> str:
     return html.escape("".join(sign if sign.isprintable() else " " for sign in str(name)), quote=False)
 
 
-def with_names(picture: str, jobs: Names, machines: Names) -> str:
+def with_names(picture: str, jobs: Names, machines: Names, in_bars: Optional[Names] = None) -> str:
     """A picture with the names of jobs and machines in the place of their numbers. It is wider where the name of a
-    machine is long, and a very long one is cut; the name of a job stands in a bar where it has room."""
+    machine is long, and a very long one is cut; the name of a job stands in a bar where it has room, or what stands for
+    it in `in_bars`."""
     labels = [name if len(name) <= _MOST_BEFORE else f"{name[: _MOST_BEFORE - 2]}.." for name in map(str, machines)]
     more = max(0, _BEFORE_ROW * max(map(len, labels)) - _ROOM_BEFORE)
 
@@ -241,10 +242,11 @@ def with_names(picture: str, jobs: Names, machines: Names) -> str:
         return found[1] + _escaped(labels[int(found[2]) - 1])
 
     def bar(found: "re.Match[str]") -> str:
-        name, machine = jobs[int(found[3]) - 1], machines[int(found[4]) - 1]
-        titled = f"{found[1]}{_escaped(name)}, {_escaped(machine)}{found[5]}"
-        has_room = found[6] and _IN_BAR * len(str(name)) <= int(found[2])
-        return f"{titled}{found[6]}{_escaped(name)}{found[7]}" if has_room else titled
+        job, machine = int(found[3]) - 1, machines[int(found[4]) - 1]
+        titled = f"{found[1]}{_escaped(jobs[job])}, {_escaped(machine)}{found[5]}"
+        label = (in_bars or jobs)[job]
+        has_room = found[6] and _IN_BAR * len(str(label)) <= int(found[2])
+        return f"{titled}{found[6]}{_escaped(label)}{found[7]}" if has_room else titled
 
     picture = _HEAD.sub(head, picture, count=1) if more else picture
     return _BAR.sub(bar, _ROW.sub(row, picture))

@@ -7,7 +7,8 @@ from math import perm
 from typing import Any, Callable, Hashable, Iterable, List, NamedTuple, NoReturn, Optional, Tuple, Union
 
 from ._certify import Better, Effort, Known, Run
-from ._clock import times_of
+from ._clock import Plain, times_of
+from ._drawing import with_times
 from ._errors import Interrupted, NotASequence, NotLawful, OptionError, OverBudget, counted
 from ._found import Below, Over, Proved, numbers_of, part_of
 from ._labels import Unit, label_lines
@@ -285,23 +286,23 @@ class Shop:
 
     def gantt(self, sequence: Jobs) -> Picture:
         """The picture of the timetable of a sequence, as SVG text: a row for each machine, and a bar for each job and
-        machine where the time is not 0. The outlined operations leave no room: together they take the whole time. Of a
-        Certificate, which is checked, the title says also what it proves; NotLawful where it is none of the shop. The
-        other errors are those of `makespan`.
+        machine where the time is not 0. Times are in the unit of the table, where the shop has one. The outlined
+        operations leave no room: together they take the whole time. Of a Certificate, which is checked, the title says
+        also what it proves; NotLawful where it is none of the shop. The other errors are those of `makespan`.
 
         >>> shop.gantt(shop.neh())[:4]
         '<svg'
         """
         lower = self.check(sequence).lower if isinstance(sequence, Certificate) else 0
-        return self._picture(sequence, lower)
-
-    def _picture(self, sequence: Jobs, lower: int) -> Picture:
-        """The picture of a sequence, with a lower bound where it is above 0."""
-        jobs, room = packed(sequence, self.jobs), 16_384 + 400 * self.jobs * self.machines
-        picture = written(room, lambda text: self._call("picture", jobs, lower, text)).decode("ascii")
+        picture = self._picture(sequence, lower)
         if self._parts[3:5] != (None, None):
             picture = with_names(picture, self.job_names, self.machine_names)
-        return Picture(picture)
+        return Picture(with_times(picture, Plain(self._parts[5])) if self.scale > 1 else picture)
+
+    def _picture(self, sequence: Jobs, lower: int) -> str:
+        """The picture of a sequence without names, with a lower bound where it is above 0."""
+        jobs, room = packed(sequence, self.jobs), 16_384 + 400 * self.jobs * self.machines
+        return written(room, lambda text: self._call("picture", jobs, lower, text)).decode("ascii")
 
     def report(
         self,
@@ -323,13 +324,14 @@ class Shop:
         times = times_of(self._parts[5], start, unit)
         certificate = self.check(order) if isinstance(order, Certificate) else None
         timetable = self.schedule(certificate or order)
+        lower = certificate.lower if certificate else self.bound()
         facts = Facts(
             title=title or f"Schedule of {counted(self.jobs, 'job')} on {counted(self.machines, 'machine')}",
             timetable=timetable,
-            lower=certificate.lower if certificate else self.bound(),
+            lower=lower,
             is_certified=certificate is not None,
             listed=self.makespan(range(1, self.jobs + 1)),
-            picture=self._picture(certificate or timetable, 0) if self.jobs * self.machines <= MOST_BARS else "",
+            picture=self._picture(timetable, lower) if self.jobs * self.machines <= MOST_BARS else "",
             times=times,
         )
         return Report(page(facts))
