@@ -118,6 +118,12 @@ def compare_header():
     listed = re.findall(r"FLOWSHOP_(\w+)", header.partition("enum flowshop_status {")[2].partition("};")[0])
     statuses = {numbers[name]: name for name in listed}
     equal("the statuses", {0: "DONE", **_library.STATUSES}, statuses)
+    named = re.findall(r'case FLOWSHOP_(\w+): return "(\w+)";', header)
+    equal("the names of the statuses", named, [(name, name) for name in listed])
+    form = r"^(?:FLOWSHOP_CALL flowshop_outcome|uint32_t) flowshop_(\w+)\(([^)]*)\)\s+FLOWSHOP_NOEXCEPT;"
+    counts = {name: words.count(",") + (words != "void") for name, words in re.findall(form, header, re.MULTILINE)}
+    equal("the calls", counts, {name: len(types) for name, types in _library.CALLS.items()})
+    equal("that no call has more than seven arguments", max(counts.values()), 7)
     for name, (least, most) in _options.LIMITS.items():
         equal(f"the most of {name}", most, numbers[f"MAX_{name.upper()}"])
         wanted = numbers.get(f"MIN_{name.upper()}", 0 if name in ("width", "rounds", "work", "depth") else 1)
@@ -300,6 +306,7 @@ def use_results():
     equal("many results", SHOP.makespans([start, found, timetable, (1, 2, 3)]).tolist(), [13, 12, 12, 15])
     equal("no sequences", SHOP.makespans([]).tolist(), [])
     parts = [SHOP.prove(12), SHOP.prove(13), SHOP.prove(12, budget=1), flowshop.Progress(1, 10, 12, 3, 0.5)]
+    parts += Shop.read(PUBLISHED)
     for result in (start, found, timetable, timetable[1], SHOP.gantt(start), SHOP.makespans([[1, 2, 3]]), *parts):
         kept = pickle.loads(pickle.dumps(result))
         equal("a result from elsewhere", (kept, type(kept), repr(kept)), (result, type(result), repr(result)))
@@ -355,7 +362,8 @@ def draw_timetables():
     wanted = ["job 2, machine 2, start 0, end 8", "job 1, machine 1, start 0, end 4"]
     wanted += ["job 1, machine 3, start 8, end 12", "job 3, machine 2, start 8, end 10"]
     equal("a picture", bars, [*wanted, "job 3, machine 3, start 12, end 13"])
-    equal("one for a notebook", (drawing._repr_svg_(), type(drawing._repr_svg_())), (drawing, str))
+    for text in (drawing._repr_svg_(), drawing._repr_html_()):
+        equal("one for a notebook", (text, type(text)), (drawing, str))
     shown = read(os.path.join(TOP, "docs", "schedule.svg")).decode()
     order = [int(job) for job in re.findall(r"job (\d+), machine 1,", shown)]
     published = Shop.read(PUBLISHED)[0].shop

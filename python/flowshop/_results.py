@@ -167,6 +167,9 @@ class Picture(str):
         """The text, for a notebook."""
         return str(self)
 
+    # A page that is made of a notebook can lose the shapes of what is SVG alone.
+    _repr_html_ = _repr_svg_
+
     def __repr__(self) -> str:
         """The title of the picture."""
         return f"Picture({self.partition('<title>')[2].partition('</title>')[0]})"
