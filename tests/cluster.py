@@ -455,10 +455,11 @@ def refuse_words():
 def stop_command():
     """An interrupt of the command leaves whole files alone, and the next run goes on."""
     with tempfile.TemporaryDirectory() as folder:
-        file, out = pathlib.Path(folder, "shops.txt"), pathlib.Path(folder, "out")
-        HARD.write(file)
+        file = pathlib.Path(folder, "shops.txt")
+        Shop.generate(100, 20, 7).write(file)  # within a second it comes to a beam that takes some seconds
         file.write_bytes(BLOCKS.read_bytes() + file.read_bytes())
         for executor in ("threads", "processes"):
+            out = pathlib.Path(folder, executor)
             words = ["certify", file, "--out", out, "--workers", 2, "--executor", executor, "--directions", 10**9]
             run = subprocess.Popen(
                 [sys.executable, "-m", "flowshop", *map(str, words)],
@@ -470,7 +471,7 @@ def stop_command():
             ends = time.monotonic() + 60
             while not third.exists() and time.monotonic() < ends:
                 time.sleep(0.05)
-            time.sleep(0.5)
+            time.sleep(1)
             begun = time.monotonic()
             os.killpg(run.pid, signal.SIGINT)
             said = run.communicate(timeout=60)
@@ -483,9 +484,27 @@ def stop_command():
                 equal("that no process is left", True, False)
             except ProcessLookupError:
                 pass
-        run = command("certify", file, "--out", out, "--time-limit", 0.5)
+        words = ["--out", out, "--time-limit", 0.5, "--executor", "processes", "--workers", 2]
+        begun = time.monotonic()
+        run = command("certify", file, *words)
+        equal("how soon it ends after a limit of time", time.monotonic() - begun < 3, True)
         equal("a run that goes on", [line.split()[-2] for line in run.stdout.splitlines()][1:4], ["-"] * 3)
         equal("what it ends with", (run.returncode, command("check", file, "--out", out).returncode), (0, 0))
+
+
+def end_writing():
+    """A file that is being written when the command is interrupted is there as a whole."""
+    code = (
+        "import os, pathlib, threading, time\nfrom flowshop import _files, __main__ as command\n"
+        "real = os.fsync\nos.fsync = lambda file: (time.sleep(0.3), real(file))\n"
+        "words = pathlib.Path('certificate'), b'a text'\n"
+        "threading.Thread(target=_files.save, args=words, daemon=True).start()\n"
+        "time.sleep(0.1)\ncommand.end(130)"
+    )
+    with tempfile.TemporaryDirectory() as folder:
+        run = subprocess.run([sys.executable, "-c", code], cwd=folder, capture_output=True, timeout=60, check=False)
+        equal("the end of an interrupted command", (run.returncode, run.stderr), (130, b""))
+        equal("what is written", os.listdir(folder), ["certificate"])
 
 
 def use_page():
@@ -568,6 +587,7 @@ def use_local():
     use_command()
     refuse_words()
     stop_command()
+    end_writing()
     use_page()
 
 

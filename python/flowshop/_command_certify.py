@@ -2,7 +2,6 @@
 
 import argparse
 import importlib
-import multiprocessing
 import os
 import signal
 import sys
@@ -73,9 +72,10 @@ def _workers(executor: str, count: Optional[int]) -> Iterator[Workers]:
         yield Workers(threads.map, local)
         threads.close()
     elif executor == "processes":
-        with ProcessPoolExecutor(local, initializer=_be_deaf) as pool:
-            list(pool.map(int, range(local)))  # they start before any thread does
-            yield Workers(pool.map, local, has_beams=True)
+        pool = ProcessPoolExecutor(local, initializer=_be_deaf)
+        list(pool.map(int, range(local)))  # they start before any thread does
+        yield Workers(pool.map, local, has_beams=True)
+        pool.shutdown(wait=False)
     elif executor == "mpi":
         futures, mpi = _package("mpi4py.futures"), _package("mpi4py.MPI")
         with futures.MPIPoolExecutor() as pool:
@@ -131,10 +131,6 @@ def run(options: argparse.Namespace) -> int:
             table = Table(works, options, sys.stdout)
             _all_certified(works, table, _Search(workers, Effort(*numbers), directions, limit, tell))
             table.write()
-    except KeyboardInterrupt:
-        for process in multiprocessing.active_children():
-            process.terminate()
-        raise
     except BrokenExecutor as error:
         print(f"flowshop: a worker has ended: {error}", file=sys.stderr)
         return 1
