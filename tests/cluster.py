@@ -1,6 +1,6 @@
 """Searches that are shared by threads, by processes, by workers of dask and of MPI: they give the text of one call, can
-be stopped, and say what went wrong. A word says which part is run: `local`, `dask` or `mpi`, or `command EXECUTOR
-RUN..`, the commands by an executor, where other words than python3 run them."""
+be stopped, and say what went wrong. A word says which part is run: `local`, `dask` or `mpi`; `command EXECUTOR RUN..`,
+the commands by an executor, where other words than python3 run them; or `lost`, which does not end by itself."""
 
 import concurrent.futures
 import hashlib
@@ -535,9 +535,22 @@ def use_dask():
     with distributed.LocalCluster(n_workers=2, threads_per_worker=1, dashboard_address=None) as cluster:
         with distributed.Client(cluster) as client:
             compare_executor("dask", client.get_executor())
+            lose_dask_worker(client)
         compare_command(f"dask:{cluster.scheduler_address}")
         printed = example("by_dask.py", cluster.scheduler_address)
         equal("what by_dask.py prints", printed, "Certificate(optimal 303, 15 directions)\n")
+
+
+def lose_dask_worker(client):
+    """A worker of dask that is killed: others do its tasks, and the text is the same."""
+    choice = {**LONG, "directions": 500_000}
+    process = next(iter(client.run(os.getpid).values()))
+    timer = threading.Timer(0.3, os.kill, [process, signal.SIGKILL])
+    timer.start()
+    with small_tasks(0.02):
+        got = HARD.certify(**choice, map=client.get_executor().map).text
+    equal("that a worker is killed while others search", timer.is_alive(), False)
+    equal("the text of the others", got == HARD.certify(**choice).text, True)
 
 
 def compare_executor(name, executor):
@@ -569,6 +582,14 @@ def use_mpi():
         compare_executor("MPI", pool)
 
 
+def lose_mpi_process():
+    """A process of MPI that is killed: mpiexec ends all of them, long before the search would."""
+    futures = __import__("mpi4py.futures").futures
+    with futures.MPIPoolExecutor() as pool:
+        threading.Timer(0.5, os.kill, [pool.submit(os.getpid).result(), signal.SIGKILL]).start()
+        HARD.certify(**LONG, map=pool.map)
+
+
 def use_local():
     """All parts that need this machine alone. Pools come before threads, which a fork would not copy."""
     deaf = {"initializer": signal.signal, "initargs": (signal.SIGINT, signal.SIG_IGN)}
@@ -592,6 +613,6 @@ def use_local():
 
 
 if __name__ == "__main__":
-    PARTS = {"local": use_local, "dask": use_dask, "mpi": use_mpi, "command": compare_command}
+    PARTS = {"local": use_local, "dask": use_dask, "mpi": use_mpi, "command": compare_command, "lost": lose_mpi_process}
     PARTS[sys.argv[1]](*sys.argv[2:])
     end(f"searches that are shared, {sys.argv[1]}")

@@ -169,7 +169,7 @@ def compare_shops():
     equal("another kind of thing", SHOP == ROWS, False)
     for kept in (pickle.loads(pickle.dumps(named)), copy.deepcopy(named)):
         equal("a copy", (kept, kept.job_names, kept.makespan([3, 1, 2])), (named, named.job_names, 12))
-    for name in ("jobs", "machines", "times", "job_names", "other"):
+    for name in ("jobs", "machines", "times", "job_names", "other", "_parts"):
         equal("a shop that is changed", refused(lambda name=name: setattr(SHOP, name, 5)), AttributeError)
     equal("a shop with less", refused(lambda: delattr(SHOP, "_lent")), AttributeError)
     SHOP.times[0][0] = 9
@@ -662,6 +662,8 @@ def keep_rooms():
     ):
         equal("a search without room", refused(lambda: large.solve(depth=2)), MemoryError)
     equal("that it was made once", rooms[2:], ["solve"])
+    with mock.patch.dict(_library._CALLS, neh=lambda *words: _library.Outcome(1, 0)):
+        equal("a call that memory does not suffice for", refused(SHOP.neh), MemoryError)
     # The greatest lengths of the header.
     with mock.patch.object(_texts, "_room", lambda wanted: (rooms.append(wanted), mmap.mmap(-1, wanted))[1]):
         SHOP.certify(**{**FEW, "directions": 100_000})
