@@ -492,6 +492,31 @@ def stop_command():
         equal("what it ends with", (run.returncode, command("check", file, "--out", out).returncode), (0, 0))
 
 
+def is_running(process):
+    """Whether a process is there, and has not ended."""
+    try:
+        return pathlib.Path(f"/proc/{process}/stat").read_text().rpartition(") ")[2][0] != "Z"
+    except OSError:
+        return False
+
+
+def kill_command():
+    """The workers of a command that is killed end too, whatever they do."""
+    with tempfile.TemporaryDirectory() as folder:
+        file = pathlib.Path(folder, "shop.txt")
+        HARD.write(file)
+        words = [sys.executable, "-m", "flowshop", "certify", file, "--out", folder]
+        words += ["--workers", "2", "--executor", "processes"]
+        with subprocess.Popen(words, stdout=subprocess.DEVNULL, stderr=subprocess.PIPE) as run:
+            run.stderr.readline()  # of its progress, when the workers are there
+            of_workers = pathlib.Path(f"/proc/{run.pid}/task/{run.pid}/children").read_text().split()
+            run.kill()
+        ends = time.monotonic() + 10
+        while any(map(is_running, of_workers)) and time.monotonic() < ends:
+            time.sleep(0.05)
+        equal("workers of a killed command", (len(of_workers), any(map(is_running, of_workers))), (2, False))
+
+
 def end_writing():
     """A file that is being written when the command is interrupted is there as a whole."""
     code = (
@@ -608,6 +633,7 @@ def use_local():
     use_command()
     refuse_words()
     stop_command()
+    kill_command()
     end_writing()
     use_page()
 
