@@ -362,8 +362,8 @@ def draw_timetables():
     wanted = ["job 2, machine 2, start 0, end 8", "job 1, machine 1, start 0, end 4"]
     wanted += ["job 1, machine 3, start 8, end 12", "job 3, machine 2, start 8, end 10"]
     equal("a picture", bars, [*wanted, "job 3, machine 3, start 12, end 13"])
-    for text in (drawing._repr_svg_(), drawing._repr_html_()):
-        equal("one for a notebook", (text, type(text)), (drawing, str))
+    equal("one for a notebook", (drawing._repr_svg_(), type(drawing._repr_svg_())), (drawing, str))
+    equal("one for a page of a notebook", drawing._repr_html_(), f"<div>{drawing}</div>")
     shown = read(os.path.join(TOP, "docs", "schedule.svg")).decode()
     order = [int(job) for job in re.findall(r"job (\d+), machine 1,", shown)]
     published = Shop.read(PUBLISHED)[0].shop

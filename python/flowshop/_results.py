@@ -167,8 +167,10 @@ class Picture(str):
         """The text, for a notebook."""
         return str(self)
 
-    # A page that is made of a notebook can lose the shapes of what is SVG alone.
-    _repr_html_ = _repr_svg_
+    def _repr_html_(self) -> str:
+        """The same for pages that are made of notebooks, where SVG alone may lose its shapes. The em of their style is
+        not that of the picture."""
+        return f"<div>{self}</div>"
 
     def __repr__(self) -> str:
         """The title of the picture."""
