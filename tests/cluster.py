@@ -456,13 +456,14 @@ def stop_command():
     """An interrupt of the command leaves whole files alone, and the next run goes on."""
     with tempfile.TemporaryDirectory() as folder:
         file = pathlib.Path(folder, "shops.txt")
-        Shop.generate(100, 20, 7).write(file)  # within a second it comes to a beam that takes some seconds
+        Shop.generate(100, 20, 7).write(file)
+        wide = ["--width", "65536", "--work", "20000"]  # within a second it comes to a beam that takes ten seconds
         file.write_bytes(BLOCKS.read_bytes() + file.read_bytes())
         for executor in ("threads", "processes"):
             out = pathlib.Path(folder, executor)
-            words = ["certify", file, "--out", out, "--workers", 2, "--executor", executor, "--directions", 10**9]
+            words = ["certify", file, "--out", out, "--workers", "2", "--executor", executor]
             run = subprocess.Popen(
-                [sys.executable, "-m", "flowshop", *map(str, words)],
+                [sys.executable, "-m", "flowshop", *words, *wide],
                 stdout=subprocess.PIPE,
                 stderr=subprocess.PIPE,
                 start_new_session=True,
@@ -484,12 +485,20 @@ def stop_command():
                 equal("that no process is left", True, False)
             except ProcessLookupError:
                 pass
-        words = ["--out", out, "--time-limit", 0.5, "--executor", "processes", "--workers", 2]
+        go_on(file, out, wide)
+
+
+def go_on(file, out, wide):
+    """A run with the words of a wide beam goes on with the last of four blocks, and ends soon after a limit of time."""
+    words = [sys.executable, "-m", "flowshop", "certify", file, "--out", out, "--time-limit", "0.5", *wide]
+    words += ["--executor", "processes", "--workers", "2"]
+    with subprocess.Popen(words, stdout=subprocess.PIPE, stderr=subprocess.DEVNULL) as run:
+        seconds = [run.stdout.readline().split()[-2] for _ in range(5)]
         begun = time.monotonic()
-        run = command("certify", file, *words)
-        equal("how soon it ends after a limit of time", time.monotonic() - begun < 3, True)
-        equal("a run that goes on", [line.split()[-2] for line in run.stdout.splitlines()][1:4], ["-"] * 3)
-        equal("what it ends with", (run.returncode, command("check", file, "--out", out).returncode), (0, 0))
+        run.wait(60)
+    equal("how soon it ends after its last line", time.monotonic() - begun < 4, True)
+    equal("a run that goes on", seconds[:4], [b"seconds", *[b"-"] * 3])
+    equal("what it ends with", (run.returncode, command("check", file, "--out", out).returncode), (0, 0))
 
 
 def is_running(process):
