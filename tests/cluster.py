@@ -1,6 +1,6 @@
 """Searches that are shared by threads, by processes, by workers of dask and of MPI: they give the text of one call, can
-be stopped, and say what went wrong. A word says which part is run: `local`, `dask` or `mpi`, or `command EXECUTOR
-RUN..`, the commands by an executor, where other words than python3 run them."""
+be stopped, and say what went wrong. A word says which part is run: `local`, `dask` or `mpi`; `command EXECUTOR RUN..`,
+the commands by an executor, where other words than python3 run them; or `lost`, which does not end by itself."""
 
 import concurrent.futures
 import hashlib
@@ -455,13 +455,15 @@ def refuse_words():
 def stop_command():
     """An interrupt of the command leaves whole files alone, and the next run goes on."""
     with tempfile.TemporaryDirectory() as folder:
-        file, out = pathlib.Path(folder, "shops.txt"), pathlib.Path(folder, "out")
-        HARD.write(file)
+        file = pathlib.Path(folder, "shops.txt")
+        Shop.generate(100, 20, 7).write(file)
+        wide = ["--width", "65536", "--work", "20000"]  # within a second it comes to a beam that takes ten seconds
         file.write_bytes(BLOCKS.read_bytes() + file.read_bytes())
         for executor in ("threads", "processes"):
-            words = ["certify", file, "--out", out, "--workers", 2, "--executor", executor, "--directions", 10**9]
+            out = pathlib.Path(folder, executor)
+            words = ["certify", file, "--out", out, "--workers", "2", "--executor", executor]
             run = subprocess.Popen(
-                [sys.executable, "-m", "flowshop", *map(str, words)],
+                [sys.executable, "-m", "flowshop", *words, *wide],
                 stdout=subprocess.PIPE,
                 stderr=subprocess.PIPE,
                 start_new_session=True,
@@ -470,7 +472,7 @@ def stop_command():
             ends = time.monotonic() + 60
             while not third.exists() and time.monotonic() < ends:
                 time.sleep(0.05)
-            time.sleep(0.5)
+            time.sleep(1)
             begun = time.monotonic()
             os.killpg(run.pid, signal.SIGINT)
             said = run.communicate(timeout=60)
@@ -483,9 +485,60 @@ def stop_command():
                 equal("that no process is left", True, False)
             except ProcessLookupError:
                 pass
-        run = command("certify", file, "--out", out, "--time-limit", 0.5)
-        equal("a run that goes on", [line.split()[-2] for line in run.stdout.splitlines()][1:4], ["-"] * 3)
-        equal("what it ends with", (run.returncode, command("check", file, "--out", out).returncode), (0, 0))
+        go_on(file, out, wide)
+
+
+def go_on(file, out, wide):
+    """A run with the words of a wide beam goes on with the last of four blocks, and ends soon after a limit of time."""
+    words = [sys.executable, "-m", "flowshop", "certify", file, "--out", out, "--time-limit", "0.5", *wide]
+    words += ["--executor", "processes", "--workers", "2"]
+    with subprocess.Popen(words, stdout=subprocess.PIPE, stderr=subprocess.DEVNULL) as run:
+        seconds = [run.stdout.readline().split()[-2] for _ in range(5)]
+        begun = time.monotonic()
+        run.wait(60)
+    equal("how soon it ends after its last line", time.monotonic() - begun < 4, True)
+    equal("a run that goes on", seconds[:4], [b"seconds", *[b"-"] * 3])
+    equal("what it ends with", (run.returncode, command("check", file, "--out", out).returncode), (0, 0))
+
+
+def is_running(process):
+    """Whether a process is there, and has not ended."""
+    try:
+        return pathlib.Path(f"/proc/{process}/stat").read_text().rpartition(") ")[2][0] != "Z"
+    except OSError:
+        return False
+
+
+def kill_command():
+    """The workers of a command that is killed end too, whatever they do."""
+    with tempfile.TemporaryDirectory() as folder:
+        file = pathlib.Path(folder, "shop.txt")
+        HARD.write(file)
+        words = [sys.executable, "-m", "flowshop", "certify", file, "--out", folder]
+        words += ["--workers", "2", "--executor", "processes"]
+        with subprocess.Popen(words, stdout=subprocess.DEVNULL, stderr=subprocess.PIPE) as run:
+            run.stderr.readline()  # of its progress, when the workers are there
+            of_workers = pathlib.Path(f"/proc/{run.pid}/task/{run.pid}/children").read_text().split()
+            run.kill()
+        ends = time.monotonic() + 10
+        while any(map(is_running, of_workers)) and time.monotonic() < ends:
+            time.sleep(0.05)
+        equal("workers of a killed command", (len(of_workers), any(map(is_running, of_workers))), (2, False))
+
+
+def end_writing():
+    """A file that is being written when the command is interrupted is there as a whole."""
+    code = (
+        "import os, pathlib, threading, time\nfrom flowshop import _files, __main__ as command\n"
+        "real = os.fsync\nos.fsync = lambda file: (time.sleep(0.3), real(file))\n"
+        "words = pathlib.Path('certificate'), b'a text'\n"
+        "threading.Thread(target=_files.save, args=words, daemon=True).start()\n"
+        "time.sleep(0.1)\ncommand.end(130)"
+    )
+    with tempfile.TemporaryDirectory() as folder:
+        run = subprocess.run([sys.executable, "-c", code], cwd=folder, capture_output=True, timeout=60, check=False)
+        equal("the end of an interrupted command", (run.returncode, run.stderr), (130, b""))
+        equal("what is written", os.listdir(folder), ["certificate"])
 
 
 def use_page():
@@ -516,9 +569,22 @@ def use_dask():
     with distributed.LocalCluster(n_workers=2, threads_per_worker=1, dashboard_address=None) as cluster:
         with distributed.Client(cluster) as client:
             compare_executor("dask", client.get_executor())
+            lose_dask_worker(client)
         compare_command(f"dask:{cluster.scheduler_address}")
         printed = example("by_dask.py", cluster.scheduler_address)
         equal("what by_dask.py prints", printed, "Certificate(optimal 303, 15 directions)\n")
+
+
+def lose_dask_worker(client):
+    """A worker of dask that is killed: others do its tasks, and the text is the same."""
+    choice = {**LONG, "directions": 500_000}
+    process = next(iter(client.run(os.getpid).values()))
+    timer = threading.Timer(0.3, os.kill, [process, signal.SIGKILL])
+    timer.start()
+    with small_tasks(0.02):
+        got = HARD.certify(**choice, map=client.get_executor().map).text
+    equal("that a worker is killed while others search", timer.is_alive(), False)
+    equal("the text of the others", got == HARD.certify(**choice).text, True)
 
 
 def compare_executor(name, executor):
@@ -550,6 +616,14 @@ def use_mpi():
         compare_executor("MPI", pool)
 
 
+def lose_mpi_process():
+    """A process of MPI that is killed: mpiexec ends all of them, long before the search would."""
+    futures = __import__("mpi4py.futures").futures
+    with futures.MPIPoolExecutor() as pool:
+        threading.Timer(0.5, os.kill, [pool.submit(os.getpid).result(), signal.SIGKILL]).start()
+        HARD.certify(**LONG, map=pool.map)
+
+
 def use_local():
     """All parts that need this machine alone. Pools come before threads, which a fork would not copy."""
     deaf = {"initializer": signal.signal, "initargs": (signal.SIGINT, signal.SIG_IGN)}
@@ -568,10 +642,12 @@ def use_local():
     use_command()
     refuse_words()
     stop_command()
+    kill_command()
+    end_writing()
     use_page()
 
 
 if __name__ == "__main__":
-    PARTS = {"local": use_local, "dask": use_dask, "mpi": use_mpi, "command": compare_command}
+    PARTS = {"local": use_local, "dask": use_dask, "mpi": use_mpi, "command": compare_command, "lost": lose_mpi_process}
     PARTS[sys.argv[1]](*sys.argv[2:])
     end(f"searches that are shared, {sys.argv[1]}")

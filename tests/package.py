@@ -118,6 +118,12 @@ def compare_header():
     listed = re.findall(r"FLOWSHOP_(\w+)", header.partition("enum flowshop_status {")[2].partition("};")[0])
     statuses = {numbers[name]: name for name in listed}
     equal("the statuses", {0: "DONE", **_library.STATUSES}, statuses)
+    named = re.findall(r'case FLOWSHOP_(\w+): return "(\w+)";', header)
+    equal("the names of the statuses", named, [(name, name) for name in listed])
+    form = r"^(?:FLOWSHOP_CALL flowshop_outcome|uint32_t) flowshop_(\w+)\(([^)]*)\)\s+FLOWSHOP_NOEXCEPT;"
+    counts = {name: words.count(",") + (words != "void") for name, words in re.findall(form, header, re.MULTILINE)}
+    equal("the calls", counts, {name: len(types) for name, types in _library.CALLS.items()})
+    equal("that no call has more than seven arguments", max(counts.values()), 7)
     for name, (least, most) in _options.LIMITS.items():
         equal(f"the most of {name}", most, numbers[f"MAX_{name.upper()}"])
         wanted = numbers.get(f"MIN_{name.upper()}", 0 if name in ("width", "rounds", "work", "depth") else 1)
@@ -163,7 +169,7 @@ def compare_shops():
     equal("another kind of thing", SHOP == ROWS, False)
     for kept in (pickle.loads(pickle.dumps(named)), copy.deepcopy(named)):
         equal("a copy", (kept, kept.job_names, kept.makespan([3, 1, 2])), (named, named.job_names, 12))
-    for name in ("jobs", "machines", "times", "job_names", "other"):
+    for name in ("jobs", "machines", "times", "job_names", "other", "_parts"):
         equal("a shop that is changed", refused(lambda name=name: setattr(SHOP, name, 5)), AttributeError)
     equal("a shop with less", refused(lambda: delattr(SHOP, "_lent")), AttributeError)
     SHOP.times[0][0] = 9
@@ -300,6 +306,7 @@ def use_results():
     equal("many results", SHOP.makespans([start, found, timetable, (1, 2, 3)]).tolist(), [13, 12, 12, 15])
     equal("no sequences", SHOP.makespans([]).tolist(), [])
     parts = [SHOP.prove(12), SHOP.prove(13), SHOP.prove(12, budget=1), flowshop.Progress(1, 10, 12, 3, 0.5)]
+    parts += Shop.read(PUBLISHED)
     for result in (start, found, timetable, timetable[1], SHOP.gantt(start), SHOP.makespans([[1, 2, 3]]), *parts):
         kept = pickle.loads(pickle.dumps(result))
         equal("a result from elsewhere", (kept, type(kept), repr(kept)), (result, type(result), repr(result)))
@@ -356,6 +363,7 @@ def draw_timetables():
     wanted += ["job 1, machine 3, start 8, end 12", "job 3, machine 2, start 8, end 10"]
     equal("a picture", bars, [*wanted, "job 3, machine 3, start 12, end 13"])
     equal("one for a notebook", (drawing._repr_svg_(), type(drawing._repr_svg_())), (drawing, str))
+    equal("one for a page of a notebook", drawing._repr_html_(), f"<div>{drawing}</div>")
     shown = read(os.path.join(TOP, "docs", "schedule.svg")).decode()
     order = [int(job) for job in re.findall(r"job (\d+), machine 1,", shown)]
     published = Shop.read(PUBLISHED)[0].shop
@@ -654,6 +662,8 @@ def keep_rooms():
     ):
         equal("a search without room", refused(lambda: large.solve(depth=2)), MemoryError)
     equal("that it was made once", rooms[2:], ["solve"])
+    with mock.patch.dict(_library._CALLS, neh=lambda *words: _library.Outcome(1, 0)):
+        equal("a call that memory does not suffice for", refused(SHOP.neh), MemoryError)
     # The greatest lengths of the header.
     with mock.patch.object(_texts, "_room", lambda wanted: (rooms.append(wanted), mmap.mmap(-1, wanted))[1]):
         SHOP.certify(**{**FEW, "directions": 100_000})

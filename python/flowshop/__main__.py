@@ -1,15 +1,19 @@
 """The commands of the package: python -m flowshop COMMAND .."""
 
 import argparse
+import multiprocessing
 import os
 import sys
+import time
 from typing import List, Optional
 
 from . import __version__, _command_certify, _command_check, _report
 from ._errors import FlowshopError, OptionError
-from ._files import WordError
+from ._files import WordError, end_writing
 
 _COMMANDS = (_command_certify, _command_check, _report)
+# The status at an interrupt, and how many seconds the end of the process waits at most.
+_INTERRUPTED, _PATIENCE = 130, 0.5
 
 
 def main(words: Optional[List[str]] = None) -> int:
@@ -34,13 +38,30 @@ def main(words: Optional[List[str]] = None) -> int:
         print(f"flowshop: {error}", file=sys.stderr)
         return 3
     except KeyboardInterrupt:
-        return 130
+        return _INTERRUPTED
+
+
+def _have_ended(workers: List[multiprocessing.process.BaseProcess]) -> bool:
+    """Whether processes end soon."""
+    ends = time.monotonic() + _PATIENCE
+    for worker in workers:
+        worker.join(max(0, ends - time.monotonic()))
+    return not any(worker.is_alive() for worker in workers)
+
+
+def end(status: int) -> None:
+    """Ends the process. Nothing waits for searches that an interrupt or a limit of time leaves behind, in threads or in
+    processes; but a file that is being written is waited for."""
+    sys.stdout.flush()
+    end_writing(_PATIENCE)
+    workers = multiprocessing.active_children()
+    if status != _INTERRUPTED and _have_ended(workers):
+        sys.exit(status)
+    for worker in workers:
+        worker.terminate()
+    _have_ended(workers)
+    os._exit(status)
 
 
 if __name__ == "__main__":
-    STATUS = main()
-    sys.stdout.flush()
-    # An interrupt leaves searches behind, which nothing is to wait for.
-    if STATUS == 130:
-        os._exit(STATUS)
-    sys.exit(STATUS)
+    end(main())

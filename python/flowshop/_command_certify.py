@@ -1,8 +1,8 @@
 """The command certify: it certifies blocks of files, with the processors of one machine or of many."""
 
 import argparse
+import ctypes
 import importlib
-import multiprocessing
 import os
 import signal
 import sys
@@ -20,6 +20,8 @@ from ._threads import Threads
 from ._waiting import Lines, Progress, Watch
 
 _EFFORT = {"width": 4096, "rounds": 10_000, "seed": 1, "work": 8500, "directions": 100_000_000}
+# PR_SET_PDEATHSIG of prctl
+_SIGNAL_AT_END_OF_PARENT = 1
 _ABOUT = """Certifies all blocks of files. Each certificate is written to a file of the folder --out, and a line says
 what it proves. A block whose certificate is there and lawful is not searched again, also where its bounds differ, so
 that a run that was stopped goes on with the blocks that are left."""
@@ -50,9 +52,11 @@ class _Search(NamedTuple):
     tell: Callable[[Work, Progress], None]
 
 
-def _be_deaf() -> None:
-    """Leaves an interrupt of a terminal to the process that gives the tasks."""
+def _begin_work() -> None:
+    """Leaves an interrupt of a terminal to the process that gives the tasks. A worker ends where that process does,
+    also where it is killed."""
     signal.signal(signal.SIGINT, signal.SIG_IGN)
+    ctypes.CDLL(None).prctl(_SIGNAL_AT_END_OF_PARENT, signal.SIGKILL)
 
 
 def _package(name: str) -> Any:
@@ -73,9 +77,10 @@ def _workers(executor: str, count: Optional[int]) -> Iterator[Workers]:
         yield Workers(threads.map, local)
         threads.close()
     elif executor == "processes":
-        with ProcessPoolExecutor(local, initializer=_be_deaf) as pool:
-            list(pool.map(int, range(local)))  # they start before any thread does
-            yield Workers(pool.map, local, has_beams=True)
+        pool = ProcessPoolExecutor(local, initializer=_begin_work)
+        list(pool.map(int, range(local)))  # they start before any thread does
+        yield Workers(pool.map, local, has_beams=True)
+        pool.shutdown(wait=False)
     elif executor == "mpi":
         futures, mpi = _package("mpi4py.futures"), _package("mpi4py.MPI")
         with futures.MPIPoolExecutor() as pool:
@@ -131,10 +136,6 @@ def run(options: argparse.Namespace) -> int:
             table = Table(works, options, sys.stdout)
             _all_certified(works, table, _Search(workers, Effort(*numbers), directions, limit, tell))
             table.write()
-    except KeyboardInterrupt:
-        for process in multiprocessing.active_children():
-            process.terminate()
-        raise
     except BrokenExecutor as error:
         print(f"flowshop: a worker has ended: {error}", file=sys.stderr)
         return 1

@@ -6,12 +6,16 @@ import hashlib
 import json
 import os
 import re
+import threading
 from dataclasses import asdict, dataclass, fields
 from pathlib import Path
 from typing import Any, List, NamedTuple, Optional, TextIO
 
 from ._results import Certificate
 from ._shop import Shop
+
+# It is held while a file is written.
+_WRITING = threading.Lock()
 
 
 class WordError(Exception):
@@ -99,14 +103,20 @@ def works_of(options: argparse.Namespace) -> List[Work]:
 def save(path: Path, text: bytes) -> None:
     """Writes a file that is there as a whole or not at all."""
     new = path.with_name(f".{path.name}.{os.getpid()}.new")
-    try:
-        with open(new, "wb") as file:
-            file.write(text)
-            file.flush()
-            os.fsync(file.fileno())
-        os.replace(new, path)
-    finally:
-        new.unlink(missing_ok=True)
+    with _WRITING:
+        try:
+            with open(new, "wb") as file:
+                file.write(text)
+                file.flush()
+                os.fsync(file.fileno())
+            os.replace(new, path)
+        finally:
+            new.unlink(missing_ok=True)
+
+
+def end_writing(seconds: float) -> None:
+    """Waits for a file that another thread writes, so many seconds at most, and lets none be written after it."""
+    _WRITING.acquire(timeout=seconds)
 
 
 class Table:

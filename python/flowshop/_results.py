@@ -167,6 +167,11 @@ class Picture(str):
         """The text, for a notebook."""
         return str(self)
 
+    def _repr_html_(self) -> str:
+        """The same for pages that are made of notebooks, where SVG alone may lose its shapes. The em of their style is
+        not that of the picture."""
+        return f"<div>{self}</div>"
+
     def __repr__(self) -> str:
         """The title of the picture."""
         return f"Picture({self.partition('<title>')[2].partition('</title>')[0]})"

@@ -397,8 +397,9 @@ class Shop:
         a two-ended beam of widths up to `width`, 0 to 65,536, and two runs of at most `rounds` rounds, 0 to
         100,000,000, with the random numbers of `seed`, 1 to 2,147,483,646. They take about `work` million steps at
         most, 0 to 1,000,000, each about the work for one job on one machine. After `time_limit` seconds the best
-        sequence so far is given. An interrupt ends the searches within a second, as Interrupted, which has it.
-        NotASequence where the start is none, OptionError where a number is not as said here.
+        sequence so far is given. An interrupt ends the call within a second, as Interrupted, which has it; without a
+        time limit it has the start. NotASequence where the start is none, OptionError where a number is not as said
+        here.
 
         >>> shop.improve([1, 2, 3]).value
         12
@@ -511,9 +512,9 @@ class Shop:
         Searches for directions are shared by so many `workers`, 1 to 10,000, which are threads; or by those of a `map`,
         such as that of a pool of processes, where `workers` says how many there are, if it is known. The certificate is
         the same for any number of workers and any map. After `time_limit` seconds it is one of the best bounds so far.
-        An interrupt ends the call within a second, as Interrupted, which has it. `progress` is called with a Progress,
-        a few times a second; where it is True, a line on standard error tells the same. Errors are those of `improve`,
-        and those of the map.
+        `progress` is called with a Progress, a few times a second; where it is True, a line on standard error tells the
+        same. An interrupt ends the call within a second, as Interrupted, which has a certificate of the best bounds so
+        far; without any of these words it has that of the start. Errors are those of `improve`, and those of the map.
 
         >>> certificate = shop.certify(workers=4, time_limit=60)
         >>> certificate.lower, certificate.upper
