@@ -22,7 +22,7 @@ from counts import end, equal, refused
 from plain_search import PlainShop
 
 import flowshop
-from flowshop import Interrupted, Shop, _certify, _parts, _spread
+from flowshop import Interrupted, Shop, _certify, _library, _parts, _spread, _texts
 
 TOP = pathlib.Path(__file__).resolve().parent.parent
 BLOCKS = TOP / "examples" / "several_blocks.txt"
@@ -76,17 +76,28 @@ def drawn_runs():
         yield shop, {"width": 0, "rounds": 5, "work": 1, "seed": 1, "directions": draw.randint(1_000_000, 2_500_000)}
 
 
+def one_call(shop, width, rounds, seed, work, directions):
+    """What the call flowshop_certify finds."""
+    jobs = (_library.u16 * shop.jobs)()
+    effort, bounds = _library.EffortNumbers(width, rounds, seed, work), _library.BoundsRoom(jobs, shop.jobs)
+
+    def write(room):
+        shop._call("certify", shop._begun(None), effort, directions, bounds, room)
+
+    return shop.check(_texts.written(3300 + directions, write))
+
+
 def compare_texts(pool):
-    """The text of a run whose searches are shared is that of one call."""
+    """The text of a run, whoever makes its searches, is that of one call of the library."""
     steps = set()
     ways = [
-        ("one worker", {"time_limit": 1000}),
+        ("one worker", {}),
         ("three threads", {"workers": 3}),
         ("a map", {"map": shuffled(7)}),
         ("processes", {"map": pool.map, "workers": 2}),
     ]
     for shop, choice in drawn_runs():
-        wanted = shop.certify(**choice)
+        wanted = one_call(shop, **choice)
         is_long = choice["directions"] > 200_000
         with small_tasks(0.05 if is_long else 0.0005):
             for name, words in ways[1:2] if is_long else ways:
@@ -305,6 +316,9 @@ def interrupt_runs(pool):
         result = error.result
         is_right = lawful(HARD, result) if name != "improve" else HARD.makespan(result) == result.value
         equal(f"what {name} leave", is_right, True)
+    error, seconds = interrupt(3, HARD.certify)
+    equal("an interrupt of certify", (type(error), seconds < 1), (Interrupted, True))
+    equal("what is better than the start", error.result.upper < HARD.neh().value, True)
     error, seconds = interrupt(0.2, lambda: HARD.solve(budget=100_000_000))
     equal("an interrupt of solve", (type(error), seconds < 1), (KeyboardInterrupt, True))
     error, seconds = interrupt(0.2, lambda: HARD.prove(HARD.neh().value - 60, budget=1_000_000_000))

@@ -3,8 +3,7 @@
 A shop has jobs 1 to n and machines 1 to m. Every machine takes the jobs in one common order, each job visits machine 1
 first, and the makespan is when the last job leaves the last machine. The calls are those of library/flowshop.h, whose
 results are proved. This package is tested: it hands numbers and texts to them and back, and makes the steps of
-`certify` where these are shared, watched or stopped. Whatever makes a certificate, Shop.check is a proved call. Calls
-let other threads run.
+`certify`. Whatever makes a certificate, Shop.check is a proved call. Calls let other threads run.
 
     >>> from flowshop import Shop
     >>> shop = Shop.from_jobs([[4, 0, 4], [0, 8, 0], [0, 2, 1]])

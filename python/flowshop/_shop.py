@@ -440,10 +440,15 @@ class Shop:
         """
         plan = Plan(option("depth", depth), option("budget", budget), option("version", version))
         trees = self._trees(plan.depth)
+        begun, most = self._begun(start), _BESIDE + trees * (plan.budget + 1)
+        jobs = (u16 * self.jobs)()
+        bounds = BoundsRoom(jobs, self.jobs)
         try:
-            return self._searched("solve", self._begun(start), [plan], _BESIDE + trees * (plan.budget + 1))
+            text = waited(lambda: written(most, lambda room: self._call("solve", begun, plan, bounds, room)))
         except Refused as refused:
             raise _over_budget(refused, trees, plan.budget) from None
+        sequence = tuple(jobs)
+        return Certificate(bounds.lower, bounds.upper, sequence, text, self._named(sequence))
 
     def _trees(self, depth: int) -> int:
         """How many lists of so many jobs there are. OptionError where there are none, or too many."""
@@ -514,7 +519,8 @@ class Shop:
         the same for any number of workers and any map. After `time_limit` seconds it is one of the best bounds so far.
         `progress` is called with a Progress, a few times a second; where it is True, a line on standard error tells the
         same. An interrupt ends the call within a second, as Interrupted, which has a certificate of the best bounds so
-        far; without any of these words it has that of the start. Errors are those of `improve`, and those of the map.
+        far. Without a map and a time limit the certificate was read by `check`. Errors are those of `improve`, and
+        those of the map.
 
         >>> certificate = shop.certify(workers=4, time_limit=60)
         >>> certificate.lower, certificate.upper
@@ -523,23 +529,23 @@ class Shop:
         effort = Effort(option("width", width), option("rounds", rounds), option("seed", seed), option("work", work))
         most, count = option("directions", directions), option("workers", workers, OF_PARTS)
         limit, begun = time_limit_of(time_limit), self._begun(start)
-        if (count, map, limit, progress or None) != (1, None, None, None):
-            at_once = min(4, count) if map is None else 4
-            return self._certify(begun, effort, most, Workers(map, count, at_once), Watch(limit, progress))
-        try:
-            return self._searched("certify", begun, [EffortNumbers(*effort), most], _BESIDE + most)
-        except KeyboardInterrupt:
-            raise Interrupted(self._certificate(self._run(begun, effort, most).known)) from None
+        at_once = min(4, count) if map is None else 4
+        found = self._certify(begun, effort, most, Workers(map, count, at_once), Watch(limit, progress))
+        return self._read(found) if map is None and limit is None else found
 
-    def _run(self, start: bytes, effort: Effort, directions: int) -> Run:
-        """The run of certify from a sequence."""
-        return Run(self._parts[:3], start, self.makespan(numbers_of(start)), effort, directions)
+    def _read(self, found: Certificate) -> Certificate:
+        """A certificate that the checker has read. An interrupt leaves it as it is."""
+        try:
+            return waited(lambda: self.check(found))
+        except KeyboardInterrupt:
+            raise Interrupted(found) from None
 
     def _certify(
         self, start: Optional[bytes], effort: Effort, directions: int, workers: Workers, watch: Watch
     ) -> Certificate:
-        """What certify comes to where workers share its searches, or somebody watches them."""
-        run = self._run(self._begun(None) if start is None else start, effort, directions)
+        """What certify comes to, by workers that share its searches, as long as the watch allows."""
+        begun = self._begun(None) if start is None else start
+        run = Run(self._parts[:3], begun, self.makespan(numbers_of(begun)), effort, directions)
         try:
             run.search_until(watch, workers)
         except KeyboardInterrupt:
@@ -551,14 +557,6 @@ class Shop:
         jobs = numbers_of(known.sequence)
         text = two_ended_text(self.jobs, self.machines, known.lower, known.upper, jobs, known.directions)
         return Certificate(known.lower, known.upper, jobs, text, self._named(jobs))
-
-    def _searched(self, name: str, start: bytes, choice: List[Any], most: int) -> Certificate:
-        """What a search gives whose text has at most so many bytes."""
-        jobs = (u16 * self.jobs)()
-        bounds = BoundsRoom(jobs, self.jobs)
-        text = waited(lambda: written(most, lambda room: self._call(name, start, *choice, bounds, room)))
-        sequence = tuple(jobs)
-        return Certificate(bounds.lower, bounds.upper, sequence, text, self._named(sequence))
 
     def check(self, text: Text) -> Certificate:
         """What a text proves, with the sequence that it states: a certificate of version 1 or 2, or a two-ended one;
