@@ -1,7 +1,6 @@
 """Calls of the library from Python, by ctypes, compared with plain code: random small shops are solved by trying each
 sequence, each status is met, and slices that are too short are refused and left as they were."""
 
-import itertools
 import os
 import random
 import re
@@ -11,6 +10,7 @@ import tempfile
 import threading
 from ctypes import byref
 
+from plain_shop import plain_least, plain_makespan
 from records import LIBRARY, SIZE, TOP, U8, U16, U32, U64, Block, Bounds, Effort, Plan, Reached, Room, Spans, Text
 from records import call, counts, equal, lent, shop_of
 
@@ -137,17 +137,6 @@ def plain_times(jobs, machines, seed):
     return times
 
 
-def plain_makespan(shop, sequence):
-    jobs, machines, times = shop
-    front = [0] * machines
-    for job in sequence:
-        before = 0
-        for machine in range(machines):
-            before = max(before, front[machine]) + times[machine * jobs + job - 1]
-            front[machine] = before
-    return front[-1]
-
-
 def plain_timetable(shop, sequence):
     jobs, machines, times = shop
     front, starts, ends = [0] * machines, [], []
@@ -234,10 +223,6 @@ def plain_neh(shop):
         lists = [sequence[:place] + [job] + sequence[place:] for place in range(len(sequence) + 1)]
         sequence = min(lists, key=lambda jobs: plain_makespan(shop, jobs))
     return sequence
-
-
-def plain_least(shop):
-    return min(plain_makespan(shop, sequence) for sequence in itertools.permutations(range(1, shop[0] + 1)))
 
 
 def plain_check(shop, text, most):

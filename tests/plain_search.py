@@ -1,5 +1,5 @@
 """The search for directions in plain Python, from docs/formats.md alone, for shops of a few jobs. It uses nothing of
-the package."""
+the library or the package."""
 
 
 class PlainShop:

@@ -1,123 +1,24 @@
 """Parts of searches, beams and rounds, called from Python by ctypes, and compared with plain code: the directions of
-random small shops with a search that follows their definition word by word, and what is reached with the makespans of
-all sequences."""
+random small shops with the search of plain_search.py, and what is reached with the makespans of all sequences."""
 
-import itertools
 import random
 import sys
 from ctypes import c_uint64
 
+from plain_search import PlainShop
+from plain_shop import plain_least, plain_makespan
 from records import SIZE, U8, U16, BeamOptions, Effort, Node, Part, Reached, Room, RoundsOptions
 from records import call, counts, equal, lent, shop_of
 
 MANY = 100_000
 
 
-def makespan(shop, sequence):
+def plain_found(shop, number, first, last):
+    """The directions of a node before the first sequence below the number, and that sequence where there is one."""
     jobs, machines, times = shop
-    front = [0] * machines
-    for job in sequence:
-        before = 0
-        for machine in range(machines):
-            before = max(before, front[machine]) + times[machine * jobs + job - 1]
-            front[machine] = before
-    return front[-1]
-
-
-def least(shop):
-    return min(makespan(shop, sequence) for sequence in itertools.permutations(range(1, shop[0] + 1)))
-
-
-class PlainSearch:
-    """The search for directions that prove a number, by docs/definitions.md: what it meets at a node."""
-
-    def __init__(self, shop, number):
-        self.jobs, self.machines, self.times = shop
-        self.number = number
-
-    def time(self, job, machine):
-        return self.times[machine * self.jobs + job - 1]
-
-    def left(self, first, last):
-        return [job for job in range(1, self.jobs + 1) if job not in first + last]
-
-    def front(self, first):
-        """When the first list leaves each machine; where it is empty, the least time that a job needs before it."""
-        if not first:
-            return [
-                min(sum(self.time(job, before) for before in range(machine)) for job in range(1, self.jobs + 1))
-                for machine in range(self.machines)
-            ]
-        done = [0] * self.machines
-        for job in first:
-            before = 0
-            for machine in range(self.machines):
-                done[machine] = before = max(before, done[machine]) + self.time(job, machine)
-        return done
-
-    def back(self, last):
-        """The same of the last list, from the last machine on and from its last job on."""
-        mirrored = PlainSearch((self.jobs, self.machines, self.mirrored()), self.number)
-        return mirrored.front(last[::-1])[::-1]
-
-    def mirrored(self):
-        """The times with the machines in their reverse order."""
-        return [self.time(job, machine) for machine in range(self.machines)[::-1] for job in range(1, self.jobs + 1)]
-
-    def bound(self, first, last):
-        front, back, left = self.front(first), self.back(last), self.left(first, last)
-        return max(
-            front[machine] + sum(self.time(job, machine) for job in left) + back[machine]
-            for machine in range(self.machines)
-        )
-
-    def child(self, end, first, last, job):
-        return (first + [job], last) if end == "+" else (first, [job] + last)
-
-    def bounds(self, end, first, last):
-        return [self.bound(*self.child(end, first, last, job)) for job in self.left(first, last)]
-
-    def below(self, end, first, last):
-        left = zip(self.left(first, last), self.bounds(end, first, last))
-        return [job for job, bound in left if bound < self.number]
-
-    def fewest(self, first, last):
-        return min(len(self.below(end, first, last)) for end in "+-")
-
-    def weight(self, end, first, last):
-        return sum(self.fewest(*self.child(end, first, last, job)) for job in self.below(end, first, last))
-
-    def end(self, first, last):
-        """The end at which a node is opened."""
-        front, back = [len(self.below(end, first, last)) for end in "+-"]
-        sums = [sum(self.bounds(end, first, last)) for end in "+-"]
-        plain, other = ("+", "-") if front < back or front == back and sums[1] <= sums[0] else ("-", "+")
-        fewer, more = (front, back) if plain == "+" else (back, front)
-        if fewer >= 2 and 2 * more <= 3 * fewer and len(self.left(first, last)) >= 3:
-            if self.weight(other, first, last) < self.weight(plain, first, last):
-                return other
-        return plain
-
-    def met(self, first, last):
-        """Each end at which a node is opened, and each sequence below the number, in the order of the search."""
-        if self.bound(first, last) >= self.number:
-            return
-        if not self.left(first, last):
-            yield first + last
-            return
-        end = self.end(first, last)
-        yield end
-        for job in self.left(first, last):
-            yield from self.met(*self.child(end, first, last, job))
-
-    def found(self, first=(), last=()):
-        """The directions before the first sequence below the number, and that sequence where there is one."""
-        directions = ""
-        for met in self.met(list(first), list(last)):
-            if isinstance(met, list):
-                return directions, met
-            directions += met
-        return directions, None
+    rows = [times[machine * jobs : (machine + 1) * jobs] for machine in range(machines)]
+    text, found = PlainShop(rows).search(number, tuple(first), tuple(last))
+    return text.decode("ascii"), found and list(found)
 
 
 def prove(shop, number, first=(), last=(), budget=MANY, room=None, rest_room=None):
@@ -170,7 +71,7 @@ def by_parts(shop, number, first, last, budget):
         kind, more, *found = prove(shop, number, *node, budget)
         text += more
         if kind == "BELOW":
-            equal("the makespan of a sequence", found[1], makespan(shop, found[0]))
+            equal("the makespan of a sequence", found[1], plain_makespan(shop, found[0]))
             return text, found[0]
         if kind == "OVER":
             equal("how many directions there are", len(more), budget)
@@ -189,13 +90,13 @@ def compare_parts(draw):
     for jobs, machines, more in sizes:
         shop = drawn(draw, jobs, machines)
         start = draw.sample(range(1, jobs + 1), jobs)
-        number = (makespan(shop, start) if jobs > 8 else least(shop)) + draw.choice((0, 1)) - (jobs > 8) * 2
+        number = (plain_makespan(shop, start) if jobs > 8 else plain_least(shop)) + draw.choice((0, 1)) - (jobs > 8) * 2
         first, last = start[: min(more, 1)], start[len(start) - max(0, more - 1) :]
-        wanted = PlainSearch(shop, number).found(first, last)
+        wanted = plain_found(shop, number, first, last)
         kind, text, *found = prove(shop, number, first, last)
         equal(f"directions of {shop}", (kind, text), ("PROVED" if wanted[1] is None else "BELOW", wanted[0]))
         if found:
-            equal("a sequence", found, [wanted[1], makespan(shop, wanted[1])])
+            equal("a sequence", found, [wanted[1], plain_makespan(shop, wanted[1])])
         for budget in (1, 2, 7, 1_000, len(text), max(0, len(text) - 1)):
             if budget or not text:
                 equal(f"parts with {budget} of {shop}", by_parts(shop, number, first, last, budget), wanted)
@@ -300,7 +201,7 @@ def compare_reached(draw):
     for _ in range(200):
         shop = drawn(draw, draw.randint(1, 6), draw.randint(1, 5))
         start = draw.sample(range(1, shop[0] + 1), shop[0])
-        value, best = makespan(shop, start), least(shop)
+        value, best = plain_makespan(shop, start), plain_least(shop)
         for found, aim in [
             (beam(shop, start, width=draw.choice((1, 3, 4_096))), 0),
             (beam(shop, start, best + 1), best + 1),
@@ -308,7 +209,7 @@ def compare_reached(draw):
             (rounds(shop, start, draw.randint(0, 30), draw.randint(1, 2_147_483_646)), 0),
         ]:
             sequence, reached, whole = found
-            equal("a sequence", (sorted(sequence), makespan(shop, sequence)), (sorted(start), reached))
+            equal("a sequence", (sorted(sequence), plain_makespan(shop, sequence)), (sorted(start), reached))
             equal("whether it is no worse", (best <= reached <= value, whole in (0, 1)), (True, True))
             if aim:
                 equal("a beam that is aimed", reached, best if aim > best else value)

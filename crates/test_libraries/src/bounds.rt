@@ -219,7 +219,7 @@ fn are_spans(found: Result<Vec<u64>, AllocError>, spans: &[u64]) -> bool {
 }
 
 /// Whether these are the makespans of the first jobs of a sequence with the next job put in at each place.
-fn has_spans(
+pub(crate) fn has_spans(
     alloc: Global,
     instance: &Instance,
     sequence: &Sequence,

@@ -42,3 +42,10 @@ pub const TREES_AT_DEPTH_1: [&[u8]; 3] = [b"B", b"C", b"++.B"];
 /// A text for the same instance at depth 1 that is no certificate: the letter of its third tree, on line 7, has a bound
 /// below the value.
 pub const WEAK_CERTIFICATE: &[u8] = b"flowshop certificate 1\n3 3 1\n12\n3 1 2\nB\nC\n++.A\nend\n";
+
+/// A two-ended certificate of the instance with three machines. The bound with no job put is 10. With 1, 2 and 3 at the
+/// front the bounds are 14, 13 and 10; with 3 1 and 3 2 at the front they are 12 and 14.
+pub const TWO_ENDED_12: &[u8] = b"flowshop two-ended 1\n3 3\n12 12\n3 1 2\n++\nend\n";
+
+/// One of bounds that differ, for the same instance. With 1, 2 and 3 at the back the bounds are 14, 12 and 11.
+pub const TWO_ENDED_11: &[u8] = b"flowshop two-ended 1\n3 3\n11 13\n2 1 3\n-\nend\n";

@@ -1,6 +1,6 @@
 //! The kinds of text, and the checker of both.
 
-use crate::instances::{CERTIFICATE_AT_DEPTH_0, three_machines};
+use crate::instances::{CERTIFICATE_AT_DEPTH_0, TWO_ENDED_11, TWO_ENDED_12, three_machines};
 use flow_check::{Bounds, CheckFault, TextKind, check_text, kind_of};
 use flow_core::Instance;
 use std::alloc::Global;
@@ -26,13 +26,13 @@ static ROWS: [Row; 7] = [
         Err(CheckFault::Header),
     ),
     (
-        b"flowshop two-ended 1\n3 3\n11 13\n2 1 3\n-\nend\n",
+        TWO_ENDED_11,
         TextKind::TwoEnded,
         Err(CheckFault::Header),
         Ok((11, 13, &[2, 1, 3])),
     ),
     (
-        b"flowshop two-ended 1\n3 3\n12 12\n3 1 2\n++\nend\n",
+        TWO_ENDED_12,
         TextKind::TwoEnded,
         Err(CheckFault::Header),
         Ok((12, 12, &[3, 1, 2])),

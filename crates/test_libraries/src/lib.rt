@@ -57,7 +57,7 @@ mod values;
 mod writer;
 
 pub use instances::{
-    CERTIFICATE_AT_DEPTH_0, GENERATED_TEXT, THREE_MACHINES_TEXT, TREES_AT_DEPTH_1,
-    TWO_MACHINES_TEXT, WEAK_CERTIFICATE, three_machines, two_machines,
+    CERTIFICATE_AT_DEPTH_0, GENERATED_TEXT, THREE_MACHINES_TEXT, TREES_AT_DEPTH_1, TWO_ENDED_11,
+    TWO_ENDED_12, TWO_MACHINES_TEXT, WEAK_CERTIFICATE, three_machines, two_machines,
 };
 pub use outcomes::{AMPLE, TIGHT, all_outcomes, is_verdict};

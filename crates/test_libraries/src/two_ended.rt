@@ -1,7 +1,7 @@
 //! The checker of two-ended certificates.
 
 use crate::changes::{Change, close_texts, replaced};
-use crate::instances::three_machines;
+use crate::instances::{TWO_ENDED_11, TWO_ENDED_12, three_machines};
 use crate::shops::{Shop, made};
 use flow_check::{CheckFault, check, check_two_ended};
 use flow_core::Instance;
@@ -167,10 +167,7 @@ fn check_two_ended_answers_texts(rt: HostRuntime) {
     }
 }
 
-/// A two-ended certificate of the instance with three machines.
-const CERTIFICATE: &[u8] = b"flowshop two-ended 1\n3 3\n12 12\n3 1 2\n++\nend\n";
-
-/// Its lines, without their ends.
+/// The lines of a two-ended certificate of the instance with three machines, without their ends.
 static LINES: [&[u8]; 6] = [
     b"flowshop two-ended 1",
     b"3 3",
@@ -326,7 +323,7 @@ fn are_faulty(alloc: Global, row: &Beginnings) -> bool {
         return false;
     };
     for length in row.0..row.1 {
-        let text = CERTIFICATE.get(..length).unwrap_or(b"");
+        let text = TWO_ENDED_12.get(..length).unwrap_or(b"");
         if text.len() != length || answer_of(alloc, &instance, text) != Err(row.2) {
             return false;
         }
@@ -339,14 +336,14 @@ fn check_two_ended_names_the_first_fault_of_each_beginning(rt: HostRuntime) {
     for (number, row) in BEGINNINGS.iter().enumerate() {
         assert!(rt; are_faulty(rt.alloc(), row), "row {number}");
     }
-    assert!(rt; CERTIFICATE.len() == 44);
+    assert!(rt; TWO_ENDED_12.len() == 44);
 }
 
 /// Texts of the instance with three machines, and the texts with one other byte that are lawful too: `-`, `++` and `+-`
 /// prove 11, all four strings of two signs prove 12, and none other proves either.
 static CLOSE: [(&[u8], &[&[u8]]); 5] = [
     (
-        CERTIFICATE,
+        TWO_ENDED_12,
         &[
             b"flowshop two-ended 1\n3 3\n11 12\n3 1 2\n++\nend\n",
             b"flowshop two-ended 1\n3 3\n12 12\n3 1 2\n-+\nend\n",
@@ -374,7 +371,7 @@ static CLOSE: [(&[u8], &[&[u8]]); 5] = [
             b"flowshop two-ended 1\n3 3\n11 13\n2 1 3\n++\nend\n",
         ],
     ),
-    (b"flowshop two-ended 1\n3 3\n11 13\n2 1 3\n-\nend\n", &[]),
+    (TWO_ENDED_11, &[]),
 ];
 
 /// Whether of these texts these are lawful, in this order.
@@ -411,7 +408,7 @@ fn check_two_ended_accepts_these_of_all_changed_bytes(rt: HostRuntime) {
 
 /// Whether the checker of two-ended certificates shows the sequence of the certificate.
 fn is_shown(alloc: Global, instance: &Instance) -> bool {
-    match check_two_ended(alloc, instance, CERTIFICATE) {
+    match check_two_ended(alloc, instance, TWO_ENDED_12) {
         Ok(shown) => shown.sequence.jobs() == [3, 1, 2].as_slice(),
         Err(_) => false,
     }
@@ -422,7 +419,7 @@ fn is_read_by_its_checker(alloc: Global) -> bool {
     match three_machines(alloc) {
         Ok(instance) => {
             is_shown(alloc, &instance)
-                && check(alloc, &instance, CERTIFICATE) == Err(CheckFault::Header)
+                && check(alloc, &instance, TWO_ENDED_12) == Err(CheckFault::Header)
         }
         Err(_) => false,
     }

@@ -2,7 +2,7 @@
 
 ghost use Rattle.std.specs.Prelude.{◌≡◌, false};
 
-use crate::instances::CERTIFICATE_AT_DEPTH_0;
+use crate::instances::{CERTIFICATE_AT_DEPTH_0, TWO_ENDED_11, TWO_ENDED_12};
 use crate::plans::planned;
 use crate::shops::{Shop, made};
 use flow_cert::{write_certificate, write_two_ended};
@@ -204,7 +204,7 @@ static TWO_ENDED: [TwoEnded; 8] = [
         b"++",
         44,
         Ok(()),
-        b"flowshop two-ended 1\n3 3\n12 12\n3 1 2\n++\nend\n",
+        TWO_ENDED_12,
     ),
     (
         Shop::Three,
@@ -213,7 +213,7 @@ static TWO_ENDED: [TwoEnded; 8] = [
         b"-",
         1_000,
         Ok(()),
-        b"flowshop two-ended 1\n3 3\n11 13\n2 1 3\n-\nend\n",
+        TWO_ENDED_11,
     ),
     (
         Shop::Two,

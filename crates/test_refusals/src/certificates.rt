@@ -12,7 +12,7 @@ use flow_core::{Instance, MemorySink, Sequence};
 use flow_pool::SolveFault;
 use flow_search::{Plan, Verdict, solve_plain};
 use std::alloc::Global;
-use test_libraries::{AMPLE, CERTIFICATE_AT_DEPTH_0, WEAK_CERTIFICATE};
+use test_libraries::{AMPLE, CERTIFICATE_AT_DEPTH_0, TWO_ENDED_12, WEAK_CERTIFICATE};
 
 /// Whether `write_certificate` writes this verdict into a sink in memory. Where it fails, memory ran out, since the
 /// sink has room.
@@ -60,9 +60,6 @@ pub(crate) fn certified_sequence_is_given(
     Ok(sequence.jobs() == [3, 1, 2].as_slice())
 }
 
-/// A lawful two-ended certificate of the instance with three machines.
-const TWO_ENDED: &[u8] = b"flowshop two-ended 1\n3 3\n12 12\n3 1 2\n++\nend\n";
-
 /// `write_two_ended`.
 pub(crate) fn two_ended_text_is_written(
     alloc: Global,
@@ -77,7 +74,7 @@ pub(crate) fn two_ended_text_is_written(
     if write_two_ended(three, bounds, &sequence, b"++", &mut sink).is_err() {
         return refused_where(sink.bytes().is_empty());
     }
-    Ok(sink.bytes() == TWO_ENDED)
+    Ok(sink.bytes() == TWO_ENDED_12)
 }
 
 /// `check_two_ended` of a lawful text.
@@ -85,6 +82,6 @@ pub(crate) fn two_ended_text_is_checked(
     alloc: Global,
     three: &Instance,
 ) -> Result<bool, CommandFault> {
-    let shown = check_two_ended(alloc, three, TWO_ENDED)?;
+    let shown = check_two_ended(alloc, three, TWO_ENDED_12)?;
     Ok(shown.bounds.lower == 12 && shown.sequence.jobs() == [3, 1, 2].as_slice())
 }

@@ -17,8 +17,8 @@ use std::alloc::Global;
 use std::sync::Wait;
 use std::thread::Threads;
 use test_libraries::{
-    AMPLE, CERTIFICATE_AT_DEPTH_0, GENERATED_TEXT, THREE_MACHINES_TEXT, TIGHT, TWO_MACHINES_TEXT,
-    WEAK_CERTIFICATE,
+    AMPLE, CERTIFICATE_AT_DEPTH_0, GENERATED_TEXT, THREE_MACHINES_TEXT, TIGHT, TWO_ENDED_11,
+    TWO_ENDED_12, TWO_MACHINES_TEXT, WEAK_CERTIFICATE,
 };
 
 /// A start of the instance with three machines.
@@ -32,12 +32,6 @@ const STARTED_CERTIFICATE: &[u8] =
 /// The certificate of that instance at depth 0, in version 2. It was computed apart from the program, by the
 /// definitions.
 const CERTIFICATE_2: &[u8] = b"flowshop certificate 2\n3 3 0\n12\n3 1 2\n+BC++.B\nend\n";
-
-/// Two-ended certificates of that instance. The bound with no job put is 10. With 1, 2 and 3 at the back the bounds are
-/// 14, 12 and 11, and with them at the front 14, 13 and 10; with 3 1 and 3 2 at the front they are 12 and 14.
-const TWO_ENDED: &[u8] = b"flowshop two-ended 1\n3 3\n12 12\n3 1 2\n++\nend\n";
-
-const BOUNDS_OF_11: &[u8] = b"flowshop two-ended 1\n3 3\n11 13\n2 1 3\n-\nend\n";
 
 /// An instance with ten jobs on six machines, which `gen` makes of seed 42.
 const TEN_JOBS_TEXT: &[u8] = b"a\n10 6 42 0 0\nb\n1 52 73 27 38 20 97 51 53 26\n\
@@ -230,7 +224,7 @@ pub(crate) static RUNS: [Run; 26] = [
         text: THREE_MACHINES_TEXT,
         beside: Some(START),
         command: Command::OfStart(OfStart::Certify(PROVED)),
-        wanted: Wanted::Text(TWO_ENDED),
+        wanted: Wanted::Text(TWO_ENDED_12),
     },
     Run {
         name: "run_certify with a few directions",
@@ -318,7 +312,7 @@ pub(crate) static RUNS: [Run; 26] = [
     Run {
         name: "run_check_as of a two-ended sequence",
         text: THREE_MACHINES_TEXT,
-        beside: Some(TWO_ENDED),
+        beside: Some(TWO_ENDED_12),
         command: Command::OfTexts(OfTexts::CheckAs(CHECK_SEQUENCE)),
         wanted: Wanted::Text(CHECKED_LINES),
     },
@@ -332,14 +326,14 @@ pub(crate) static RUNS: [Run; 26] = [
     Run {
         name: "run_check_as of bounds",
         text: THREE_MACHINES_TEXT,
-        beside: Some(BOUNDS_OF_11),
+        beside: Some(TWO_ENDED_11),
         command: Command::OfTexts(OfTexts::CheckAs(CHECK)),
         wanted: Wanted::Text(b"bounds 11 13\n"),
     },
     Run {
         name: "run_check_as of bounds for an optimum",
         text: THREE_MACHINES_TEXT,
-        beside: Some(BOUNDS_OF_11),
+        beside: Some(TWO_ENDED_11),
         command: Command::OfTexts(OfTexts::CheckAs(CHECK_OPTIMAL)),
         wanted: Wanted::Fault(CommandFault::Bounds {
             lower: 11,
@@ -349,7 +343,7 @@ pub(crate) static RUNS: [Run; 26] = [
     Run {
         name: "run_check_as of a two-ended certificate",
         text: THREE_MACHINES_TEXT,
-        beside: Some(TWO_ENDED),
+        beside: Some(TWO_ENDED_12),
         command: Command::OfTexts(OfTexts::CheckAs(CHECK_OPTIMAL)),
         wanted: Wanted::Text(b"optimal 12\n"),
     },
@@ -363,7 +357,7 @@ pub(crate) static RUNS: [Run; 26] = [
     Run {
         name: "run_schedule of a two-ended certificate",
         text: THREE_MACHINES_TEXT,
-        beside: Some(TWO_ENDED),
+        beside: Some(TWO_ENDED_12),
         command: Command::OfTexts(OfTexts::Schedule(ScheduleForm::Svg)),
         wanted: Wanted::Picture,
     },

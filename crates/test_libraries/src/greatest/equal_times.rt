@@ -3,9 +3,10 @@
 
 ghost use Rattle.std.specs.Prelude.{◌≡◌, IfOk};
 
+use crate::bounds::has_spans;
 use crate::greatest::texts::joined;
 use crate::greatest::written::{is_written, planned};
-use flow_bound::{insertion_spans, neh};
+use flow_bound::neh;
 use flow_check::{CheckFault, check};
 use flow_core::{Instance, InstanceFault, Row, Sequence, makespan, rows};
 use flow_search::{Options, Outcome, PlanFault, answer, prepare};
@@ -115,30 +116,6 @@ fn starts_backwards(alloc: Global) -> bool {
 #[test]
 fn sequences_have_the_makespan(rt: HostRuntime) {
     assert!(rt; has_makespan(rt.alloc()) && starts_backwards(rt.alloc()));
-}
-
-/// Whether these makespans were found.
-fn are_spans(found: Result<Vec<u64>, AllocError>, spans: &[u64]) -> bool {
-    match found {
-        Ok(found) => found.as_slice() == spans,
-        Err(_) => false,
-    }
-}
-
-/// Whether these are the makespans of the first jobs of a sequence with the next job put in at each place.
-fn has_spans(
-    alloc: Global,
-    instance: &Instance,
-    sequence: &Sequence,
-    count: usize,
-    spans: &[u64],
-) -> bool {
-    let jobs = sequence.jobs();
-    if jobs.len() != instance.jobs() as usize || count >= jobs.len() {
-        return false;
-    }
-    let found: Result<_, _> = insertion_spans(alloc, instance, &jobs[..count], jobs[count]);
-    are_spans(found, spans)
 }
 
 /// One job more than 3 or 799 ends after 3 + 26 or 799 + 26 times, in each of so many places.
