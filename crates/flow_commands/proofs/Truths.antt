@@ -23,7 +23,8 @@ use Rattle.flow_commands.specs.Certify.{AnswersCertify, Certifies, WroteTwoEnded
 use Rattle.flow_commands.specs.Request.{SaysTrue, answers}
 use Rattle.flow_commands.specs.Runs.{SinkRun, Took}
 use Rattle.flow_commands.specs.Schedule.{AnswersSchedule, GivesTimed, WroteSchedule}
-use Rattle.flow_commands.specs.Solve.{AnswersOptions, AnswersSolve, WroteCertificate, asked_options}
+use Rattle.flow_commands.specs.Solve.{AnswersOptions, AnswersSolve, WroteCertificate}
+use Rattle.flow_search.specs.Choices.{versioned_or_fault}
 use Rattle.flow_commands.specs.Start.{FromStart}
 use Rattle.flow_commands.specs.declared.fault.CommandFault.{CommandFault}
 use Rattle.flow_commands.specs.declared.timed.TimedSequence.{TimedSequence}
@@ -59,7 +60,7 @@ pub solve-is-lawful : {K : Type 0} (request : SolveRequest) (sink : SinkRun K) (
 solve-is-lawful request sink origin given text answers took =
     let from = from-start (AnswersSolve request) origin given text answers in
     of-options origin.block.instance from.0
-    (asked_options request.workers request.depth request.budget request.version) text sink from.1 took
+    (versioned_or_fault request.workers request.depth request.budget request.version) text sink from.1 took
 
 -- the bounds of what `certify` writes are proved
 of-numbers : {K : Type 0} (request : CertifyRequest) (shop : Shop) (given : Option (List ℕ)) (text : List ℕ)

@@ -1,22 +1,17 @@
 -- The block of a benchmark text that an index names.
-use Rattle.std.specs.Prelude.{◌≡◌, ℕ, ◌-◌, ◌≤◌, ◌<◌, ◌⊎◌, List, length, slice_get, Some, Result, Ok, Err}
-use Rattle.flow_core.specs.TextFaults.{text_fault}
-use Rattle.flow_core.specs.Text.{Reads}
+use Rattle.std.specs.Prelude.{◌≡◌, ℕ, List, Result, Ok, Err}
+use Rattle.flow_core.specs.Picks.{HasBlock, HasBlocks, IsPickFault}
 use Rattle.flow_core.specs.declared.text.block.Block.{Block}
+use Rattle.flow_core.specs.declared.text.pick.PickFault.TheVariants as pick
 use Rattle.flow_commands.specs.declared.fault.CommandFault.{CommandFault}
 use Rattle.flow_commands.specs.declared.fault.CommandFault.TheVariants.{Index, Text}
 
 -- the block of a text that an index names, from 1; or the text's first fault; or that the text has no such block
 abbrev pub Picks : List ℕ → ℕ → Result Block CommandFault → Type 0
-Picks text index (Ok block) =
-    (blocks : List Block) × Reads text blocks × (1 ≤ index) × (slice_get blocks (index - 1) ≡ Some block)
-Picks text index (Err (Text fault)) = text_fault text ≡ Some fault
-Picks text index (Err Index) = (blocks : List Block) × Reads text blocks × ((index ≡ 0) ⊎ (length blocks < index))
+Picks text index (Ok block) = HasBlock text index block
+Picks text index (Err (Text fault)) = IsPickFault text index (pick.Text fault)
+Picks text index (Err Index) = (count : ℕ) × IsPickFault text index (pick.Index count)
 Picks text index (Err fault) = ⊥
-
--- a text has so many blocks
-abbrev pub HasBlocks : List ℕ → ℕ → Type 0
-HasBlocks text count = (blocks : List Block) × Reads text blocks × (length blocks ≡ count)
 
 -- a block that an index names: the text that it is from, its number there, how many blocks that has, and the block
 pub record Origin : Type 0 where

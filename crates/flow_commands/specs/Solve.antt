@@ -2,7 +2,7 @@
 use Rattle.std.specs.Prelude.{◌≡◌, ℕ, ◌⊎◌, List, Option, Some, None, Result, Ok, Err}
 use Rattle.flow_core.specs.Shop.{Shop}
 use Rattle.flow_core.specs.Sequences.{IsLeastMakespan}
-use Rattle.flow_search.specs.Choices.{Choices, options_or_fault, version_or_fault}
+use Rattle.flow_search.specs.Choices.{Choices, versioned_or_fault}
 use Rattle.flow_search.specs.Plans.{Planned, IsPlan, plan_fault}
 use Rattle.flow_search.specs.Outcomes.{first_over_budget}
 use Rattle.flow_search.specs.declared.options.OptionFault.{OptionFault}
@@ -36,16 +36,10 @@ abbrev pub AnswersOptions : Shop → Option (List ℕ) → Result Choices Option
 AnswersOptions shop given (Ok options) answer = AnswersPlan shop given options answer
 AnswersOptions shop given (Err fault) answer = answer ≡ Err (Choice fault)
 
--- the options of workers, depth, budget and version; or the first fault
-abbrev pub asked_options : ℕ → ℕ → ℕ → ℕ → Result Choices OptionFault
-asked_options workers depth budget version =
-    elim (options_or_fault workers depth budget)
-    [ Ok options ↦ version_or_fault options version | Err fault ↦ Err fault ]
-
 -- what `solve` answers for a shop and a given sequence
 abbrev pub AnswersSolve : SolveRequest → Shop → Option (List ℕ) → Output → Type 0
 AnswersSolve request shop given =
-    AnswersOptions shop given (asked_options request.workers request.depth request.budget request.version)
+    AnswersOptions shop given (versioned_or_fault request.workers request.depth request.budget request.version)
 
 -- a sink took a lawful certificate of a shop, of its least makespan
 abbrev pub WroteCertificate : {K : Type 0} → Shop → SinkRun K → Type 0

@@ -6,7 +6,7 @@ ghost use Rattle.flow_commands.specs.Block.{IsPicked, Picks};
 ghost use Rattle.flow_commands.specs.internal.Picked.{origin_of};
 
 use crate::fault::CommandFault;
-use flow_core::{Block, read_blocks};
+use flow_core::{Block, Pick, pick_block};
 use std::alloc::Global;
 
 /// A block that an index names, and the text that it is from.
@@ -23,7 +23,7 @@ pub(crate) struct PickedBlock {
 }
 
 /// The block of a text that the index names. Blocks are counted from 1.
-pub(crate) fn pick_block(
+pub(crate) fn block_at(
     alloc: Global,
     text: Vec<u8>,
     index: u32,
@@ -32,12 +32,7 @@ pub(crate) fn pick_block(
     ensures refused { IfErr result (λ fault. (fault ≡ CommandFault.Memory) ⊎ Picks text.items index (Err fault)) }
     ensures device { NamesNoDevice result }
 {
-    let mut blocks = read_blocks(alloc, text.as_slice())?;
-    let count = blocks.len();
-    if index == 0 || index as usize > count {
-        return Err(CommandFault::Index);
-    }
-    let block = blocks.swap_remove(index as usize - 1);
+    let Pick { block, count } = pick_block(alloc, text.as_slice(), index)?;
     Ok(PickedBlock {
         text,
         index,

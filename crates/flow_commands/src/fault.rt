@@ -3,6 +3,7 @@
 ghost use Rattle.std.specs.Prelude.{◌≡◌};
 ghost use Rattle.flow_core.specs.declared.bytes.fault.ReadFault.TheVariants as read;
 ghost use Rattle.flow_core.specs.declared.text.fault.TextFault.TheVariants as text;
+ghost use Rattle.flow_core.specs.declared.text.pick.PickFault.TheVariants as pick;
 ghost use Rattle.flow_core.specs.declared.text.start.StartFault.TheVariants as start;
 ghost use Rattle.flow_core.specs.declared.sequence.SequenceFault.TheVariants as sequence;
 ghost use Rattle.flow_core.specs.declared.instance.InstanceFault.TheVariants as instance;
@@ -14,7 +15,9 @@ ghost use Rattle.flow_commands.specs.declared.fault.CommandFault.TheVariants.{In
 ghost use Rattle.flow_commands.specs.declared.fault.CommandFault.TheVariants.{Certificate, Write};
 
 use flow_check::CheckFault;
-use flow_core::{InstanceFault, ReadFault, SequenceFault, StartFault, TextFault, WriteFault};
+use flow_core::{
+    InstanceFault, PickFault, ReadFault, SequenceFault, StartFault, TextFault, WriteFault,
+};
 use flow_improve::EffortFault;
 use flow_pool::SolveFault;
 use flow_search::{OptionFault, PlanFault};
@@ -101,13 +104,15 @@ impl From<ReadFault> for CommandFault {
     }
 }
 
-impl From<TextFault> for CommandFault {
-    ghost from_gives = { λ fault given. given ≡ (elim fault [ text.Memory ↦ Memory | other ↦ Text other ]) };
+impl From<PickFault> for CommandFault {
+    ghost from_gives = { λ fault given. given ≡ (elim fault
+        [ pick.Text text.Memory ↦ Memory | pick.Text other ↦ Text other | pick.Index count ↦ Index ]) };
 
-    fn from(fault: TextFault) -> CommandFault {
+    fn from(fault: PickFault) -> CommandFault {
         match fault {
-            TextFault::Memory => CommandFault::Memory,
-            _ => CommandFault::Text(fault),
+            PickFault::Text(TextFault::Memory) => CommandFault::Memory,
+            PickFault::Text(other) => CommandFault::Text(other),
+            PickFault::Index(_) => CommandFault::Index,
         }
     }
 }

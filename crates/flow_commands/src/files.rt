@@ -14,7 +14,7 @@ ghost use Rattle.flow_commands.specs.Runs.{second_run, source_run};
 ghost use Rattle.flow_commands.specs.internal.Picked.{origin_of};
 ghost use Rattle.flow_commands.specs.internal.Reading.{SecondCame, SecondStops, bytes_of};
 
-use crate::block::{PickedBlock, pick_block};
+use crate::block::{PickedBlock, block_at};
 use crate::fault::CommandFault;
 use flow_core::{MAX_CERTIFICATE, MAX_TEXT, ReadFault, Source, read_all};
 use std::alloc::Global;
@@ -125,7 +125,7 @@ pub(crate) fn read_picked<S: Source>(
     ensures stands { Grows (S.given file.old) (S.given file.new) }
 {
     let text = read_bytes(alloc, file, FileKind::Text)?;
-    pick_block(alloc, text, index)
+    block_at(alloc, text, index)
 }
 
 /// Reads a second file of a kind, where there is one.

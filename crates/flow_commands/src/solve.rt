@@ -7,7 +7,7 @@ ghost use Rattle.flow_search.specs.Plans.{IsPlan, but_memory, plan_fault};
 ghost use Rattle.flow_commands.specs.Output.{Output};
 ghost use Rattle.flow_commands.specs.internal.Devices.{NamesNoDevice};
 ghost use Rattle.flow_commands.specs.Runs.{CameFor, Ran, Responds, run_alone, run_of, second_run, sink_run, source_run};
-ghost use Rattle.flow_commands.specs.Solve.{AnswersRun, AnswersSolve, WroteCertificate, asked_options};
+ghost use Rattle.flow_commands.specs.Solve.{AnswersRun, AnswersSolve, WroteCertificate};
 ghost use Rattle.flow_commands.specs.Start.{FromStart, StartsFrom};
 ghost use Rattle.flow_commands.specs.internal.Picked.{origin_of};
 ghost use Rattle.flow_commands.specs.internal.Reading.{bytes_of};
@@ -20,7 +20,7 @@ use flow_cert::write_certificate;
 use flow_core::{Instance, MemorySource, Sequence, Sink, Source};
 use flow_pool::{Gate, solve};
 use flow_requests::SolveRequest;
-use flow_search::{OptionFault, Options, Plan, PlanFault, prepare, prepare_from};
+use flow_search::{Options, Plan, PlanFault, prepare, prepare_from};
 use std::alloc::Global;
 use std::sync::Wait;
 use std::thread::Threads;
@@ -64,14 +64,6 @@ fn plan_of<'a>(
     }
 }
 
-/// The options of a request; or the first fault, that of the version last.
-fn options_of(request: SolveRequest) -> Result<Options, OptionFault>
-    ensures { result ≡ asked_options request.workers request.depth request.budget request.version }
-{
-    let options = Options::new(request.workers, request.depth, request.budget)?;
-    options.with_version(request.version)
-}
-
 /// The plan that a request asks for, from a given sequence if there is one.
 fn asked_plan<'a>(
     alloc: Global,
@@ -87,7 +79,12 @@ fn asked_plan<'a>(
         ⊎ AnswersSolve request instance.now given (Err fault)) }
     ensures device { NamesNoDevice result }
 {
-    let options = options_of(request)?;
+    let options = Options::versioned(
+        request.workers,
+        request.depth,
+        request.budget,
+        request.version,
+    )?;
     Ok(plan_of(alloc, instance, given, options)?)
 }
 
