@@ -11,7 +11,7 @@ ghost use Rattle.flow_search.specs.declared.plan.PlanFault.TheVariants as plan;
 ghost use Rattle.flow_pool.specs.declared.run.solve.SolveFault.TheVariants as solve;
 ghost use Rattle.flow_check.specs.declared.fault.CheckFault.TheVariants as check;
 ghost use Rattle.flow_commands.specs.declared.fault.CommandFault.TheVariants.{Memory, Read, Text, Start, Sequence};
-ghost use Rattle.flow_commands.specs.declared.fault.CommandFault.TheVariants.{Instance, Improve, Choice, Plan, Run};
+ghost use Rattle.flow_commands.specs.declared.fault.CommandFault.TheVariants.{Index, Instance, Improve, Choice, Plan, Run};
 ghost use Rattle.flow_commands.specs.declared.fault.CommandFault.TheVariants.{Certificate, Write};
 
 use flow_check::CheckFault;
