@@ -1,20 +1,19 @@
 -- What a run of any command comes to, by what the reading of its files and its command come to.
-use Rattle.std.proofs.Common.{◌≡◌, ◌⊎◌, ◌↔◌, ◌≤◌, sym, subst, inl, inr, ℕ, List, length, Option, Some, None}
+use Rattle.std.proofs.Common.{◌≡◌, ◌⊎◌, ◌↔◌, sym, subst, inl, inr, ℕ, List, Option, Some, None}
 use Rattle.std.proofs.Common.{Result, Ok, Err}
 use Rattle.std.specs.Prelude.{IfSome, IsErrOf, OnOk, IfErr}
 use Rattle.flow_core.specs.declared.bytes.fault.ReadFault.TheVariants as read
 use Rattle.flow_core.specs.declared.bytes.fault.WriteFault.TheVariants as write
 use Rattle.flow_commands.specs.Output.{Output}
 use Rattle.flow_commands.specs.Block.{IsPicked, Origin, Picks}
-use Rattle.flow_commands.specs.Files.{IsWithin, most_bytes}
 use Rattle.flow_commands.specs.Runs.{Came, CameBoth, CameSecond, Ends, EndsAlone, HasFailed, IsUnread}
 use Rattle.flow_commands.specs.Runs.{IsUnwritten, Ran, Responds}
-use Rattle.flow_commands.specs.Runs.{Run, SecondFailed, SinkFailed, SinkRun, SourceRun, Stands, StopsAt, StopsAtSecond}
+use Rattle.flow_commands.specs.Runs.{SecondFailed, SinkFailed, SinkRun, SourceRun, Stands, StopsAt, StopsAtSecond}
 use Rattle.flow_commands.specs.Runs.{Wrote, WrotePart, run_alone, run_of}
 use Rattle.flow_commands.specs.declared.fault.CommandFault.{CommandFault}
 use Rattle.flow_commands.specs.declared.fault.CommandFault.TheVariants as command
 use Rattle.flow_commands.specs.declared.files.FileKind.{FileKind}
-use Rattle.flow_commands.specs.declared.files.FileKind.TheVariants.{Certificate, StartOrCertificate, Text}
+use Rattle.flow_commands.specs.declared.files.FileKind.TheVariants.{Text}
 use Rattle.flow_commands.specs.internal.Reading.{SecondCame, SecondStops, bytes_of}
 use Rattle.std.specs.declared.vec.Vec.{Vec}
 
@@ -41,11 +40,6 @@ came-second kind Holds (Some file) (Some given) (bytes, within, gave, whole, sam
 came-second kind Holds None (Some given) came holds = absurd came
 came-second kind Holds (Some file) None came holds = absurd came
 
-within-most : (kind : FileKind) (bytes : List ℕ) → IsWithin kind bytes → length bytes ≤ most_bytes kind
-within-most Text bytes within = within
-within-most Certificate bytes within = within
-within-most StartOrCertificate bytes within = within.0
-
 -- how a run ended whose second file came, and whose command refused
 ends-second : {T A : Type 0} (kind : FileKind) (Answers : Option (List ℕ) → Output → Type 0)
     (second : Option (SourceRun T)) (bytes : Option (Vec ℕ A)) (fault : CommandFault) → SecondCame kind second bytes →
@@ -53,7 +47,7 @@ ends-second : {T A : Type 0} (kind : FileKind) (Answers : Option (List ℕ) → 
     StopsAtSecond kind (λ given refusal. Answers given (Err refusal)) second fault
 ends-second kind Answers None None fault came why = why
 ends-second kind Answers (Some file) (Some given) fault (bytes, within, gave, whole, same) (inl memory) =
-    inl (memory, (bytes, within-most kind bytes within, gave))
+    inl (memory, (bytes, within, gave))
 ends-second kind Answers (Some file) (Some given) fault (bytes, within, gave, whole, same) (inr answers) =
     let own = subst (λ (b : List ℕ). Answers (Some b) (Err fault)) (sym same) answers in
     inr (inr (inr (bytes, within, gave, whole, own)))

@@ -1,7 +1,9 @@
+mod Begins
 mod Certified
 mod Drivers
 mod Gives
 mod Least
+mod Lengths
 mod Responses
 mod Small
 mod Starts

@@ -1,6 +1,6 @@
 -- What a command does that reads nothing, by what it answers and what the sink took.
-use Rattle.std.proofs.Common.{◌≡◌, ◌⊎◌, refl, inl, inr, false, true, List, ℕ, Result, Ok, Err}
-use Rattle.std.specs.Prelude.{IfErr, IfOk, IsErrOf, OnOk}
+use Rattle.std.proofs.Common.{◌≡◌, ◌⊎◌, refl, inl, inr, List, ℕ, Result, Ok, Err}
+use Rattle.std.specs.Prelude.{IfErr, OnOk}
 use Rattle.flow_core.specs.Bytes.{AddsProperPrefix}
 use Rattle.flow_core.specs.declared.bytes.fault.WriteFault.{WriteFault}
 use Rattle.flow_core.specs.declared.bytes.fault.WriteFault.TheVariants as write

@@ -1,5 +1,5 @@
 -- What is answered for the sequence that a start text gives, or without one.
-use Rattle.std.proofs.Common.{◌≡◌, ◌⊎◌, refl, inl, inr, ℕ, List, Option, Some, None, Err}
+use Rattle.std.proofs.Common.{refl, inl, inr, ℕ, List, Option, Some, None, Err}
 use Rattle.flow_core.specs.Shop.{Shop}
 use Rattle.flow_commands.specs.Output.{Output}
 use Rattle.flow_commands.specs.Block.{Origin}

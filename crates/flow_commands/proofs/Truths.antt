@@ -1,5 +1,5 @@
 -- What commands answer is true of the shop.
-use Rattle.std.proofs.Common.{◌≡◌, refl, sym, subst, inl, inr, unwrap_or, ℕ, List, [], Option, Some, None}
+use Rattle.std.proofs.Common.{◌≡◌, refl, subst, inl, inr, unwrap_or, ℕ, List, [], Option, Some, None}
 use Rattle.std.proofs.Common.{Result, Ok, Err}
 use Rattle.std.specs.Prelude.{IfSome}
 use Rattle.flow_core.specs.Sequences.{IsLowerBound, IsSequence}

@@ -9,15 +9,10 @@ use Rattle.flow_commands.specs.declared.files.FileKind.TheVariants.{Certificate,
 abbrev pub BeginsAsCertificate : List ℕ → Type 0
 BeginsAsCertificate text = BeginsWith text (codes "flowshop ")
 
--- the most bytes that a file of a kind may have
-abbrev pub most_bytes : FileKind → ℕ
-most_bytes Text = most_text
-most_bytes Certificate = most_certificate
-most_bytes StartOrCertificate = most_certificate
-
--- a file of a kind may have these bytes: no more than its limit; and no more than a text may have, where it is to be a
--- start or a certificate and does not begin as a certificate
+-- a file of a kind may have these bytes: no more than a text or a certificate may have. One that is to be a start or a
+-- certificate may be as long as a certificate where it begins as one, and else as long as a text
 abbrev pub IsWithin : FileKind → List ℕ → Type 0
+IsWithin Text bytes = length bytes ≤ most_text
+IsWithin Certificate bytes = length bytes ≤ most_certificate
 IsWithin StartOrCertificate bytes =
     (length bytes ≤ most_certificate) × ((¬ BeginsAsCertificate bytes) → length bytes ≤ most_text)
-IsWithin kind bytes = length bytes ≤ most_bytes kind

@@ -1,12 +1,15 @@
 -- The report of `check`: of which block a certificate proves what it proves, and by how long a proof.
-use Rattle.std.specs.Prelude.{ℕ, ◌-◌, ◌==◌, ◌||◌, Bool, false, true, cond, nat_eq, List, ◌++◌}
+use Rattle.std.specs.Prelude.{ℕ, ◌≡◌, ◌-◌, ◌==◌, ◌||◌, Bool, false, true, cond, nat_eq, List, length, ◌++◌}
 use Rattle.std.specs.Prelude.{codes, decimal, Some, None}
 use Rattle.std.specs.List.{count_by}
 use Rattle.flow_core.specs.Characters.{line_feed}
 use Rattle.flow_core.specs.Generator.{generated, generator_fault}
-use Rattle.flow_core.specs.Shop.{Shop, is_same_shop}
+use Rattle.flow_core.specs.Shop.{IsWithinLimits, Shop, is_same_shop}
 use Rattle.flow_core.specs.declared.text.block.Block.{Block}
-use Rattle.flow_check.specs.Certificate.{plus}
+use Rattle.flow_check.specs.Certificate.{Shows, plus}
+use Rattle.flow_check.specs.TextLines.{certificate_text}
+use Rattle.flow_check.specs.TwoEnded.{IsTwoEnded}
+use Rattle.flow_check.specs.declared.bounds.Bounds.{Bounds}
 use Rattle.flow_check.specs.declared.kind.TextKind.{TextKind}
 use Rattle.flow_check.specs.declared.kind.TextKind.TheVariants.{Certificate, TwoEnded}
 use Rattle.flow_commands.specs.Block.{Origin}
@@ -22,7 +25,7 @@ minus = 45
 abbrev pub is_direction : ℕ → Bool
 is_direction byte = byte == plus || byte == minus
 
--- the directions of a two-ended certificate: all but the minus of its first line
+-- the directions of a two-ended certificate: all but the minus of its first line (tied: report_states_lengths)
 abbrev pub directions_in : List ℕ → ℕ
 directions_in text = count_by is_direction text - 1
 
@@ -31,6 +34,7 @@ abbrev pub is_line_end : ℕ → Bool
 is_line_end byte = byte == line_feed
 
 -- the trees of a certificate: a line for each, beside the four lines before them and the last one
+-- (tied: report_states_lengths)
 abbrev pub trees_in : List ℕ → ℕ
 trees_in text = count_by is_line_end text - 5
 
@@ -79,3 +83,16 @@ block_lines origin =
 abbrev pub report_lines : Origin → TextKind → List ℕ → List ℕ
 report_lines origin kind bytes =
     block_lines origin ++ proof_line kind bytes ++ sum_line (codes "SHA-256 of the certificate ") bytes
+
+-- a report states how many directions a lawful two-ended certificate has (law: report_states_lengths)
+abbrev pub ReportStatesDirections : Type 0
+ReportStatesDirections =
+    (shop : Shop) (bytes : List ℕ) (bounds : Bounds) (sequence : List ℕ) → IsWithinLimits shop →
+    (lawful : IsTwoEnded shop bytes bounds sequence) → directions_in bytes ≡ length lawful.directions
+
+-- a report states how many trees a lawful certificate has (law: report_states_lengths)
+abbrev pub ReportStatesTrees : Type 0
+ReportStatesTrees =
+    (shop : Shop) (version value depth : ℕ) (sequence : List ℕ) (trees : List (List ℕ)) → IsWithinLimits shop →
+    Shows shop version value depth sequence trees →
+    trees_in (certificate_text shop version depth value sequence trees) ≡ length trees

@@ -1,5 +1,5 @@
 -- What a run of a command comes to: what it reads and what it writes, how it ends, and which device refused.
-use Rattle.std.specs.Prelude.{◌≡◌, ◌↔◌, ◌⊎◌, ◌≤◌, ℕ, Bool, true, List, length, Option, Some, None, unwrap_or}
+use Rattle.std.specs.Prelude.{◌≡◌, ◌↔◌, ◌⊎◌, ℕ, Bool, true, List, Option, Some, None, unwrap_or}
 use Rattle.std.specs.Prelude.{Result, Ok, Err, IfSome, OnOk, IfErr, IsErrOf}
 use Rattle.std.specs.Io.KnownBytes.{Appends}
 use Rattle.flow_core.specs.Shop.{Shop}
@@ -10,7 +10,7 @@ use Rattle.flow_core.specs.declared.bytes.fault.ReadFault.TheVariants as read
 use Rattle.flow_core.specs.declared.bytes.fault.WriteFault.TheVariants as write
 use Rattle.flow_commands.specs.Output.{Output}
 use Rattle.flow_commands.specs.Block.{IsPicked, Origin, Picks}
-use Rattle.flow_commands.specs.Files.{IsWithin, most_bytes}
+use Rattle.flow_commands.specs.Files.{IsWithin}
 use Rattle.flow_commands.specs.declared.fault.CommandFault.{CommandFault}
 use Rattle.flow_commands.specs.declared.fault.CommandFault.TheVariants as command
 use Rattle.flow_commands.specs.declared.files.FileKind.{FileKind}
@@ -71,9 +71,9 @@ run_alone text sink = run_of text None sink
 abbrev pub Gave : {S : Type 0} → List ℕ → SourceRun S → Type 0
 Gave bytes source = Appends (source.given source.before) (source.given source.after) bytes
 
--- a source gave no more bytes than the limit of a kind of file
+-- a source gave bytes that a file of a kind may have
 abbrev pub GaveWithin : {S : Type 0} → FileKind → SourceRun S → Type 0
-GaveWithin kind source = (bytes : List ℕ) × (length bytes ≤ most_bytes kind) × Gave bytes source
+GaveWithin kind source = (bytes : List ℕ) × IsWithin kind bytes × Gave bytes source
 
 -- a source gave bytes that a file of a kind may not have
 abbrev pub GaveBeyond : {S : Type 0} → FileKind → SourceRun S → Type 0

@@ -1,6 +1,6 @@
 //! The files that a command reads: a text, and a second file where there is one.
 
-ghost use Rattle.std.specs.Prelude.{◌≡◌, ◌↔◌, false, true, [], IfOk, OnOk, IfErr, IfSome, IsErrOf};
+ghost use Rattle.std.specs.Prelude.{◌≡◌, ◌↔◌, ◌≤◌, ◌++◌, false, true, [], length, IfOk, OnOk, IfErr, IfSome, IsErrOf};
 ghost use Rattle.std.specs.Prelude.{Err, is_some, unwrap_or};
 ghost use Rattle.std.specs.Io.KnownBytes.{Appends};
 ghost use Rattle.std.specs.Option.{ForSome};
@@ -33,12 +33,32 @@ pub(crate) enum FileKind {
 /// The most bytes that one call of a source is asked for.
 const PIECE: usize = 65_536;
 
+/// What every certificate begins with.
+const BEGIN: &[u8] = b"flowshop ";
+
 /// Whether a text begins as every certificate does.
 pub(crate) fn begins_as_certificate(text: &[u8]) -> bool
     ensures yes { result ≡ true → BeginsAsCertificate text.now }
     ensures no { result ≡ false → ¬ BeginsAsCertificate text.now }
 {
-    text.starts_with(b"flowshop ")
+    text.starts_with(BEGIN)
+}
+
+/// Whether a file that is a certificate or a start, of which these bytes came, may have so many more.
+fn may_go_on(all: &[u8], count: usize) -> bool
+    requires within { IsWithin FileKind.StartOrCertificate all.now }
+    requires piece { count ≤ 65536 }
+    ensures yes { result ≡ true → (more : _) → length more ≡ count →
+        IsWithin FileKind.StartOrCertificate (all.now ++ more) }
+    ensures no { result ≡ false → (more : _) → length more ≡ count →
+        ¬ IsWithin FileKind.StartOrCertificate (all.now ++ more) }
+{
+    let most = if all.len() < BEGIN.len() || begins_as_certificate(all) {
+        MAX_CERTIFICATE
+    } else {
+        MAX_TEXT
+    };
+    count <= most - all.len()
 }
 
 /// All bytes of a certificate or of a start, each within its limit.
@@ -64,13 +84,10 @@ fn read_either<S: Source>(alloc: Global, file: &mut S) -> Result<Vec<u8>, ReadFa
         if count == 0 {
             return Ok(all);
         }
-        if count > MAX_CERTIFICATE - all.len() {
+        if !may_go_on(all.as_slice(), count) {
             return Err(ReadFault::TooLong);
         }
         all.extend_from_slice(&buffer[..count])?;
-        if all.len() > MAX_TEXT && !begins_as_certificate(all.as_slice()) {
-            return Err(ReadFault::TooLong);
-        }
     }
 }
 

@@ -34,7 +34,7 @@ pub use flow_requests::{
 pub use flow_workers::{News, Unwatched, Watch};
 pub use generate::run_gen;
 pub use improve::run_improve;
-pub use laws::each_start_gives_one;
+pub use laws::{each_start_gives_one, report_states_lengths};
 pub use neh::run_neh;
 pub use request::run_request;
 pub use schedule::run_schedule;

@@ -259,6 +259,8 @@ fn schedule_stops_an_endless_start(rt: HostRuntime) {
         let mut file = all_of(THREE_MACHINES);
         let ran = run_schedule(rt.alloc(), &mut file, 1, &mut start, *form, &mut out);
         assert!(rt; comes_to(ran, &out, Err(CommandFault::Read(ReadFault::TooLong))));
+        // One piece more than 256 make the limit of 16,777,216 bytes.
+        assert_eq!(rt; start.given, 257 * 65_536);
     }
 }
 
