@@ -192,9 +192,11 @@ tree-plain shop bound value zero jobs text h = subst (HasNone is_line_end) (sym 
 tree-plain shop bound value (suc left) jobs text (inl (machine, low, high, is, reaches)) =
     subst (HasNone is_line_end) (sym is) (ne_eqb (64 + machine) 10 (omega arith), tt)
 tree-plain shop bound value (suc left) jobs text (inr (parts, is, all)) =
-    subst (HasNone is_line_end) (sym is) (refl,
-    joined-plain (Covers shop bound value left) (tree-plain shop bound value left) (λ job. jobs ++ job ∷ [])
-    (jobs_left shop.jobs jobs) parts all)
+    subst (HasNone is_line_end) (sym is) (
+      refl,
+      joined-plain (Covers shop bound value left) (tree-plain shop bound value left) (λ job. jobs ++ job ∷ [])
+          (jobs_left shop.jobs jobs) parts all,
+    )
 
 tree-lines : (R : List ℕ → List ℕ → Type 0) → ((node tree : List ℕ) → R node tree → HasNone is_line_end tree) →
     (prefixes trees : List (List ℕ)) → AllZip R prefixes trees →
