@@ -3,15 +3,18 @@
 use crate::groups::refused_where;
 use flow_commands::CommandFault;
 use flow_core::{
-    Claim, Instance, MemorySink, MemorySource, Sink, block_text, put_all, read_all, read_blocks,
-    read_start,
+    Claim, Instance, MemorySink, MemorySource, PickFault, Sink, block_text, put_all, read_all,
+    read_blocks, read_start,
 };
 use std::alloc::Global;
 use test_libraries::TWO_MACHINES_TEXT;
 
 /// `read_blocks` and `block_text` of the instance with two machines.
 pub(crate) fn text_is_read(alloc: Global, two: &Instance) -> Result<bool, CommandFault> {
-    let blocks = read_blocks(alloc, TWO_MACHINES_TEXT)?;
+    let blocks = match read_blocks(alloc, TWO_MACHINES_TEXT) {
+        Ok(blocks) => blocks,
+        Err(fault) => return Err(CommandFault::from(PickFault::from(fault))),
+    };
     let [block] = blocks.as_slice() else {
         return Ok(false);
     };
