@@ -462,6 +462,8 @@ def refuse_words():
             run = command("certify", *words, cwd=folder)
             equal(f"the status of {words}", run.returncode, status)
             equal(f"what is said of {words}", run.stderr.startswith(f"flowshop: {said}"), True)
+        said = command("certify", TOP / "examples" / "table.csv", cwd=folder).stderr
+        equal("what is said of a table", "examples/from_csv.awk makes such a file of a table" in said, True)
         equal("the status of no command", command().returncode, 2)
         equal("that no file is written", os.listdir(folder), [])
 

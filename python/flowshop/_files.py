@@ -11,8 +11,14 @@ from dataclasses import asdict, dataclass, fields
 from pathlib import Path
 from typing import Any, List, NamedTuple, Optional, TextIO
 
+from ._errors import TextError
 from ._results import Certificate
-from ._shop import Shop
+from ._shop import Block, Shop
+
+# What to do with a file that is no benchmark text.
+_CONVERTERS = (
+    "examples/from_csv.awk makes such a file of a table, and examples/from_pairs.awk of pairs of machine and time"
+)
 
 # It is held while a file is written.
 _WRITING = threading.Lock()
@@ -85,11 +91,19 @@ def _numbers(words: str, count: int, file: str) -> List[int]:
     return numbers
 
 
+def blocks_of_file(path: str) -> List[Block]:
+    """All blocks of a file. TextError, which says what to do, or OSError where it is not read."""
+    try:
+        return Shop.read(path)
+    except TextError as error:
+        raise TextError(error.name, error.place, f"{error}; {_CONVERTERS}") from None
+
+
 def works_of(options: argparse.Namespace) -> List[Work]:
     """The blocks that the words name, in their order. TextError or OSError where a file is not read."""
     works = []
     for file in options.files:
-        blocks = Shop.read(file)
+        blocks = blocks_of_file(file)
         for number in _numbers(options.blocks, len(blocks), file):
             path = Path(options.out, f"{Path(file).name}.{number}.certificate")
             works.append(Work(file, number, blocks[number - 1].shop, path))

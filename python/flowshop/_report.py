@@ -5,15 +5,11 @@ import sys
 from typing import Optional
 
 from ._errors import NotASequence, NotLawful, OptionError, TextError, counted, shown
+from ._files import blocks_of_file
 from ._results import Certificate
 from ._sequences import Jobs
 from ._shop import Shop
 from ._texts import sequence_of
-
-# What to do with a file that is no benchmark text.
-_CONVERTERS = (
-    "examples/from_csv.awk makes such a file of a table, and examples/from_pairs.awk of pairs of machine and time"
-)
 
 
 def words(parsers: "argparse._SubParsersAction[argparse.ArgumentParser]") -> None:
@@ -43,11 +39,7 @@ def words(parsers: "argparse._SubParsersAction[argparse.ArgumentParser]") -> Non
 
 def _picked(path: str, index: Optional[str]) -> Shop:
     """The shop of a block of a file. OptionError where the index is none of the file."""
-    try:
-        blocks = Shop.read(path)
-    except TextError as error:
-        sentence = f"{error}; {_CONVERTERS}"
-        raise TextError(error.name, error.place, sentence) from None
+    blocks = blocks_of_file(path)
     if index is None and len(blocks) == 1:
         return blocks[0].shop
     if index is None:
