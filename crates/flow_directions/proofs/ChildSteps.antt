@@ -16,8 +16,8 @@ use Rattle.flow_directions.specs.internal.Walk.{Ends, IsAt, KeepsPacks}
 use Rattle.flow_directions.specs.declared.branch.Branch.{Branch}
 use Rattle.flow_directions.specs.declared.lists.Lists.{Lists}
 use Rattle.flow_directions.specs.declared.pack.Pack.{Pack}
-use Rattle.flow_directions.specs.declared.walk.Stop.{Stop}
-use Rattle.flow_directions.specs.declared.walk.Stop.TheVariants.{Below, Over, Memory}
+use Rattle.flow_directions.specs.declared.walk.SearchStop.{SearchStop}
+use Rattle.flow_directions.specs.declared.walk.SearchStop.TheVariants.{Below, Over, Memory}
 use Rattle.flow_directions.specs.declared.walk.Written.{Written}
 use Rattle.flow_directions.specs.declared.words.Words.{Words}
 use Rattle.flow_directions.proofs.WalkSteps.{IsOpen, Stands, head-same, lists-count, whole-lists}
@@ -73,7 +73,7 @@ ends-here shop number budget left first last old after below count some full sam
     )
 
 -- where a search is over its budget, it stands at its node again
-pub over-lists : (shop : Shop) (number budget : ℕ) (first last old : List ℕ) (new : Written) (stop : Stop) →
+pub over-lists : (shop : Shop) (number budget : ℕ) (first last old : List ℕ) (new : Written) (stop : SearchStop) →
     stop ≡ Over → Ends shop number budget first last old new (Err stop) → HasLists shop.jobs first last new.lists
 over-lists shop number budget first last old new Below is ends = absurd (cc)
 over-lists shop number budget first last old new Over is ends = ends.5
@@ -173,7 +173,7 @@ module _ {V : Type 0} {list : V → List ℕ} {cap width : ℕ} {shop : Shop} {n
     }
 
     -- where the search of the child stops at a sequence below the number, that of the node does
-    pub ends-below : (budget : ℕ) (written : Written) (stop : Stop) → stop ≡ Below →
+    pub ends-below : (budget : ℕ) (written : Written) (stop : SearchStop) → stop ≡ Below →
         Ends shop number budget (first_with end first job) (last_with end last job) new written (Err stop) →
         Ends shop number budget first last old written (Err Below)
     ends-below budget written Below is ends = (
@@ -247,7 +247,7 @@ module _ {V : Type 0} {list : V → List ℕ} {cap width : ℕ} {shop : Shop} {n
         others) last_is
 
     -- where it is over the budget, that of the node is: it leaves the children of the other jobs too
-    pub ends-over : (budget : ℕ) (written after : Written) (stop : Stop) → stop ≡ Over →
+    pub ends-over : (budget : ℕ) (written after : Written) (stop : SearchStop) → stop ≡ Over →
         Ends shop number budget (first_with end first job) (last_with end last job) new written (Err stop) →
         after.directions.items ≡ written.directions.items → HasLists shop.jobs first last after.lists →
         AreChildrenLeft first last end others written.rest.items

@@ -21,10 +21,10 @@ use Rattle.flow_directions.specs.internal.Reached.{IsSequenceAfter}
 use Rattle.flow_directions.specs.internal.Start.{IsStart}
 use Rattle.flow_directions.specs.internal.Walk.{Ends, IsAt}
 use Rattle.flow_directions.specs.declared.pack.Pack.{Pack}
-use Rattle.flow_directions.specs.declared.start.Start.{Start}
-use Rattle.flow_directions.specs.declared.walk.Stop.{Stop}
-use Rattle.flow_directions.specs.declared.walk.Stop.TheVariants.{Below as StopBelow, Over as StopOver}
-use Rattle.flow_directions.specs.declared.walk.Stop.TheVariants.{Memory as StopMemory}
+use Rattle.flow_directions.specs.declared.start.StartNode.{StartNode}
+use Rattle.flow_directions.specs.declared.walk.SearchStop.{SearchStop}
+use Rattle.flow_directions.specs.declared.walk.SearchStop.TheVariants.{Below as StopBelow, Over as StopOver}
+use Rattle.flow_directions.specs.declared.walk.SearchStop.TheVariants.{Memory as StopMemory}
 use Rattle.flow_directions.specs.declared.walk.Written.{Written}
 use Rattle.flow_directions.specs.declared.words.Words.{Words}
 use Rattle.flow_directions.proofs.VisitSteps.{visits-high, visits-whole}
@@ -92,7 +92,7 @@ no-jobs-fault (Err fault) is e =
     absurd (cc)
 
 -- the search of a start, once the first pack has the jobs left
-module _ {V : Type 0} (list : V → List ℕ) (cap width : ℕ) (shop : Shop) (number : ℕ) (start : Start)
+module _ {V : Type 0} (list : V → List ℕ) (cap width : ℕ) (shop : Shop) (number : ℕ) (start : StartNode)
     (packs new : List (Pack V)) (old pack : Pack V) (words : Words) (some : 1 ≤ length packs)
     (fits : (none : Pack V) → start.left ≤ length (slice_index_or packs 0 none).names.items)
     (rooms : All (λ pack. HasRoom shop pack) packs) (old_is : old ≡ slice_index_or packs 0 old)
@@ -129,7 +129,8 @@ module _ {V : Type 0} (list : V → List ℕ) (cap width : ℕ) (shop : Shop) (n
 -- how the search of a start ends, where nothing was written before
 module _ (shop : Shop) (number budget : ℕ) (first last old : List ℕ) (new : Written) (none : old ≡ []) where
   -- at a sequence below the number
-  pub ends-below : (stop : Stop) → stop ≡ StopBelow → Ends shop number budget first last old new (Err stop) →
+  pub ends-below : (stop : SearchStop) → stop ≡ StopBelow →
+      Ends shop number budget first last old new (Err stop) →
       (first_below shop number first last ≡ Some new.lists.jobs.items)
       × (new.directions.items ≡ directions_of shop number first last) × (length new.directions.items ≤ budget)
   ends-below StopBelow is ends =
@@ -138,7 +139,7 @@ module _ (shop : Shop) (number budget : ℕ) (first last old : List ℕ) (new : 
   ends-below StopMemory is ends = absurd (cc)
 
   -- or past the budget
-  pub ends-over : (stop : Stop) → stop ≡ StopOver → AreJobs shop.jobs (first ++ last) →
+  pub ends-over : (stop : SearchStop) → stop ≡ StopOver → AreJobs shop.jobs (first ++ last) →
       Ends shop number budget first last old new (Err stop) →
       IsAdvanced shop number budget first last (advanced.Rest new.directions new.rest)
   ends-over StopBelow is are ends = absurd (cc)

@@ -18,7 +18,7 @@ use Rattle.flow_shop.proofs.JobsLeft.{InRange-first, InRange-rest, distinct-firs
 use Rattle.flow_shop.proofs.JobsLeft.{filter-more}
 use Rattle.flow_shop.proofs.Taken.{has-same, has-other, left_under, left_from, left-split}
 use Rattle.flow_directions.specs.internal.Start.{Holds, IsStart}
-use Rattle.flow_directions.specs.declared.start.Start.{Start}
+use Rattle.flow_directions.specs.declared.start.StartNode.{StartNode}
 use Rattle.flow_directions.proofs.NodeLists.{child-jobs, left-length}
 
 -- a job that may be put behind a list
@@ -155,7 +155,7 @@ under-fewer n list job low high fresh =
     )
 
 -- there are fewer than are left at a start
-pub count-within : (shop : Shop) (first last : List ℕ) (start : Start) (count job : ℕ) →
+pub count-within : (shop : Shop) (first last : List ℕ) (start : StartNode) (count job : ℕ) →
     IsStart shop first last start → 1 ≤ job → job ≤ shop.jobs → has (first ++ last) job ≡ false →
     count ≡ length (left_under (first ++ last) job) → count < start.left
 count-within shop first last start count job is low high fresh same =

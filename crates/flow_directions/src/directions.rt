@@ -14,8 +14,8 @@ ghost use Rattle.flow_directions.specs.declared.found.ProveFault.TheVariants.{Jo
 use crate::branch::Branch;
 use crate::found::{Advanced, Found, ProveFault};
 use crate::pack::Pack;
-use crate::start::Start;
-use crate::walk::{Aim, Stop, Written, search};
+use crate::start::StartNode;
+use crate::walk::{Aim, SearchStop, Written, search};
 use crate::words::{LANES, Words};
 use flow_nodes::Lanes;
 use flow_shop::{Instance, Sequence, makespan};
@@ -78,7 +78,7 @@ fn sequence_of(
 fn run<V: Lanes>(
     alloc: Global,
     instance: &Instance,
-    start: Start,
+    start: StartNode,
     number: u64,
     budget: u64,
 ) -> Result<Advanced, ProveFault>
@@ -119,7 +119,7 @@ fn run<V: Lanes>(
         left,
     ) {
         Ok(()) => Ok(Advanced::Proved(written.directions)),
-        Err(Stop::Below) => {
+        Err(SearchStop::Below) => {
             let Written {
                 directions,
                 lists,
@@ -127,11 +127,11 @@ fn run<V: Lanes>(
             } = written;
             sequence_of(alloc, instance, lists.all(), directions)
         }
-        Err(Stop::Over) => Ok(Advanced::Rest {
+        Err(SearchStop::Over) => Ok(Advanced::Rest {
             directions: written.directions,
             parts: written.rest,
         }),
-        Err(Stop::Memory) => Err(ProveFault::Memory),
+        Err(SearchStop::Memory) => Err(ProveFault::Memory),
     }
 }
 
@@ -150,7 +150,7 @@ pub fn advance(
     ensures jobs { OnOk result (AreJobs instance.now.jobs (first.now ++ last.now)) }
     ensures refused { (result ≡ Err Jobs) ↔ (AreJobs instance.now.jobs (first.now ++ last.now) → ⊥) }
 {
-    let start = Start::new(alloc, instance, first, last)?;
+    let start = StartNode::new(alloc, instance, first, last)?;
     if u64::from(start.node.bound(instance)) >= number {
         return Ok(Advanced::Proved(Vec::new(alloc)));
     }

@@ -15,7 +15,7 @@ use std::alloc::Global;
 
 /// The node at which a search begins.
 #[derive(Drop)]
-pub(crate) struct Start {
+pub(crate) struct StartNode {
     /// Its front, its back, and the time of the jobs left.
     pub(crate) node: Node,
     /// Its lists.
@@ -42,14 +42,14 @@ fn insert_all(instance: &Instance, taken: &mut JobSet, jobs: &[u16]) -> bool
     true
 }
 
-impl Start {
+impl StartNode {
     /// The node of two lists; or `Jobs` where the jobs are not those of the instance, or one stands in them twice.
     pub(crate) fn new(
         alloc: Global,
         instance: &Instance,
         first: &[u16],
         last: &[u16],
-    ) -> Result<Start, ProveFault>
+    ) -> Result<StartNode, ProveFault>
         ensures start { IfOk result (λ start. IsStart instance.now first.now last.now start) }
         ensures refused { (result ≡ Err Jobs) ↔ (AreJobs instance.now.jobs (first.now ++ last.now) → ⊥) }
     {
@@ -68,7 +68,7 @@ impl Start {
             lists.put(End::Back, last[place]);
         }
         let left = instance.jobs() - (first.len() + last.len()) as u16;
-        Ok(Start {
+        Ok(StartNode {
             node,
             lists,
             taken,

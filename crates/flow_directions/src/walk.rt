@@ -6,7 +6,7 @@ ghost use Rattle.flow_directions.specs.internal.Lists.{HasLists};
 ghost use Rattle.flow_directions.specs.internal.Packs.{HasRoom};
 ghost use Rattle.flow_directions.specs.internal.Left.{IsNodeLeft, AreChildrenLeft};
 ghost use Rattle.flow_directions.specs.internal.Walk.{Ends, IsAt, KeepsPacks};
-ghost use Rattle.flow_directions.specs.declared.walk.Stop.TheVariants.{Memory};
+ghost use Rattle.flow_directions.specs.declared.walk.SearchStop.TheVariants.{Memory};
 
 use crate::branch::Branch;
 use crate::found::Part;
@@ -44,7 +44,7 @@ pub(crate) struct Written {
 
 /// Why a search stops early.
 #[derive(Clone, Copy)]
-pub(crate) enum Stop {
+pub(crate) enum SearchStop {
     /// It stands at a sequence below the number.
     Below,
     /// There are more directions than its budget.
@@ -53,11 +53,11 @@ pub(crate) enum Stop {
     Memory,
 }
 
-impl From<AllocError> for Stop {
+impl From<AllocError> for SearchStop {
     ghost from_gives = { λ _ stop. stop ≡ Memory };
 
-    fn from(_error: AllocError) -> Stop {
-        Stop::Memory
+    fn from(_error: AllocError) -> SearchStop {
+        SearchStop::Memory
     }
 }
 
@@ -117,7 +117,7 @@ pub(crate) fn search<V: Lanes>(
     packs: &mut [Pack<V>],
     branch: &Branch,
     left: u16,
-) -> Result<(), Stop>
+) -> Result<(), SearchStop>
     requires wide { V.WIDTH ≡ 16 }
     requires limit { aim.limit ≡ min aim.number 4294967295 }
     requires cap { aim.limit ≤ V.CAP }
@@ -145,11 +145,11 @@ pub(crate) fn search<V: Lanes>(
     }
     if written.directions.len() as u64 >= aim.budget {
         written.leave_node(aim.alloc)?;
-        return Err(Stop::Over);
+        return Err(SearchStop::Over);
     }
     let opened = open(instance, &packs[0], branch, aim.limit);
     if written.directions.push(sign_of(opened.end)).is_err() {
-        return Err(Stop::Memory);
+        return Err(SearchStop::Memory);
     }
     let groups = packs[0].groups.len();
     let mut below = opened.below;
@@ -157,19 +157,19 @@ pub(crate) fn search<V: Lanes>(
         let job = packs[0].names[place];
         written.lists.put(opened.end, job);
         if left == 1 {
-            return Err(Stop::Below);
+            return Err(SearchStop::Below);
         }
         let child = branch.child(instance, opened.end, place, job);
         match search(instance, aim, written, packs, &child, left - 1) {
             Ok(()) => written.lists.take(opened.end),
-            Err(Stop::Over) => {
+            Err(SearchStop::Over) => {
                 written.lists.take(opened.end);
                 let jobs = packs[0].jobs(aim.alloc, &below)?;
                 written.leave_children(aim.alloc, opened.end, jobs)?;
-                return Err(Stop::Over);
+                return Err(SearchStop::Over);
             }
-            Err(Stop::Below) => return Err(Stop::Below),
-            Err(Stop::Memory) => return Err(Stop::Memory),
+            Err(SearchStop::Below) => return Err(SearchStop::Below),
+            Err(SearchStop::Memory) => return Err(SearchStop::Memory),
         }
     }
     Ok(())

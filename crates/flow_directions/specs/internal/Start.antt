@@ -6,7 +6,7 @@ use Rattle.flow_shop.specs.JobSet.{contains}
 use Rattle.flow_shop.specs.Sequences.{has, jobs_left, AreJobs}
 use Rattle.flow_nodes.specs.Nodes.{IsNode}
 use Rattle.flow_directions.specs.internal.Lists.{HasLists}
-use Rattle.flow_directions.specs.declared.start.Start.{Start}
+use Rattle.flow_directions.specs.declared.start.StartNode.{StartNode}
 
 -- a set has the jobs of a list, and no others
 pub record Holds (shop : Shop) (list : List ℕ) (set : List Bool) : Type 0 where
@@ -14,7 +14,7 @@ pub record Holds (shop : Shop) (list : List ℕ) (set : List Bool) : Type 0 wher
   pub each : (job : ℕ) → 1 ≤ job → job ≤ shop.jobs → contains set job ≡ has list job
 
 -- what is kept of the node of two lists at which a search begins
-pub record IsStart (shop : Shop) (first last : List ℕ) (start : Start) : Type 0 where
+pub record IsStart (shop : Shop) (first last : List ℕ) (start : StartNode) : Type 0 where
   pub are_jobs : AreJobs shop.jobs (first ++ last)
   pub is_node : IsNode shop first last start.node
   pub has_lists : HasLists shop.jobs first last start.lists

@@ -9,8 +9,8 @@ use Rattle.flow_directions.specs.internal.Packs.{HasRoom, IsBranch}
 use Rattle.flow_directions.specs.declared.branch.Branch.{Branch}
 use Rattle.flow_directions.specs.declared.lists.Lists.{Lists}
 use Rattle.flow_directions.specs.declared.pack.Pack.{Pack}
-use Rattle.flow_directions.specs.declared.walk.Stop.{Stop}
-use Rattle.flow_directions.specs.declared.walk.Stop.TheVariants.{Below, Over, Memory}
+use Rattle.flow_directions.specs.declared.walk.SearchStop.{SearchStop}
+use Rattle.flow_directions.specs.declared.walk.SearchStop.TheVariants.{Below, Over, Memory}
 use Rattle.flow_directions.specs.declared.walk.Written.{Written}
 
 -- a search stands at a node below the number, at which so many jobs are left: the first of its packs has them
@@ -28,7 +28,8 @@ pub record KeepsPacks {V : Type 0} (shop : Shop) (old new : List (Pack V)) : Typ
   pub same : (none : Pack V) → slice_index_or new 0 none ≡ slice_index_or old 0 none
 
 -- how the search of a node ends, by the budget, the directions written before it, and what is written after it
-abbrev pub Ends : Shop → ℕ → ℕ → List ℕ → List ℕ → List ℕ → Written → Result Unit Stop → Type 0
+abbrev pub Ends : Shop → ℕ → ℕ → List ℕ → List ℕ → List ℕ → Written → Result Unit SearchStop →
+    Type 0
 Ends shop number budget first last old new (Ok _) =
     (first_below shop number first last ≡ None) × (new.directions.items ≡ old ++ directions_of shop number first last)
     × (length new.directions.items ≤ budget) × (new.rest.items ≡ []) × HasLists shop.jobs first last new.lists

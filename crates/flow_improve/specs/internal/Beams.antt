@@ -9,7 +9,7 @@ use Rattle.flow_shop.specs.declared.end.End.TheVariants.{Front, Back}
 use Rattle.flow_nodes.specs.Lanes.{capped}
 use Rattle.flow_nodes.specs.Nodes.{IsNode}
 use Rattle.flow_nodes.specs.Groups.{IsGroup, child_bound}
-use Rattle.flow_improve.specs.declared.two_ended.bounds.Bounds.{Bounds}
+use Rattle.flow_improve.specs.declared.two_ended.bounds.ChildBounds.{ChildBounds}
 use Rattle.flow_improve.specs.declared.two_ended.entry.Entry.{Entry}
 use Rattle.flow_improve.specs.declared.two_ended.pass.Passes.{Passes}
 
@@ -51,7 +51,7 @@ pub record AreGroups {V : Type 0} (list : V → List ℕ) (cap width : ℕ) (sho
 
 -- the bounds of the children that put the job of an entry at a place at the front and at the back, or the cap where
 -- that is less
-abbrev pub HasBoundsAt : Shop → Entry → Bounds → ℕ → Type 0
+abbrev pub HasBoundsAt : Shop → Entry → ChildBounds → ℕ → Type 0
 HasBoundsAt shop entry bounds place =
     (slice_index bounds.front (job_at entry place - 1)
     ≡ capped bounds.cap (child_bound shop Front (first_of entry) (last_of entry) (job_at entry place)))
@@ -59,7 +59,7 @@ HasBoundsAt shop entry bounds place =
     ≡ capped bounds.cap (child_bound shop Back (first_of entry) (last_of entry) (job_at entry place)))
 
 -- the bounds of all children of an entry's node
-abbrev pub HasBounds : Shop → Entry → Bounds → Type 0
+abbrev pub HasBounds : Shop → Entry → ChildBounds → Type 0
 HasBounds shop entry bounds =
     (place : ℕ) → entry.first ≤ place → place < entry.before → HasBoundsAt shop entry bounds place
 

@@ -57,18 +57,18 @@ struct Totals {
 
 /// The bounds of the children of a node, by their jobs: a number of the cap or more stands as the cap.
 #[derive(Drop)]
-pub(crate) struct Bounds {
+pub(crate) struct ChildBounds {
     cap: u32,
     front: [u32; MAX_JOBS],
     back: [u32; MAX_JOBS],
 }
 
-impl Bounds {
+impl ChildBounds {
     /// Room for bounds up to a cap.
-    pub(crate) fn new(cap: u32) -> Bounds
+    pub(crate) fn new(cap: u32) -> ChildBounds
         ensures { result.cap ≡ cap }
     {
-        Bounds {
+        ChildBounds {
             cap,
             front: [0; MAX_JOBS],
             back: [0; MAX_JOBS],

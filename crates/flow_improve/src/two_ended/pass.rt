@@ -6,7 +6,7 @@ ghost use Rattle.flow_shop.specs.Sequences.{IsSequence};
 ghost use Rattle.flow_improve.specs.internal.Beams.{ArePasses, HasBounds, IsEntry};
 
 use crate::two_ended::best_children::{BestChildren, Child};
-use crate::two_ended::bounds::Bounds;
+use crate::two_ended::bounds::ChildBounds;
 use crate::two_ended::child_order::{ChildOrder, Mode};
 use crate::two_ended::entry::{Entry, copies};
 use crate::two_ended::groups::groups;
@@ -47,7 +47,7 @@ pub(crate) struct Passes<V> {
     /// The greatest time of a job on a machine.
     greatest: u32,
     groups: Vec<Vec<V>>,
-    bounds: Bounds,
+    bounds: ChildBounds,
     root: Entry,
     /// The list of nodes, and how many there are.
     list: Vec<Entry>,
@@ -90,7 +90,7 @@ impl Offers {
         instance: &Instance,
         rows: &[Row],
         entry: &Entry,
-        bounds: &Bounds,
+        bounds: &ChildBounds,
         kept: &mut BestChildren,
     ) -> Result<(), AllocError>
         requires rows { AreRows instance.now rows.now }
@@ -143,7 +143,7 @@ impl<V: Lanes> Passes<V> {
             rows,
             greatest,
             groups: groups(alloc, instance)?,
-            bounds: Bounds::new(V::CAP),
+            bounds: ChildBounds::new(V::CAP),
             root,
             list,
             count: 0,

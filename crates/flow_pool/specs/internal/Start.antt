@@ -3,8 +3,8 @@ use Rattle.std.specs.Prelude.{◌≡◌, ℕ, ◌<◌, ◌≤◌, List, length, 
 use Rattle.flow_limits.specs.Limits.{most_workers}
 use Rattle.flow_pool.specs.declared.ends.HubEnds.{HubEnds}
 use Rattle.flow_pool.specs.declared.ends.WorkerEnds.{WorkerEnds}
-use Rattle.flow_pool.specs.declared.threads.Start.{Start}
-use Rattle.flow_pool.specs.declared.threads.Start.TheVariants.{Complete, UsedUp, Refused}
+use Rattle.flow_pool.specs.declared.threads.Started.{Started}
+use Rattle.flow_pool.specs.declared.threads.Started.TheVariants.{Complete, UsedUp, Refused}
 use Rattle.flow_pool.specs.Work.{IsFresh, worker_lanes, Fit}
 use Rattle.flow_pool.specs.Hub.{hub_lanes}
 use Rattle.flow_pool.specs.internal.Settling.{IsReadyHub, IsCollected}
@@ -28,7 +28,7 @@ pub record HasEnded (gives : WorkerEnds → Type 0) (workers : List WorkerEnds) 
   pub collected : All IsCollected hubs
 
 -- how many of `count` workers were started, where `starts` may be: all; just `starts`, which are fewer; fewer than both
-abbrev pub HasStarted : Start → ℕ → ℕ → ℕ → Type 0
+abbrev pub HasStarted : Started → ℕ → ℕ → ℕ → Type 0
 HasStarted Complete starts count started = (started ≡ count) × (count ≤ starts)
 HasStarted UsedUp starts count started = (started ≡ starts) × (starts < count)
 HasStarted (Refused refusal) starts count started = (started < starts) × (started < count)

@@ -10,7 +10,7 @@ use crate::gate::HubGate;
 use crate::refusal::Refusal;
 use crate::run::make::{Made, make_run};
 use crate::settling::{LanePair, settle_all};
-use crate::threads::{Ended, Start, run_workers};
+use crate::threads::{Ended, Started, run_workers};
 use crate::{Answer, Gate};
 use flow_search::{Outcome, Plan, RunFault, Verdict, conclude, first_refusal};
 use std::alloc::{AllocError, Global};
@@ -114,9 +114,9 @@ fn run_made<R: Threads + Wait + Sync, G: Gate + Sync>(
     let HubState { hubs, answers, .. } = hub;
     settle_all(hubs, workers, &mut lanes);
     match start {
-        Start::Complete => {}
-        Start::UsedUp => return RunOutcome::UsedUp,
-        Start::Refused(refusal) => return RunOutcome::Refused(refusal),
+        Started::Complete => {}
+        Started::UsedUp => return RunOutcome::UsedUp,
+        Started::Refused(refusal) => return RunOutcome::Refused(refusal),
     }
     let outcomes = outcomes_of(answers, room);
     if let Some(fault) = first_refusal(&outcomes) {

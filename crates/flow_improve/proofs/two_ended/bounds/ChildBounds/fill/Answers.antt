@@ -7,8 +7,8 @@ use Rattle.flow_nodes.specs.Lanes.{capped}
 use Rattle.flow_nodes.specs.Groups.{IsGroup, child_bound}
 use Rattle.flow_improve.specs.internal.Beams.{first_of, job_at, last_of}
 use Rattle.flow_improve.proofs.BoundSteps.{lane-written, left-at}
-use Rattle.flow_improve.proofs.two_ended.bounds.Bounds.fill.Goals as goal
-use Rattle.flow_improve.proofs.two_ended.bounds.Bounds.fill.Goals.{then-used-group, else-used-group}
+use Rattle.flow_improve.proofs.two_ended.bounds.ChildBounds.fill.Goals as goal
+use Rattle.flow_improve.proofs.two_ended.bounds.ChildBounds.fill.Goals.{then-used-group, else-used-group}
 
 pub child_bounds-fronts-requires : goal.child_bounds-fronts-requires
 child_bounds-fronts-requires g c =

@@ -1,6 +1,6 @@
 use Rattle.std.proofs.Common.{◌≡◌, ℕ, ◌-◌, ◌/◌, ◌<◌, ◌≤◌}
 use Rattle.flow_improve.specs.internal.Beams.{HasBoundsAt, job_at}
-use Rattle.flow_improve.proofs.two_ended.bounds.Bounds.fill.Given as goal
+use Rattle.flow_improve.proofs.two_ended.bounds.ChildBounds.fill.Given as goal
 
 -- the bounds of the children whose jobs stand in the groups so far
 abbrev pub invariant-loop-group : goal.invariant-loop-group

@@ -7,9 +7,9 @@ use Rattle.flow_directions.specs.internal.Lists.{HasLists}
 use Rattle.flow_directions.proofs.FoundSteps.{no-jobs-fault}
 use Rattle.flow_directions.proofs.StartLists.{jobs-first, next-at, next-back, drop-back, count-both, both-put}
 use Rattle.flow_directions.proofs.StartLists.{first-not-put, last-not-put}
-use Rattle.flow_directions.proofs.start.Start.new.Goals as goal
-use Rattle.flow_directions.proofs.start.Start.new.Goals.{then-not-insert_all-via-then-not-insert_all}
-use Rattle.flow_directions.proofs.start.Start.new.Goals.{
+use Rattle.flow_directions.proofs.start.StartNode.new.Goals as goal
+use Rattle.flow_directions.proofs.start.StartNode.new.Goals.{then-not-insert_all-via-then-not-insert_all}
+use Rattle.flow_directions.proofs.start.StartNode.new.Goals.{
   then-not-insert_all-via-else-not-insert_all+then-not-insert_all-2,
 }
 

@@ -6,8 +6,8 @@ use Rattle.flow_directions.specs.internal.Packs.{HasRoom}
 use Rattle.flow_directions.specs.internal.Start.{IsStart}
 use Rattle.flow_directions.proofs.PackSteps.{room-named}
 use Rattle.flow_directions.proofs.StartLists.{under-had, names-left, count-left, count-within}
-use Rattle.flow_directions.proofs.start.Start.pack.Goals as goal
-use Rattle.flow_directions.proofs.start.Start.pack.Goals.{then-not-contains, else-not-contains}
+use Rattle.flow_directions.proofs.start.StartNode.pack.Goals as goal
+use Rattle.flow_directions.proofs.start.StartNode.pack.Goals.{then-not-contains, else-not-contains}
 
 pub index_mut-requires : goal.index_mut-requires
 index_mut-requires g c =

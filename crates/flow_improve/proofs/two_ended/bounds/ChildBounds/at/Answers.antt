@@ -4,7 +4,7 @@ use Rattle.flow_shop.specs.Directions.{first_with, last_with}
 use Rattle.flow_nodes.specs.Groups.{child_bound}
 use Rattle.flow_improve.specs.internal.Beams.{first_of, job_at, last_of}
 use Rattle.flow_improve.proofs.EntrySteps.{is-left}
-use Rattle.flow_improve.proofs.two_ended.bounds.Bounds.at.Goals as goal
+use Rattle.flow_improve.proofs.two_ended.bounds.ChildBounds.at.Goals as goal
 
 pub put-requires-clause-left : goal.put-requires-clause-left
 put-requires-clause-left c =

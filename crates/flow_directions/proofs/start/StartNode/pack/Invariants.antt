@@ -2,7 +2,7 @@ use Rattle.std.proofs.Common.{◌≡◌, ℕ, ◌++◌, List, length, take}
 use Rattle.flow_shop.proofs.Taken.{left_under}
 use Rattle.flow_directions.specs.internal.Packs.{HasRoom}
 use Rattle.flow_directions.specs.internal.Start.{IsStart}
-use Rattle.flow_directions.proofs.start.Start.pack.Given as goal
+use Rattle.flow_directions.proofs.start.StartNode.pack.Given as goal
 
 -- the names so far are those of the jobs so far that are left
 abbrev pub invariant-loop-job : goal.invariant-loop-job
