@@ -3,7 +3,7 @@
 ghost use Rattle.std.specs.Prelude.{◌≡◌, ◌⊎◌, ℕ, List, IfOk, IfErr, IsOkAnd, Ok, Err};
 ghost use Rattle.std.specs.Str.{bytes_eq};
 ghost use Rattle.flow_shop.specs.Paths.{span};
-ghost use Rattle.flow_shop.specs.Sequences.{IsLeastMakespan, IsSequence};
+ghost use Rattle.flow_shop.specs.LeastMakespan.{IsLeastMakespan, IsSequence};
 ghost use Rattle.flow_check.specs.Certificate.{IsCertificate};
 ghost use Rattle.flow_check.specs.TextLines.{line, ending};
 ghost use Rattle.flow_check.specs.Check.{IsFirstFault, IsOfNoValue};

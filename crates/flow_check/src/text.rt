@@ -1,7 +1,7 @@
 //! The checker of texts of both kinds.
 
 ghost use Rattle.std.specs.Prelude.{◌≡◌, ◌⊎◌, ℕ, List, IfOk, IfErr, IsOkAnd, Err};
-ghost use Rattle.flow_shop.specs.Sequences.{IsLeastMakespan, IsSequence};
+ghost use Rattle.flow_shop.specs.LeastMakespan.{IsLeastMakespan, IsSequence};
 ghost use Rattle.flow_check.specs.Certificate.{AreBounds};
 ghost use Rattle.flow_check.specs.Check.{IsFaultAs, IsUnlawfulAs};
 ghost use Rattle.flow_check.specs.Stated.{GivesAs};
