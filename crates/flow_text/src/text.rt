@@ -3,11 +3,11 @@
 mod block;
 mod fault;
 mod line;
+mod line_kinds;
 mod pick;
 mod progress;
 mod read;
 mod start;
-mod steps;
 mod write;
 
 pub use block::Block;

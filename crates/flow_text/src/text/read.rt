@@ -12,7 +12,7 @@ ghost use Rattle.flow_text.specs.declared.text.fault.TextFault.TheVariants.{Memo
 use crate::text::block::Block;
 use crate::text::fault::TextFault;
 use crate::text::line::first_line;
-use crate::text::steps::{begin, finish, take_line};
+use crate::text::line_kinds::{begin, finish, take_line};
 use std::alloc::Global;
 
 /// The blocks of a text in order; or its first fault; or `Memory`.

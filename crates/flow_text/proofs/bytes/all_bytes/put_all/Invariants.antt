@@ -1,6 +1,6 @@
 use Rattle.std.proofs.Common.{length, take, ◌-◌, ◌≡◌, ◌≤◌, false, []}
 use Rattle.std.specs.Io.KnownBytes.{Appends}
-use Rattle.flow_text.proofs.bytes.whole.put_all.Given as goal
+use Rattle.flow_text.proofs.bytes.all_bytes.put_all.Given as goal
 
 -- what was put so far is the front of the bytes
 abbrev pub invariant-loop-done : goal.invariant-loop-done

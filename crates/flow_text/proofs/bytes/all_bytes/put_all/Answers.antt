@@ -1,7 +1,7 @@
 use Rattle.std.proofs.Common.{arith}
 use Rattle.std.proofs.lemmas.Grind.{common_steps}
 use Rattle.flow_text.proofs.BytesLemmas.{Appends-more}
-use Rattle.flow_text.proofs.bytes.whole.put_all.Goals as goal
+use Rattle.flow_text.proofs.bytes.all_bytes.put_all.Goals as goal
 
 pub loop-done-preserved : goal.loop-done-preserved
 loop-done-preserved g c =

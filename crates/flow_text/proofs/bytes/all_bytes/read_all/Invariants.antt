@@ -1,6 +1,6 @@
 use Rattle.std.proofs.Common.{◌-◌, ◌+◌, ◌≡◌, ◌≤◌, false, vec_len}
 use Rattle.std.specs.Io.KnownBytes.{Appends}
-use Rattle.flow_text.proofs.bytes.whole.read_all.Given as goal
+use Rattle.flow_text.proofs.bytes.all_bytes.read_all.Given as goal
 
 -- all is what the source gave in the call
 abbrev pub invariant-calls : goal.invariant-calls

@@ -1,7 +1,7 @@
 use Rattle.std.proofs.Common.{arith, ◌≡◌, ◌++◌, take, length, length-append}
 use Rattle.std.proofs.lemmas.List.{length-take-le}
 use Rattle.std.proofs.KnownBytes.{Appends-trans}
-use Rattle.flow_text.proofs.bytes.whole.read_all.Goals as goal
+use Rattle.flow_text.proofs.bytes.all_bytes.read_all.Goals as goal
 
 pub returns-then-count-limit-clause-too_long : goal.returns-then-count-limit-clause-too_long
 returns-then-count-limit-clause-too_long g c =
