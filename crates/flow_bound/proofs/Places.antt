@@ -15,6 +15,8 @@ use Rattle.flow_shop.specs.Least.{first_least}
 use Rattle.flow_shop.specs.Paths.{span}
 use Rattle.flow_shop.specs.Sequences.{has, AreDistinct, AreJobs}
 use Rattle.flow_shop.proofs.Recurrence.{completion-is}
+use Rattle.flow_shop.proofs.JobsLeft.{or_false}
+use Rattle.flow_shop.proofs.Lists.{not_eq-sym}
 use Rattle.flow_bound.specs.Neh.{insertions, inserted, all_inserted}
 
 first_least-map : {X Y : Type 0} (value : Y → ℕ) (g : X → Y) (xs : List X) →
@@ -116,20 +118,13 @@ has-insert [] (suc at) job k = refl
 has-insert (first ∷ rest) (suc at) job k =
     ap (λ b. nat_eq k first || b) (has-insert rest at job k) ∙ swap-or (nat_eq k first) (nat_eq k job) (has rest k)
 
-or-false : (a b : Bool) → (a || b) ≡ false → (a ≡ false) × (b ≡ false)
-or-false true b h = absurd (false≢true (sym h))
-or-false false b h = (refl, h)
-
-eq-sym : (a b : ℕ) → nat_eq a b ≡ false → nat_eq b a ≡ false
-eq-sym a b h = grind (arith, nat_tests)
-
 distinct-insert : (jobs : List ℕ) (at job : ℕ) → AreDistinct jobs → has jobs job ≡ false →
     AreDistinct (insert jobs at job)
 distinct-insert jobs zero job distinct fresh = (fresh, distinct)
 distinct-insert [] (suc at) job distinct fresh = (refl, tt)
 distinct-insert (first ∷ rest) (suc at) job distinct fresh =
-    let parts = or-false (nat_eq job first) (has rest job) fresh in (
-      has-insert rest at job first ∙ ap (λ b. b || has rest first) (eq-sym job first parts.0)
+    let parts = or_false (nat_eq job first) (has rest job) fresh in (
+      has-insert rest at job first ∙ ap (λ b. b || has rest first) (not_eq-sym job first parts.0)
           ∙ distinct.0,
       distinct-insert rest at job distinct.1 parts.1,
     )

@@ -44,12 +44,15 @@ IsOfTrees (Low place) = Unit {0}
 IsOfTrees End = Unit {0}
 IsOfTrees fault = ⊥
 
-among-kind : (lawful : ℕ → List ℕ → Type 0) (faulty : ℕ → List ℕ → CheckFault → Type 0) (fault : CheckFault) →
-    ((job : ℕ) (text : List ℕ) → faulty job text fault → IsOfTrees fault) → (jobs text : List ℕ) →
-    HasFaultAmong lawful faulty jobs text fault → IsOfTrees fault
-among-kind lawful faulty fault each [] text h = absurd h
-among-kind lawful faulty fault each (job ∷ jobs) text (inl h) = each job text h
-among-kind lawful faulty fault each (job ∷ jobs) text (inr h) = among-kind lawful faulty fault each jobs h.1 h.4
+-- a kind of faults that each of several texts has, where it has one
+pub among-kind : (kind : CheckFault → Type 0) (lawful : ℕ → List ℕ → Type 0)
+    (faulty : ℕ → List ℕ → CheckFault → Type 0) (fault : CheckFault) →
+    ((job : ℕ) (text : List ℕ) → faulty job text fault → kind fault) → (jobs text : List ℕ) →
+    HasFaultAmong lawful faulty jobs text fault → kind fault
+among-kind kind lawful faulty fault each [] text h = absurd h
+among-kind kind lawful faulty fault each (job ∷ jobs) text (inl h) = each job text h
+among-kind kind lawful faulty fault each (job ∷ jobs) text (inr h) =
+    among-kind kind lawful faulty fault each jobs h.1 h.4
 
 tree-kind : (shop : Shop) (bound : Shop → List ℕ → ℕ → ℕ) (value place left : ℕ) (node text : List ℕ)
     (fault : CheckFault) → HasTreeFault shop bound value place left node text fault → IsOfTrees fault
@@ -58,7 +61,7 @@ tree-kind shop bound value place zero node text fault (inr h) = subst IsOfTrees 
 tree-kind shop bound value place (suc left) node text fault (inl h) = subst IsOfTrees (sym h.0) tt
 tree-kind shop bound value place (suc left) node text fault (inr (inl h)) = subst IsOfTrees (sym h.3) tt
 tree-kind shop bound value place (suc left) node text fault (inr (inr h)) =
-    among-kind (λ job. Covers shop bound value left (node ++ job ∷ []))
+    among-kind IsOfTrees (λ job. Covers shop bound value left (node ++ job ∷ []))
     (λ job. HasTreeFault shop bound value place left (node ++ job ∷ [])) fault
     (λ job more bad. tree-kind shop bound value place left (node ++ job ∷ []) more fault bad)
     (jobs_left shop.jobs node) h.0 h.2

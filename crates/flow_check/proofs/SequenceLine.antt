@@ -12,7 +12,8 @@ use Rattle.flow_shop.specs.Shop.{Shop}
 use Rattle.flow_shop.specs.Front.{IsFrontOf}
 use Rattle.flow_shop.specs.JobSet.{contains}
 use Rattle.flow_shop.specs.Sequences.{has, AreDistinct}
-use Rattle.flow_shop.proofs.JobsLeft.{InRange, apart}
+use Rattle.flow_shop.proofs.JobsLeft.{InRange, apart, or_false}
+use Rattle.flow_shop.proofs.Lists.{not_eq-sym}
 use Rattle.flow_check.specs.TextLines.{line, spaced}
 use Rattle.flow_check.specs.internal.Heading.{BeginsWithJob, BeginsWithSequence, end_of}
 
@@ -56,19 +57,12 @@ pub range-push : (n job : ℕ) (jobs : List ℕ) → InRange n jobs → 1 ≤ jo
 range-push n job [] h low high = ((low, high), tt)
 range-push n job (j ∷ js) h low high = (h.0, range-push n job js h.1 low high)
 
-or-false : (a b : Bool) → (a || b) ≡ false → (a ≡ false) × (b ≡ false)
-or-false true b e = absurd (false≢true (sym e))
-or-false false b e = (refl, e)
-
-flip : (a b : ℕ) → nat_eq a b ≡ false → nat_eq b a ≡ false
-flip a b e = let other : b ≢ a = λ s. false≢true (sym e ∙ eq-eqb a b (sym s)) in ne_eqb b a other
-
 pub distinct-push : (job : ℕ) (jobs : List ℕ) → AreDistinct jobs → has jobs job ≡ false → AreDistinct (jobs ++ job ∷ [])
 distinct-push job [] h new = (refl, tt)
 distinct-push job (j ∷ js) h new =
-    let parts = or-false (nat_eq job j) (has js job) new in (
+    let parts = or_false (nat_eq job j) (has js job) new in (
       list_any-append (nat_eq j) js (job ∷ []) ∙ ap (λ b. b || (nat_eq j job || false)) h.0
-          ∙ ap (λ b. b || false) (flip job j parts.0),
+          ∙ ap (λ b. b || false) (not_eq-sym job j parts.0),
       distinct-push job js h.1 parts.1,
     )
 

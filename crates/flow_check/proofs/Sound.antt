@@ -9,23 +9,11 @@ use Rattle.std.proofs.lemmas.Bool.{false≢true, or_left, eq-eqb, eqb-true, case
 use Rattle.flow_shop.specs.Shop.{Shop}
 use Rattle.flow_shop.specs.Paths.{span}
 use Rattle.flow_shop.specs.Sequences.{has, jobs_left, extensions, IsSequence, Extends}
-use Rattle.flow_shop.proofs.JobsLeft.{left-has}
+use Rattle.flow_shop.proofs.JobsLeft.{left-has, next-left}
 use Rattle.flow_shop.proofs.Admissible.{bound_is_admissible, released_bound_is_admissible}
 use Rattle.flow_shop.specs.Bound.{bound_at, released_bound_at, bound_of}
+use Rattle.flow_shop.proofs.Lists.{all-at, zip-at}
 use Rattle.flow_check.specs.Certificate.{Covers, Shows, CertificateIsSound, ValueIsOne}
-
-all-at : (P : ℕ → Type 0) (xs : List ℕ) (x : ℕ) (ys : List ℕ) → AllByRecursion P (xs ++ x ∷ ys) → P x
-all-at P [] x ys h = h.0
-all-at P (z ∷ xs) x ys h = all-at P xs x ys h.1
-
-zip-at : {B : Type 0} (R : ℕ → B → Type 0) (xs : List ℕ) (ys : List B) (j : ℕ) → AllZip R xs ys → has xs j ≡ true →
-    (y : B) × R j y
-zip-at R [] ys j z h = absurd (false≢true h)
-zip-at R (x ∷ xs) [] j z h = absurd z
-zip-at {B} R (x ∷ xs) (y ∷ ys) j z h = elim (cases_Bool (nat_eq j x)) [
-  | inl same ↦ (y, subst (λ k. R k y) (sym (eqb-true j x same)) z.0)
-  | inr other ↦ zip-at R xs ys j z.1 (sym (ap (λ b. b || has xs j) other) ∙ h)
-]
 
 zip-append : {A B : Type 0} (R : A → B → Type 0) (xs ys : List A) (zs : List B) → AllZip R (xs ++ ys) zs →
     ((zs_x : List B) × AllZip R xs zs_x) × ((zs_y : List B) × AllZip R ys zs_y)
@@ -42,14 +30,6 @@ zip-flat_map {A} {B} R g (x ∷ xs) zs j z h =
       | inl same ↦ (parts.0.0, subst (λ k. AllZip R (g k) parts.0.0) (sym (eqb-true j x same)) parts.0.1)
       | inr other ↦ zip-flat_map R g xs parts.1.0 j parts.1.1 (sym (ap (λ b. b || has xs j) other) ∙ h)
     ]
-
--- the next job of a sequence is left
-next-left : (n : ℕ) (jobs : List ℕ) (j : ℕ) (rest : List ℕ) → IsSequence n (jobs ++ j ∷ rest) →
-    has (jobs_left n jobs) j ≡ true
-next-left n jobs j rest is =
-    let range = all-at (λ job. (1 ≤ job) × (job ≤ n)) jobs j rest (recursion_from_All (λ job. (1 ≤ job)
-    × (job ≤ n)) (jobs ++ j ∷ rest) is.each.range) in
-    left-has n jobs (j ∷ rest) j is (or_left (nat_eq j j) (has rest j) (eq-eqb j j refl)) range.0 range.1
 
 -- no sequence that extends a list is below its bound, in either version
 pub bound_of_is_admissible : (version : ℕ) (shop : Shop) (jobs sequence : List ℕ) (machine : ℕ) →

@@ -30,6 +30,7 @@ use Rattle.flow_check.proofs.TwoEndedReading.{Exact, strip, strip-exact, bounds_
 use Rattle.flow_check.proofs.TwoEndedReading.{sequence_at, sequence-exact, StartsSequence, Statement, ended, behind}
 use Rattle.flow_check.proofs.TwoEndedReading.{from_directions, from_makespan, from_sequence, from_bounds, from_size}
 use Rattle.flow_check.proofs.TwoEndedReading.{statement}
+use Rattle.flow_check.proofs.FirstFaults.{among-kind}
 
 -- directions that prove a number for the root do so with all jobs left
 
@@ -51,13 +52,6 @@ IsLastFault (Low place) = Unit {0}
 IsLastFault End = Unit {0}
 IsLastFault fault = ⊥
 
-among-last : (lawful : ℕ → List ℕ → Type 0) (faulty : ℕ → List ℕ → CheckFault → Type 0) (fault : CheckFault) →
-    ((job : ℕ) (text : List ℕ) → faulty job text fault → IsLastFault fault) → (jobs text : List ℕ) →
-    HasFaultAmong lawful faulty jobs text fault → IsLastFault fault
-among-last lawful faulty fault kind [] text h = absurd h
-among-last lawful faulty fault kind (job ∷ jobs) text (inl h) = kind job text h
-among-last lawful faulty fault kind (job ∷ jobs) text (inr h) = among-last lawful faulty fault kind jobs h.1 h.4
-
 of-four : (shop : Shop) (text : List ℕ) (fault : CheckFault) → IsLastFault fault → FailsAfterFour shop text fault →
     HasTwoEndedFault shop text fault
 of-four shop text Memory is h = absurd is
@@ -76,7 +70,7 @@ directions-kind : (shop : Shop) (number left : ℕ) (first last text : List ℕ)
 directions-kind shop number zero first last text fault h = subst IsLastFault (sym h.0) tt
 directions-kind shop number (suc left) first last text fault (low, inl h) = subst IsLastFault (sym h.0) tt
 directions-kind shop number (suc left) first last text fault (low, inr (end, children, is, h)) =
-    among-last (λ job. ProvesWith shop number left (first_with end first job) (last_with end last job))
+    among-kind IsLastFault (λ job. ProvesWith shop number left (first_with end first job) (last_with end last job))
     (λ job. HasDirectionsFault shop number left (first_with end first job) (last_with end last job)) fault
     (λ job more bad.
     directions-kind shop number left (first_with end first job) (last_with end last job) more fault bad)

@@ -10,9 +10,7 @@ use Rattle.flow_shop.specs.declared.end.End.TheVariants.{Front, Back}
 use Rattle.flow_shop.specs.Directions.{first_with, last_with}
 use Rattle.flow_shop.proofs.JobsLeft.{InRange, kept, kept-more, kept-has, sum_by-ones, or_false, each-left}
 use Rattle.flow_shop.proofs.EndSteps.{count-child}
-
-not_eq-sym : (a b : ℕ) → nat_eq a b ≡ false → nat_eq b a ≡ false
-not_eq-sym a b h = grind (arith, nat_tests)
+use Rattle.flow_shop.proofs.Lists.{not_eq-sym}
 
 has-insert : (first last : List ℕ) (job k : ℕ) → nat_eq k job ≡ false → has (first ++ last) k ≡ false →
     has (first ++ job ∷ last) k ≡ false

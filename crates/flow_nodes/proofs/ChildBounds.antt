@@ -17,6 +17,7 @@ use Rattle.flow_nodes.specs.Nodes.{IsJob, IsNode}
 use Rattle.flow_nodes.specs.Groups.{child_bound}
 use Rattle.flow_nodes.specs.declared.node.Node.{Node}
 use Rattle.flow_nodes.proofs.NodeSteps.{front-small, back-small}
+use Rattle.flow_nodes.proofs.KeptNodes.{lengths}
 
 end-bound-small : (shop : Shop) (first last : List ℕ) → IsWithinLimits shop → length first ≤ shop.jobs →
     length last ≤ shop.jobs → InRange shop.jobs last → end_bound shop first last < 4294967295
@@ -40,11 +41,6 @@ last-range : (shop : Shop) (end : End) (last : List ℕ) (job : ℕ) → IsJob s
     InRange shop.jobs (last_with end last job)
 last-range shop Front last job is range = range
 last-range shop Back last job is range = (is, range)
-
-lengths : (end : End) (first last : List ℕ) (job : ℕ) →
-    length (first_with end first job) + length (last_with end last job) ≡ suc (length first + length last)
-lengths Front first last job = omega (arith, length-append first (job ∷ []))
-lengths Back first last job = omega arith
 
 -- also those of children
 pub child-bound-small : (shop : Shop) (end : End) (first last : List ℕ) (job : ℕ) (node : Node) →

@@ -106,7 +106,8 @@ module _ (shop : Shop) (job : ℕ) (range : IsJob shop job) where
       All-from_recursion (λ job. (1 ≤ job) × (job ≤ shop.jobs)) (job ∷ last)
       (range, recursion_from_All (λ job. (1 ≤ job) × (job ≤ shop.jobs)) last all)
 
-lengths : (end : End) (first last : List ℕ) (job : ℕ) →
+-- a child has one job more
+pub lengths : (end : End) (first last : List ℕ) (job : ℕ) →
     length (first_with end first job) + length (last_with end last job) ≡ suc (length first + length last)
 lengths Front first last job = omega (arith, length-append first (job ∷ []))
 lengths Back first last job = omega arith

@@ -8,14 +8,12 @@ use Rattle.std.proofs.lemmas.Bool.Decides.{eqb_tells}
 use Rattle.flow_shop.specs.Shop.{Shop}
 use Rattle.flow_shop.specs.Sequences.{has, jobs_left}
 use Rattle.flow_shop.proofs.JobsLeft.{bool_cases}
+use Rattle.flow_shop.proofs.Lists.{has-first}
 use Rattle.flow_search.specs.declared.eight.group.Group.{Group}
 use Rattle.flow_search.specs.declared.eight.group.ColumnFrame.{ColumnFrame}
 use Rattle.flow_search.specs.internal.Columns.{IsColumnLeft, IsFrameOf, job_of, columns_of}
 use Rattle.flow_search.proofs.JobsTaken.{filter-has, left-here}
 use Rattle.flow_search.proofs.Increasing.{has-at, Increases, increases-filter, increases-from, place-of}
-
-has-first : (x : ℕ) (xs : List ℕ) → has (x ∷ xs) x ≡ true
-has-first x xs = or_left (nat_eq x x) (has xs x) (eq-eqb x x refl)
 
 has-rest : (x k : ℕ) (xs : List ℕ) → has xs k ≡ true → has (x ∷ xs) k ≡ true
 has-rest x k xs h = or_right (nat_eq k x) (has xs k) h

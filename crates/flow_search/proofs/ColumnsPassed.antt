@@ -14,7 +14,7 @@ use Rattle.flow_shop.specs.Bound.{bound_at}
 use Rattle.flow_shop.proofs.Recurrence.{completion-push, completion-after}
 use Rattle.flow_shop.proofs.Fronts.{front-within, time-small}
 use Rattle.flow_shop.proofs.Admissible.{front_of-is}
-use Rattle.flow_shop.proofs.JobsLeft.{kept, kept-more}
+use Rattle.flow_shop.proofs.JobsLeft.{kept-small, kept, kept-more}
 use Rattle.flow_search.specs.declared.eight.group.TheConstants.{GONE}
 use Rattle.flow_search.specs.declared.eight.group.MachineRow.{MachineRow}
 use Rattle.flow_search.specs.declared.eight.group.Group.{Group}
@@ -212,15 +212,6 @@ passed-more shop bound list limit place unpruned flag next more was kept cut is 
 ]
 
 -- ranges
-
-kept-small : (f : ℕ → ℕ) (p : ℕ → Bool) (most n : ℕ) → ((k : ℕ) → f k ≤ most) → kept f p n ≤ n * most
-kept-small f p most zero small = omega arith
-kept-small f p most (suc n) small =
-    omega (arith, kept-more f p n, kept-small f p most n small, one (p (suc n)) (f (suc n)), small (suc n))
-  where
-    one : (b : Bool) (v : ℕ) → cond b v 0 ≤ v
-    one true v = omega arith
-    one false v = omega arith
 
 -- a column's bound is below the limit of u32
 pub sum-small : (shop : Shop) (list : List ℕ) (group : Group) (frame : ColumnFrame) (place : ℕ) → IsWithinLimits shop →

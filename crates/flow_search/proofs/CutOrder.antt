@@ -10,12 +10,13 @@ use Rattle.std.proofs.lemmas.Bool.{cases_order, false≢true, or_left, or_right,
 use Rattle.std.proofs.lemmas.Bool.Decides.{eqb_tells}
 use Rattle.flow_shop.specs.Sequences.{has, jobs_left, AreDistinct, AreJobs, extensions, cut, Extends}
 use Rattle.flow_shop.proofs.JobsLeft.{has-filter}
+use Rattle.flow_shop.proofs.Lists.{all-at, all-has}
 use Rattle.flow_search.specs.Search.{comes_before}
 use Rattle.flow_search.specs.Cuts.{CutHasDepth, CutIsWhole, CutIsOrdered, CutParts}
-use Rattle.flow_search.proofs.Lists.{all-at, all-append, all-weaken, all-flat_map, Above, above-range}
+use Rattle.flow_search.proofs.Lists.{all-append, all-weaken, all-flat_map, Above, above-range}
 use Rattle.flow_search.proofs.Earlier.{before-less, before-self, all-extend}
 use Rattle.flow_search.proofs.Walk.{Fresh}
-use Rattle.flow_search.proofs.LeastVerdict.{all-at-has, all-pieces, at-extension, cut-fresh}
+use Rattle.flow_search.proofs.LeastVerdict.{all-pieces, at-extension, cut-fresh}
 use Rattle.flow_search.proofs.Prefixes.{cut-prefixes}
 
 -- each list comes before all later ones
@@ -153,7 +154,7 @@ at-extension-of n P jobs (job ∷ rest) h f =
     let range = all-at (λ job. (1 ≤ job) × (job ≤ n)) jobs job rest f.0 in
     let free = has-filter (λ job. not (has jobs job)) n job (ap not (not-earlier jobs job rest f.1)) range.0 range.1 in
     let each = all-pieces P (λ job. extensions n (length rest) (jobs ++ job ∷ [])) (jobs_left n jobs) h in
-    let below = all-at-has (λ job. AllByRecursion P (extensions n (length rest) (jobs ++ job
+    let below = all-has (λ job. AllByRecursion P (extensions n (length rest) (jobs ++ job
     ∷ []))) (jobs_left n jobs) job each free in
     let same : (jobs ++ job ∷ []) ++ rest ≡ jobs ++ job ∷ rest = append_assoc jobs (job ∷ []) rest in
     subst P same (at-extension-of n P (jobs ++ job ∷ []) rest below (subst (Fresh n) (sym same) f))

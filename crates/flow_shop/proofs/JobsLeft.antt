@@ -12,7 +12,7 @@ use Rattle.std.proofs.lemmas.Bool.Decides.{eqb_tells}
 use Rattle.flow_shop.specs.Shop.{numbers}
 use Rattle.flow_shop.specs.Least.{least}
 use Rattle.flow_shop.specs.Sequences.{has, jobs_left, AreDistinct, IsSequence}
-use Rattle.flow_shop.proofs.Lists.{all-push}
+use Rattle.flow_shop.proofs.Lists.{all-push, all-at, has-first}
 use Rattle.flow_shop.proofs.Recurrence.{range-more}
 
 pub bool_cases : (b : Bool) → (b ≡ true) ⊎ (b ≡ false)
@@ -286,6 +286,14 @@ pub left-has : (n : ℕ) (jobs rest : List ℕ) (k : ℕ) → IsSequence n (jobs
     has (jobs_left n jobs) k ≡ true
 left-has n jobs rest k is pass low high = ap (λ xs. has xs k) (jobs_left-is n jobs rest is)
     ∙ has-filter (has rest) n k pass low high
+
+-- the next job of a sequence is left
+pub next-left : (n : ℕ) (jobs : List ℕ) (j : ℕ) (rest : List ℕ) → IsSequence n (jobs ++ j ∷ rest) →
+    has (jobs_left n jobs) j ≡ true
+next-left n jobs j rest is =
+    let range = all-at (λ job. (1 ≤ job) × (job ≤ n)) jobs j rest (recursion_from_All (λ job. (1 ≤ job)
+    × (job ≤ n)) (jobs ++ j ∷ rest) is.each.range) in
+    left-has n jobs (j ∷ rest) j is (has-first j rest) range.0 range.1
 
 -- a fact of each job that a list leaves
 pub each-left : (P : ℕ → Type 0) (list : List ℕ) (a len : ℕ) →

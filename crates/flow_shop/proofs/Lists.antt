@@ -1,10 +1,24 @@
 -- What is found in a list, and what holds of its members.
-use Rattle.std.proofs.Common.{◌≡◌, ◌≢◌, ℕ, ◌+◌, ◌-◌, ◌<◌, ◌≤◌, Bool, true, ◌||◌, nat_eq, List, [], ◌∷◌, ◌++◌, length}
-use Rattle.std.proofs.Common.{slice_index, set, Some, ap, sym, subst, ◌∙◌, inl, inr, arith}
+use Rattle.std.proofs.Common.{◌≡◌, ◌≢◌, ℕ, ◌+◌, ◌-◌, ◌<◌, ◌≤◌, Bool, true, false, ◌||◌, nat_eq, List, [], ◌∷◌, ◌++◌, length}
+use Rattle.std.proofs.Common.{slice_index, set, Some, refl, ap, sym, subst, ◌∙◌, inl, inr, arith}
 use Rattle.std.specs.List.{find, AllByRecursion, AllZip}
-use Rattle.std.proofs.lemmas.Bool.{cond-true, cond-false, cases_Bool, cases_lt, eqb-true, false≢true}
+use Rattle.std.proofs.lemmas.Bool.{cond-true, cond-false, cases_Bool, cases_lt, eqb-true, false≢true, eq-eqb, or_left}
+use Rattle.std.proofs.lemmas.Bool.Decides.{nat_tests}
 use Rattle.std.proofs.lemmas.List.{get_or-set_same, get_or-set_other}
 use Rattle.flow_shop.specs.Sequences.{has}
+
+-- a list has its first number
+pub has-first : (x : ℕ) (xs : List ℕ) → has (x ∷ xs) x ≡ true
+has-first x xs = or_left (nat_eq x x) (has xs x) (eq-eqb x x refl)
+
+-- that two numbers differ can be said either way round
+pub not_eq-sym : (a b : ℕ) → nat_eq a b ≡ false → nat_eq b a ≡ false
+not_eq-sym a b h = grind (arith, nat_tests)
+
+-- what holds of each member holds of one in the middle
+pub all-at : {X : Type 0} (P : X → Type 0) (xs : List X) (x : X) (ys : List X) → AllByRecursion P (xs ++ x ∷ ys) → P x
+all-at P [] x ys h = h.0
+all-at P (z ∷ xs) x ys h = all-at P xs x ys h.1
 
 pub find-some : {X : Type 0} (p : X → Bool) (R : X → Type 0) (xs : List X) (x : X) → AllByRecursion R xs →
     find p xs ≡ Some x → (p x ≡ true) × R x
