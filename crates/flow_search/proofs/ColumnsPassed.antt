@@ -1,5 +1,5 @@
 -- One machine of the pass over a node's children.
-use Rattle.std.proofs.Common.{◌≡◌, ◌≢◌, ◌⊎◌, ℕ, zero, suc, ◌+◌, ◌-◌, ◌*◌, ◌<◌, ◌≤◌, max, Bool, true, false, cond, not}
+use Rattle.std.proofs.Common.{◌≡◌, ◌≢◌, ◌⊎◌, ℕ, zero, suc, ◌+◌, ◌-◌, ◌*◌, ◌<◌, ◌≤◌, max, not}
 use Rattle.std.proofs.Common.{List, [], ◌∷◌, ◌++◌, length, map, slice_index, slice_index_or, replicate, set, refl, ap}
 use Rattle.std.proofs.Common.{sym, ◌∙◌, subst, inl, inr, arith}
 use Rattle.std.specs.List.{sum_by}
@@ -14,7 +14,7 @@ use Rattle.flow_shop.specs.Bound.{bound_at}
 use Rattle.flow_shop.proofs.Recurrence.{completion-push, completion-after}
 use Rattle.flow_shop.proofs.Fronts.{front-within, time-small}
 use Rattle.flow_shop.proofs.Admissible.{front_of-is}
-use Rattle.flow_shop.proofs.JobsLeft.{kept-small, kept, kept-more}
+use Rattle.flow_shop.proofs.JobsLeft.{kept-small, kept}
 use Rattle.flow_search.specs.declared.eight.group.TheConstants.{GONE}
 use Rattle.flow_search.specs.declared.eight.group.MachineRow.{MachineRow}
 use Rattle.flow_search.specs.declared.eight.group.Group.{Group}
