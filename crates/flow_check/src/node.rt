@@ -9,7 +9,8 @@ ghost use Rattle.flow_shop.specs.Sequences.{has, jobs_left};
 ghost use Rattle.flow_shop.specs.Bound.{bound_at};
 ghost use Rattle.flow_check.specs.internal.Links.{AreLinks};
 ghost use Rattle.flow_check.specs.internal.Nodes.{IsNode, IsAt, AreTwoLeastTails, IsChild, IsLeastWithout};
-ghost use Rattle.flow_check.specs.internal.Nodes.{IsMachine, IsJob, grown, left_before};
+ghost use Rattle.flow_nodes.specs.Nodes.{IsMachine, IsJob};
+ghost use Rattle.flow_check.specs.internal.Nodes.{grown, left_before};
 
 use crate::trees_text::TreesText;
 use flow_limits::MAX_MACHINES;

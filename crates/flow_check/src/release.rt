@@ -7,7 +7,8 @@ ghost use Rattle.flow_shop.specs.Shop.{time_between};
 ghost use Rattle.flow_shop.specs.Sequences.{jobs_left};
 ghost use Rattle.flow_shop.specs.Bound.{bound_at, bound_of, front_of, release};
 ghost use Rattle.flow_check.specs.internal.Links.{AreLinks};
-ghost use Rattle.flow_check.specs.internal.Nodes.{IsNode, IsAt, IsChild, IsMachine, IsJob, grown, left_before};
+ghost use Rattle.flow_nodes.specs.Nodes.{IsMachine, IsJob};
+ghost use Rattle.flow_check.specs.internal.Nodes.{IsNode, IsAt, IsChild, grown, left_before};
 ghost use Rattle.flow_check.specs.internal.Lags.{AreTwoLeastLagsTo, AreKept, AreUnknown, TakesIn};
 
 use crate::node::{Node, bound, least_without};

@@ -1,6 +1,6 @@
 //! How much a search of better sequences may do.
 
-ghost use Rattle.std.specs.Prelude.{◌≡◌, ◌*◌, ◌≤◌, None, Some, IfOk, OnOk, IfErr};
+ghost use Rattle.std.specs.Prelude.{◌≡◌, ◌*◌, ◌≤◌, None, Some, IfOk, OnOk, IfErr, cond};
 ghost use Rattle.flow_limits.specs.Limits.{most_work};
 ghost use Rattle.flow_improve.specs.Effort.{beam_steps, run_from_start, run_from_beam};
 ghost use Rattle.flow_improve.specs.Effort.{run_fault, effort_fault};
@@ -77,12 +77,16 @@ impl RunLimits {
     }
 
     /// The random numbers of the run.
-    pub(crate) fn draws(&self) -> Taillard {
+    pub(crate) fn draws(&self) -> Taillard
+        ensures { result ≡ self.now.seed }
+    {
         Taillard::new(self.seed).unwrap()
     }
 
     /// The same limits, but with no round where that is so.
-    pub(crate) fn none_if(self, is_done: bool) -> RunLimits {
+    pub(crate) fn none_if(self, is_done: bool) -> RunLimits
+        ensures { result ≡ record { rounds = cond is_done 0 self.rounds; seed = self.seed; work = self.work } }
+    {
         RunLimits {
             rounds: if is_done { 0 } else { self.rounds },
             ..self

@@ -5,7 +5,7 @@ ghost use Rattle.flow_shop.specs.JobSet.{members};
 ghost use Rattle.flow_shop.specs.Bound.{bound_at, released_bound_at};
 ghost use Rattle.flow_shop.specs.Sequences.{jobs_left};
 ghost use Rattle.flow_search.specs.internal.Walk.{first_reaching};
-ghost use Rattle.flow_search.specs.internal.Jobs.{IsSetOf};
+ghost use Rattle.flow_shop.specs.JobSet.{IsSetOf};
 ghost use Rattle.flow_search.specs.internal.TwoLeast.{AreSecondTails};
 ghost use Rattle.flow_search.specs.internal.Lags.{AreLeastLags};
 ghost use Rattle.flow_search.specs.internal.Frames.{IsFrame, IsChild};

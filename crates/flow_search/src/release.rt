@@ -11,7 +11,7 @@ ghost use Rattle.flow_shop.specs.Bound.{release, released_bound};
 ghost use Rattle.flow_shop.specs.Sequences.{jobs_left};
 ghost use Rattle.flow_bound.specs.Loads.{AreLoadsOf};
 ghost use Rattle.flow_search.specs.internal.Walk.{first_reaching};
-ghost use Rattle.flow_search.specs.internal.Jobs.{IsSetOf};
+ghost use Rattle.flow_shop.specs.JobSet.{IsSetOf};
 ghost use Rattle.flow_search.specs.internal.TwoLeast.{time_to, least_of_none};
 ghost use Rattle.flow_search.specs.internal.Lags.{IsLagged};
 ghost use Rattle.flow_search.specs.internal.Settings.{shop_of};

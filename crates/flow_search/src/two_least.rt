@@ -6,7 +6,7 @@ ghost use Rattle.flow_limits.specs.Limits.{most_machines};
 ghost use Rattle.flow_shop.specs.Shop.{Shop, IsWithinLimits};
 ghost use Rattle.flow_shop.specs.JobSet.{members};
 ghost use Rattle.flow_shop.specs.Rows.{IsRow};
-ghost use Rattle.flow_search.specs.internal.Jobs.{IsSetOf};
+ghost use Rattle.flow_shop.specs.JobSet.{IsSetOf};
 ghost use Rattle.flow_search.specs.internal.TwoLeast.{AreTwoLeast, tail_at, time_to};
 ghost use Rattle.flow_search.specs.internal.Settings.{shop_of, HasLags};
 

@@ -11,14 +11,6 @@ use Rattle.flow_check.specs.internal.Links.{AreLinks}
 use Rattle.flow_check.specs.declared.node.Node.{Node}
 use Rattle.flow_check.specs.declared.node.TwoLeastTails.{TwoLeastTails}
 
--- a machine of an instance
-abbrev pub IsMachine : Shop → ℕ → Type 0
-IsMachine shop machine = (1 ≤ machine) × (machine ≤ shop.machines)
-
--- a job of an instance
-abbrev pub IsJob : Shop → ℕ → Type 0
-IsJob shop job = (1 ≤ job) × (job ≤ shop.jobs)
-
 -- what stands for a least that is not known, or of no numbers: the greatest number of 32 bits
 abbrev pub no_least : ℕ
 no_least = 4294967295

@@ -3,10 +3,6 @@ use Rattle.std.specs.Prelude.{ℕ, ◌≡◌, ◌<◌, ◌≤◌, Bool, true, fa
 use Rattle.flow_shop.specs.Shop.{Shop}
 use Rattle.flow_shop.specs.JobSet.{contains}
 
--- a set has no job that the instance does not have
-abbrev pub IsSetOf : Shop → List Bool → Type 0
-IsSetOf shop set = (job : ℕ) → shop.jobs < job → contains set job ≡ false
-
 -- a job of the instance is in a set
 pub record IsJobIn (shop : Shop) (set : List Bool) (job : ℕ) : Type 0 where
   pub from : 1 ≤ job

@@ -8,7 +8,7 @@ use Rattle.flow_shop.specs.JobSet.{contains}
 use Rattle.flow_shop.specs.Sequences.{has, jobs_left, AreJobs}
 use Rattle.flow_search.specs.Search.{Bound, Found}
 use Rattle.flow_search.specs.internal.Walk.{Walk, Incumbent, walk, walk_each, first_reaching}
-use Rattle.flow_search.specs.internal.Jobs.{IsSetOf}
+use Rattle.flow_shop.specs.JobSet.{IsSetOf}
 use Rattle.flow_search.specs.declared.state.SearchState.{SearchState}
 
 -- the best so far; none where no sequence with a smaller makespan than the start was found
