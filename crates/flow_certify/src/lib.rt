@@ -3,9 +3,11 @@
 
 mod certified;
 mod fund;
+mod most;
 mod run;
 mod search;
 mod task;
 
 pub use certified::Certified;
+pub use most::MostDirections;
 pub use search::certify;

@@ -9,6 +9,7 @@ ghost use Rattle.flow_certify.specs.Signs.{most_signs};
 ghost use Rattle.flow_certify.specs.internal.Runs.{IsLater, IsRun};
 
 use crate::certified::Certified;
+use crate::most::MostDirections;
 use crate::run::Run;
 use crate::task::Task;
 use flow_bound::taillard_bound;
@@ -208,14 +209,14 @@ fn prove_more<P: Prover>(task: &Task<P>, effort: &Effort, run: &mut Run) -> Resu
 
 /// Bounds of the least makespan, a sequence that has the upper one, and directions that prove the lower one. The prover
 /// searches for directions. It is told which step begins, and which bounds are known before each search and at the end.
-/// What is found does not depend on which prover it is.
+/// What is found does not depend on which prover it is. There are at most so many directions.
 pub fn certify<P: Prover>(
     alloc: Global,
     prover: &P,
     instance: &Instance,
     start: &Sequence,
     effort: &Effort,
-    directions: u32,
+    most: MostDirections,
 ) -> Result<Certified, AllocError>
     requires ready { P.is_ready prover.now }
     requires start { length start.now ≡ instance.now.jobs }
@@ -224,14 +225,14 @@ pub fn certify<P: Prover>(
     ensures no_worse { IfOk result (λ found. found.upper ≤ span instance.now start.now) }
     ensures proved { IfOk result (λ found. Proves instance.now found.lower found.directions.items) }
     ensures floor { IfOk result (λ found. end_bound instance.now [] [] ≤ found.lower) }
-    ensures few { IfOk result (λ found. length found.directions.items ≤ min directions most_signs) }
+    ensures few { IfOk result (λ found. length found.directions.items ≤ min most most_signs) }
 {
     let task = Task {
         alloc,
         instance,
         prover,
     };
-    let mut run = Run::new(alloc, instance, start, directions)?;
+    let mut run = Run::new(alloc, instance, start, most.count())?;
     prove_best(&task, start, effort, &mut run)?;
     if !run.is_proved() {
         prove_more(&task, effort, &mut run)?;
