@@ -1,23 +1,19 @@
 -- The marks of the children below a number, word by word.
-use Rattle.std.proofs.Common.{◌≡◌, ◌≢◌, ℕ, ◌+◌, ◌-◌, ◌*◌, ◌/◌, ◌%◌, ◌<◌, ◌≤◌, min, false, List, [], ◌∷◌, ◌++◌, length}
-use Rattle.std.proofs.Common.{slice_index, slice_index_or, set, length-append, ap, sym, ◌∙◌, subst, inl, inr, arith}
+use Rattle.std.proofs.Common.{◌≡◌, ◌≢◌, ℕ, ◌+◌, ◌-◌, ◌*◌, ◌/◌, ◌%◌, ◌<◌, ◌≤◌, min, false, List, ◌++◌, length}
+use Rattle.std.proofs.Common.{slice_index, set, ap, sym, ◌∙◌, subst, arith}
 use Rattle.std.specs.Prelude.{◌↔◌, IsBitSet, bit_and}
 use Rattle.std.specs.Int.{bit_at}
-use Rattle.std.specs.Global.{Vec}
-use Rattle.std.proofs.Math.Seq.{get_or-append_seam}
-use Rattle.std.proofs.lemmas.Bool.{cases_lt}
-use Rattle.std.proofs.lemmas.List.{get_or_append_left}
 use Rattle.std.proofs.lemmas.Nat.{bit_set_by_shift}
 use Rattle.std.proofs.lemmas.Nat.Bits.{bit_at-lt, bit_at_and, bit_at-zero, shr_and_one}
 use Rattle.flow_shop.specs.Shop.{Shop}
 use Rattle.flow_shop.specs.Sequences.{has}
 use Rattle.flow_shop.specs.declared.end.End.{End}
 use Rattle.flow_nodes.specs.Nodes.{IsNode}
-use Rattle.flow_nodes.specs.Groups.{IsGroup, child_bound}
+use Rattle.flow_nodes.specs.Groups.{AreNames, IsGroup, child_bound}
 use Rattle.flow_nodes.specs.declared.node.Node.{Node}
 use Rattle.flow_check.specs.declared.two_ended.marks.Marks.{Marks}
 use Rattle.flow_check.specs.internal.Marks.{mark}
-use Rattle.flow_check.specs.internal.Frames.{AreLeft, IsGroupFrom}
+use Rattle.flow_check.specs.internal.Frames.{AreLeft}
 use Rattle.flow_check.proofs.MarkSteps.{mark-there, mark-elsewhere}
 use Rattle.flow_nodes.proofs.ChildBounds.{child-bound-small}
 
@@ -107,48 +103,25 @@ word-none words group within shop number end first last left are job low word no
 
 -- what a group says of one of its jobs
 pub group-tells : {V : Type 0} (list : V → List ℕ) (cap width : ℕ) (wide : width ≡ 16) (shop : Shop) (number limit : ℕ)
-    (end : End) (first last : List ℕ) (node : Node) (group : ℕ) (vectors : List V) (bits job : ℕ) →
-    IsNode shop first last node → IsGroupFrom list cap width shop (group * 16) vectors →
+    (end : End) (first last : List ℕ) (node : Node) (group : ℕ) (names : List ℕ) (vectors : List V) (bits job : ℕ) →
+    IsNode shop first last node → AreNames shop group names → IsGroup list cap width shop names vectors →
     limit ≡ min number 4294967295 →
     ((names : List ℕ) (lane : ℕ) → IsGroup list cap width shop names vectors → lane < width →
     has (first ++ last) (slice_index names lane) ≡ false →
     IsBitSet bits lane ↔ (child_bound shop end first last (slice_index names lane) < limit)) →
     1 ≤ job → (job - 1) / 16 ≡ group → job ≤ shop.jobs → has (first ++ last) job ≡ false →
     bit_at bits ((job - 1) % 16) ≡ 1 ↔ (child_bound shop end first last job < number)
-group-tells list cap width wide shop number limit end first last node group vectors bits job is from limit_is tells low
-    there high fresh =
+group-tells list cap width wide shop number limit end first last node group names vectors bits job is are of_group
+    limit_is tells low there high fresh =
     let lane : ℕ = (job - 1) % 16 in
     let place : group * 16 + lane + 1 ≡ job = omega (arith, there, low) in
-    let named : slice_index from.names lane ≡ job = from.each lane (omega arith) (omega (arith, place, high)) ∙ place in
+    let few : lane < 16 = omega arith in
+    let named : slice_index names lane ≡ job = omega (arith, are lane few, place, high) in
     let says : IsBitSet bits lane ↔ (child_bound shop end first last job < limit) =
     subst (λ j. IsBitSet bits lane ↔ (child_bound shop end first last j < limit)) named
-    (tells from.names lane from.is_group (omega (arith, wide)) (ap (has (first ++ last)) named ∙ fresh)) in
+    (tells names lane of_group (omega (arith, wide)) (ap (has (first ++ last)) named ∙ fresh)) in
     let small : child_bound shop end first last job < 4294967295 =
     child-bound-small shop end first last job node is (low, high) fresh in (
       λ one. omega (arith, limit_is, says.0 (set-bit bits lane one)),
       λ under. bit-set bits lane (says.1 (omega (arith, limit_is, under, small))),
     )
-
--- one more group
-pub groups-more : {V : Type 0} (list : V → List ℕ) (cap width : ℕ) (shop : Shop) (olds news : List (Vec V))
-    (x : Vec V) →
-    news ≡ olds ++ x ∷ [] →
-    ((group : ℕ) (none : Vec V) → group < length olds →
-    IsGroupFrom list cap width shop (group * 16) (slice_index_or olds group none).items) →
-    IsGroupFrom list cap width shop (length olds * 16) x.items → (group : ℕ) (none : Vec V) → group < length news →
-    IsGroupFrom list cap width shop (group * 16) (slice_index_or news group none).items
-groups-more list cap width shop olds news x is before here group none within =
-    let place : group < length olds + 1 = omega (arith, within, ap length is, length-append olds (x ∷ [])) in
-    elim (cases_lt group (length olds)) [
-      | inl under ↦
-          let there : slice_index_or news group none ≡ slice_index_or olds group none =
-          ap (λ vs. slice_index_or vs group none) is ∙ get_or_append_left olds (x ∷ []) none group under in
-          subst (λ v. IsGroupFrom list cap width shop (group * 16) v.items) (sym there) (before group none under)
-      | inr above ↦
-          let e : length olds ≡ group = omega (arith, place, above) in
-          let there : slice_index_or news group none ≡ x =
-          ap (λ vs. slice_index_or vs group none) is
-          ∙ ap (λ g. slice_index_or (olds ++ x ∷ []) g none) (sym e) ∙ get_or-append_seam olds x [] none in
-          subst (λ v. IsGroupFrom list cap width shop (group * 16) v.items) (sym there)
-          (subst (λ g. IsGroupFrom list cap width shop (g * 16) x.items) e here)
-    ]

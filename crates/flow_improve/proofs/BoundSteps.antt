@@ -1,36 +1,17 @@
--- Groups of jobs, and the bounds of children once those of a group are written.
-use Rattle.std.proofs.Common.{◌≡◌, ℕ, ◌+◌, ◌-◌, ◌*◌, ◌/◌, ◌%◌, ◌<◌, ◌≤◌, false, List, [], ◌∷◌, ◌++◌, length}
-use Rattle.std.proofs.Common.{slice_index, slice_index_or, take, drop, ap, sym, ◌∙◌, subst, inl, inr, arith}
-use Rattle.std.proofs.Common.{length-append}
-use Rattle.std.specs.Global.{Vec}
-use Rattle.std.proofs.lemmas.Bool.{cases_lt}
-use Rattle.std.proofs.lemmas.List.{get_or_append_left, get_or-take, get_or-drop}
+-- The bounds of children once those of a group are written.
+use Rattle.std.proofs.Common.{◌≡◌, ℕ, ◌+◌, ◌-◌, ◌*◌, ◌/◌, ◌%◌, ◌<◌, ◌≤◌, false, List, ◌++◌, length, slice_index, take}
+use Rattle.std.proofs.Common.{drop, ap, ◌∙◌, arith}
+use Rattle.std.proofs.lemmas.List.{get_or-take, get_or-drop}
 use Rattle.std.proofs.lemmas.List.Elements.{All-get_or}
-use Rattle.std.proofs.Math.Seq.{get_or-append_seam}
 use Rattle.flow_shop.specs.Shop.{Shop}
 use Rattle.flow_shop.specs.Sequences.{has}
 use Rattle.flow_shop.specs.declared.end.End.{End}
 use Rattle.flow_nodes.specs.Lanes.{capped, HasLane}
 use Rattle.flow_nodes.specs.Nodes.{IsJob, IsNode}
-use Rattle.flow_nodes.specs.Groups.{IsGroup, child_bound}
-use Rattle.flow_improve.specs.internal.Beams.{AreNames, IsEntry, first_of, job_at, last_of}
+use Rattle.flow_nodes.specs.Groups.{AreNames, IsGroup, child_bound}
+use Rattle.flow_improve.specs.internal.Beams.{IsEntry, first_of, job_at, last_of}
 use Rattle.flow_improve.specs.declared.two_ended.entry.Entry.{Entry}
 use Rattle.flow_improve.proofs.EntrySteps.{is-left}
-
--- one more group
-pub groups-push : {V : Type 0} (P : ℕ → List V → Type 0) (groups : List (Vec V)) (vector : Vec V) →
-    ((group : ℕ) (none : Vec V) → group < length groups → P group (slice_index_or groups group none).items) →
-    P (length groups) vector.items → (group : ℕ) (none : Vec V) → group < length (groups ++ vector ∷ []) →
-    P group (slice_index_or (groups ++ vector ∷ []) group none).items
-groups-push P groups vector before here group none within = elim (cases_lt group (length groups)) [
-  | inl low ↦
-      subst (λ v. P group v.items) (sym (get_or_append_left groups (vector ∷ []) none group low))
-      (before group none low)
-  | inr high ↦
-      let same : group ≡ length groups = omega (arith, high, within, length-append groups (vector ∷ [])) in
-      subst (λ n. P n (slice_index_or (groups ++ vector ∷ []) n none).items) (sym same)
-      (subst (λ v. P (length groups) v.items) (sym (get_or-append_seam groups vector [] none)) here)
-]
 
 -- the jobs of an entry are those of the instance
 pub is-job : (shop : Shop) (entry : Entry) (place : ℕ) → IsEntry shop entry → place < entry.before →

@@ -11,7 +11,6 @@ mod best_children;
 mod bounds;
 mod child_order;
 mod entry;
-mod groups;
 mod pass;
 
 use crate::reached::Reached;

@@ -1,8 +1,10 @@
--- The lanes of a group.
-use Rattle.std.proofs.Common.{◌≡◌, ◌≢◌, ℕ, ◌+◌, ◌-◌, ◌<◌, ◌≤◌, List, length, get_or, set, slice_index, ap, sym, ◌∙◌}
-use Rattle.std.proofs.Common.{subst, inl, inr, arith}
+-- The lanes of a group, and the groups of all jobs.
+use Rattle.std.proofs.Common.{◌≡◌, ◌≢◌, ℕ, ◌+◌, ◌-◌, ◌<◌, ◌≤◌, List, [], ◌∷◌, ◌++◌, length, get_or, set, slice_index}
+use Rattle.std.proofs.Common.{slice_index_or, length-append, ap, sym, ◌∙◌, subst, inl, inr, arith}
+use Rattle.std.specs.Global.{Vec}
+use Rattle.std.proofs.Math.Seq.{get_or-append_seam}
 use Rattle.std.proofs.lemmas.Bool.{cases_lt}
-use Rattle.std.proofs.lemmas.List.{get_or-set_same, get_or-set_other}
+use Rattle.std.proofs.lemmas.List.{get_or-set_same, get_or-set_other, get_or_append_left}
 use Rattle.flow_shop.specs.Shop.{Shop, time}
 use Rattle.flow_nodes.specs.Lanes.{HasLane}
 use Rattle.flow_nodes.specs.Groups.{IsGroup}
@@ -34,3 +36,18 @@ module _ {V : Type 0} where
             ∙ get_or-set_same group (machine - 1) value none within in
             subst (P k) (sym there) (subst (λ i. P i value) e here)
       ]
+
+-- one more group
+pub groups-push : {V : Type 0} (P : ℕ → List V → Type 0) (groups : List (Vec V)) (vector : Vec V) →
+    ((group : ℕ) (none : Vec V) → group < length groups → P group (slice_index_or groups group none).items) →
+    P (length groups) vector.items → (group : ℕ) (none : Vec V) → group < length (groups ++ vector ∷ []) →
+    P group (slice_index_or (groups ++ vector ∷ []) group none).items
+groups-push P groups vector before here group none within = elim (cases_lt group (length groups)) [
+  | inl low ↦
+      subst (λ v. P group v.items) (sym (get_or_append_left groups (vector ∷ []) none group low))
+      (before group none low)
+  | inr high ↦
+      let same : group ≡ length groups = omega (arith, high, within, length-append groups (vector ∷ [])) in
+      subst (λ n. P n (slice_index_or (groups ++ vector ∷ []) n none).items) (sym same)
+      (subst (λ v. P (length groups) v.items) (sym (get_or-append_seam groups vector [] none)) here)
+]

@@ -1,6 +1,7 @@
 -- Groups: jobs side by side, one for each lane, and the children of a node that put them at an end.
-use Rattle.std.specs.Prelude.{ℕ, ◌≡◌, ◌-◌, ◌<◌, ◌≤◌, List, length, slice_index, slice_index_or}
-use Rattle.flow_shop.specs.Shop.{Shop, time}
+use Rattle.std.specs.Prelude.{ℕ, ◌≡◌, ◌+◌, ◌-◌, ◌*◌, ◌/◌, ◌<◌, ◌≤◌, min, List, length, slice_index, slice_index_or}
+use Rattle.std.specs.Global.{Vec}
+use Rattle.flow_shop.specs.Shop.{Shop, IsWithinLimits, time}
 use Rattle.flow_shop.specs.Ends.{end_bound}
 use Rattle.flow_shop.specs.Directions.{first_with, last_with}
 use Rattle.flow_shop.specs.declared.end.End.{End}
@@ -16,6 +17,19 @@ pub record IsGroup {V : Type 0} (list : V → List ℕ) (cap width : ℕ) (shop 
   pub times : (machine lane : ℕ) (none : V) → 1 ≤ machine → machine ≤ shop.machines → lane < width →
       HasLane cap width (list (slice_index_or group (machine - 1) none)) lane
       (time shop (slice_index jobs lane) machine)
+
+-- the jobs of a group: sixteen after the groups before it; behind the last job of the instance that job stands again
+abbrev pub AreNames : Shop → ℕ → List ℕ → Type 0
+AreNames shop group names =
+    (lane : ℕ) → lane < 16 → slice_index names lane ≡ min (group * 16 + lane + 1) shop.jobs
+
+-- the groups of all jobs, sixteen to a group
+pub record AreGroups {V : Type 0} (list : V → List ℕ) (cap width : ℕ) (shop : Shop) (groups : List (Vec V)) :
+    Type 0 where
+  pub limits : IsWithinLimits shop
+  pub count : length groups ≡ (shop.jobs + 15) / 16
+  pub each : (group : ℕ) (none : Vec V) → group < length groups → (names : List ℕ) × AreNames shop group names
+      × IsGroup list cap width shop names (slice_index_or groups group none).items
 
 -- the bound of the child that puts a job at an end
 abbrev pub child_bound : Shop → End → List ℕ → List ℕ → ℕ → ℕ

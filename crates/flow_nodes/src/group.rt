@@ -1,12 +1,16 @@
 //! Groups: the times of jobs side by side, for each machine a vector with a lane for each job.
 
-ghost use Rattle.std.specs.Prelude.{◌≡◌, ℕ, ◌<◌, ◌≤◌, List, length, slice_index};
+ghost use Rattle.std.specs.Prelude.{◌≡◌, ℕ, ◌<◌, ◌≤◌, List, length, slice_index, IfOk};
 ghost use Rattle.flow_shop.specs.Shop.{time};
 ghost use Rattle.flow_nodes.specs.Nodes.{IsJob, IsMachine};
-ghost use Rattle.flow_nodes.specs.Groups.{IsGroup};
+ghost use Rattle.flow_nodes.specs.Groups.{AreGroups, AreNames, IsGroup};
 
 use crate::lanes::Lanes;
 use flow_shop::Instance;
+use std::alloc::{AllocError, Global};
+
+/// How many jobs stand in each group of `groups`.
+pub const LANES: usize = 16;
 
 /// The most lanes.
 const MOST_LANES: usize = 64;
@@ -38,4 +42,35 @@ pub fn write_group<V: Lanes>(instance: &Instance, jobs: &[u16], group: &mut [V])
         write_times(instance, jobs, machine, &mut times);
         group[machine as usize - 1] = V::load(&times[..jobs.len()]);
     }
+}
+
+/// The jobs of a group. The places behind the last job of the instance have that job.
+fn names_of(instance: &Instance, group: usize) -> [u16; LANES]
+    requires { group < 50 }
+    ensures count { length result ≡ 16 }
+    ensures each { AreNames instance.now group result }
+{
+    let jobs = instance.jobs();
+    let mut names = [0; LANES];
+    for lane in 0..LANES {
+        names[lane] = ((group * LANES + lane + 1) as u16).min(jobs);
+    }
+    names
+}
+
+/// The groups of all jobs of an instance, in increasing order. The last job also stands in each lane that is left over.
+pub fn groups<V: Lanes>(alloc: Global, instance: &Instance) -> Result<Vec<Vec<V>>, AllocError>
+    requires wide { V.WIDTH ≡ 16 }
+    ensures { IfOk result (λ groups. AreGroups V.list V.CAP V.WIDTH instance.now groups.items) }
+{
+    let machines = usize::from(instance.machines());
+    let count = (usize::from(instance.jobs()) + (LANES - 1)) / LANES;
+    let mut groups = Vec::with_capacity(alloc, count)?;
+    'groups: while groups.len() < count {
+        let mut group = vec![in alloc; V::all(0); machines]?;
+        let names = names_of(instance, groups.len());
+        write_group(instance, &names, group.as_mut_slice());
+        groups.push(group)?;
+    }
+    Ok(groups)
 }

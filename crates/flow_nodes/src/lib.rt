@@ -9,6 +9,6 @@ mod node;
 #[cfg(test)]
 mod tests;
 
-pub use group::write_group;
+pub use group::{LANES, groups, write_group};
 pub use lanes::Lanes;
 pub use node::Node;

@@ -3,7 +3,7 @@
 ghost use Rattle.std.specs.Prelude.{◌≡◌, ℕ, ◌+◌, ◌<◌, ◌≤◌, length, slice_index};
 ghost use Rattle.flow_nodes.specs.Nodes.{IsJob};
 
-use crate::{Lanes, Node, write_group};
+use crate::{LANES, Lanes, Node, groups, write_group};
 use flow_shop::{End, Instance};
 use std::simd::prelude::*;
 use std::test::Fail;
@@ -166,5 +166,26 @@ fn bounds_of_thirty_two_jobs(rt: HostRuntime) -> Result<(), Fail> {
     }
     assert_eq!(rt; root.children_below(End::Front, &wide, 539), 0x0000_03FF);
     assert_eq!(rt; root.children_below(End::Back, &wide, 539), 0xFFC0_0000);
+    Ok(())
+}
+
+/// Seventeen jobs on two machines, of which job `j` takes `j` on the first and `100 + j` on the second: two groups, and
+/// the last job, which is alone in the second, stands in each of its lanes.
+#[test]
+fn groups_of_seventeen_jobs(rt: HostRuntime) -> Result<(), Fail> {
+    let times = [
+        1, 2, 3, 4, 5, 6, 7, 8, 9, 10, 11, 12, 13, 14, 15, 16, 17, 101, 102, 103, 104, 105, 106,
+        107, 108, 109, 110, 111, 112, 113, 114, 115, 116, 117,
+    ];
+    let instance = Instance::new(rt.alloc(), 17, 2, &times)?;
+    let groups = groups::<u16x16>(rt.alloc(), &instance)?;
+    assert_eq!(rt; groups.len(), 2);
+    for lane in 0..LANES {
+        let job = lane as u32 + 1;
+        assert_eq!(rt; groups[0][0].at(lane), job);
+        assert_eq!(rt; groups[0][1].at(lane), 100 + job);
+        assert_eq!(rt; groups[1][0].at(lane), 17);
+        assert_eq!(rt; groups[1][1].at(lane), 117);
+    }
     Ok(())
 }

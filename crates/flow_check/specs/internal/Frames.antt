@@ -1,33 +1,16 @@
 -- What is kept of the nodes whose children are read.
-use Rattle.std.specs.Prelude.{ℕ, ◌≡◌, ◌+◌, ◌-◌, ◌*◌, ◌/◌, ◌<◌, ◌≤◌, false, List, [], ◌∷◌, ◌++◌, length, slice_index}
-use Rattle.std.specs.Prelude.{slice_index_or, take}
-use Rattle.std.specs.Global.{Vec}
-use Rattle.flow_shop.specs.Shop.{Shop, IsWithinLimits}
+use Rattle.std.specs.Prelude.{ℕ, ◌≡◌, ◌+◌, ◌-◌, ◌/◌, ◌<◌, ◌≤◌, false, List, [], ◌∷◌, ◌++◌, slice_index_or, take}
+use Rattle.flow_shop.specs.Shop.{Shop}
 use Rattle.flow_shop.specs.Sequences.{has}
 use Rattle.flow_shop.specs.Directions.{first_with, last_with}
 use Rattle.flow_shop.specs.declared.end.End.{End}
 use Rattle.flow_shop.specs.declared.end.End.TheVariants.{Front}
 use Rattle.flow_nodes.specs.Nodes.{IsNode}
-use Rattle.flow_nodes.specs.Groups.{IsGroup, child_bound}
+use Rattle.flow_nodes.specs.Groups.{child_bound}
 use Rattle.flow_check.specs.internal.Marks.{mark}
 use Rattle.flow_check.specs.declared.two_ended.marks.Marks.{Marks}
 use Rattle.flow_check.specs.declared.two_ended.walk.Frame.{Frame}
 use Rattle.flow_check.specs.declared.two_ended.walk.Path.{Path}
-
--- a group, whose lanes have sixteen jobs in increasing order, up to the last job of the instance
-pub record IsGroupFrom {V : Type 0} (list : V → List ℕ) (cap width : ℕ) (shop : Shop) (before : ℕ) (group : List V) :
-    Type 0 where
-  pub names : List ℕ
-  pub is_group : IsGroup list cap width shop names group
-  pub each : (lane : ℕ) → lane < 16 → before + lane + 1 ≤ shop.jobs → slice_index names lane ≡ before + lane + 1
-
--- the groups of all jobs, sixteen to a group
-pub record AreGroups {V : Type 0} (list : V → List ℕ) (cap width : ℕ) (shop : Shop) (groups : List (Vec V)) :
-    Type 0 where
-  pub limits : IsWithinLimits shop
-  pub count : length groups ≡ (shop.jobs + 15) / 16
-  pub each : (group : ℕ) (none : Vec V) → group < length groups →
-      IsGroupFrom list cap width shop (group * 16) (slice_index_or groups group none).items
 
 -- the jobs in neither list of a node are marked, and no others
 pub record AreLeft (shop : Shop) (first last : List ℕ) (marks : Marks) : Type 0 where

@@ -1,23 +1,24 @@
 //! The walk through the nodes that directions open: where the directions end that prove a number.
 
 ghost use Rattle.std.specs.Prelude.{◌≡◌, ◌≢◌, ◌⊎◌, ℕ, ◌+◌, ◌-◌, ◌/◌, ◌≤◌, ◌<◌, min, false, List, [], ◌∷◌, ◌++◌};
-ghost use Rattle.std.specs.Prelude.{length, drop, take, slice_index, Err, IfOk, IfErr, IfSome, IfNone};
+ghost use Rattle.std.specs.Prelude.{length, drop, take, Err, IfOk, IfErr, IfSome, IfNone};
 ghost use Rattle.flow_limits.specs.Limits.{most_jobs};
 ghost use Rattle.flow_shop.specs.Shop.{Shop};
 ghost use Rattle.flow_shop.specs.Sequences.{has};
 ghost use Rattle.flow_shop.specs.Directions.{Proves, first_with, last_with};
 ghost use Rattle.flow_nodes.specs.Nodes.{IsJob, IsNode};
+ghost use Rattle.flow_nodes.specs.Groups.{AreGroups};
 ghost use Rattle.flow_check.specs.TwoEndedFaults.{HasDirectionsFault};
 ghost use Rattle.flow_check.specs.internal.Marks.{mark};
-ghost use Rattle.flow_check.specs.internal.Frames.{AreGroups, AreLeft, AreOpen, IsFrame};
+ghost use Rattle.flow_check.specs.internal.Frames.{AreLeft, AreOpen, IsFrame};
 ghost use Rattle.flow_check.specs.internal.Frames.{frame_at, here, above, with_job};
 ghost use Rattle.flow_check.specs.internal.ReadDirections.{EndsAt, first_end, read_node};
 ghost use Rattle.flow_check.specs.declared.fault.CheckFault.TheVariants.{Memory};
 
 use crate::fault::CheckFault;
 use crate::two_ended::DIRECTIONS;
-use crate::two_ended::marks::{LANES, Marks};
-use flow_nodes::{Lanes, Node, write_group};
+use crate::two_ended::marks::Marks;
+use flow_nodes::{Lanes, Node, groups};
 use flow_shop::{End, Instance};
 use std::alloc::{AllocError, Global};
 use std::simd::prelude::*;
@@ -66,39 +67,6 @@ fn end_at(text: &[u8], place: usize) -> Option<End>
         b'-' => Some(End::Back),
         _ => None,
     }
-}
-
-/// The names of the jobs of a group: sixteen behind another, each no greater than the last job.
-fn names_behind(before: usize, jobs: u16) -> [u16; LANES]
-    requires some { 1 ≤ jobs }
-    requires few { before ≤ 800 }
-    ensures count { length result ≡ 16 }
-    ensures each { (lane : ℕ) → lane < 16 → slice_index result lane ≡ min jobs (before + lane + 1) }
-{
-    let mut names = [0; LANES];
-    for lane in 0..LANES {
-        names[lane] = jobs.min((before + lane + 1) as u16);
-    }
-    names
-}
-
-/// The times of all jobs side by side, a group of sixteen jobs after the other. The last job also stands in each lane
-/// that is left over.
-fn groups<V: Lanes>(alloc: Global, instance: &Instance) -> Result<Vec<Vec<V>>, AllocError>
-    requires { V.WIDTH ≡ 16 }
-    ensures { IfOk result (λ groups. AreGroups V.list V.CAP V.WIDTH instance.now groups.items) }
-{
-    let jobs = instance.jobs();
-    let machines = instance.machines() as usize;
-    let count = (jobs as usize + (LANES - 1)) / LANES;
-    let mut groups = Vec::with_capacity(alloc, count)?;
-    'groups: while groups.len() < count {
-        let names = names_behind(groups.len() * LANES, jobs);
-        let mut group = vec![in alloc; V::all(0); machines]?;
-        write_group(instance, &names, group.as_mut_slice());
-        groups.push(group)?;
-    }
-    Ok(groups)
 }
 
 /// Marks the children below a number, of those of a node that put a job left at an end.

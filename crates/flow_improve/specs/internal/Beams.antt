@@ -1,14 +1,12 @@
 -- What a beam computes in.
-use Rattle.std.specs.Prelude.{ℕ, ◌≡◌, ◌+◌, ◌-◌, ◌*◌, ◌<◌, ◌≤◌, List, length, take, drop, slice_index, slice_index_or}
-use Rattle.std.specs.Prelude.{min, All}
-use Rattle.std.specs.Global.{Vec}
+use Rattle.std.specs.Prelude.{ℕ, ◌≡◌, ◌-◌, ◌<◌, ◌≤◌, List, length, take, drop, slice_index, All}
 use Rattle.flow_shop.specs.Shop.{Shop}
 use Rattle.flow_shop.specs.Rows.{AreRows}
 use Rattle.flow_shop.specs.Sequences.{IsSequence}
 use Rattle.flow_shop.specs.declared.end.End.TheVariants.{Front, Back}
 use Rattle.flow_nodes.specs.Lanes.{capped}
 use Rattle.flow_nodes.specs.Nodes.{IsNode}
-use Rattle.flow_nodes.specs.Groups.{IsGroup, child_bound}
+use Rattle.flow_nodes.specs.Groups.{AreGroups, child_bound}
 use Rattle.flow_improve.specs.declared.two_ended.bounds.ChildBounds.{ChildBounds}
 use Rattle.flow_improve.specs.declared.two_ended.entry.Entry.{Entry}
 use Rattle.flow_improve.specs.declared.two_ended.pass.Passes.{Passes}
@@ -35,19 +33,6 @@ pub record IsEntry (shop : Shop) (entry : Entry) : Type 0 where
 -- entries of an instance
 abbrev pub AreEntries : Shop → List Entry → Type 0
 AreEntries shop entries = All (λ entry. IsEntry shop entry) entries
-
--- the jobs of a group: sixteen after the groups before it; behind the last job of the instance that job stands again
-abbrev pub AreNames : Shop → ℕ → List ℕ → Type 0
-AreNames shop group names =
-    (lane : ℕ) → lane < 16 → slice_index names lane ≡ min (group * 16 + lane + 1) shop.jobs
-
--- groups with the times of all jobs
-pub record AreGroups {V : Type 0} (list : V → List ℕ) (cap width : ℕ) (shop : Shop)
-    (groups : List (Vec V)) : Type 0 where
-  pub all : shop.jobs ≤ length groups * 16
-  pub few : length groups ≤ 50
-  pub each : (group : ℕ) (none : Vec V) → group < length groups → (names : List ℕ) × AreNames shop group names
-      × IsGroup list cap width shop names (slice_index_or groups group none).items
 
 -- the bounds of the children that put the job of an entry at a place at the front and at the back, or the cap where
 -- that is less

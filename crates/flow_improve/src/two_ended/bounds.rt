@@ -5,13 +5,12 @@ ghost use Rattle.std.specs.Prelude.{length, slice_index, slice_index_or};
 ghost use Rattle.flow_limits.specs.Limits.{most_jobs};
 ghost use Rattle.flow_nodes.specs.Lanes.{capped, HasLane};
 ghost use Rattle.flow_nodes.specs.Nodes.{IsJob};
-ghost use Rattle.flow_nodes.specs.Groups.{child_bound};
-ghost use Rattle.flow_improve.specs.internal.Beams.{AreGroups, HasBounds, IsEntry, first_of, job_at, last_of};
+ghost use Rattle.flow_nodes.specs.Groups.{AreGroups, child_bound};
+ghost use Rattle.flow_improve.specs.internal.Beams.{HasBounds, IsEntry, first_of, job_at, last_of};
 
 use crate::two_ended::entry::Entry;
-use crate::two_ended::groups::LANES;
 use flow_limits::MAX_JOBS;
-use flow_nodes::Lanes;
+use flow_nodes::{LANES, Lanes};
 use flow_shop::{End, Instance};
 
 /// How many groups of jobs there are at most.

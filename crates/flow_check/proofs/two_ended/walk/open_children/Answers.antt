@@ -1,10 +1,21 @@
-use Rattle.std.proofs.Common.{◌≡◌, ◌-◌, ◌*◌, ◌/◌, ◌<◌, length, refl, ap, sym, ◌∙◌, subst, arith, inl, inr}
+use Rattle.std.proofs.Common.{◌≡◌, ◌-◌, ◌/◌, ◌<◌, length, refl, ap, sym, ◌∙◌, subst, arith, inl, inr}
 use Rattle.std.proofs.lemmas.Bool.{cases_lt}
 use Rattle.std.proofs.lemmas.List.{length-set}
-use Rattle.flow_check.specs.internal.Frames.{IsGroupFrom}
+use Rattle.flow_nodes.specs.Groups.{IsGroup}
 use Rattle.flow_check.proofs.OpenSteps.{IsOpen, word-before, word-open, word-none, group-tells}
 use Rattle.flow_check.proofs.two_ended.walk.open_children.Goals as goal
 use Rattle.flow_check.proofs.two_ended.walk.open_children.Goals.{then-word-ne0, else-word-ne0}
+
+pub children_below-bits-requires-clause-machines : goal.children_below-bits-requires-clause-machines
+children_below-bits-requires-clause-machines g c =
+    let named = c.requires.at.1.each c.loop-group.group c.index-groups-group.result c.loop-group-test.true in
+    omega (
+      arith,
+      ap length c.as_slice.ensures.value,
+      ap (λ v. length v.items) c.index-groups-group.is,
+      named.2.machines,
+      c.requires.at.1.limits.machines,
+    )
 
 pub loop-group-preserved : goal.loop-group-preserved
 loop-group-preserved g c =
@@ -30,16 +41,16 @@ loop-group-preserved g c =
                   job low under (c.loop-group.invariant.done shop first last groups is left job low under)
               | inr above ↦
                   let there : (job - 1) / 16 ≡ group = omega (arith, above, high) in
-                  let from : IsGroupFrom g.V.Lanes.list g.V.Lanes.CAP g.V.Lanes.WIDTH shop (group * 16)
+                  let named = groups.each group w.index-groups-group.result c.loop-group-test.true in
+                  let of_group : IsGroup g.V.Lanes.list g.V.Lanes.CAP g.V.Lanes.WIDTH shop named.0
                   w.as_slice.result.now =
-                  subst (IsGroupFrom g.V.Lanes.list g.V.Lanes.CAP g.V.Lanes.WIDTH shop (group * 16))
-                  (sym (w.as_slice.ensures.value ∙ ap (λ v. v.items) w.index-groups-group.is))
-                  (groups.each group _ c.loop-group-test.true) in
+                  subst (IsGroup g.V.Lanes.list g.V.Lanes.CAP g.V.Lanes.WIDTH shop named.0)
+                  (sym (w.as_slice.ensures.value ∙ ap (λ v. v.items) w.index-groups-group.is)) named.2 in
                   word-open words group _ few shop c.args.number c.args.end first last c.args.left.now left job low
                   w.children_below-bits.result w.from.result refl w.from.ensures there
                   (λ within fresh. group-tells g.V.Lanes.list g.V.Lanes.CAP g.V.Lanes.WIDTH c.requires.wide shop
-                  c.args.number c.min-limit.result c.args.end first last c.args.node.now group w.as_slice.result.now
-                  w.children_below-bits.result job is from (omega (arith, c.min-limit.ensures))
+                  c.args.number c.min-limit.result c.args.end first last c.args.node.now group named.0
+                  w.as_slice.result.now w.children_below-bits.result job is named.1 of_group (omega (arith, c.min-limit.ensures))
                   (λ names lane are inside out. w.children_below-bits.ensures.each shop first last names lane is are
                   inside out) low there within fresh)
             ])

@@ -1,7 +1,8 @@
 use Rattle.std.proofs.Common.{◌≡◌, ℕ, ◌-◌, ◌/◌, ◌<◌, ◌≤◌, List, length}
 use Rattle.flow_shop.specs.Shop.{Shop}
 use Rattle.flow_nodes.specs.Nodes.{IsNode}
-use Rattle.flow_check.specs.internal.Frames.{AreGroups, AreLeft}
+use Rattle.flow_nodes.specs.Groups.{AreGroups}
+use Rattle.flow_check.specs.internal.Frames.{AreLeft}
 use Rattle.flow_check.proofs.OpenSteps.{IsOpen}
 use Rattle.flow_check.proofs.two_ended.walk.open_children.Given as goal
 

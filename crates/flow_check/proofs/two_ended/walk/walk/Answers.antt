@@ -3,7 +3,8 @@ use Rattle.std.proofs.Common.{ap, sym, ◌∙◌, subst, arith, inl}
 use Rattle.flow_shop.specs.Ends.{end_bound}
 use Rattle.flow_shop.specs.Directions.{first_with, last_with}
 use Rattle.flow_nodes.specs.Nodes.{IsNode}
-use Rattle.flow_check.specs.internal.Frames.{AreGroups, AreLeft, first_of, last_of, frame_at, here, above, with_job}
+use Rattle.flow_nodes.specs.Groups.{AreGroups}
+use Rattle.flow_check.specs.internal.Frames.{AreLeft, first_of, last_of, frame_at, here, above, with_job}
 use Rattle.flow_check.specs.internal.ReadDirections.{first_end, read_node}
 use Rattle.flow_check.proofs.WalkSteps.{Stands, count-above, last-above, above-back, left-root, left-without}
 use Rattle.flow_check.proofs.WalkSteps.{left-child, stands-root, stands-done, stands-back, parent-back, left-back}

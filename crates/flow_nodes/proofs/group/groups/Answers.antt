@@ -2,10 +2,9 @@ use Rattle.std.proofs.Common.{◌≡◌, ℕ, ◌<◌, List, [], ◌∷◌, leng
 use Rattle.std.specs.Global.{Vec}
 use Rattle.std.specs.Vec.{with_items}
 use Rattle.std.proofs.lemmas.List.{with_items_is}
-use Rattle.flow_nodes.specs.Groups.{IsGroup}
-use Rattle.flow_improve.specs.internal.Beams.{AreNames}
-use Rattle.flow_improve.proofs.BoundSteps.{groups-push}
-use Rattle.flow_improve.proofs.two_ended.groups.groups.Goals as goal
+use Rattle.flow_nodes.specs.Groups.{AreNames, IsGroup}
+use Rattle.flow_nodes.proofs.GroupSteps.{groups-push}
+use Rattle.flow_nodes.proofs.group.groups.Goals as goal
 
 pub groups-preserved : goal.groups-preserved
 groups-preserved g c =

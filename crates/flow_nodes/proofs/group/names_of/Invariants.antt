@@ -1,5 +1,5 @@
 use Rattle.std.proofs.Common.{◌≡◌, ℕ, ◌+◌, ◌*◌, ◌<◌, min, length, slice_index}
-use Rattle.flow_improve.proofs.two_ended.groups.names_of.Given as goal
+use Rattle.flow_nodes.proofs.group.names_of.Given as goal
 
 -- the names so far
 abbrev pub invariant-loop-lane : goal.invariant-loop-lane

@@ -1,8 +1,7 @@
 use Rattle.std.proofs.Common.{ℕ, ◌-◌, ◌<◌, ◌≤◌, List, length, slice_index_or}
 use Rattle.std.specs.Global.{Vec}
-use Rattle.flow_nodes.specs.Groups.{IsGroup}
-use Rattle.flow_improve.specs.internal.Beams.{AreNames}
-use Rattle.flow_improve.proofs.two_ended.groups.groups.Given as goal
+use Rattle.flow_nodes.specs.Groups.{AreNames, IsGroup}
+use Rattle.flow_nodes.proofs.group.groups.Given as goal
 
 -- the groups so far
 abbrev pub invariant-groups : goal.invariant-groups
