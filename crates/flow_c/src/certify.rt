@@ -21,11 +21,10 @@ use crate::room::{Entries, fill, need};
 use crate::shop::ShopNumbers;
 use crate::text::TextRoom;
 use flow_cert::write_two_ended;
-use flow_certify::certify;
+use flow_certify::{MostDirections, certify};
 use flow_check::Bounds;
 use flow_directions::Alone;
 use flow_improve::Effort;
-use flow_limits::MAX_DIRECTIONS;
 use flow_shop::{Instance, Sequence};
 use flow_text::MemorySink;
 use std::alloc::Global;
@@ -44,15 +43,12 @@ struct Written {
 }
 
 /// The most directions, where they are within their limits.
-fn most(directions: u32) -> Result<u32, Fault>
+fn most_of(directions: u32) -> Result<MostDirections, Fault>
     ensures same { IfOk result (λ most. most ≡ directions) }
     ensures accepted { OnOk result (directions_fault directions ≡ None) }
     ensures refused { IfErr result (λ fault. directions_fault directions ≡ Some fault) }
 {
-    if directions < 1 || directions > MAX_DIRECTIONS {
-        return Err(Fault::Directions);
-    }
-    Ok(directions)
+    MostDirections::new(directions).ok_or(Fault::Directions)
 }
 
 /// The text of bounds and a sequence, with no directions.
@@ -76,19 +72,19 @@ fn certify_from(
     instance: &Instance,
     start: &Sequence,
     effort: &Effort,
-    directions: u32,
+    most: MostDirections,
     room: usize,
 ) -> Result<Written, Fault>
     requires limits { IsWithinLimits instance.now }
     requires is_sequence { IsSequence instance.now.jobs start.now }
-    ensures text { IfOk result (λ found. IsTextFrom instance.now start.now directions
+    ensures text { IfOk result (λ found. IsTextFrom instance.now start.now most
         (with_directions found.around.bytes found.directions.items) found.bounds found.sequence) }
     ensures long_enough { IfOk result (λ found. behind ≤ length found.around.bytes) }
     ensures enough { IfOk result (λ found. length found.around.bytes + length found.directions.items ≤ room) }
     ensures refused { IfErr result (λ fault. (number fault ≡ memory)
-        ⊎ IsTextTooLong instance.now start.now directions room fault) }
+        ⊎ IsTextTooLong instance.now start.now most room fault) }
 {
-    let found = certify(alloc, &Alone, instance, start, effort, directions)?;
+    let found = certify(alloc, &Alone, instance, start, effort, most)?;
     let bounds = Bounds {
         lower: found.lower,
         upper: found.upper,
@@ -132,9 +128,9 @@ fn certify_numbers(
     let instance = shop.instance(alloc)?;
     let start = Sequence::new(alloc, &instance, start)?;
     let effort = effort.effort()?;
-    let directions = most(directions)?;
+    let most = most_of(directions)?;
     need(shop.jobs as usize, entries.sequence)?;
-    certify_from(alloc, &instance, &start, &effort, directions, entries.text)
+    certify_from(alloc, &instance, &start, &effort, most, entries.text)
 }
 
 /// Puts a text with these directions at the front of a slice that has room for it, and returns its length.

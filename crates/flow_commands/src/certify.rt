@@ -17,29 +17,28 @@ use crate::files::FileKind;
 use crate::improve::effort_of;
 use crate::start::{sequence_given, start_of};
 use flow_cert::write_two_ended;
-use flow_certify::certify;
+use flow_certify::{MostDirections, certify};
 use flow_check::Bounds;
-use flow_core::{Instance, MAX_DIRECTIONS, MAX_WORKERS, Sequence, Sink, Source};
+use flow_core::{Instance, MAX_WORKERS, Sequence, Sink, Source};
 use flow_improve::Effort;
 use flow_requests::CertifyRequest;
 use flow_workers::{Watch, Workers};
 use std::alloc::Global;
 use std::thread::Threads;
 
-/// The effort of a request, where its numbers are within their limits; else the first fault.
-fn tested(request: CertifyRequest) -> Result<Effort, CommandFault>
+/// The effort of a request, and the most directions, where its numbers are within their limits; else the first fault.
+fn tested(request: CertifyRequest) -> Result<(Effort, MostDirections), CommandFault>
+    ensures most { IfOk result (λ tested. tested.1 ≡ request.directions) }
     ensures accepted { OnOk result (certify_fault request ≡ None) }
     ensures refused { IfErr result (λ fault. certify_fault request ≡ Some fault) }
     ensures device { NamesNoDevice result }
 {
     let effort = effort_of(request.improve)?;
-    if request.directions < 1 || request.directions > MAX_DIRECTIONS {
-        return Err(CommandFault::Directions);
-    }
+    let most = MostDirections::new(request.directions).ok_or(CommandFault::Directions)?;
     if request.workers < 1 || request.workers > MAX_WORKERS {
         return Err(CommandFault::Workers);
     }
-    Ok(effort)
+    Ok((effort, most))
 }
 
 /// Certifies as a request says. The workers search for directions, on threads where they are two or more, and the watch
@@ -66,21 +65,14 @@ fn certify_instance<R: Threads + Sync, W: Watch, K: Sink>(
         result }
 {
     let request = command.request;
-    let effort = tested(request)?;
+    let (effort, most) = tested(request)?;
     let start = start_of(alloc, &instance, given)?;
     let workers = Workers {
         rt: command.rt,
         count: request.workers as usize,
         watch: command.watch,
     };
-    let found = certify(
-        alloc,
-        &workers,
-        &instance,
-        &start,
-        &effort,
-        request.directions,
-    )?;
+    let found = certify(alloc, &workers, &instance, &start, &effort, most)?;
     let bounds = Bounds {
         lower: found.lower,
         upper: found.upper,

@@ -1,6 +1,6 @@
 //! Plans, outcomes, verdicts, directions and bounds.
 
-use flow_certify::{Certified, certify};
+use flow_certify::{Certified, MostDirections, certify};
 use flow_commands::CommandFault;
 use flow_core::{Instance, Sequence};
 use flow_directions::{Alone, Found, ProveFault, prove};
@@ -109,9 +109,11 @@ fn is_certified(found: &Certified, lower: u64, directions: &[u8]) -> bool {
 pub(crate) fn bounds_are_found(alloc: Global, three: &Instance) -> Result<bool, CommandFault> {
     let effort = Effort::new(0, 0, 1, 0)?;
     let start = Sequence::new(alloc, three, &[2, 1, 3])?;
-    let least = certify(alloc, &Alone, three, &start, &effort, 100)?;
+    let most = MostDirections::new(100).ok_or(CommandFault::Directions)?;
+    let least = certify(alloc, &Alone, three, &start, &effort, most)?;
     let start = Sequence::new(alloc, three, &[3, 1, 2])?;
-    let bounds = certify(alloc, &Alone, three, &start, &effort, 1)?;
+    let most = MostDirections::new(1).ok_or(CommandFault::Directions)?;
+    let bounds = certify(alloc, &Alone, three, &start, &effort, most)?;
     Ok(is_certified(&least, 12, b"++") && is_certified(&bounds, 10, b""))
 }
 

@@ -2,7 +2,7 @@
 //! in Python, written apart; the least makespans of the drawn instances are known.
 
 use crate::searches::{ANY, effort_of, start_of};
-use flow_certify::{Certified, certify};
+use flow_certify::{Certified, MostDirections, certify};
 use flow_core::{Instance, generate};
 use flow_directions::Alone;
 use std::alloc::Global;
@@ -82,6 +82,9 @@ fn holds(alloc: Global, row: &Row) -> bool {
     let Some(effort) = effort_of(NO_EFFORT) else {
         return false;
     };
+    let Some(most) = MostDirections::new(most) else {
+        return false;
+    };
     match certify(alloc, &Alone, &instance, &start, &effort, most) {
         Ok(found) => comes_to(&found, lower, upper, directions),
         Err(_) => false,
@@ -117,7 +120,10 @@ fn proves(alloc: Global, drawn: &Drawn) -> bool {
     let Some(effort) = effort_of(SOME_EFFORT) else {
         return false;
     };
-    match certify(alloc, &Alone, &instance, &start, &effort, 1_000_000) {
+    let Some(most) = MostDirections::new(1_000_000) else {
+        return false;
+    };
+    match certify(alloc, &Alone, &instance, &start, &effort, most) {
         Ok(found) => comes_to(&found, least, least, directions),
         Err(_) => false,
     }

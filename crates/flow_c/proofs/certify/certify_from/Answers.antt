@@ -8,11 +8,11 @@ use Rattle.flow_c.specs.internal.Around.{with_directions}
 
 -- the text of what was found
 found : (c : In_ok-around) →
-    IsTextFrom c.args.instance.now c.args.start.now c.args.directions
+    IsTextFrom c.args.instance.now c.args.start.now c.args.most
     (with_directions c.in_ok-around.around.bytes c.in_ok-found.found.directions.items)
     (record { lower = c.in_ok-found.found.lower; upper = c.in_ok-found.found.upper }) c.in_ok-found.found.sequence
 found c =
-    text-found c.args.instance.now c.args.start.now c.args.directions
+    text-found c.args.instance.now c.args.start.now c.args.most
     (record { lower = c.in_ok-found.found.lower; upper = c.in_ok-found.found.upper }) c.in_ok-found.found.sequence
     c.in_ok-found.found.directions.items c.in_ok-around.around.bytes c.requires.limits c.in_ok-found.ensures.each
     c.in_ok-found.ensures.attained c.in_ok-found.ensures.no_worse c.in_ok-found.ensures.proved
@@ -25,7 +25,7 @@ pub returns-in_err-need-clause-refused : goal.returns-in_err-need-clause-refused
 returns-in_err-need-clause-refused c =
     let p = err_from_is_err_and c.from_residual-in_err-need.result c.from_residual-in_err-need.ensures.1 in
     rw (p.1, p.2)
-    (too-long c.args.instance.now c.args.start.now c.args.directions c.args.room
+    (too-long c.args.instance.now c.args.start.now c.args.most c.args.room
     (record { lower = c.in_ok-found.found.lower; upper = c.in_ok-found.found.upper }) c.in_ok-found.found.sequence
     c.in_ok-found.found.directions.items c.in_ok-around.around.bytes c.in_err-need.field-0.0
     (found (goal.at.returns-in_err-need-clause-refused c).In_ok-around) c.in_ok-around.ensures.text

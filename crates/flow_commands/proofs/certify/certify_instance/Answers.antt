@@ -21,7 +21,8 @@ returns g c =
     (certified-answers request shop c.args.given _ c.in_ok-effort.ensures.accepted
     (certifies shop c.args.given c.in_ok-start.start found.sequence found.directions.items bounds request.directions
     (rw (← c.instance.view_is) c.instance.invariant.0)
-    c.in_ok-start.ensures.start says.each says.attained says.no_worse says.proved says.floor says.few
+    c.in_ok-start.ensures.start says.each says.attained says.no_worse says.proved says.floor
+    (rw c.in_ok-effort.ensures.most at says.few)
     (rw c.as_slice.ensures.value at c.write_two_ended.ensures.lawful)))
     (rw c.as_slice.ensures.value at c.in_ok-write_two_ended.ensures.ok) (search rules)
 
@@ -42,6 +43,7 @@ returns-in_err-write_two_ended g c =
     (certified-answers request shop c.args.given _ c.in_ok-effort.ensures.accepted
     (certifies shop c.args.given c.in_ok-start.start found.sequence found.directions.items bounds request.directions
     (rw (← c.instance.view_is) c.instance.invariant.0)
-    c.in_ok-start.ensures.start says.each says.attained says.no_worse says.proved says.floor says.few
+    c.in_ok-start.ensures.start says.each says.attained says.no_worse says.proved says.floor
+    (rw c.in_ok-effort.ensures.most at says.few)
     (rw c.as_slice.ensures.value at c.write_two_ended.ensures.lawful)))
     (rw c.as_slice.ensures.value at c.in_err-write_two_ended.ensures.err) (search rules))
