@@ -1,5 +1,5 @@
 -- What empty directions prove.
-use Rattle.std.proofs.Common.{◌≡◌, refl, inl, ℕ, zero, suc, List, [], ◌++◌, length, arith}
+use Rattle.std.proofs.Common.{refl, inl, ℕ, zero, suc, List, [], ◌++◌, length, arith}
 use Rattle.flow_shop.specs.Shop.{Shop}
 use Rattle.flow_shop.specs.Sequences.{jobs_left}
 use Rattle.flow_shop.specs.Ends.{end_bound}

@@ -1,5 +1,5 @@
 -- The lines of a text, one by one: what is read of each is what it says.
-use Rattle.std.proofs.Common.{◌≡◌, ◌&&◌, nat_eq, nat_lt, ◌^◌, ℕ, zero, suc, ◌<◌, Bool, true, false}
+use Rattle.std.proofs.Common.{◌≡◌, nat_eq, nat_lt, ◌^◌, ℕ, zero, suc, ◌<◌, Bool, true, false}
 use Rattle.std.proofs.Common.{cond, not, List, []}
 use Rattle.std.proofs.Common.{◌∷◌, ◌++◌, Option, Some, None, Result, Ok, Err, refl, ap, sym, subst, ◌∙◌, inl}
 use Rattle.std.proofs.Common.{inr, arith, ap₂, ◌+◌}
@@ -18,7 +18,7 @@ use Rattle.flow_check.specs.internal.Reading.{first_line, on_line, numbers_in, v
 use Rattle.flow_check.specs.declared.fault.CheckFault.{CheckFault}
 use Rattle.flow_shop.proofs.Lists.{find-some}
 use Rattle.flow_check.proofs.TreesExact.{fault-value}
-use Rattle.flow_check.proofs.Numbers.{both, off, Fit, IsPlain, numbers-sound, numbers-complete, spaced-plain}
+use Rattle.flow_check.proofs.Numbers.{both, off, IsPlain, numbers-sound, numbers-complete, spaced-plain}
 
 -- a line and what follows it
 

@@ -1,7 +1,7 @@
 -- A fault with which a text is read is its first fault.
 use Rattle.std.proofs.Common.{◌≡◌, ◌&&◌, nat_eq, nat_le, ℕ, zero, suc, ◌+◌, ◌-◌, Bool}
 use Rattle.std.proofs.Common.{◌<◌, ◌^◌, false, cond}
-use Rattle.std.proofs.Common.{List, [], ◌∷◌, ◌++◌, Option, Some, None, Result, Ok, Err, IfErr, refl, ap, sym}
+use Rattle.std.proofs.Common.{List, [], ◌∷◌, ◌++◌, Option, Some, None, Result, Err, IfErr, refl, ap, sym}
 use Rattle.std.proofs.Common.{subst, ◌∙◌, inl, inr, arith}
 use Rattle.std.specs.Option.{option_map_or}
 use Rattle.std.proofs.lemmas.Bool.{eqb-true, leb-true, eq-eqb, false≢true}

@@ -1,6 +1,6 @@
 -- The first line, the line of an instance's size and a depth, and the line of two bounds.
 use Rattle.std.proofs.Common.{◌≡◌, ℕ, ◌+◌, ◌≤◌, ◌<◌, ◌^◌, true, false, nat_eq, List, [], ◌∷◌, ◌++◌, length, take, drop}
-use Rattle.std.proofs.Common.{Option, Some, None, IfSome, Bor, ap, sym, ◌∙◌, append_assoc, arith}
+use Rattle.std.proofs.Common.{Option, Some, None, IfSome, Bor, ap, ◌∙◌, append_assoc, arith}
 use Rattle.std.specs.Fmt.{decimal}
 use Rattle.std.specs.Option.{MatchOption}
 use Rattle.std.specs.Cmp.Lexicographic.{pointwise}

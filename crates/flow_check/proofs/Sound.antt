@@ -2,17 +2,16 @@
 use Rattle.std.proofs.Common.{◌≡◌, ℕ, zero, suc, ◌+◌, ◌-◌, ◌<◌, ◌≤◌, Bool, true, false, cond, ◌||◌, nat_eq, List, []}
 use Rattle.std.proofs.Common.{◌∷◌, ◌++◌, length, refl}
 use Rattle.std.proofs.Common.{ap, sym, subst, ◌∙◌, inl, inr, arith, append_assoc, length-append}
-use Rattle.std.specs.List.{AllZip, AllByRecursion, flat_map}
+use Rattle.std.specs.List.{AllZip, flat_map}
 use Rattle.std.proofs.lemmas.List.{append-nil}
-use Rattle.std.proofs.lemmas.List.Elements.{recursion_from_All}
-use Rattle.std.proofs.lemmas.Bool.{false≢true, or_left, eq-eqb, eqb-true, cases_Bool}
+use Rattle.std.proofs.lemmas.Bool.{false≢true, eqb-true, cases_Bool}
 use Rattle.flow_shop.specs.Shop.{Shop}
 use Rattle.flow_shop.specs.Paths.{span}
 use Rattle.flow_shop.specs.Sequences.{has, jobs_left, extensions, IsSequence, Extends}
-use Rattle.flow_shop.proofs.JobsLeft.{left-has, next-left}
+use Rattle.flow_shop.proofs.JobsLeft.{next-left}
 use Rattle.flow_shop.proofs.Admissible.{bound_is_admissible, released_bound_is_admissible}
 use Rattle.flow_shop.specs.Bound.{bound_at, released_bound_at, bound_of}
-use Rattle.flow_shop.proofs.Lists.{all-at, zip-at}
+use Rattle.flow_shop.proofs.Lists.{zip-at}
 use Rattle.flow_check.specs.Certificate.{Covers, Shows, CertificateIsSound, ValueIsOne}
 
 zip-append : {A B : Type 0} (R : A → B → Type 0) (xs ys : List A) (zs : List B) → AllZip R (xs ++ ys) zs →

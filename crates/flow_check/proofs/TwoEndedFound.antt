@@ -13,7 +13,6 @@ use Rattle.flow_shop.specs.Sequences.{jobs_left}
 use Rattle.flow_shop.specs.Directions.{first_with, last_with, Proves, ProvesWith}
 use Rattle.flow_shop.proofs.JobsLeft.{none-has}
 use Rattle.flow_check.specs.TextLines.{line, spaced, ending}
-use Rattle.flow_check.specs.CertificateFaults.{HasFaultAmong}
 use Rattle.flow_check.specs.TwoEnded.{title_line, size_lines, bounds_lines, sequence_lines, AreInRange, IsTwoEnded}
 use Rattle.flow_check.specs.TwoEndedFaults.{HasDirectionsFault, HasLastFault, HasFourLines, FailsAfterFour}
 use Rattle.flow_check.specs.TwoEndedFaults.{HasTwoEndedFault}

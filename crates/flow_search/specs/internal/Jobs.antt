@@ -1,5 +1,5 @@
 -- Sets of jobs of an instance.
-use Rattle.std.specs.Prelude.{ℕ, ◌≡◌, ◌<◌, ◌≤◌, Bool, true, false, List}
+use Rattle.std.specs.Prelude.{ℕ, ◌≡◌, ◌≤◌, Bool, true, List}
 use Rattle.flow_shop.specs.Shop.{Shop}
 use Rattle.flow_shop.specs.JobSet.{contains}
 

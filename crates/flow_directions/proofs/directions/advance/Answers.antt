@@ -1,4 +1,4 @@
-use Rattle.std.proofs.Common.{◌≡◌, ◌<◌, [], ◌++◌, length, sym, subst, arith}
+use Rattle.std.proofs.Common.{◌≡◌, ◌<◌, ◌++◌, length, sym, subst, arith}
 use Rattle.flow_shop.specs.Sequences.{jobs_left, IsSequence}
 use Rattle.flow_shop.specs.Ends.{end_bound}
 use Rattle.flow_directions.specs.Search.{IsAdvanced}

@@ -1,4 +1,4 @@
-use Rattle.std.proofs.Common.{◌≡◌, ◌++◌, length, Some, ap, sym, ◌∙◌, subst, arith}
+use Rattle.std.proofs.Common.{◌++◌, Some, ap, sym, ◌∙◌, subst, arith}
 use Rattle.flow_shop.specs.Sequences.{IsSequence}
 use Rattle.flow_directions.specs.Search.{directions_of, IsAdvanced}
 use Rattle.flow_directions.specs.internal.Reached.{IsSequenceAfter}

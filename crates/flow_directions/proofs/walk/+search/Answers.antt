@@ -1,5 +1,5 @@
-use Rattle.std.proofs.Common.{rules, ◌≡◌, ◌*◌, ◌<◌, ◌≤◌, [], ◌∷◌, ◌++◌, length, take}
-use Rattle.std.proofs.Common.{slice_index, slice_index_or, replicate, refl, ap, sym, ◌∙◌, subst, arith}
+use Rattle.std.proofs.Common.{rules, ◌≡◌, ◌*◌, ◌≤◌, [], ◌∷◌, ◌++◌, length, take}
+use Rattle.std.proofs.Common.{slice_index_or, replicate, refl, ap, sym, ◌∙◌, subst, arith}
 use Rattle.std.proofs.Common.{length-append}
 use Rattle.std.proofs.lemmas.List.{length-replicate, length-set}
 use Rattle.flow_shop.specs.Directions.{first_with, last_with}
