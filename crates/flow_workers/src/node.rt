@@ -2,7 +2,7 @@
 
 ghost use Rattle.std.specs.Prelude.{◌≡◌, ◌≤◌, ◌⊎◌, [], ◌∷◌, All, map, IfOk};
 ghost use Rattle.flow_directions.specs.Search.{visits};
-ghost use Rattle.flow_workers.specs.internal.Pieces.{IsSearched, met, pieces_met, written};
+ghost use Rattle.flow_workers.specs.internal.Pieces.{IsSearched, has_reached, met, pieces_met, written};
 ghost use Rattle.flow_workers.specs.declared.piece.Piece.TheVariants.{Left};
 
 use crate::piece::Piece;
@@ -46,6 +46,7 @@ fn pieces_of(alloc: Global, parts: Vec<Part>) -> Result<VecDeque<Piece>, AllocEr
 fn found(searched: Piece, left: VecDeque<Piece>) -> Result<Searched, AllocError>
     ensures pieces { IfOk result (λ found. found.pieces.items ≡ searched ∷ left.items) }
     ensures written { IfOk result (λ found. found.written ≡ written (searched ∷ [])) }
+    ensures reached { IfOk result (λ found. found.reached ≡ has_reached found.pieces.items) }
 {
     let (written, reached) = match &searched {
         Piece::Done(directions) => (directions.len() as u64, false),
@@ -71,6 +72,7 @@ pub(crate) fn search_node(
     ensures met { IfOk result (λ found. pieces_met aim.now.instance.now aim.now.number found.pieces.items
         ≡ met (visits aim.now.instance.now aim.now.number first.now last.now)) }
     ensures written { IfOk result (λ found. found.written ≡ written found.pieces.items) }
+    ensures reached { IfOk result (λ found. found.reached ≡ has_reached found.pieces.items) }
     ensures within { IfOk result (λ found. found.written ≤ budget) }
     ensures goes_on { IfOk result (λ found. (found.written ≡ budget) ⊎ All IsSearched found.pieces.items) }
 {

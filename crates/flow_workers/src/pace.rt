@@ -1,7 +1,7 @@
 //! How much is searched in a round.
 
 ghost use Rattle.std.specs.Prelude.{◌≡◌, ◌≤◌, ◌<◌, ◌*◌};
-ghost use Rattle.flow_workers.specs.internal.Paces.{GoesOn, bytes_of_piece, most_bytes};
+ghost use Rattle.flow_workers.specs.internal.Paces.{GoesOn, left_of, bytes_of_piece, most_bytes};
 
 /// So many directions times jobs come first, which one worker searches: threads would cost more than they save.
 const ALONE: u64 = 240_000;
@@ -36,15 +36,15 @@ pub(crate) struct Pace {
 }
 
 impl Pace {
-    /// The pace of the next round, with so many workers and pieces, after so many directions, where so many more are
-    /// over the budget. A round has an eighth of the directions so far, so that what is searched in vain, behind a
-    /// sequence or behind the place where the budget ends, is little beside them.
-    pub(crate) fn new(workers: usize, jobs: u16, pieces: usize, written: u64, left: u64) -> Pace
-        requires { 1 ≤ left }
+    /// The pace of the next round, with so many workers and pieces, after so many directions of the budget. A round has
+    /// an eighth of the directions so far, so that what is searched in vain, behind a sequence or behind the place where
+    /// the budget ends, is little beside them.
+    pub(crate) fn new(workers: usize, jobs: u16, pieces: usize, written: u64, budget: u64) -> Pace
         ensures goes_on { GoesOn result }
-        ensures left { result.left ≡ left }
+        ensures left { result.left ≡ left_of budget written }
         ensures few { most_bytes < pieces * bytes_of_piece jobs → result.nodes ≡ 1 }
     {
+        let left = budget.saturating_sub(written).saturating_add(1);
         let first = (ALONE / u64::from(jobs.max(1))).max(LEAST_OF_NODE);
         if written < first {
             return Pace::of_one(first.min(left), left);
@@ -96,29 +96,29 @@ fn bytes_of_piece(jobs: u16) -> usize
     150 + 2 * jobs as usize
 }
 
-/// Workers, jobs, pieces, directions so far, and how many more are over the budget; then how many nodes are dealt, how
-/// many directions the round has, and how many its first node is given.
+/// Workers, jobs, pieces, directions so far, and the budget; then how many nodes are dealt, how many directions the
+/// round has, and how many its first node is given.
 #[cfg(test)]
 static PACES: [(usize, u16, usize, u64, u64, usize, u64, u64); 10] = [
-    (4, 20, 1, 0, 1_000_001, 1, 12_000, 12_000),
-    (4, 20, 1, 0, 101, 1, 101, 101),
-    (64, 800, 1, 0, 1_000_001, 1, 500, 500),
-    (64, 20, 10, 12_000, 1_000_001, 632, 12_000, 500),
-    (4, 20, 10, 12_000, 1_000_001, 112, 8_000, 1_000),
-    (4, 20, 500, 400_000, 1_000_001, 532, 50_000, 6_250),
-    (0, 20, 500, 400_000, 1_000_001, 508, 50_000, 25_000),
-    (4, 20, 500, 400_000, 300, 35, 300, 300),
+    (4, 20, 1, 0, 1_000_000, 1, 12_000, 12_000),
+    (4, 20, 1, 0, 100, 1, 101, 101),
+    (64, 800, 1, 0, 1_000_000, 1, 500, 500),
+    (64, 20, 10, 12_000, 1_012_000, 632, 12_000, 500),
+    (4, 20, 10, 12_000, 1_012_000, 112, 8_000, 1_000),
+    (4, 20, 500, 400_000, 1_400_000, 532, 50_000, 6_250),
+    (0, 20, 500, 400_000, 1_400_000, 508, 50_000, 25_000),
+    (4, 20, 500, 400_000, 400_299, 35, 300, 300),
     (
-        4, 20, 526_315, 8_000_000, 1_000_001, 8_032, 800_000, 100_000,
+        4, 20, 526_315, 8_000_000, 9_000_000, 8_032, 800_000, 100_000,
     ),
-    (4, 20, 526_316, 8_000_000, 1_000_001, 1, 800_000, 800_000),
+    (4, 20, 526_316, 8_000_000, 9_000_000, 1, 800_000, 800_000),
 ];
 
 #[test]
 fn paces_are_those_stated(rt: HostRuntime) {
     for row in &PACES {
-        let (workers, jobs, pieces, written, left, nodes, whole, grant) = *row;
-        let pace = Pace::new(workers, jobs, pieces, written, left);
+        let (workers, jobs, pieces, written, budget, nodes, whole, grant) = *row;
+        let pace = Pace::new(workers, jobs, pieces, written, budget);
         let found = (pace.nodes, pace.whole, pace.grant(0));
         assert!(rt;
             found == (nodes, whole, grant),

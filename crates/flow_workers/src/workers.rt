@@ -99,8 +99,13 @@ pub fn prove_by<R: Threads + Sync, W: Watch>(
             }
             Some(piece) => pieces.push_front(piece)?,
         }
-        let left = (budget - written).saturating_add(1);
-        let pace = Pace::new(workers.count, instance.jobs(), pieces.len(), written, left);
+        let pace = Pace::new(
+            workers.count,
+            instance.jobs(),
+            pieces.len(),
+            written,
+            budget,
+        );
         search_round(workers.rt, &aim, &mut pieces, pace)?;
     }
     Err(AllocError)

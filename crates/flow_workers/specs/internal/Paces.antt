@@ -1,10 +1,14 @@
 -- How much is searched in a round.
-use Rattle.std.specs.Prelude.{ℕ, ◌+◌, ◌*◌, ◌≤◌}
+use Rattle.std.specs.Prelude.{ℕ, ◌+◌, ◌-◌, ◌*◌, ◌^◌, ◌≤◌, min}
 use Rattle.flow_workers.specs.declared.pace.Pace.{Pace}
 
 -- in a round of this pace some node is dealt, and searched for some directions
 abbrev pub GoesOn : Pace → Type 0
 GoesOn pace = (1 ≤ pace.nodes) × (1 ≤ pace.whole) × (1 ≤ pace.least) × (1 ≤ pace.left)
+
+-- how many more directions pass a budget after so many: one more than are left of it, or the greatest number of 64 bits
+abbrev pub left_of : ℕ → ℕ → ℕ
+left_of budget written = min (budget - written + 1) (2 ^ 64 - 1)
 
 -- about how many bytes a piece has of so many jobs
 abbrev pub bytes_of_piece : ℕ → ℕ

@@ -1,5 +1,5 @@
 -- What the pieces of a search stand for.
-use Rattle.std.specs.Prelude.{ℕ, ◌+◌, List, [], ◌∷◌, ◌++◌, length, Option, Some, None}
+use Rattle.std.specs.Prelude.{ℕ, ◌+◌, Bool, true, false, List, [], ◌∷◌, ◌++◌, length, Option, Some, None}
 use Rattle.flow_shop.specs.Shop.{Shop}
 use Rattle.flow_directions.specs.Search.{Visit, signs, first_reached, part_visits}
 use Rattle.flow_workers.specs.declared.piece.Piece.{Piece}
@@ -51,6 +51,13 @@ written [] = 0
 written (Done text ∷ pieces) = length text.items + written pieces
 written (Reached sequence text ∷ pieces) = length text.items + written pieces
 written (Left part ∷ pieces) = written pieces
+
+-- whether the first piece has reached a sequence
+abbrev pub has_reached : List Piece → Bool
+has_reached [] = false
+has_reached (Done text ∷ pieces) = false
+has_reached (Reached sequence text ∷ pieces) = true
+has_reached (Left part ∷ pieces) = false
 
 -- a piece of which nothing is still to be searched
 abbrev pub IsSearched : Piece → Type 0
