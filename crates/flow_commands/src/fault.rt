@@ -11,8 +11,8 @@ ghost use Rattle.flow_search.specs.declared.plan.PlanFault.TheVariants as plan;
 ghost use Rattle.flow_pool.specs.declared.run.solve.SolveFault.TheVariants as solve;
 ghost use Rattle.flow_check.specs.declared.fault.CheckFault.TheVariants as check;
 ghost use Rattle.flow_commands.specs.declared.fault.CommandFault.TheVariants.{Memory, Read, Text, Start, Sequence};
-ghost use Rattle.flow_commands.specs.declared.fault.CommandFault.TheVariants.{Index, Instance, Improve, Choice, Plan, Run};
-ghost use Rattle.flow_commands.specs.declared.fault.CommandFault.TheVariants.{Certificate, Write};
+ghost use Rattle.flow_commands.specs.declared.fault.CommandFault.TheVariants.{Index, Instance, Improve, Choice, Plan};
+ghost use Rattle.flow_commands.specs.declared.fault.CommandFault.TheVariants.{Run, Certificate, Write};
 
 use flow_check::CheckFault;
 use flow_core::{
