@@ -26,7 +26,6 @@ pub mod TreeReading
 pub mod ReaderSteps
 pub mod LineSteps
 pub mod TreesGiven
-pub mod MarkSteps
 pub mod OpenSteps
 pub mod DirectionSteps
 pub mod FrameSteps

@@ -16,12 +16,12 @@ use Rattle.flow_shop.specs.Directions.{first_with, last_with}
 use Rattle.flow_nodes.specs.Nodes.{IsJob}
 use Rattle.flow_nodes.specs.Groups.{child_bound}
 use Rattle.flow_check.specs.declared.fault.CheckFault.TheVariants.{Low, Tree}
-use Rattle.flow_check.specs.declared.two_ended.marks.Marks.{Marks}
+use Rattle.flow_nodes.specs.declared.marks.Marks.{Marks}
 use Rattle.flow_check.specs.declared.two_ended.walk.Frame.{Frame}
 use Rattle.flow_check.specs.declared.two_ended.walk.Path.{Path}
 use Rattle.flow_check.specs.internal.ReadTrees.{then_read}
 use Rattle.flow_check.specs.internal.ReadDirections.{Reading, first_end, read_node}
-use Rattle.flow_check.specs.internal.Marks.{mark}
+use Rattle.flow_check.specs.internal.Marks.{job_mark}
 use Rattle.flow_check.specs.internal.Frames.{first_of, last_of, AreFrames, AreLeft, IsFrame, IsParent}
 use Rattle.flow_check.specs.internal.Frames.{frame_at, here, above, with_job}
 use Rattle.flow_check.proofs.DirectionSteps.{children_read, children-jump, children-past, children-take, read-low}
@@ -44,8 +44,8 @@ or-true true = refl
 or-true false = refl
 
 pub left-without : (shop : Shop) (end : End) (first last : List ℕ) (old new : Marks) (job : ℕ) →
-    AreLeft shop first last old → ((other : ℕ) → 1 ≤ other → other ≢ job → mark new other ≡ mark old other) →
-    mark new job ≡ 0 → AreLeft shop (first_with end first job) (last_with end last job) new
+    AreLeft shop first last old → ((other : ℕ) → 1 ≤ other → other ≢ job → job_mark new other ≡ job_mark old other) →
+    job_mark new job ≡ 0 → AreLeft shop (first_with end first job) (last_with end last job) new
 left-without shop end first last old new job are others same = record {
   all = λ k low high fresh. elim (eqb_tells k job) [
     | inl is ↦
@@ -61,7 +61,7 @@ left-without shop end first last old new job are others same = record {
   ];
   only = λ k low marked. elim (eqb_tells k job) [
     | inl is ↦
-        let none : mark new k ≡ 0 = ap (mark new) is.1 ∙ same in
+        let none : job_mark new k ≡ 0 = ap (job_mark new) is.1 ∙ same in
         absurd (omega (arith, none, marked))
     | inr is ↦
         let old : (k ≤ shop.jobs) × (has (first ++ last) k ≡ false) =
@@ -76,11 +76,11 @@ left-without shop end first last old new job are others same = record {
 -- the marks of a node, once its child is read
 left-with : (shop : Shop) (end : End) (first last : List ℕ) (old new : Marks) (job : ℕ) → job ≤ shop.jobs →
     has (first ++ last) job ≡ false → AreLeft shop (first_with end first job) (last_with end last job) old →
-    ((other : ℕ) → 1 ≤ other → other ≢ job → mark new other ≡ mark old other) → mark new job ≡ 1 →
+    ((other : ℕ) → 1 ≤ other → other ≢ job → job_mark new other ≡ job_mark old other) → job_mark new job ≡ 1 →
     AreLeft shop first last new
 left-with shop end first last old new job high fresh are others same = record {
   all = λ k low top left. elim (eqb_tells k job) [
-    | inl is ↦ ap (mark new) is.1 ∙ same
+    | inl is ↦ ap (job_mark new) is.1 ∙ same
     | inr is ↦ others k low is.1
         ∙ are.all k low top
         (child-has end first last job k ∙ ap (λ b. has (first ++ last) k || b) is.0
@@ -99,7 +99,7 @@ left-with shop end first last old new job high fresh are others same = record {
 
 -- all jobs are left at the root
 pub left-root : (shop : Shop) (marks : Marks) (jobs : ℕ) → jobs ≡ shop.jobs →
-    ((job : ℕ) → 1 ≤ job → job ≤ jobs → mark marks job ≡ 1) → ((job : ℕ) → jobs < job → mark marks job ≡ 0) →
+    ((job : ℕ) → 1 ≤ job → job ≤ jobs → job_mark marks job ≡ 1) → ((job : ℕ) → jobs < job → job_mark marks job ≡ 0) →
     AreLeft shop [] [] marks
 left-root shop marks jobs same marked others = record {
   all = λ job low high fresh. marked job low (omega (arith, high, same));
@@ -162,7 +162,7 @@ module _ (shop : Shop) (number : ℕ) (whole : Reading) (text : List ℕ) (place
     (frame : Frame) (first last : List ℕ) (left : ℕ)
     (stands : StandsAt shop number whole text place frames frame first last left) where
   -- a job left that is not marked has a child that is not below the number
-  not-open : (job : ℕ) → 1 ≤ job → job ≤ shop.jobs → mark frame.below job ≡ 0 → has (first ++ last) job ≡ false →
+  not-open : (job : ℕ) → 1 ≤ job → job ≤ shop.jobs → job_mark frame.below job ≡ 0 → has (first ++ last) job ≡ false →
       number ≤ child_bound shop frame.end first last job
   not-open job low high none fresh = elim (cases_lt (child_bound shop frame.end first last job) number) [
     | inl below ↦ absurd (omega (arith, none, stands.is_frame.are_open.all job low high fresh below))
@@ -170,7 +170,7 @@ module _ (shop : Shop) (number : ℕ) (whole : Reading) (text : List ℕ) (place
   ]
 
   -- no child is left
-  children-done : ((other : ℕ) → frame.job < other → other ≤ shop.jobs → mark frame.below other ≡ 0) →
+  children-done : ((other : ℕ) → frame.job < other → other ≤ shop.jobs → job_mark frame.below other ≡ 0) →
       children_read shop number frame.end left first last (left_from shop.jobs (first ++ last) (frame.job + 1))
       (drop place text) ≡ Ok (drop place text)
   children-done none =
@@ -183,8 +183,8 @@ module _ (shop : Shop) (number : ℕ) (whole : Reading) (text : List ℕ) (place
       (frame.job + 1 + (shop.jobs - frame.job)) (omega (arith, within))
 
   module _ (job : ℕ) (above : frame.job < job) (inside : (job - 1) / 16 < (shop.jobs + 15) / 16)
-      (marked : mark frame.below job ≡ 1)
-      (least : (other : ℕ) → frame.job < other → other < job → mark frame.below other ≡ 0) where
+      (marked : job_mark frame.below job ≡ 1)
+      (least : (other : ℕ) → frame.job < other → other < job → job_mark frame.below other ≡ 0) where
     pub opened : (job ≤ shop.jobs) × (has (first ++ last) job ≡ false)
         × (child_bound shop frame.end first last job < number)
     opened = stands.is_frame.are_open.only job (omega (arith, above)) inside marked
@@ -252,7 +252,7 @@ module _ (shop : Shop) (number : ℕ) (whole : Reading) (text : List ℕ) (place
 -- the children of a frame are read, and it was the root's
 pub stands-done : (shop : Shop) (number : ℕ) (whole : Reading) (text : List ℕ) (place : ℕ) (frames : List Frame)
     (frame : Frame) → Stands shop number whole text place frames frame →
-    ((other : ℕ) → frame.job < other → other ≤ shop.jobs → mark frame.below other ≡ 0) → length frames ≡ 0 →
+    ((other : ℕ) → frame.job < other → other ≤ shop.jobs → job_mark frame.below other ≡ 0) → length frames ≡ 0 →
     whole ≡ Ok (drop place text)
 stands-done shop number whole text place [] frame stands none e =
     stands.answer
@@ -262,7 +262,7 @@ stands-done shop number whole text place (f ∷ fs) frame stands none e = absurd
 -- or the walk goes back
 pub stands-back : (shop : Shop) (number : ℕ) (whole : Reading) (text : List ℕ) (place : ℕ) (frames aboves : List Frame)
     (frame above : Frame) → Stands shop number whole text place frames frame →
-    ((other : ℕ) → frame.job < other → other ≤ shop.jobs → mark frame.below other ≡ 0) →
+    ((other : ℕ) → frame.job < other → other ≤ shop.jobs → job_mark frame.below other ≡ 0) →
     frames ≡ aboves ++ above ∷ [] → Stands shop number whole text place aboves above
 stands-back shop number whole text place frames aboves frame above stands none e =
     let are = frames-pop shop number [] [] aboves above (subst (AreFrames shop number [] []) e stands.frames_are) in
@@ -288,7 +288,7 @@ parent-back shop number frames aboves above are e =
 pub left-back : (shop : Shop) (number : ℕ) (frames aboves : List Frame) (above : Frame) (old new : Marks) →
     AreFrames shop number [] [] frames → frames ≡ aboves ++ above ∷ [] →
     AreLeft shop (first_of [] frames) (last_of [] frames) old →
-    ((other : ℕ) → 1 ≤ other → other ≢ above.job → mark new other ≡ mark old other) → mark new above.job ≡ 1 →
+    ((other : ℕ) → 1 ≤ other → other ≢ above.job → job_mark new other ≡ job_mark old other) → job_mark new above.job ≡ 1 →
     AreLeft shop (first_of [] aboves) (last_of [] aboves) new
 left-back shop number frames aboves above old new are e left others same =
     let is = parent-back shop number frames aboves above are e in
@@ -300,8 +300,8 @@ left-back shop number frames aboves above old new are e left others same =
 -- or it goes to the next child below the number
 pub stands-child : (shop : Shop) (number : ℕ) (whole : Reading) (text : List ℕ) (place : ℕ) (frames : List Frame)
     (frame child : Frame) (job : ℕ) → Stands shop number whole text place frames frame → frame.job < job →
-    (job - 1) / 16 < (shop.jobs + 15) / 16 → mark frame.below job ≡ 1 →
-    ((other : ℕ) → frame.job < other → other < job → mark frame.below other ≡ 0) →
+    (job - 1) / 16 < (shop.jobs + 15) / 16 → job_mark frame.below job ≡ 1 →
+    ((other : ℕ) → frame.job < other → other < job → job_mark frame.below other ≡ 0) →
     length frames + 1 < shop.jobs → first_end (drop place text) ≡ Some child.end → child.job ≡ 0 →
     IsFrame shop number (first_with frame.end (first_of [] frames) job) (last_with frame.end (last_of [] frames) job)
     child → Stands shop number whole text (place + 1) (frames ++ with_job frame job ∷ []) child
@@ -345,7 +345,7 @@ stands-child shop number whole text place frames frame child job stands above in
 -- the jobs left at the child
 pub left-child : (shop : Shop) (frames : List Frame) (put : Frame) (old new : Marks) →
     AreLeft shop (first_of [] frames) (last_of [] frames) old →
-    ((other : ℕ) → 1 ≤ other → other ≢ put.job → mark new other ≡ mark old other) → mark new put.job ≡ 0 →
+    ((other : ℕ) → 1 ≤ other → other ≢ put.job → job_mark new other ≡ job_mark old other) → job_mark new put.job ≡ 0 →
     AreLeft shop (first_of [] (frames ++ put ∷ [])) (last_of [] (frames ++ put ∷ [])) new
 left-child shop frames put old new left others same =
     subst (λ l. AreLeft shop (first_of [] (frames ++ put ∷ [])) l new) (sym (last-push [] frames put))

@@ -14,6 +14,7 @@ ghost use Rattle.flow_check.specs.internal.Nodes.{grown, left_before};
 
 use crate::trees_text::TreesText;
 use flow_limits::MAX_MACHINES;
+use flow_nodes::time_of_all;
 use flow_shop::Instance;
 
 /// What is kept of a list of jobs. The machine bounds of the list and of its children are computed from it. A job's
@@ -41,19 +42,6 @@ pub(crate) struct TwoLeastTails {
     second: u32,
 }
 
-/// The time of all jobs on a machine.
-fn time_of_all(instance: &Instance, machine: u16) -> u64
-    requires { IsMachine instance.now machine }
-    ensures value { result ≡ sum_by (λ job. time instance.now job machine) (jobs_left instance.now.jobs []) }
-{
-    let jobs = instance.jobs();
-    let mut total = 0;
-    for job in 1..jobs + 1 {
-        total += u64::from(instance.time(job, machine));
-    }
-    total
-}
-
 impl Node {
     /// The empty list.
     pub(crate) fn root(instance: &Instance) -> Self
@@ -62,7 +50,7 @@ impl Node {
         let machines = instance.machines();
         let mut work = [0; MAX_MACHINES];
         for machine in 1..machines + 1 {
-            work[machine as usize - 1] = time_of_all(instance, machine);
+            work[machine as usize - 1] = u64::from(time_of_all(instance, machine));
         }
         Node {
             front: [0; MAX_MACHINES],

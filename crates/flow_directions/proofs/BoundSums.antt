@@ -7,8 +7,8 @@ use Rattle.std.proofs.lemmas.Bool.{cond-true, cond-false, eq-eqb, ne_eqb}
 use Rattle.std.proofs.lemmas.List.{drop_more}
 use Rattle.std.proofs.lemmas.Nat.Bits.{bit_at-zero}
 use Rattle.std.proofs.lemmas.List.Sums.{sum_by-cons, sum_by-append}
-use Rattle.flow_directions.specs.internal.Words.{picked, chosen}
-use Rattle.flow_directions.proofs.ChosenNames.{chosen-group, chosen-nothing}
+use Rattle.flow_nodes.specs.Marks.{picked, chosen}
+use Rattle.flow_nodes.proofs.ChosenNames.{chosen-group, chosen-nothing}
 
 picked-next : (word lane : ℕ) (names : List ℕ) → lane < length names →
     picked word lane (drop lane names)

@@ -10,7 +10,7 @@ use Rattle.flow_shop.proofs.EndSteps.{count-child}
 use Rattle.flow_nodes.specs.Nodes.{IsNode}
 use Rattle.flow_directions.specs.Search.{directions_of, first_below}
 use Rattle.flow_directions.specs.internal.Lists.{HasLists}
-use Rattle.flow_directions.specs.internal.Words.{chosen}
+use Rattle.flow_nodes.specs.Marks.{chosen}
 use Rattle.flow_directions.specs.internal.Packs.{HasLeft, IsBranch, jobs_at}
 use Rattle.flow_directions.specs.internal.Walk.{Ends, IsAt, KeepsPacks}
 use Rattle.flow_directions.specs.declared.branch.Branch.{Branch}
@@ -19,7 +19,7 @@ use Rattle.flow_directions.specs.declared.pack.Pack.{Pack}
 use Rattle.flow_directions.specs.declared.walk.SearchStop.{SearchStop}
 use Rattle.flow_directions.specs.declared.walk.SearchStop.TheVariants.{Below, Over, Memory}
 use Rattle.flow_directions.specs.declared.walk.Written.{Written}
-use Rattle.flow_directions.specs.declared.words.Words.{Words}
+use Rattle.flow_nodes.specs.declared.marks.Marks.{Marks}
 use Rattle.flow_directions.proofs.WalkSteps.{IsOpen, Stands, head-same, lists-count, whole-lists}
 use Rattle.flow_directions.proofs.WalkSteps.{stands-reached, stands-written, stands-longer}
 use Rattle.flow_shop.specs.Ends.{end_bound}
@@ -90,7 +90,7 @@ packs-keep shop one two three first second = record {
 
 -- the job of a marked place is put next: it stands first of those that are still to be put, and the marks of the rest
 pub record IsNext {V : Type 0} (shop : Shop) (number : ℕ) (here : Pack V) (end : End) (first last old new : List ℕ)
-    (lists : Lists) (marks rest : Words) (place job : ℕ) : Type 0 where
+    (lists : Lists) (marks rest : Marks) (place job : ℕ) : Type 0 where
   pub within : place < length here.names.items
   pub stands : Stands shop number end first last old new lists (jobs_at here marks)
   pub popped : jobs_at here marks ≡ slice_index here.names.items place ∷ jobs_at here rest
@@ -107,7 +107,7 @@ module _ {V : Type 0} {list : V → List ℕ} {cap width : ℕ} {shop : Shop} {n
   at-count = omega (arith, (at.is_branch none).is_node.count, at.count)
 
   -- where it is taken from the marks
-  pub next-here : {end : End} {old new : List ℕ} {lists : Lists} {marks rest : Words} {place job : ℕ}
+  pub next-here : {end : End} {old new : List ℕ} {lists : Lists} {marks rest : Marks} {place job : ℕ}
       (packs2 : List (Pack V)) (groups : ℕ) → KeepsPacks shop packs packs2 →
       groups ≡ length (slice_index_or packs 0 none).groups.items → place < groups * 16 →
       ((names : List ℕ) → length names ≡ groups * 16 →
@@ -128,7 +128,7 @@ module _ {V : Type 0} {list : V → List ℕ} {cap width : ℕ} {shop : Shop} {n
             ∙ index-same names place job 0 inside;
       }
 
-  module _ {end : End} {old new : List ℕ} {lists : Lists} {marks rest : Words} {place job : ℕ}
+  module _ {end : End} {old new : List ℕ} {lists : Lists} {marks rest : Marks} {place job : ℕ}
       (next : IsNext shop number (slice_index_or packs 0 none) end first last old new lists marks rest place job) where
     abbrev others : List ℕ
     others = jobs_at (slice_index_or packs 0 none) rest

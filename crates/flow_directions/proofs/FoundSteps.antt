@@ -15,7 +15,7 @@ use Rattle.flow_directions.specs.declared.found.Advanced.TheVariants as advanced
 use Rattle.flow_directions.specs.declared.found.Found.TheVariants.{Proved, Below, Over}
 use Rattle.flow_directions.specs.declared.found.ProveFault.{ProveFault}
 use Rattle.flow_directions.specs.declared.found.ProveFault.TheVariants.{Jobs, Memory}
-use Rattle.flow_directions.specs.internal.Words.{chosen}
+use Rattle.flow_nodes.specs.Marks.{chosen}
 use Rattle.flow_directions.specs.internal.Packs.{HasRoom, IsPack, IsBranch}
 use Rattle.flow_directions.specs.internal.Reached.{IsSequenceAfter}
 use Rattle.flow_directions.specs.internal.Start.{IsStart}
@@ -26,7 +26,7 @@ use Rattle.flow_directions.specs.declared.walk.SearchStop.{SearchStop}
 use Rattle.flow_directions.specs.declared.walk.SearchStop.TheVariants.{Below as StopBelow, Over as StopOver}
 use Rattle.flow_directions.specs.declared.walk.SearchStop.TheVariants.{Memory as StopMemory}
 use Rattle.flow_directions.specs.declared.walk.Written.{Written}
-use Rattle.flow_directions.specs.declared.words.Words.{Words}
+use Rattle.flow_nodes.specs.declared.marks.Marks.{Marks}
 use Rattle.flow_directions.proofs.VisitSteps.{visits-high, visits-whole}
 use Rattle.flow_directions.proofs.SearchProves.{directions_prove}
 use Rattle.flow_directions.proofs.SearchReaches.{reached_is_below}
@@ -93,7 +93,7 @@ no-jobs-fault (Err fault) is e =
 
 -- the search of a start, once the first pack has the jobs left
 module _ {V : Type 0} (list : V → List ℕ) (cap width : ℕ) (shop : Shop) (number : ℕ) (start : StartNode)
-    (packs new : List (Pack V)) (old pack : Pack V) (words : Words) (some : 1 ≤ length packs)
+    (packs new : List (Pack V)) (old pack : Pack V) (words : Marks) (some : 1 ≤ length packs)
     (fits : (none : Pack V) → start.left ≤ length (slice_index_or packs 0 none).names.items)
     (rooms : All (λ pack. HasRoom shop pack) packs) (old_is : old ≡ slice_index_or packs 0 old)
     (new_is : new ≡ set packs 0 pack) (is_pack : IsPack list cap width shop pack)

@@ -18,13 +18,13 @@ use Rattle.flow_shop.specs.declared.end.End.{End}
 use Rattle.flow_nodes.specs.Nodes.{IsJob, IsNode}
 use Rattle.flow_nodes.specs.Groups.{IsGroup, child_bound}
 use Rattle.flow_nodes.specs.declared.node.Node.{Node}
-use Rattle.flow_directions.specs.internal.Words.{mark, chosen}
+use Rattle.flow_nodes.specs.Marks.{mark, chosen}
 use Rattle.flow_directions.specs.internal.Packs.{IsBranch}
 use Rattle.flow_directions.specs.declared.branch.Branch.{Branch}
 use Rattle.flow_directions.specs.declared.pack.Pack.{Pack}
-use Rattle.flow_directions.proofs.MarkedNames.{kept, kept-yes, kept-no}
-use Rattle.flow_directions.proofs.ChosenNames.{chosen-kept}
-use Rattle.flow_directions.proofs.MarkSteps.{mark-there, mark-elsewhere}
+use Rattle.flow_nodes.proofs.MarkedNames.{kept, kept-yes, kept-no}
+use Rattle.flow_nodes.proofs.ChosenNames.{chosen-kept}
+use Rattle.flow_nodes.proofs.MarkSteps.{mark-there, mark-elsewhere}
 use Rattle.flow_nodes.proofs.ChildBounds.{child-bound-small}
 
 -- what holds of the names kept holds of the name of a marked place
@@ -96,104 +96,4 @@ group-of list cap width shop first last pack branch group names vector vectors i
           ∙ marked-left shop.jobs (first ++ last) branch.left.words pack.names.items is.left (group * 16 + lane)
           (omega (arith, low, within, is.is_pack.room.names))
           (lane-mark branch.left.words group lane low ∙ bit),
-    )
-
-bit-set : (n k : ℕ) → IsBitSet n k → bit_at n k ≡ 1
-bit-set n k is = sym (shr_and_one n k) ∙ (bit_set_by_shift n k).1 is
-
-set-bit : (n k : ℕ) → bit_at n k ≡ 1 → IsBitSet n k
-set-bit n k is = (bit_set_by_shift n k).0 (shr_and_one n k ∙ is)
-
--- a place is marked just where it was marked, and the child of the job there is below the number
-abbrev pub IsBelow : Shop → ℕ → End → List ℕ → List ℕ → List ℕ → List ℕ → List ℕ → ℕ → Type 0
-IsBelow shop number end first last names left below place =
-    (mark below place ≡ 1)
-    ↔ ((mark left place ≡ 1) × (nat_lt (child_bound shop end first last (slice_index names place)) number ≡ true))
-
--- the mark of a place of a word that is written
-pub set-mark : (left words : List ℕ) (group bits word place : ℕ) → group < length words →
-    word ≡ slice_index left group → place / 16 ≡ group →
-    mark (set words group (bit_and bits word)) place ≡ min (bit_at bits (place % 16)) (mark left place)
-set-mark left words group bits word place within word_is there =
-    mark-there words group (bit_and bits word) place within there
-    ∙ bit_at_and bits word (place % 16)
-    ∙ ap (λ w. min (bit_at bits (place % 16)) (bit_at w (place % 16))) word_is
-    ∙ ap (λ g. min (bit_at bits (place % 16)) (bit_at (slice_index left g) (place % 16))) (sym there)
-
--- once a word is written, marked places are still some of those that were marked
-pub within-set : (left words : List ℕ) (group bits word : ℕ) → group < length words → word ≡ slice_index left group →
-    ((place : ℕ) → mark words place ≡ 1 → mark left place ≡ 1) →
-    (place : ℕ) → mark (set words group (bit_and bits word)) place ≡ 1 → mark left place ≡ 1
-within-set left words group bits word within word_is before place marked = elim (cases_eq (place / 16) group) [
-  | inl there ↦
-      let one : mark left place < 2 = bit_at-lt (slice_index left (place / 16)) (place % 16) in
-      omega (arith, marked, one, set-mark left words group bits word place within word_is there)
-  | inr apart ↦ before place (sym (mark-elsewhere words group (bit_and bits word) place apart) ∙ marked)
-]
-
-module _ (shop : Shop) (number : ℕ) (end : End) (first last names left words : List ℕ) (group place : ℕ) where
-  -- a place of a word that is written
-  pub below-set : (bits word : ℕ) → group < length words → word ≡ slice_index left group → place / 16 ≡ group →
-      (mark left place ≡ 1 →
-      bit_at bits (place % 16) ≡ 1 ↔ (child_bound shop end first last (slice_index names place) < number)) →
-      IsBelow shop number end first last names left (set words group (bit_and bits word)) place
-  below-set bits word within word_is there tells =
-      let bound : ℕ = child_bound shop end first last (slice_index names place) in
-      let small : bit_at bits (place % 16) < 2 = bit_at-lt bits (place % 16) in
-      let one : mark left place < 2 = bit_at-lt (slice_index left (place / 16)) (place % 16) in
-      let is = set-mark left words group bits word place within word_is there in (
-        λ marked.
-            let old : mark left place ≡ 1 = omega (arith, is, marked, one, small) in
-            let bit : bit_at bits (place % 16) ≡ 1 = omega (arith, is, marked, one, small) in
-            (old, (Decides-ltb bound number).1 ((tells old).0 bit)),
-        λ both.
-            let bit : bit_at bits (place % 16) ≡ 1 = (tells both.0).1 ((Decides-ltb bound number).0 both.1) in
-            omega (arith, is, bit, both.0),
-      )
-
-  -- no place of a word is marked, before or now
-  pub below-none : (word : ℕ) → word ≡ 0 → word ≡ slice_index left group → place / 16 ≡ group →
-      mark words place ≡ 0 → IsBelow shop number end first last names left words place
-  below-none word none word_is there zero_is =
-      let out : mark left place ≡ 0 =
-      ap (λ g. bit_at (slice_index left g) (place % 16)) there
-      ∙ ap (λ w. bit_at w (place % 16)) (sym word_is ∙ none) ∙ bit_at-zero (place % 16) in (
-        λ marked. absurd (omega (arith, zero_is, marked)),
-        λ both. absurd (omega (arith, out, both.0)),
-      )
-
-  -- a place of another word
-  pub below-kept : (value : ℕ) → place / 16 ≢ group → IsBelow shop number end first last names left words place →
-      IsBelow shop number end first last names left (set words group value) place
-  below-kept value apart is =
-      let same = mark-elsewhere words group value place apart in
-      (λ marked. is.0 (sym same ∙ marked), λ both. same ∙ is.1 both)
-
--- what a group says of the job at one of its places
-pub group-tells : {V : Type 0} (list : V → List ℕ) (cap width : ℕ) (wide : width ≡ 16) (shop : Shop) (number limit : ℕ)
-    (end : End) (first last : List ℕ) (node : Node) (names : List ℕ) (group : ℕ) (vectors : List V) (bits place : ℕ) →
-    IsNode shop first last node →
-    IsGroup list cap width shop (take 16 (drop (group * 16) names)) vectors → limit ≡ min number 4294967295 →
-    ((jobs : List ℕ) (lane : ℕ) → IsGroup list cap width shop jobs vectors → lane < width →
-    has (first ++ last) (slice_index jobs lane) ≡ false →
-    IsBitSet bits lane ↔ (child_bound shop end first last (slice_index jobs lane) < limit)) →
-    place / 16 ≡ group → has (first ++ last) (slice_index names place) ≡ false →
-    bit_at bits (place % 16) ≡ 1 ↔ (child_bound shop end first last (slice_index names place) < number)
-group-tells list cap width wide shop number limit end first last node names group vectors bits place is is_group
-    limit_is tells there fresh =
-    let lane : ℕ = place % 16 in
-    let low : lane < 16 = omega arith in
-    let at : group * 16 + lane ≡ place = omega (arith, there) in
-    let named : slice_index (take 16 (drop (group * 16) names)) lane ≡ slice_index names place =
-    group-name names group lane low ∙ ap (slice_index names) at in
-    let says : IsBitSet bits lane ↔ (child_bound shop end first last (slice_index names place) < limit) =
-    subst (λ j. IsBitSet bits lane ↔ (child_bound shop end first last j < limit)) named
-    (tells (take 16 (drop (group * 16) names)) lane is_group (omega (arith, wide, low))
-    (ap (has (first ++ last)) named ∙ fresh)) in
-    let job : IsJob shop (slice_index names place) =
-    subst (IsJob shop) named (is_group.each lane (omega (arith, wide, low))) in
-    let small : child_bound shop end first last (slice_index names place) < 4294967295 =
-    child-bound-small shop end first last (slice_index names place) node is job fresh in (
-      λ one. omega (arith, limit_is, says.0 (set-bit bits lane one)),
-      λ under. bit-set bits lane (says.1 (omega (arith, limit_is, under, small))),
     )

@@ -1,6 +1,3 @@
-pub mod MarkedNames
-pub mod ChosenNames
-pub mod MarkSteps
 pub mod VisitSteps
 pub mod NodeLists
 pub mod SearchProves

@@ -3,13 +3,13 @@ use Rattle.std.proofs.Common.{◌≡◌, ℕ, zero, suc, ◌<◌, ◌≤◌, Lis
 use Rattle.std.proofs.Common.{slice_index_or, refl, ap, sym, ◌∙◌, subst, arith, length-append}
 use Rattle.std.proofs.lemmas.List.{get_or-set_same}
 use Rattle.flow_shop.specs.Shop.{Shop}
-use Rattle.flow_directions.specs.internal.Words.{chosen}
+use Rattle.flow_nodes.specs.Marks.{chosen}
 use Rattle.flow_directions.specs.internal.Packs.{HasRoom, IsBranch, IsPack, jobs_at}
 use Rattle.flow_directions.specs.internal.Walk.{IsAt}
 use Rattle.flow_directions.specs.declared.branch.Branch.{Branch}
 use Rattle.flow_directions.specs.declared.lists.Lists.{Lists}
 use Rattle.flow_directions.specs.declared.pack.Pack.{Pack}
-use Rattle.flow_directions.specs.declared.words.Words.{Words}
+use Rattle.flow_nodes.specs.declared.marks.Marks.{Marks}
 
 -- the first of some packs is written
 pub rooms-set : {V : Type 0} (shop : Shop) (packs : List (Pack V)) (new : Pack V) → HasRoom shop new →
@@ -51,7 +51,7 @@ module _ {V : Type 0} (list : V → List ℕ) (cap width : ℕ) (shop : Shop) (n
   jobs-count = ap length (at.is_branch none).left ∙ at.count
 
   -- the search stands there too
-  pub packed-at : (deeper : List (Pack V)) (new : Pack V) (marks : Words) → 1 ≤ length deeper →
+  pub packed-at : (deeper : List (Pack V)) (new : Pack V) (marks : Marks) → 1 ≤ length deeper →
       IsPack list cap width shop new → chosen marks.words new.names.items ≡ take left new.names.items →
       take (length (jobs_at (slice_index_or packs 0 none) branch.left)) new.names.items
       ≡ jobs_at (slice_index_or packs 0 none) branch.left →

@@ -8,7 +8,7 @@ use Rattle.flow_shop.specs.Directions.{first_with, last_with}
 use Rattle.flow_shop.specs.declared.end.End.{End}
 use Rattle.flow_nodes.specs.Nodes.{IsNode}
 use Rattle.flow_directions.specs.Search.{fewest_below, jobs_below, weight}
-use Rattle.flow_directions.specs.internal.Words.{mark}
+use Rattle.flow_nodes.specs.Marks.{mark}
 use Rattle.flow_directions.specs.internal.Packs.{HasLeft, IsBranch}
 use Rattle.flow_directions.specs.declared.branch.Branch.{Branch}
 use Rattle.flow_directions.specs.declared.pack.Pack.{Pack}

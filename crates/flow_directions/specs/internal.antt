@@ -1,5 +1,4 @@
 pub mod Left
-pub mod Words
 pub mod Lists
 pub mod Packs
 pub mod Walk

@@ -4,7 +4,7 @@ ghost use Rattle.std.specs.Prelude.{◌≡◌, ℕ, ◌*◌, ◌<◌, ◌≤◌,
 ghost use Rattle.flow_limits.specs.Limits.{most_machines};
 ghost use Rattle.flow_shop.specs.Shop.{Shop};
 ghost use Rattle.flow_directions.specs.Search.{end_taken, fewest_below, jobs_below, weight};
-ghost use Rattle.flow_directions.specs.internal.Words.{mark};
+ghost use Rattle.flow_nodes.specs.Marks.{mark};
 ghost use Rattle.flow_directions.specs.internal.Packs.{HasRoom, IsBranch, jobs_at};
 ghost use Rattle.flow_directions.specs.internal.Opened.{AreEnds};
 

@@ -4,25 +4,24 @@ ghost use Rattle.std.specs.Prelude.{◌≡◌, ℕ, ◌≤◌, List, min};
 ghost use Rattle.flow_limits.specs.Limits.{most_machines};
 ghost use Rattle.flow_shop.specs.Shop.{Shop};
 ghost use Rattle.flow_directions.specs.Search.{jobs_below};
-ghost use Rattle.flow_directions.specs.internal.Words.{mark};
+ghost use Rattle.flow_nodes.specs.Marks.{mark};
 ghost use Rattle.flow_directions.specs.internal.Packs.{HasRoom, IsBranch, jobs_at};
 
 use crate::branch::Branch;
 use crate::pack::Pack;
-use crate::words::Words;
-use flow_nodes::Lanes;
+use flow_nodes::{Lanes, Marks};
 use flow_shop::End;
 
 /// An end of a node, and marks of the jobs whose children there are below the number.
 #[derive(Clone, Copy)]
 pub(crate) struct Opened {
     pub(crate) end: End,
-    pub(crate) below: Words,
+    pub(crate) below: Marks,
 }
 
 /// Marks the jobs left whose children at an end are below a number.
 #[inline(always)]
-pub(crate) fn marks_below<V: Lanes>(pack: &Pack<V>, branch: &Branch, end: End, limit: u32) -> Words
+pub(crate) fn marks_below<V: Lanes>(pack: &Pack<V>, branch: &Branch, end: End, limit: u32) -> Marks
     requires wide { V.WIDTH ≡ 16 }
     requires limit { limit ≤ V.CAP }
     requires room { (shop : Shop) × HasRoom shop pack.now × (shop.machines ≤ most_machines) }
@@ -31,15 +30,10 @@ pub(crate) fn marks_below<V: Lanes>(pack: &Pack<V>, branch: &Branch, end: End, l
         IsBranch V.list V.CAP V.WIDTH shop first last pack.now branch.now →
         jobs_at pack.now result ≡ jobs_below shop number end first last }
 {
-    let mut below = Words::none();
-    for group in 0..pack.groups.len() {
-        let left = branch.left.words[group];
-        if left != 0 {
-            let bits = branch
-                .node
-                .children_below(end, pack.groups[group].as_slice(), limit);
-            below.words[group] = (bits & u64::from(left)) as u16;
-        }
-    }
+    let mut below = Marks::none();
+    let groups = pack.groups.as_slice();
+    branch
+        .node
+        .mark_below(end, groups, &branch.left, limit, &mut below);
     below
 }

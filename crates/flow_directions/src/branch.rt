@@ -5,11 +5,10 @@ ghost use Rattle.flow_limits.specs.Limits.{most_jobs};
 ghost use Rattle.flow_shop.specs.Sequences.{has};
 ghost use Rattle.flow_shop.specs.Directions.{first_with, last_with};
 ghost use Rattle.flow_nodes.specs.Nodes.{IsJob, IsNode};
-ghost use Rattle.flow_directions.specs.internal.Words.{mark};
+ghost use Rattle.flow_nodes.specs.Marks.{mark};
 ghost use Rattle.flow_directions.specs.internal.Packs.{HasLeft};
 
-use crate::words::Words;
-use flow_nodes::Node;
+use flow_nodes::{Marks, Node};
 use flow_shop::{End, Instance};
 
 /// What is kept of a node.
@@ -18,7 +17,7 @@ pub(crate) struct Branch {
     /// Its front, its back, and the time of the jobs left.
     pub(crate) node: Node,
     /// The jobs left: marks of their places in a pack.
-    pub(crate) left: Words,
+    pub(crate) left: Marks,
 }
 
 impl Branch {

@@ -16,8 +16,7 @@ use crate::found::{Advanced, Found, ProveFault};
 use crate::pack::Pack;
 use crate::start::StartNode;
 use crate::walk::{Aim, SearchStop, Written, search};
-use crate::words::{LANES, Words};
-use flow_nodes::Lanes;
+use flow_nodes::{LANES, Lanes, Marks};
 use flow_shop::{Instance, Sequence, makespan};
 use std::alloc::{AllocError, Global};
 use std::simd::prelude::*;
@@ -96,7 +95,7 @@ fn run<V: Lanes>(
     start.pack(instance, &mut packs[0]);
     let branch = Branch {
         node: start.node,
-        left: Words::first(start.left),
+        left: Marks::first(start.left),
     };
     let aim = Aim {
         number,

@@ -13,7 +13,6 @@ mod pack;
 mod prover;
 mod start;
 mod walk;
-mod words;
 
 pub use directions::{advance, prove};
 pub use found::{Advanced, Found, Part, ProveFault};

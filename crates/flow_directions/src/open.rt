@@ -6,15 +6,14 @@ ghost use Rattle.flow_nodes.specs.Nodes.{IsJob, IsNode};
 ghost use Rattle.flow_nodes.specs.Groups.{IsGroup, child_bound};
 ghost use Rattle.flow_shop.specs.Sequences.{has};
 ghost use Rattle.flow_directions.specs.Search.{bound_sum, end_taken, jobs_below};
-ghost use Rattle.flow_directions.specs.internal.Words.{mark, picked};
+ghost use Rattle.flow_nodes.specs.Marks.{mark, picked};
 ghost use Rattle.flow_directions.specs.internal.Packs.{IsBranch, jobs_at};
 
 use crate::ahead::look_ahead;
 use crate::below::{Opened, marks_below};
 use crate::branch::Branch;
 use crate::pack::Pack;
-use crate::words::LANES;
-use flow_nodes::{Lanes, Node};
+use flow_nodes::{LANES, Lanes, Node};
 use flow_shop::{End, Instance};
 
 /// The bound of the child that puts a job left at an end.

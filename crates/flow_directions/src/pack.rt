@@ -3,8 +3,7 @@
 ghost use Rattle.std.specs.Prelude.{◌≡◌, ◌≤◌, ◌*◌, length, take, IfOk};
 ghost use Rattle.flow_directions.specs.internal.Packs.{HasRoom, IsPack, jobs_at};
 
-use crate::words::{LANES, Words};
-use flow_nodes::{Lanes, write_group};
+use flow_nodes::{LANES, Lanes, Marks, write_group};
 use flow_shop::Instance;
 use std::alloc::{AllocError, Global};
 
@@ -38,7 +37,7 @@ impl<V: Lanes> Pack<V> {
     }
 
     /// The jobs at marked places, in order.
-    pub(crate) fn jobs(&self, alloc: Global, marks: &Words) -> Result<Vec<u16>, AllocError>
+    pub(crate) fn jobs(&self, alloc: Global, marks: &Marks) -> Result<Vec<u16>, AllocError>
         requires few { length self.now.groups.items ≤ 50 }
         requires names { length self.now.names.items ≡ length self.now.groups.items * 16 }
         ensures { IfOk result (λ jobs. jobs.items ≡ jobs_at self.now marks.now) }
@@ -67,7 +66,7 @@ impl<V: Lanes> Pack<V> {
     }
 
     /// Fills the pack with the jobs that another one has at marked places, in order.
-    pub(crate) fn fill(&mut self, instance: &Instance, from: &Pack<V>, marks: &Words)
+    pub(crate) fn fill(&mut self, instance: &Instance, from: &Pack<V>, marks: &Marks)
         requires wide { V.WIDTH ≡ 16 }
         requires room { HasRoom instance.now self.old }
         requires from { HasRoom instance.now from.now }

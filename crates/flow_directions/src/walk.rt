@@ -13,8 +13,7 @@ use crate::found::Part;
 use crate::lists::Lists;
 use crate::open::open;
 use crate::pack::Pack;
-use crate::words::Words;
-use flow_nodes::Lanes;
+use flow_nodes::{Lanes, Marks};
 use flow_shop::{End, Instance};
 use std::alloc::{AllocError, Global};
 
@@ -139,7 +138,7 @@ pub(crate) fn search<V: Lanes>(
         deeper[0].fill(instance, &here[0], &branch.left);
         let packed = Branch {
             node: branch.node,
-            left: Words::first(left),
+            left: Marks::first(left),
         };
         return search(instance, aim, written, deeper, &packed, left);
     }

@@ -4,3 +4,7 @@ pub mod KeptNodes
 pub mod ChildSteps
 pub mod GroupSteps
 pub mod ChildBounds
+pub mod MarkedNames
+pub mod ChosenNames
+pub mod MarkSteps
+pub mod BelowSteps

@@ -26,6 +26,7 @@ AreNames shop group names =
 -- the groups of all jobs, sixteen to a group
 pub record AreGroups {V : Type 0} (list : V → List ℕ) (cap width : ℕ) (shop : Shop) (groups : List (Vec V)) :
     Type 0 where
+  pub wide : width ≡ 16
   pub limits : IsWithinLimits shop
   pub count : length groups ≡ (shop.jobs + 15) / 16
   pub each : (group : ℕ) (none : Vec V) → group < length groups → (names : List ℕ) × AreNames shop group names

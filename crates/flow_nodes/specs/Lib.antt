@@ -1,4 +1,5 @@
 pub mod Lanes
 pub mod Nodes
 pub mod Groups
+pub mod Marks
 pub mod internal

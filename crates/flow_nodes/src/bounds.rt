@@ -1,6 +1,8 @@
 //! The bounds of the children that put the jobs of a group at an end, side by side.
 
-ghost use Rattle.std.specs.Prelude.{◌≡◌, ℕ, ◌<◌, ◌≤◌, ◌↔◌, false, List, ◌++◌, length, slice_index, IsBitSet};
+ghost use Rattle.std.specs.Prelude.{◌≡◌, ℕ, ◌/◌, ◌%◌, ◌<◌, ◌≤◌, ◌↔◌, false, List, ◌++◌, length, slice_index};
+ghost use Rattle.std.specs.Prelude.{slice_index_or, min, IsBitSet};
+ghost use Rattle.std.specs.Global.{Vec};
 ghost use Rattle.flow_limits.specs.Limits.{most_machines};
 ghost use Rattle.flow_shop.specs.Shop.{Shop};
 ghost use Rattle.flow_shop.specs.Sequences.{has};
@@ -9,9 +11,11 @@ ghost use Rattle.flow_shop.specs.declared.end.End.TheVariants.{Front, Back};
 ghost use Rattle.flow_nodes.specs.Lanes.{HasLane};
 ghost use Rattle.flow_nodes.specs.Nodes.{IsNode};
 ghost use Rattle.flow_nodes.specs.Groups.{IsGroup, child_bound};
+ghost use Rattle.flow_nodes.specs.Marks.{mark};
 ghost use Rattle.flow_nodes.specs.internal.Children.{greatest_at};
 
 use crate::lanes::Lanes;
+use crate::marks::Marks;
 use crate::node::Node;
 use flow_shop::End;
 
@@ -76,7 +80,7 @@ impl Node {
     /// The children below a number, of those that put the jobs of a group at an end: a bit for each lane, and no other
     /// bits. The bit of a lane whose job is not left may be set or not.
     #[inline(always)]
-    pub fn children_below<V: Lanes>(&self, end: End, group: &[V], number: u32) -> u64
+    pub(crate) fn children_below<V: Lanes>(&self, end: End, group: &[V], number: u32) -> u64
         requires machines { length group.now ≤ most_machines }
         requires number { number ≤ V.CAP }
         ensures each { (shop : Shop) (first last jobs : List ℕ) (lane : ℕ) → IsNode shop first last self.now →
@@ -86,5 +90,43 @@ impl Node {
         ensures none { (lane : ℕ) → V.WIDTH ≤ lane → ¬ IsBitSet result lane }
     {
         self.child_bounds(end, group).below(number)
+    }
+
+    /// Marks the places of groups whose jobs make children below a number at an end, of the places that are marked as
+    /// left. The places behind those of the groups keep their marks.
+    #[inline(always)]
+    pub fn mark_below<V: Lanes>(
+        &self,
+        end: End,
+        groups: &[Vec<V>],
+        left: &Marks,
+        limit: u32,
+        below: &mut Marks,
+    )
+        requires wide { V.WIDTH ≡ 16 }
+        requires limit { limit ≤ V.CAP }
+        requires few { length groups.now ≤ 50 }
+        requires machines { (group : ℕ) (none : Vec V) → group < length groups.now →
+            length (slice_index_or groups.now group none).items ≤ most_machines }
+        ensures rest { (place : ℕ) → length groups.now ≤ place / 16 →
+            mark below.new.words place ≡ mark below.old.words place }
+        ensures within { (place : ℕ) → place / 16 < length groups.now → mark below.new.words place ≡ 1 →
+            mark left.now.words place ≡ 1 }
+        ensures exact { (shop : Shop) (number : ℕ) (first last jobs : List ℕ) (place : ℕ) (none : Vec V) →
+            limit ≡ min number 4294967295 → IsNode shop first last self.now → place / 16 < length groups.now →
+            IsGroup V.list V.CAP V.WIDTH shop jobs (slice_index_or groups.now (place / 16) none).items →
+            mark left.now.words place ≡ 1 → has (first ++ last) (slice_index jobs (place % 16)) ≡ false →
+            mark below.new.words place ≡ 1
+            ↔ (child_bound shop end first last (slice_index jobs (place % 16)) < number) }
+    {
+        for group in 0..groups.len() {
+            let word = left.words[group];
+            if word != 0 {
+                let bits = self.children_below(end, groups[group].as_slice(), limit);
+                below.words[group] = (bits & u64::from(word)) as u16;
+            } else {
+                below.words[group] = 0;
+            }
+        }
     }
 }

@@ -5,10 +5,12 @@
 mod bounds;
 mod group;
 mod lanes;
+mod marks;
 mod node;
 #[cfg(test)]
 mod tests;
 
 pub use group::{LANES, groups, write_group};
 pub use lanes::Lanes;
-pub use node::Node;
+pub use marks::Marks;
+pub use node::{Node, time_of_all};

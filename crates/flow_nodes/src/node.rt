@@ -55,8 +55,8 @@ fn least_until(instance: &Instance, from: u16, until: u16) -> u32
     least
 }
 
-/// The time of all jobs on a machine.
-fn time_of_all(instance: &Instance, machine: u16) -> u32
+/// The time of all jobs on a machine, which is one of the instance's.
+pub fn time_of_all(instance: &Instance, machine: u16) -> u32
     requires { IsMachine instance.now machine }
     ensures value { result ≡ work instance.now [] machine }
 {

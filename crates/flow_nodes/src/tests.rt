@@ -3,7 +3,7 @@
 ghost use Rattle.std.specs.Prelude.{◌≡◌, ℕ, ◌+◌, ◌<◌, ◌≤◌, length, slice_index};
 ghost use Rattle.flow_nodes.specs.Nodes.{IsJob};
 
-use crate::{LANES, Lanes, Node, groups, write_group};
+use crate::{LANES, Lanes, Marks, Node, groups, time_of_all, write_group};
 use flow_shop::{End, Instance};
 use std::simd::prelude::*;
 use std::test::Fail;
@@ -188,4 +188,34 @@ fn groups_of_seventeen_jobs(rt: HostRuntime) -> Result<(), Fail> {
         assert_eq!(rt; groups[1][1].at(lane), 117);
     }
     Ok(())
+}
+
+/// The children of three jobs at the front have the bounds 14, 13 and 10: below 14 are the last two.
+#[test]
+fn marks_of_three_children(rt: HostRuntime) -> Result<(), Fail> {
+    let instance = Instance::new(rt.alloc(), 3, 3, &[4, 0, 0, 0, 8, 2, 4, 0, 1])?;
+    assert_eq!(rt; time_of_all(&instance, 2), 10);
+    let groups = groups::<u16x16>(rt.alloc(), &instance)?;
+    let left = Marks::first(3);
+    let mut below = Marks::none();
+    Node::root(&instance).mark_below(End::Front, groups.as_slice(), &left, 14, &mut below);
+    assert_eq!(rt; below.count(1), 2);
+    assert_eq!(rt; below.next(0, 3), Some(1));
+    Ok(())
+}
+
+/// Marks of all places.
+#[test]
+fn marks_of_all_places(rt: HostRuntime) {
+    let mut marks = Marks::first(800);
+    assert_eq!(rt; marks.count(50), 800);
+    marks.clear(0);
+    marks.clear(799);
+    assert_eq!(rt; marks.next(0, 800), Some(1));
+    assert_eq!(rt; marks.next(799, 800), None);
+    marks.set(799);
+    assert_eq!(rt; marks.next(799, 800), Some(799));
+    assert_eq!(rt; marks.pop(50), Some(1));
+    assert_eq!(rt; marks.count(50), 798);
+    assert_eq!(rt; Marks::none().pop(50), None);
 }

@@ -7,21 +7,21 @@ use Rattle.flow_shop.specs.declared.end.End.{End}
 use Rattle.flow_shop.specs.declared.end.End.TheVariants.{Front}
 use Rattle.flow_nodes.specs.Nodes.{IsNode}
 use Rattle.flow_nodes.specs.Groups.{child_bound}
-use Rattle.flow_check.specs.internal.Marks.{mark}
-use Rattle.flow_check.specs.declared.two_ended.marks.Marks.{Marks}
+use Rattle.flow_check.specs.internal.Marks.{job_mark}
+use Rattle.flow_nodes.specs.declared.marks.Marks.{Marks}
 use Rattle.flow_check.specs.declared.two_ended.walk.Frame.{Frame}
 use Rattle.flow_check.specs.declared.two_ended.walk.Path.{Path}
 
 -- the jobs in neither list of a node are marked, and no others
 pub record AreLeft (shop : Shop) (first last : List ℕ) (marks : Marks) : Type 0 where
-  pub all : (job : ℕ) → 1 ≤ job → job ≤ shop.jobs → has (first ++ last) job ≡ false → mark marks job ≡ 1
-  pub only : (job : ℕ) → 1 ≤ job → mark marks job ≡ 1 → (job ≤ shop.jobs) × (has (first ++ last) job ≡ false)
+  pub all : (job : ℕ) → 1 ≤ job → job ≤ shop.jobs → has (first ++ last) job ≡ false → job_mark marks job ≡ 1
+  pub only : (job : ℕ) → 1 ≤ job → job_mark marks job ≡ 1 → (job ≤ shop.jobs) × (has (first ++ last) job ≡ false)
 
 -- the jobs left whose children at an end are below a number are marked, and no others of the words of the instance
 pub record AreOpen (shop : Shop) (number : ℕ) (end : End) (first last : List ℕ) (marks : Marks) : Type 0 where
   pub all : (job : ℕ) → 1 ≤ job → job ≤ shop.jobs → has (first ++ last) job ≡ false →
-      child_bound shop end first last job < number → mark marks job ≡ 1
-  pub only : (job : ℕ) → 1 ≤ job → (job - 1) / 16 < (shop.jobs + 15) / 16 → mark marks job ≡ 1 →
+      child_bound shop end first last job < number → job_mark marks job ≡ 1
+  pub only : (job : ℕ) → 1 ≤ job → (job - 1) / 16 < (shop.jobs + 15) / 16 → job_mark marks job ≡ 1 →
       (job ≤ shop.jobs) × (has (first ++ last) job ≡ false) × (child_bound shop end first last job < number)
 
 -- the frame of a node

@@ -9,7 +9,7 @@ ghost use Rattle.flow_shop.specs.Directions.{Proves, first_with, last_with};
 ghost use Rattle.flow_nodes.specs.Nodes.{IsJob, IsNode};
 ghost use Rattle.flow_nodes.specs.Groups.{AreGroups};
 ghost use Rattle.flow_check.specs.TwoEndedFaults.{HasDirectionsFault};
-ghost use Rattle.flow_check.specs.internal.Marks.{mark};
+ghost use Rattle.flow_check.specs.internal.Marks.{job_mark};
 ghost use Rattle.flow_check.specs.internal.Frames.{AreLeft, AreOpen, IsFrame};
 ghost use Rattle.flow_check.specs.internal.Frames.{frame_at, here, above, with_job};
 ghost use Rattle.flow_check.specs.internal.ReadDirections.{EndsAt, first_end, read_node};
@@ -17,8 +17,7 @@ ghost use Rattle.flow_check.specs.declared.fault.CheckFault.TheVariants.{Memory}
 
 use crate::fault::CheckFault;
 use crate::two_ended::DIRECTIONS;
-use crate::two_ended::marks::Marks;
-use flow_nodes::{Lanes, Node, groups};
+use flow_nodes::{Lanes, Marks, Node, groups};
 use flow_shop::{End, Instance};
 use std::alloc::{AllocError, Global};
 use std::simd::prelude::*;
@@ -79,7 +78,6 @@ fn open_children<V: Lanes>(
     number: u64,
     below: &mut Marks,
 )
-    requires wide { V.WIDTH ≡ 16 }
     requires number { min number 4294967295 ≤ V.CAP }
     requires at { (shop : Shop) × AreGroups V.list V.CAP V.WIDTH shop groups.now }
     ensures { (shop : Shop) (first last : List ℕ) → AreGroups V.list V.CAP V.WIDTH shop groups.now →
@@ -87,15 +85,7 @@ fn open_children<V: Lanes>(
         AreOpen shop number end first last below.new }
 {
     let limit = number.min(ABOVE_BOUNDS) as u32;
-    for group in 0..groups.len() {
-        let word = left.words[group];
-        if word != 0 {
-            let bits = node.children_below(end, groups[group].as_slice(), limit);
-            below.words[group] = (bits & u64::from(word)) as u16;
-        } else {
-            below.words[group] = 0;
-        }
-    }
+    node.mark_below(end, groups, left, limit, below);
 }
 
 /// A frame for each job, all with the same node.
@@ -122,8 +112,8 @@ impl Path {
         ensures size { IfOk result (λ path. length path.frames.items ≡ jobs) }
         ensures depth { IfOk result (λ path. path.depth ≡ 0) }
         ensures node { IfOk result (λ path. 0 < jobs → (here path).node ≡ node) }
-        ensures marked { IfOk result (λ path. (job : ℕ) → 1 ≤ job → job ≤ jobs → mark path.left job ≡ 1) }
-        ensures others { IfOk result (λ path. (job : ℕ) → jobs < job → mark path.left job ≡ 0) }
+        ensures marked { IfOk result (λ path. (job : ℕ) → 1 ≤ job → job ≤ jobs → job_mark path.left job ≡ 1) }
+        ensures others { IfOk result (λ path. (job : ℕ) → jobs < job → job_mark path.left job ≡ 0) }
     {
         Ok(Path {
             frames: all_frames(alloc, jobs, node)?,
@@ -135,7 +125,6 @@ impl Path {
     /// Begins with the children of the node at an end, of those below a number.
     #[inline(always)]
     fn open<V: Lanes>(&mut self, groups: &[Vec<V>], end: End, number: u64)
-        requires wide { V.WIDTH ≡ 16 }
         requires number { min number 4294967295 ≤ V.CAP }
         requires at { (shop : Shop) × AreGroups V.list V.CAP V.WIDTH shop groups.now }
         requires within { self.old.depth < length self.old.frames.items }
@@ -169,14 +158,15 @@ impl Path {
         requires within { self.now.depth < length self.now.frames.items }
         ensures above { IfSome result (λ next. (here self.now).job < next) }
         ensures within { IfSome result (λ next. (next - 1) / 16 < (jobs + 15) / 16) }
-        ensures marked { IfSome result (λ next. mark (here self.now).below next ≡ 1) }
+        ensures marked { IfSome result (λ next. job_mark (here self.now).below next ≡ 1) }
         ensures least { IfSome result (λ next. (other : ℕ) → (here self.now).job < other → other < next →
-            mark (here self.now).below other ≡ 0) }
+            job_mark (here self.now).below other ≡ 0) }
         ensures none { IfNone result ((other : ℕ) → (here self.now).job < other → other ≤ jobs →
-            mark (here self.now).below other ≡ 0) }
+            job_mark (here self.now).below other ≡ 0) }
     {
         let frame = &self.frames[self.depth];
-        frame.below.next(frame.job, jobs)
+        let place = frame.below.next(frame.job as usize, jobs as usize)?;
+        Some(place as u16 + 1)
     }
 
     /// Goes to the child of the node that a job makes, at the end of the node.
@@ -194,15 +184,16 @@ impl Path {
             has (first ++ last) job ≡ false →
             IsNode instance.now (first_with (here self.old).end first job) (last_with (here self.old).end last job)
             (here self.new).node }
-        ensures others { (other : ℕ) → 1 ≤ other → other ≢ job → mark self.new.left other ≡ mark self.old.left other }
-        ensures same { mark self.new.left job ≡ 0 }
+        ensures others { (other : ℕ) → 1 ≤ other → other ≢ job →
+            job_mark self.new.left other ≡ job_mark self.old.left other }
+        ensures same { job_mark self.new.left job ≡ 0 }
     {
         let depth = self.depth;
         let end = self.frames[depth].end;
         self.frames[depth].job = job;
         self.frames[depth + 1].node = self.frames[depth].node;
         self.frames[depth + 1].node.put(instance, end, job);
-        self.left.clear(job);
+        self.left.clear(job as usize - 1);
         self.depth = depth + 1;
     }
 
@@ -216,11 +207,11 @@ impl Path {
         ensures depth { self.new.depth ≡ self.old.depth - 1 }
         ensures frames { self.new.frames.items ≡ self.old.frames.items }
         ensures others { (other : ℕ) → 1 ≤ other → other ≢ (here self.new).job →
-            mark self.new.left other ≡ mark self.old.left other }
-        ensures same { mark self.new.left (here self.new).job ≡ 1 }
+            job_mark self.new.left other ≡ job_mark self.old.left other }
+        ensures same { job_mark self.new.left (here self.new).job ≡ 1 }
     {
         self.depth -= 1;
-        self.left.set(self.frames[self.depth].job);
+        self.left.set(self.frames[self.depth].job as usize - 1);
     }
 }
 

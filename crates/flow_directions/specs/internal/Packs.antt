@@ -5,8 +5,8 @@ use Rattle.flow_shop.specs.Shop.{Shop}
 use Rattle.flow_shop.specs.Sequences.{jobs_left}
 use Rattle.flow_nodes.specs.Nodes.{IsJob, IsNode}
 use Rattle.flow_nodes.specs.Groups.{IsGroup}
-use Rattle.flow_directions.specs.internal.Words.{chosen}
-use Rattle.flow_directions.specs.declared.words.Words.{Words}
+use Rattle.flow_nodes.specs.Marks.{chosen}
+use Rattle.flow_nodes.specs.declared.marks.Marks.{Marks}
 use Rattle.flow_directions.specs.declared.pack.Pack.{Pack}
 use Rattle.flow_directions.specs.declared.branch.Branch.{Branch}
 
@@ -26,11 +26,11 @@ pub record IsPack {V : Type 0} (list : V → List ℕ) (cap width : ℕ) (shop :
       (slice_index_or pack.groups.items group none).items
 
 -- the jobs that a pack has at marked places, in order
-abbrev pub jobs_at : {V : Type 0} → Pack V → Words → List ℕ
+abbrev pub jobs_at : {V : Type 0} → Pack V → Marks → List ℕ
 jobs_at pack marks = chosen marks.words pack.names.items
 
 -- the jobs left at a node are those of some names that are marked
-abbrev pub HasLeft : Shop → List ℕ → List ℕ → List ℕ → Words → Type 0
+abbrev pub HasLeft : Shop → List ℕ → List ℕ → List ℕ → Marks → Type 0
 HasLeft shop first last names marks = chosen marks.words names ≡ jobs_left shop.jobs (first ++ last)
 
 -- what is kept of a node, whose jobs left are those that a pack has at the marked places

@@ -1,5 +1,5 @@
 use Rattle.std.proofs.Common.{◌≡◌, ◌*◌, length, arith}
-use Rattle.flow_directions.proofs.ChosenNames.{chosen-short}
+use Rattle.flow_nodes.proofs.ChosenNames.{chosen-short}
 use Rattle.flow_directions.proofs.ahead.fewest.Goals as goal
 
 pub returns-clause-small : goal.returns-clause-small

@@ -2,7 +2,7 @@ use Rattle.std.proofs.Common.{◌≡◌, ◌*◌, ◌<◌, ◌∷◌, length, sl
 use Rattle.std.proofs.lemmas.List.{get_or_read}
 use Rattle.flow_shop.specs.Directions.{first_with, last_with}
 use Rattle.flow_directions.specs.internal.Packs.{jobs_at}
-use Rattle.flow_directions.proofs.ChosenNames.{chosen-short}
+use Rattle.flow_nodes.proofs.ChosenNames.{chosen-short}
 use Rattle.flow_directions.proofs.WeightSteps.{fewest_at, weight-is, weight-more, job-fresh, child-branch}
 use Rattle.flow_directions.proofs.ahead.weigh.Goals as goal
 

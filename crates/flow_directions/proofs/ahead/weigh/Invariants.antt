@@ -1,6 +1,6 @@
 use Rattle.std.proofs.Common.{◌≡◌, ℕ, ◌+◌, ◌*◌, ◌≤◌, List, min, sum_by, length}
 use Rattle.flow_directions.specs.Search.{jobs_below, weight}
-use Rattle.flow_directions.specs.internal.Words.{mark}
+use Rattle.flow_nodes.specs.Marks.{mark}
 use Rattle.flow_directions.specs.internal.Packs.{IsBranch, jobs_at}
 use Rattle.flow_directions.proofs.WeightSteps.{fewest_at}
 use Rattle.flow_directions.proofs.ahead.weigh.Given as goal

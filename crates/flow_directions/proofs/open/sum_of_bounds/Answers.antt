@@ -2,7 +2,7 @@ use Rattle.std.proofs.Common.{◌≡◌, ℕ, ◌+◌, ◌-◌, ◌*◌, ◌<◌
 use Rattle.std.proofs.Common.{ap, ◌∙◌, arith, rules}
 use Rattle.std.proofs.lemmas.List.{drop_all}
 use Rattle.flow_nodes.specs.Groups.{child_bound}
-use Rattle.flow_directions.specs.internal.Words.{picked, chosen}
+use Rattle.flow_nodes.specs.Marks.{picked, chosen}
 use Rattle.flow_directions.proofs.BoundSums.{zero-picked, none-chosen, group-sum}
 use Rattle.flow_directions.proofs.JobsMarked.{group-of}
 use Rattle.flow_directions.proofs.open.sum_of_bounds.Goals as goal

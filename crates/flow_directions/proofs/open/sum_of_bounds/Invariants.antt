@@ -1,6 +1,6 @@
 use Rattle.std.proofs.Common.{◌≡◌, ℕ, ◌+◌, ◌*◌, ◌≤◌, List, sum_by, drop}
 use Rattle.flow_nodes.specs.Groups.{child_bound}
-use Rattle.flow_directions.specs.internal.Words.{chosen}
+use Rattle.flow_nodes.specs.Marks.{chosen}
 use Rattle.flow_directions.specs.internal.Packs.{IsBranch}
 use Rattle.flow_directions.proofs.open.sum_of_bounds.Given as goal
 

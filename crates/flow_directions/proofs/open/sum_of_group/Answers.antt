@@ -4,7 +4,7 @@ use Rattle.std.specs.Int.{bit_at}
 use Rattle.std.proofs.lemmas.List.{drop_all}
 use Rattle.std.proofs.lemmas.Nat.Bits.{shr_and_one}
 use Rattle.flow_nodes.specs.Groups.{child_bound}
-use Rattle.flow_directions.specs.internal.Words.{picked}
+use Rattle.flow_nodes.specs.Marks.{picked}
 use Rattle.flow_directions.proofs.BoundSums.{lane-picked, lane-passed, none-picked}
 use Rattle.flow_nodes.proofs.ChildBounds.{child-bound-small}
 use Rattle.flow_directions.proofs.open.sum_of_group.Goals as goal

@@ -3,7 +3,7 @@ use Rattle.std.specs.Int.{bit_at}
 use Rattle.flow_shop.specs.Sequences.{has}
 use Rattle.flow_nodes.specs.Nodes.{IsNode}
 use Rattle.flow_nodes.specs.Groups.{IsGroup, child_bound}
-use Rattle.flow_directions.specs.internal.Words.{picked}
+use Rattle.flow_nodes.specs.Marks.{picked}
 use Rattle.flow_directions.proofs.open.sum_of_group.Given as goal
 
 -- what is left to add makes the whole sum

@@ -1,5 +1,5 @@
 use Rattle.std.proofs.Common.{◌≡◌, ℕ, ◌+◌, ◌*◌, ◌≤◌, List, [], length, replicate, slice_index_or}
-use Rattle.flow_directions.specs.internal.Words.{chosen, mark}
+use Rattle.flow_nodes.specs.Marks.{chosen, mark}
 use Rattle.flow_directions.specs.internal.Packs.{jobs_at}
 use Rattle.flow_directions.specs.internal.Walk.{IsAt, KeepsPacks}
 use Rattle.flow_directions.specs.declared.pack.Pack.{Pack}

@@ -1,7 +1,7 @@
 use Rattle.std.proofs.Common.{◌≡◌, suc, ◌*◌, ◌<◌, ◌∷◌, length, slice_index, refl, ap, sym, ◌∙◌, subst, arith}
 use Rattle.std.proofs.lemmas.List.{length-set, get_or_read}
 use Rattle.flow_nodes.specs.Nodes.{IsJob}
-use Rattle.flow_directions.specs.internal.Words.{chosen}
+use Rattle.flow_nodes.specs.Marks.{chosen}
 use Rattle.flow_directions.specs.internal.Packs.{jobs_at}
 use Rattle.flow_directions.proofs.PackSteps.{room-named, put-more}
 use Rattle.flow_directions.proofs.pack.Pack.fill.Goals as goal

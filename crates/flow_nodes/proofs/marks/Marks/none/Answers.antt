@@ -1,0 +1,5 @@
+use Rattle.flow_nodes.proofs.MarkSteps.{mark-none}
+use Rattle.flow_nodes.proofs.marks.Marks.none.Goals as goal
+
+pub returns-clause-each : goal.returns-clause-each
+returns-clause-each c place = mark-none 50 place

@@ -1,0 +1,135 @@
+//! Marks of places, sixteen to a word, as the lanes of a group have their jobs.
+
+ghost use Rattle.std.specs.Prelude.{◌≡◌, ◌≢◌, ℕ, ◌+◌, ◌*◌, ◌/◌, ◌<◌, ◌≤◌, List, ◌∷◌, ◌++◌, length, slice_index, take};
+ghost use Rattle.std.specs.Prelude.{[], IfSome, IfNone};
+ghost use Rattle.flow_limits.specs.Limits.{most_jobs};
+ghost use Rattle.flow_nodes.specs.Marks.{chosen, mark};
+
+use crate::group::LANES;
+
+/// How many words have marks of the most jobs.
+const WORDS: usize = 50;
+
+/// A mark of each of the first places, or none: as many places as the most jobs. Those of the first sixteen are in the
+/// first word, the lowest bit first.
+#[derive(Clone, Copy)]
+pub struct Marks {
+    /// The words.
+    pub words: [u16; WORDS],
+}
+
+impl Marks {
+    /// No place is marked.
+    pub fn none() -> Marks
+        ensures size { length result.words ≡ 50 }
+        ensures each { (place : ℕ) → mark result.words place ≡ 0 }
+    {
+        Marks { words: [0; WORDS] }
+    }
+
+    /// The first places are marked, so many of them.
+    pub fn first(count: u16) -> Marks
+        requires { count ≤ most_jobs }
+        ensures size { length result.words ≡ 50 }
+        ensures marked { (place : ℕ) → place < count → mark result.words place ≡ 1 }
+        ensures others { (place : ℕ) → count ≤ place → mark result.words place ≡ 0 }
+        ensures begin { (names : List ℕ) → count ≤ length names → chosen result.words names ≡ take count names }
+    {
+        let mut marks = Marks::none();
+        for place in 0..count as usize {
+            marks.set(place);
+        }
+        marks
+    }
+
+    /// Marks a place.
+    #[inline(always)]
+    pub fn set(&mut self, place: usize)
+        requires { place < most_jobs }
+        ensures size { length self.new.words ≡ 50 }
+        ensures same { mark self.new.words place ≡ 1 }
+        ensures others { (other : ℕ) → other ≢ place → mark self.new.words other ≡ mark self.old.words other }
+    {
+        self.words[place / LANES] |= 1 << (place % LANES);
+    }
+
+    /// Takes away the mark of a place.
+    #[inline(always)]
+    pub fn clear(&mut self, place: usize)
+        requires { place < most_jobs }
+        ensures size { length self.new.words ≡ 50 }
+        ensures same { mark self.new.words place ≡ 0 }
+        ensures others { (other : ℕ) → other ≢ place → mark self.new.words other ≡ mark self.old.words other }
+        ensures parted { (names : List ℕ) → place < length names → mark self.old.words place ≡ 1 →
+            (before : List ℕ) × (behind : List ℕ)
+            × (chosen self.old.words names ≡ before ++ slice_index names place ∷ behind)
+            × (chosen self.new.words names ≡ before ++ behind) }
+    {
+        self.words[place / LANES] &= !(1 << (place % LANES));
+    }
+
+    /// The word of a place.
+    #[inline(always)]
+    fn word(&self, place: usize) -> u16
+        requires { place < most_jobs }
+        ensures { result ≡ slice_index self.now.words (place / 16) }
+    {
+        self.words[place / LANES]
+    }
+
+    /// The first marked place of so many, from one on; or one behind them, in the word of the last.
+    #[inline(always)]
+    pub fn next(&self, from: usize, count: usize) -> Option<usize>
+        requires { count ≤ most_jobs }
+        ensures from { IfSome result (λ place. from ≤ place) }
+        ensures within { IfSome result (λ place. place / 16 < (count + 15) / 16) }
+        ensures marked { IfSome result (λ place. mark self.now.words place ≡ 1) }
+        ensures least { IfSome result (λ place. (other : ℕ) → from ≤ other → other < place →
+            mark self.now.words other ≡ 0) }
+        ensures none { IfNone result ((other : ℕ) → from ≤ other → other < count → mark self.now.words other ≡ 0) }
+    {
+        let mut place = from;
+        'words: while place < count {
+            let rest = self.word(place) >> (place % LANES);
+            if rest != 0 {
+                return Some(place + rest.trailing_zeros() as usize);
+            }
+            place = place / LANES * LANES + LANES;
+        }
+        None
+    }
+
+    /// Takes the mark of the first marked place of so many words away. Returns the place.
+    #[inline(always)]
+    pub fn pop(&mut self, words: usize) -> Option<usize>
+        requires { words ≤ 50 }
+        ensures size { length self.new.words ≡ 50 }
+        ensures within { IfSome result (λ place. place < words * 16) }
+        ensures marked { IfSome result (λ place. mark self.old.words place ≡ 1) }
+        ensures fewer { (place : ℕ) → mark self.new.words place ≡ 1 → mark self.old.words place ≡ 1 }
+        ensures first { IfSome result (λ place. (names : List ℕ) → length names ≡ words * 16 →
+            chosen self.old.words names ≡ slice_index names place ∷ chosen self.new.words names) }
+        ensures none { IfNone result ((names : List ℕ) → length names ≡ words * 16 →
+            chosen self.old.words names ≡ []) }
+    {
+        let Some(place) = self.next(0, words * LANES) else {
+            return None;
+        };
+        self.clear(place);
+        Some(place)
+    }
+
+    /// How many places of so many words are marked.
+    #[inline(always)]
+    pub fn count(&self, words: usize) -> u32
+        requires { words ≤ 50 }
+        ensures { (names : List ℕ) → length names ≡ words * 16 →
+            result ≡ length (chosen self.now.words names) }
+    {
+        let mut count = 0;
+        for word in 0..words {
+            count += self.words[word].count_ones();
+        }
+        count
+    }
+}
