@@ -37,8 +37,8 @@ pub(crate) struct Pace {
 
 impl Pace {
     /// The pace of the next round, with so many workers and pieces, after so many directions of the budget. A round has
-    /// an eighth of the directions so far, so that what is searched in vain, behind a sequence or behind the place where
-    /// the budget ends, is little beside them.
+    /// an eighth of the directions so far, so that what is searched in vain, behind a sequence or behind the place
+    /// where the budget ends, is little beside them.
     pub(crate) fn new(workers: usize, jobs: u16, pieces: usize, written: u64, budget: u64) -> Pace
         ensures goes_on { GoesOn result }
         ensures left { result.left ≡ left_of budget written }
