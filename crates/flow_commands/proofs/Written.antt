@@ -4,7 +4,7 @@ use Rattle.std.specs.Prelude.{OnOk}
 use Rattle.flow_core.specs.Shop.{Shop}
 use Rattle.flow_commands.specs.Output.{Output}
 use Rattle.flow_commands.specs.Block.{Origin}
-use Rattle.flow_commands.specs.Runs.{CameBoth, CameFor, CameSecond, Run, SinkRun, SourceRun, Took, Wrote}
+use Rattle.flow_commands.specs.Runs.{CameBoth, CameFor, CameSecond, CommandRun, SinkRun, SourceRun, Took, Wrote}
 use Rattle.flow_commands.specs.declared.fault.CommandFault.{CommandFault}
 use Rattle.flow_commands.specs.declared.files.FileKind.{FileKind}
 use Rattle.flow_commands.proofs.Drivers.{Relation}
@@ -27,7 +27,7 @@ module _ {T K : Type 0} (kind : FileKind) (A : Option (List ℕ) → Output → 
       (bytes, within, gave, whole, implies (Some bytes) text answers took)
 
 -- a fact of the shop that follows of what is written
-pub came-for : {S T K : Type 0} (kind : FileKind) (A : Relation) (index : ℕ) (run : Run S T K)
+pub came-for : {S T K : Type 0} (kind : FileKind) (A : Relation) (index : ℕ) (run : CommandRun S T K)
     (result : Result (Unit {0}) CommandFault) (Holds : Shop → Type 0) →
     ((origin : Origin) (given : Option (List ℕ)) (text : List ℕ) → A origin given (Ok text) → Took text run.sink →
     Holds origin.block.instance) → OnOk result (CameBoth kind index (λ o given. Wrote (A o given) run.sink) run) →
@@ -46,7 +46,7 @@ came-for kind A index run (Ok done) Holds implies (bytes, within, gave, whole, (
 )
 
 -- a fact of the block and of the second file that follows of what is written
-pub came-both : {S T K : Type 0} (kind : FileKind) (A : Relation) (index : ℕ) (run : Run S T K)
+pub came-both : {S T K : Type 0} (kind : FileKind) (A : Relation) (index : ℕ) (run : CommandRun S T K)
     (result : Result (Unit {0}) CommandFault) (Holds : Origin → Option (List ℕ) → Type 0) →
     ((origin : Origin) (given : Option (List ℕ)) (text : List ℕ) → A origin given (Ok text) → Took text run.sink →
     Holds origin given) → OnOk result (CameBoth kind index (λ o given. Wrote (A o given) run.sink) run) →

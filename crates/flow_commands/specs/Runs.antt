@@ -33,7 +33,7 @@ pub record SinkRun (K : Type 0) : Type 0 where
   pub after : K
 
 -- the sources and the sink of a run: a text, a second file where there is one, and what is written
-pub record Run (S T K : Type 0) : Type 0 where
+pub record CommandRun (S T K : Type 0) : Type 0 where
   pub text : SourceRun S
   pub second : Option (SourceRun T)
   pub sink : SinkRun K
@@ -60,11 +60,11 @@ second_run shows (Some before) after = Some (source_run shows before (unwrap_or 
 
 -- a run over a text, and a second file where there is one
 abbrev pub run_of : {S : Type 0} → {T : Type 0} → {K : Type 0} → SourceRun S → Option (SourceRun T) → SinkRun K →
-    Run S T K
+    CommandRun S T K
 run_of text second sink = record { text = text; second = second; sink = sink }
 
 -- a run over a text alone
-abbrev pub run_alone : {S : Type 0} → {K : Type 0} → SourceRun S → SinkRun K → Run S (Unit {0}) K
+abbrev pub run_alone : {S : Type 0} → {K : Type 0} → SourceRun S → SinkRun K → CommandRun S (Unit {0}) K
 run_alone text sink = run_of text None sink
 
 -- a source gave these bytes
@@ -171,15 +171,15 @@ CameFor index Holds = CameOf index (λ origin. Holds origin.block.instance)
 
 -- the text and the second file of a run came, and this holds of the block and of the bytes of that file
 abbrev pub CameBoth :
-    {S : Type 0} → {T : Type 0} → {K : Type 0} → FileKind → ℕ → (Origin → Option (List ℕ) → Type 0) → Run S T K
-    → Type 0
+    {S : Type 0} → {T : Type 0} → {K : Type 0} → FileKind → ℕ → (Origin → Option (List ℕ) → Type 0)
+    → CommandRun S T K → Type 0
 CameBoth kind index Holds run = CameOf index (λ origin. CameSecond kind (Holds origin) run.second) run.text
 
 -- how a refused run ends: at the text or its index, before the second file is read; at the second file, or by the
 -- answer, before a byte is written; or the sink refused, and took a part
 abbrev pub Ends :
     {S : Type 0} → {T : Type 0} → {K : Type 0} → FileKind → (Origin → Option (List ℕ) → Output → Type 0) → ℕ
-    → Run S T K → CommandFault → Type 0
+    → CommandRun S T K → CommandFault → Type 0
 Ends kind Answers index run fault =
     (StopsAt Text (λ bytes refusal. Picks bytes index (Err refusal)) run.text fault
     × IsUnread run.second × IsUnwritten run.sink)
@@ -193,7 +193,7 @@ Ends kind Answers index run fault =
 -- ends as a refused one; it says that a source or the sink refused where that is so, and there alone; and no source
 -- takes back a byte
 pub record Ran {S T K : Type 0} (kind : FileKind) (Answers : Origin → Option (List ℕ) → Output → Type 0)
-    (index : ℕ) (run : Run S T K) (result : Result (Unit {0}) CommandFault) : Type 0 where
+    (index : ℕ) (run : CommandRun S T K) (result : Result (Unit {0}) CommandFault) : Type 0 where
   pub written : OnOk result (CameBoth kind index (λ origin second. Wrote (Answers origin second) run.sink) run)
   pub ended : IfErr result (Ends kind Answers index run)
   pub read_device : IsErrOf result (command.Read read.Device) ↔ (HasFailed run.text ⊎ SecondFailed run.second)

@@ -28,6 +28,12 @@ use std::thread::Threads;
 
 /// The effort of a request, and the most directions, where its numbers are within their limits; else the first fault.
 fn tested(request: CertifyRequest) -> Result<(Effort, MostDirections), CommandFault>
+    ensures effort { IfOk result (λ tested. tested.0 ≡ record {
+      width = request.improve.width;
+      rounds = request.improve.rounds;
+      seed = request.improve.seed;
+      work = request.improve.work;
+    }) }
     ensures most { IfOk result (λ tested. tested.1 ≡ request.directions) }
     ensures accepted { OnOk result (certify_fault request ≡ None) }
     ensures refused { IfErr result (λ fault. certify_fault request ≡ Some fault) }

@@ -113,7 +113,8 @@ pub(crate) fn run_over<S: Source, T: Source, C: Command, K: Sink>(
     command.respond(alloc, picked, bytes, out)
 }
 
-/// Runs a command for the block of a text that an index names, and for a second file of a kind.
+/// Runs a command for the block of a text that an index names, and for a second file of a kind that must be there. The
+/// file is borrowed, so it cannot be moved into the option that `run_over` takes.
 #[inline(never)]
 pub(crate) fn run_with<S: Source, T: Source, C: Command, K: Sink>(
     alloc: Global,

@@ -23,6 +23,12 @@ use std::alloc::{AllocError, Global};
 
 /// The effort of a request; or the first fault of its numbers.
 pub(crate) fn effort_of(request: ImproveRequest) -> Result<Effort, EffortFault>
+    ensures value { IfOk result (λ effort. effort ≡ record {
+      width = request.width;
+      rounds = request.rounds;
+      seed = request.seed;
+      work = request.work;
+    }) }
     ensures accepted { OnOk result (improve_fault request ≡ None) }
     ensures refused { IfErr result (λ fault. improve_fault request ≡ Some (CommandFault.Improve fault)) }
 {

@@ -42,6 +42,17 @@ impl<'a, W: Watch> Watch for IfAsked<'a, W> {
     }
 }
 
+/// As what the second file of a request is read.
+fn kind_of(request: &Request) -> FileKind
+    ensures { result ≡ kind_of request.now }
+{
+    match request {
+        Request::Check(_) => FileKind::Certificate,
+        Request::Schedule(_) => FileKind::StartOrCertificate,
+        _ => FileKind::Text,
+    }
+}
+
 /// Runs the command of a request.
 #[inline(never)]
 fn run_command<R: Threads + Wait + Sync, S: Source, T: Source, W: Watch, K: Sink>(
@@ -62,24 +73,15 @@ fn run_command<R: Threads + Wait + Sync, S: Source, T: Source, W: Watch, K: Sink
         (sink_run K.Sink out.old out.new)) result }
     ensures stays { is_some second.new ≡ is_some second.old }
 {
+    let kind = kind_of(request);
     match request {
         Request::Span { jobs } => {
             let command = Printed(Span {
                 jobs: jobs.as_slice(),
             });
-            run_over(alloc, file, index, FileKind::Text, second, &command, out)
+            run_over(alloc, file, index, kind, second, &command, out)
         }
-        Request::Neh => {
-            run_over(
-                alloc,
-                file,
-                index,
-                FileKind::Text,
-                second,
-                &Printed(Neh),
-                out,
-            )
-        }
+        Request::Neh => run_over(alloc, file, index, kind, second, &Printed(Neh), out),
         Request::Solve(request) => {
             run_solve_as(rt, alloc, file, index, second, *request, &Open, out)
         }
@@ -93,27 +95,11 @@ fn run_command<R: Threads + Wait + Sync, S: Source, T: Source, W: Watch, K: Sink
         }
         Request::Check(request) => {
             let command = Printed(Check { request: *request });
-            run_over(
-                alloc,
-                file,
-                index,
-                FileKind::Certificate,
-                second,
-                &command,
-                out,
-            )
+            run_over(alloc, file, index, kind, second, &command, out)
         }
         Request::Schedule(form) => {
             let command = Printed(Schedule { form: *form });
-            run_over(
-                alloc,
-                file,
-                index,
-                FileKind::StartOrCertificate,
-                second,
-                &command,
-                out,
-            )
+            run_over(alloc, file, index, kind, second, &command, out)
         }
     }
 }

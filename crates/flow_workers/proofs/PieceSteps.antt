@@ -2,7 +2,7 @@
 use Rattle.std.proofs.Common.{◌≡◌, ◌≢◌, ℕ, suc, ◌<◌, List, [], ◌∷◌, ◌++◌, length, slice_index_or, slice_set, Some, None}
 use Rattle.std.proofs.lemmas.Bool.{cases_lt}
 use Rattle.std.proofs.lemmas.List.{get_or-set_other, get_or-set_same}
-use Rattle.std.proofs.Common.{refl, ap, sym, ◌∙◌, inl, inr, map, arith}
+use Rattle.std.proofs.Common.{refl, ap, sym, ◌∙◌, ◌+◌, inl, inr, map, arith, false}
 use Rattle.flow_shop.specs.Shop.{Shop}
 use Rattle.flow_directions.specs.Search.{Visit, signs, first_reached, visits, part_visits, parts_visits}
 use Rattle.flow_directions.specs.Search.{Continues, IsAdvanced, child_visits}
@@ -16,9 +16,10 @@ use Rattle.flow_workers.specs.internal.Units.{IsNodeOf}
 use Rattle.flow_directions.specs.declared.found.Part.{Part}
 use Rattle.flow_directions.proofs.VisitSteps.{none-or-reached, signs-append, first_reached-append}
 use Rattle.flow_directions.proofs.VisitSteps.{signs-append-reached, first_reached-append-reached}
-use Rattle.flow_workers.specs.internal.Pieces.{Met, joined, behind, met, piece_met, pieces_met, dealt_met, all_met, written}
+use Rattle.flow_workers.specs.internal.Pieces.{Met, joined, behind, met, piece_met, pieces_met, dealt_met, all_met}
+use Rattle.flow_workers.specs.internal.Pieces.{has_reached, written}
 use Rattle.flow_workers.specs.declared.piece.Piece.{Piece}
-use Rattle.flow_workers.specs.declared.piece.Piece.TheVariants.{Left}
+use Rattle.flow_workers.specs.declared.piece.Piece.TheVariants.{Done, Left, Reached}
 use Rattle.flow_workers.specs.declared.piece.Dealt.{Dealt}
 use Rattle.flow_workers.specs.declared.piece.Dealt.TheVariants.{Searched}
 use Rattle.flow_workers.specs.declared.piece.Reply.{Reply}
@@ -39,9 +40,35 @@ met-append xs ys = elim (none-or-reached (first_reached xs)) [
 ]
 
 -- parts that are left have no directions yet
-pub none-written : (parts : List Part) → written (map Left parts) ≡ 0
+none-written : (parts : List Part) → written (map Left parts) ≡ 0
 none-written [] = refl
 none-written (part ∷ parts) = none-written parts
+
+-- parts that are left have reached no sequence
+none-reached : (parts : List Part) → has_reached (map Left parts) ≡ false
+none-reached [] = refl
+none-reached (part ∷ parts) = none-reached parts
+
+-- a piece and the parts behind it have the directions of the piece
+pub left-written : (piece : Piece) (parts : List Part) →
+    written (piece ∷ map Left parts) ≡ written (piece ∷ [])
+left-written (Done text) parts = ap (λ n. length text.items + n) (none-written parts)
+left-written (Reached sequence text) parts = ap (λ n. length text.items + n) (none-written parts)
+left-written (Left part) parts = none-written parts
+
+-- where a search goes on with parts, its directions are those of its budget
+pub budget-written : (text : Vec ℕ) (parts : List Part) (pieces : List Piece) (count budget : ℕ) →
+    pieces ≡ Done text ∷ map Left parts → count ≡ written pieces → length text.items ≡ budget → count ≡ budget
+budget-written text parts pieces count budget are counted all =
+    let said : count ≡ length text.items + 0 = counted ∙ ap written are ∙ left-written (Done text) parts in
+    omega (arith, said, all)
+
+-- a piece and the parts behind it have reached a sequence where the piece has
+pub left-reached : (piece : Piece) (parts : List Part) →
+    has_reached (piece ∷ map Left parts) ≡ has_reached (piece ∷ [])
+left-reached (Done text) parts = none-reached parts
+left-reached (Reached sequence text) parts = refl
+left-reached (Left part) parts = none-reached parts
 
 -- the first of some jobs, and the others
 pub first-and-others : (jobs others : List ℕ) (job : ℕ) → 0 < length jobs → job ≡ slice_index_or jobs 0 job →

@@ -42,19 +42,16 @@ fn pieces_of(alloc: Global, parts: Vec<Part>) -> Result<VecDeque<Piece>, AllocEr
     Ok(pieces)
 }
 
-/// A piece that was searched, and what is left behind it.
-fn found(searched: Piece, left: VecDeque<Piece>) -> Result<Searched, AllocError>
-    ensures pieces { IfOk result (λ found. found.pieces.items ≡ searched ∷ left.items) }
-    ensures written { IfOk result (λ found. found.written ≡ written (searched ∷ [])) }
+/// A piece that was searched, with the parts that are left behind it.
+fn with_left(alloc: Global, piece: Piece, parts: Vec<Part>) -> Result<Searched, AllocError>
+    ensures pieces { IfOk result (λ found. found.pieces.items ≡ piece ∷ map Left parts.items) }
+    ensures written { IfOk result (λ found. found.written ≡ written found.pieces.items) }
     ensures reached { IfOk result (λ found. found.reached ≡ has_reached found.pieces.items) }
 {
-    let (written, reached) = match &searched {
-        Piece::Done(directions) => (directions.len() as u64, false),
-        Piece::Reached { directions, .. } => (directions.len() as u64, true),
-        Piece::Left(_) => (0, false),
-    };
-    let mut pieces = left;
-    pieces.push_front(searched)?;
+    let written = piece.written();
+    let reached = piece.has_reached();
+    let mut pieces = pieces_of(alloc, parts)?;
+    pieces.push_front(piece)?;
     Ok(Searched {
         pieces,
         written,
@@ -76,25 +73,24 @@ pub(crate) fn search_node(
     ensures within { IfOk result (λ found. found.written ≤ budget) }
     ensures goes_on { IfOk result (λ found. (found.written ≡ budget) ⊎ All IsSearched found.pieces.items) }
 {
-    let none = VecDeque::new(aim.alloc);
+    let none = Vec::new(aim.alloc);
     match advance(aim.alloc, aim.instance, first, last, aim.number, budget) {
-        Ok(Advanced::Proved(directions)) => found(Piece::Done(directions), none),
+        Ok(Advanced::Proved(directions)) => with_left(aim.alloc, Piece::Done(directions), none),
         Ok(
             Advanced::Below {
                 sequence,
                 directions,
                 ..
             },
-        ) => found(
-            Piece::Reached {
+        ) => {
+            let piece = Piece::Reached {
                 sequence,
                 directions,
-            },
-            none,
-        ),
+            };
+            with_left(aim.alloc, piece, none)
+        }
         Ok(Advanced::Rest { directions, parts }) => {
-            let left = pieces_of(aim.alloc, parts)?;
-            found(Piece::Done(directions), left)
+            with_left(aim.alloc, Piece::Done(directions), parts)
         }
         // The lists of a part are those of a node, so a fault is that memory ran out.
         Err(_) => Err(AllocError),

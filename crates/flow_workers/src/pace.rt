@@ -37,12 +37,13 @@ pub(crate) struct Pace {
 
 impl Pace {
     /// The pace of the next round, with so many workers and pieces, after so many directions of the budget. A round has
-    /// an eighth of the directions so far, so that what is searched in vain, behind a sequence or behind the place where
-    /// the budget ends, is little beside them.
+    /// an eighth of the directions so far, so that what is searched in vain, behind a sequence or behind the place
+    /// where the budget ends, is little beside them.
     pub(crate) fn new(workers: usize, jobs: u16, pieces: usize, written: u64, budget: u64) -> Pace
         ensures goes_on { GoesOn result }
         ensures left { result.left ≡ left_of budget written }
-        ensures few { most_bytes < pieces * bytes_of_piece jobs → result.nodes ≡ 1 }
+        ensures within { result.whole ≤ result.left }
+        ensures few { most_bytes < pieces * bytes_of_piece jobs → (result.workers ≡ 1) × (result.nodes ≡ 1) }
     {
         let left = budget.saturating_sub(written).saturating_add(1);
         let first = (ALONE / u64::from(jobs.max(1))).max(LEAST_OF_NODE);
@@ -67,7 +68,8 @@ impl Pace {
 
     /// The pace of a round in which one worker searches one node for so many directions.
     fn of_one(whole: u64, left: u64) -> Pace
-        ensures { (result.nodes ≡ 1) × (result.whole ≡ whole) × (result.least ≡ whole) × (result.left ≡ left) }
+        ensures { (result.workers ≡ 1) × (result.nodes ≡ 1) × (result.whole ≡ whole) × (result.least ≡ whole)
+            × (result.left ≡ left) }
     {
         Pace {
             workers: 1,

@@ -1,5 +1,8 @@
 //! Pieces of a search.
 
+ghost use Rattle.std.specs.Prelude.{◌≡◌, [], ◌∷◌};
+ghost use Rattle.flow_workers.specs.internal.Pieces.{has_reached, written};
+
 use flow_directions::Part;
 use flow_shop::Sequence;
 use std::collections::VecDeque;
@@ -18,6 +21,25 @@ pub(crate) enum Piece {
     },
     /// It is still to be searched.
     Left(Part),
+}
+
+impl Piece {
+    /// How many directions it has.
+    pub(crate) fn written(&self) -> u64
+        ensures { result ≡ written (self.now ∷ []) }
+    {
+        match self {
+            Piece::Done(directions) | Piece::Reached { directions, .. } => directions.len() as u64,
+            Piece::Left(_) => 0,
+        }
+    }
+
+    /// Whether it has reached a sequence.
+    pub(crate) fn has_reached(&self) -> bool
+        ensures { result ≡ has_reached (self.now ∷ []) }
+    {
+        matches!(self, Piece::Reached { .. })
+    }
 }
 
 /// A piece that is dealt in a round.

@@ -87,7 +87,8 @@ fn search_dealt<R: Threads + Sync>(
     pace: Pace,
 ) -> Result<Vec<Reply>, AllocError>
     ensures places { IfOk result (λ answers. All (HasPlace dealt.now) answers.items) }
-    ensures stand { IfOk result (λ answers. All (StandsFor aim.now.instance.now aim.now.number dealt.now) answers.items) }
+    ensures stand { IfOk result (λ answers. All
+        (StandsFor aim.now.instance.now aim.now.number dealt.now) answers.items) }
 {
     let round = Round {
         aim,

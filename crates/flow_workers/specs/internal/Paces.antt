@@ -2,7 +2,7 @@
 use Rattle.std.specs.Prelude.{ℕ, ◌+◌, ◌-◌, ◌*◌, ◌^◌, ◌≤◌, min}
 use Rattle.flow_workers.specs.declared.pace.Pace.{Pace}
 
--- in a round of this pace some node is dealt, and searched for some directions
+-- a round of this pace may deal at least one node, and give it at least one direction
 abbrev pub GoesOn : Pace → Type 0
 GoesOn pace = (1 ≤ pace.nodes) × (1 ≤ pace.whole) × (1 ≤ pace.least) × (1 ≤ pace.left)
 

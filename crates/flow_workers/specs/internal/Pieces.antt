@@ -52,12 +52,12 @@ written (Done text ∷ pieces) = length text.items + written pieces
 written (Reached sequence text ∷ pieces) = length text.items + written pieces
 written (Left part ∷ pieces) = written pieces
 
--- whether the first piece has reached a sequence
+-- whether some piece has reached a sequence
 abbrev pub has_reached : List Piece → Bool
 has_reached [] = false
-has_reached (Done text ∷ pieces) = false
+has_reached (Done text ∷ pieces) = has_reached pieces
 has_reached (Reached sequence text ∷ pieces) = true
-has_reached (Left part ∷ pieces) = false
+has_reached (Left part ∷ pieces) = has_reached pieces
 
 -- a piece of which nothing is still to be searched
 abbrev pub IsSearched : Piece → Type 0

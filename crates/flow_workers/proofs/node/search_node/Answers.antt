@@ -1,34 +1,47 @@
-use Rattle.std.proofs.Common.{◌≡◌, ◌+◌, ◌∷◌, length, None, ap, sym, ◌∙◌, subst}
+use Rattle.std.proofs.Common.{◌≡◌, ◌≤◌, ◌⊎◌, ◌∷◌, All, None, ap, sym, ◌∙◌, subst, map, inl, arith}
 use Rattle.std.proofs.lemmas.Result.{IfOk-weaker}
 use Rattle.flow_directions.specs.Search.{IsAdvanced}
-use Rattle.flow_workers.specs.internal.Pieces.{behind, pieces_met, written}
-use Rattle.flow_workers.specs.declared.piece.Piece.TheVariants.{Done}
-use Rattle.flow_workers.proofs.PieceSteps.{none-written, rest-met}
+use Rattle.flow_workers.specs.internal.Pieces.{IsSearched, pieces_met, written}
+use Rattle.flow_workers.specs.declared.piece.Piece.TheVariants.{Done, Left}
+use Rattle.flow_workers.proofs.PieceSteps.{budget-written, rest-met}
 use Rattle.flow_workers.proofs.Results.{IfOk-both}
 use Rattle.flow_workers.proofs.node.search_node.Goals as goal
 
-pub returns-in_ok-left-in-Ok-Rest-clause-met : goal.returns-in_ok-left-in-Ok-Rest-clause-met
-returns-in_ok-left-in-Ok-Rest-clause-met c =
+pub returns-in-Ok-Rest-clause-met : goal.returns-in-Ok-Rest-clause-met
+returns-in-Ok-Rest-clause-met c =
     let shop = c.args.aim.now.instance.now in
     let number = c.args.aim.now.number in
     let text = c.in-Ok-Rest.directions in
-    let left = c.in_ok-left-in-Ok-Rest.left.items in
+    let parts = c.in-Ok-Rest.parts.items in
     let is = subst (IsAdvanced shop number _ c.args.first.now c.args.last.now) c.in-Ok-Rest.field-0-is
     c.in-Ok-Rest.ensures.advanced in
-    IfOk-weaker c.found-in-Ok-Rest.result (λ found. found.pieces.items ≡ Done text ∷ left) _ (λ found are.
+    IfOk-weaker c.with_left-in-Ok-Rest.result (λ found. found.pieces.items ≡ Done text ∷ map Left parts) _ (λ found are.
     ap (pieces_met shop number) are
-    ∙ ap (λ xs. behind (text.items, None) (pieces_met shop number xs)) c.in_ok-left-in-Ok-Rest.ensures
-    ∙ sym (rest-met shop number c.args.first.now c.args.last.now text.items c.in-Ok-Rest.parts.items is.2))
-    c.found-in-Ok-Rest.ensures.pieces
+    ∙ sym (rest-met shop number c.args.first.now c.args.last.now text.items parts is.2))
+    c.with_left-in-Ok-Rest.ensures.pieces
 
-pub returns-in_ok-left-in-Ok-Rest-clause-written : goal.returns-in_ok-left-in-Ok-Rest-clause-written
-returns-in_ok-left-in-Ok-Rest-clause-written c =
+pub returns-in-Ok-Rest-clause-within : goal.returns-in-Ok-Rest-clause-within
+returns-in-Ok-Rest-clause-within c =
     let text = c.in-Ok-Rest.directions in
-    let left = c.in_ok-left-in-Ok-Rest.left.items in
-    IfOk-both c.found-in-Ok-Rest.result (λ found. found.pieces.items ≡ Done text ∷ left)
-    (λ found. found.written ≡ length text.items + 0) (λ found. found.written ≡ written found.pieces.items)
-    (λ found are count. count
-    ∙ sym (ap (λ n. length text.items + n)
-    (ap written c.in_ok-left-in-Ok-Rest.ensures ∙ none-written c.in-Ok-Rest.parts.items))
-    ∙ sym (ap written are))
-    c.found-in-Ok-Rest.ensures.pieces c.found-in-Ok-Rest.ensures.written
+    let parts = c.in-Ok-Rest.parts.items in
+    let is = subst (IsAdvanced c.args.aim.now.instance.now c.args.aim.now.number _ c.args.first.now c.args.last.now)
+    c.in-Ok-Rest.field-0-is c.in-Ok-Rest.ensures.advanced in
+    IfOk-both c.with_left-in-Ok-Rest.result (λ found. found.pieces.items ≡ Done text ∷ map Left parts)
+    (λ found. found.written ≡ written found.pieces.items) (λ found. found.written ≤ c.args.budget)
+    (λ found are counted. omega (
+      arith,
+      budget-written text parts found.pieces.items found.written c.args.budget are counted is.1,
+    )) c.with_left-in-Ok-Rest.ensures.pieces c.with_left-in-Ok-Rest.ensures.written
+
+pub returns-in-Ok-Rest-clause-goes_on : goal.returns-in-Ok-Rest-clause-goes_on
+returns-in-Ok-Rest-clause-goes_on c =
+    let text = c.in-Ok-Rest.directions in
+    let parts = c.in-Ok-Rest.parts.items in
+    let is = subst (IsAdvanced c.args.aim.now.instance.now c.args.aim.now.number _ c.args.first.now c.args.last.now)
+    c.in-Ok-Rest.field-0-is c.in-Ok-Rest.ensures.advanced in
+    IfOk-both c.with_left-in-Ok-Rest.result (λ found. found.pieces.items ≡ Done text ∷ map Left parts)
+    (λ found. found.written ≡ written found.pieces.items)
+    (λ found. (found.written ≡ c.args.budget) ⊎ All IsSearched found.pieces.items)
+    (λ found are counted.
+    inl (budget-written text parts found.pieces.items found.written c.args.budget are counted is.1))
+    c.with_left-in-Ok-Rest.ensures.pieces c.with_left-in-Ok-Rest.ensures.written

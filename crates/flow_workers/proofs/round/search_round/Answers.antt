@@ -16,7 +16,8 @@ returns g c =
     with_items_is dealt new
     (omega (arith, c.put_answers.ensures.len, ap length c.as_mut_slice.ensures.value, dealt.ok.0)) in
     let stand = subst (λ xs. All (StandsFor shop number xs) c.in_ok-answers.answers.items)
-    (sym c.as_mut_slice.ensures.value) (subst (λ xs. All (StandsFor shop number xs) c.in_ok-answers.answers.items) c.as_slice.ensures.value
+    (sym c.as_mut_slice.ensures.value)
+    (subst (λ xs. All (StandsFor shop number xs) c.in_ok-answers.answers.items) c.as_slice.ensures.value
     c.in_ok-answers.ensures.stand) in
     c.in_ok-put_back.ensures shop number
     ∙ ap (λ xs. behind (all_met shop number xs) (pieces_met shop number rest)) are
