@@ -3,6 +3,7 @@ use Rattle.std.proofs.Common.{◌≡◌, ℕ, zero, suc, ◌+◌, ◌-◌, ◌*�
 use Rattle.std.proofs.Common.{◌++◌, length, map, subst, refl, ap, ◌∙◌, inl, inr, arith}
 use Rattle.std.specs.List.{filter}
 use Rattle.std.proofs.lemmas.Bool.{cases_lt}
+use Rattle.std.proofs.lemmas.List.{map_push}
 use Rattle.flow_limits.specs.Limits.{greatest_time}
 use Rattle.flow_shop.specs.Shop.{Shop, numbers, time, time_between, IsWithinLimits}
 use Rattle.flow_shop.specs.Least.{least}
@@ -24,13 +25,9 @@ pub capped-push : (cap : ℕ) (xs : List ℕ) (x : ℕ) → capped cap (xs ++ x 
 capped-push cap [] x = omega arith
 capped-push cap (y ∷ ys) x = omega (arith, capped-push cap ys x)
 
-map-push : (f : ℕ → ℕ) (xs : List ℕ) (x : ℕ) → map f (xs ++ x ∷ []) ≡ map f xs ++ f x ∷ []
-map-push f [] x = refl
-map-push f (y ∷ ys) x = ap (λ zs. f y ∷ zs) (map-push f ys x)
-
 capped_kept : (cap : ℕ) (f : ℕ → ℕ) (xs : List ℕ) (k : ℕ) (b : Bool) →
     capped cap (map f (xs ++ cond b (k ∷ []) [])) ≡ cond b (min (capped cap (map f xs)) (f k)) (capped cap (map f xs))
-capped_kept cap f xs k true = ap (capped cap) (map-push f xs k) ∙ capped-push cap (map f xs) (f k)
+capped_kept cap f xs k true = ap (capped cap) (map_push f xs k) ∙ capped-push cap (map f xs) (f k)
 capped_kept cap f [] k false = refl
 capped_kept cap f (x ∷ xs) k false = ap (min (f x)) (capped_kept cap f xs k false)
 
