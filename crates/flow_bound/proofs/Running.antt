@@ -1,10 +1,10 @@
 -- Running sums of times, and the least, the greatest and the sum over the first numbers.
 use Rattle.std.proofs.Common.{◌≡◌, ◌≢◌, ℕ, zero, suc, ◌+◌, ◌-◌, ◌*◌, ◌<◌, ◌≤◌, min, max, List, [], ◌∷◌, ◌++◌, length}
 use Rattle.std.proofs.Common.{length-append, map, slice_index, set, replicate, ap, sym, ◌∙◌, inl, inr, arith}
-use Rattle.std.specs.List.{sum_by}
+use Rattle.std.specs.List.{range_with_len, sum_by}
 use Rattle.std.proofs.lemmas.Bool.{cases_lt}
 use Rattle.std.proofs.lemmas.List.{get_or-set_other, get_or-set_same}
-use Rattle.std.proofs.lemmas.List.Sums.{sum_by_push}
+use Rattle.std.proofs.lemmas.List.Sums.{sum_by_push, sum_by-append}
 use Rattle.flow_limits.specs.Limits.{most_machines, greatest_time}
 use Rattle.flow_shop.specs.Shop.{Shop, numbers, time, time_between, IsWithinLimits}
 use Rattle.flow_shop.specs.Least.{least, greatest}
@@ -12,7 +12,7 @@ use Rattle.flow_shop.proofs.Extremes.{greatest-append, map-map-append}
 use Rattle.flow_shop.proofs.Fronts.{zeros}
 use Rattle.flow_shop.proofs.JobsLeft.{numbers-more}
 use Rattle.flow_shop.proofs.Recurrence.{time_between-more, time_between-none}
-use Rattle.flow_shop.proofs.Fronts.{zeros}
+use Rattle.flow_shop.proofs.Taken.{range-split}
 use Rattle.flow_shop.proofs.TwoLeast.{least-le-first}
 use Rattle.flow_bound.proofs.Steps.{capped, capped-push, capped-is, time_between-small}
 
@@ -74,35 +74,19 @@ capped-least-all cap bound f (x ∷ xs) small below some =
     let here : f x ≤ bound = small x in
     (omega (arith, is, first, here), omega (arith, first, here))
 
--- the times up to a machine and those behind it
-pub time_between-split : (shop : Shop) (job k m : ℕ) → k ≤ m →
-    time_between shop job 1 m ≡ time_between shop job 1 k + time_between shop job (k + 1) m
-time_between-split shop job k zero h =
-    omega (
-      arith,
-      time_between-none shop job 1 0 (omega arith),
-      ap
-          (time_between shop job 1) none,
-      time_between-none shop job (k + 1) 0 (omega arith),
-    )
-  where
-    none : k ≡ 0
-    none = omega arith
-time_between-split shop job k (suc m) h =
-    elim (cases_lt m k) [
-      | inl here ↦
-          let e : k ≡ suc m = omega arith in
-          let same : time_between shop job 1 k ≡ time_between shop job 1 (suc m) = ap (time_between shop job 1) e in
-          omega (arith, same, time_between-none shop job (k + 1) (suc m) (omega arith))
-      | inr below ↦
-          omega (
-            arith,
-            time_between-split shop job k m (omega arith),
-            time_between-more shop job 1 m
-                (omega arith),
-            time_between-more shop job (k + 1) m (omega arith),
-          )
-    ]
+-- a job's time on some machines, parted behind one of them
+pub time_between-split : (shop : Shop) (job from here last : ℕ) → from ≤ here + 1 → here ≤ last →
+    time_between shop job from last ≡ time_between shop job from here + time_between shop job (here + 1) last
+time_between-split shop job from here last low high =
+    let len : last + 1 - from ≡ (here + 1 - from) + (last - here) = omega arith in
+    let next : from + (here + 1 - from) ≡ here + 1 = omega arith in
+    let rest : last - here ≡ last + 1 - (here + 1) = omega arith in
+    ap (λ n. sum_by (time shop job) (range_with_len from n)) len
+    ∙ ap (sum_by (time shop job)) (range-split from (here + 1 - from) (last - here))
+    ∙ sum_by-append (time shop job) (range_with_len from (here + 1 - from))
+    (range_with_len (from + (here + 1 - from)) (last - here))
+    ∙ ap (λ k. time_between shop job from here + sum_by (time shop job) (range_with_len k (last - here))) next
+    ∙ ap (λ n. time_between shop job from here + sum_by (time shop job) (range_with_len (here + 1) n)) rest
 
 -- the time on one more machine
 pub head-step : (shop : Shop) (job machine : ℕ) → 1 ≤ machine →

@@ -30,7 +30,7 @@ overflow_sub-totals c =
       c.requires.totals c.loop-job.job (omega arith) (omega arith),
       c.time-time.ensures.value,
       head-step shop c.loop-job.job c.args.machine c.requires.from,
-      time_between-split shop c.loop-job.job c.args.machine shop.machines c.requires.to,
+      time_between-split shop c.loop-job.job 1 c.args.machine shop.machines (omega arith) c.requires.to,
     )
 
 pub loop-job-preserved : goal.loop-job-preserved
@@ -46,7 +46,7 @@ loop-job-preserved c =
     let written = get_or-set_same c.loop-job.heads (job - 1) (slice_index_or c.loop-job.heads (job - 1) 0
     + c.time-time.result) 0 within in
     let total = c.requires.totals job (omega arith) (omega arith) in
-    let split = time_between-split shop job machine shop.machines c.requires.to in
+    let split = time_between-split shop job 1 machine shop.machines (omega arith) c.requires.to in
     let least_head : c.loop-job.least_head
     ≡ capped 4294967295 (map (λ job. time_between shop job 1 (machine - 1)) (numbers 1 (job - 1))) = before.head in
     let work : c.loop-job.work ≡ sum_by (λ job. time shop job machine) (numbers 1 (job - 1)) = before.work in
