@@ -11,7 +11,8 @@ pub pruned-sooner : (shop : Shop) (weak strong : Bound) (list : List ℕ) (limit
     ((machine : ℕ) → 1 ≤ machine → weak shop list machine ≤ strong shop list machine) →
     IsUnprunedCount shop weak list limit machines first → IsPassed shop strong list limit place unpruned flag →
     place < machines → strong shop list (place + 1) < limit → first ≤ place → flag ≡ 0
-pruned-sooner shop weak strong list limit place machines first unpruned flag stronger is was to under low = elim was.state [
+pruned-sooner shop weak strong list limit place machines first unpruned flag stronger is was to under low =
+    elim was.state [
   | inl still ↦
       let cut : limit ≤ weak shop list (first + 1) = is.cut (omega (arith, low, to)) in
       let more = stronger (first + 1) (omega arith) in
@@ -28,7 +29,8 @@ pruned-sooner shop weak strong list limit place machines first unpruned flag str
 ]
 
 -- a column that one of two bounds has cut so far needs no further machine
-pub still-none : (shop : Shop) (weak strong : Bound) (list : List ℕ) (limit place machines first unpruned flag still : ℕ) →
+pub still-none : (shop : Shop) (weak strong : Bound) (list : List ℕ)
+    (limit place machines first unpruned flag still : ℕ) →
     ((machine : ℕ) → 1 ≤ machine → weak shop list machine ≤ strong shop list machine) →
     IsUnprunedCount shop weak list limit machines first → IsPassed shop strong list limit place unpruned flag →
     place < machines → (place < first → still ≡ flag) → still ≡ 0 →

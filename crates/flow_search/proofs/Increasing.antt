@@ -7,14 +7,7 @@ use Rattle.std.proofs.lemmas.Bool.Decides.{eqb_tells}
 use Rattle.flow_shop.specs.Sequences.{has}
 use Rattle.flow_shop.proofs.JobsLeft.{bool_cases}
 
--- a list has what stands at each place, and nothing else
-
-pub has-at : (xs : List ℕ) (k : ℕ) → k < length xs → has xs (slice_index xs k) ≡ true
-has-at [] k low = absurd (omega (arith, low))
-has-at (x ∷ xs) zero low = or_left (nat_eq x x) (has xs x) (eq-eqb x x refl)
-has-at (x ∷ xs) (suc k) low =
-    or_right (nat_eq (slice_index xs k) x) (has xs (slice_index xs k)) (has-at xs k (omega (arith, low)))
-
+-- what a list has stands at one of its places
 pub place-of : (xs : List ℕ) (job : ℕ) → has xs job ≡ true → (k : ℕ) × (k < length xs) × (slice_index xs k ≡ job)
 place-of [] job h = absurd (false≢true h)
 place-of (x ∷ xs) job h = elim (eqb_tells job x) [
