@@ -1,6 +1,6 @@
 -- One turn of the loop over the jobs: the least tail so far, and the times that fit.
 use Rattle.std.proofs.Common.{◌≡◌, ℕ, zero, suc, ◌+◌, ◌-◌, ◌*◌, ◌<◌, ◌≤◌, min, Bool, true, false, cond, List, [], ◌∷◌}
-use Rattle.std.proofs.Common.{◌++◌, length, map, subst, refl, ap, ◌∙◌, inl, inr, arith}
+use Rattle.std.proofs.Common.{◌++◌, length, map, subst, ap, ◌∙◌, inl, inr, arith}
 use Rattle.std.specs.List.{filter}
 use Rattle.std.proofs.lemmas.Bool.{cases_lt}
 use Rattle.std.proofs.lemmas.List.{map_push, append-nil}
