@@ -1,18 +1,16 @@
 -- The release of a machine at a child in a column.
-use Rattle.std.proofs.Common.{◌≡◌, ◌≢◌, ℕ, ◌+◌, ◌-◌, ◌<◌, ◌≤◌, max, List, [], ◌∷◌, map}
-use Rattle.std.proofs.Common.{slice_index, slice_index_or, refl, ap, sym, ◌∙◌, arith}
-use Rattle.std.specs.List.{range_with_len, sum_by}
-use Rattle.std.proofs.lemmas.List.Sums.{sum_by-append}
+use Rattle.std.proofs.Common.{◌≡◌, ◌≢◌, ℕ, ◌+◌, ◌-◌, ◌<◌, ◌≤◌, max, List, [], map}
+use Rattle.std.proofs.Common.{slice_index, slice_index_or, ap, sym, ◌∙◌, arith}
+use Rattle.std.specs.List.{sum_by}
 use Rattle.flow_limits.specs.Limits.{most_machines}
 use Rattle.flow_shop.specs.Shop.{Shop, numbers, time, time_between, IsWithinLimits}
-use Rattle.flow_shop.specs.Least.{least, greatest}
+use Rattle.flow_shop.specs.Least.{greatest}
 use Rattle.flow_shop.specs.Sequences.{jobs_left}
 use Rattle.flow_shop.specs.Bound.{release, released_bound_at, front_of}
-use Rattle.flow_shop.proofs.Recurrence.{completion-push, time_between-first, time_between-none}
+use Rattle.flow_shop.proofs.Recurrence.{completion-push, time_between-first}
 use Rattle.flow_shop.proofs.Fronts.{tail-small}
-use Rattle.flow_shop.proofs.Extremes.{greatest-append, map-map-append}
 use Rattle.flow_shop.proofs.Admissible.{front_of-is}
-use Rattle.flow_shop.proofs.Taken.{range-split, left-sum}
+use Rattle.flow_shop.proofs.Taken.{left-sum}
 use Rattle.flow_bound.proofs.Releases.{start_from, start-here}
 use Rattle.flow_bound.proofs.Running.{greatest-step, time_between-split}
 use Rattle.flow_search.specs.declared.eight.group.TheConstants.{GONE}

@@ -1,6 +1,6 @@
 -- What the code of the search does at a node is what the walk does.
 use Rattle.std.proofs.Common.{◌≡◌, ◌≢◌, ℕ, zero, suc, ◌+◌, ◌-◌, ◌<◌, ◌≤◌, Bool, true, false, cond, not, ◌||◌, nat_eq}
-use Rattle.std.proofs.Common.{nat_le, List, [], ◌∷◌, ◌++◌, Some, None, length, map, set, slice_index}
+use Rattle.std.proofs.Common.{nat_le, List, [], ◌∷◌, ◌++◌, Some, None, length, map, slice_index}
 use Rattle.std.proofs.Common.{slice_index_or, slice_set, take, refl, ap, sym, ◌∙◌, inl, inr, arith, length-append}
 use Rattle.std.specs.List.{filter, find, range_with_len, sum_by}
 use Rattle.std.proofs.Math.Bool.{or-false}

@@ -2,14 +2,13 @@
 use Rattle.std.proofs.Common.{◌≡◌, ℕ, zero, suc, ◌+◌, ◌-◌, ◌<◌, ◌≤◌, Bool, true, false, cond, not, ◌&&◌, nat_lt, nat_le}
 use Rattle.std.proofs.Common.{List, [], ◌∷◌, ◌++◌, Option, Some, None, length, map, take, slice_index_or, Vec, Global}
 use Rattle.std.proofs.Common.{refl, ap, sym, subst, ◌∙◌, inl, inr, arith, unwrap_or}
-use Rattle.std.specs.List.{flat_map, list_all, prefix_len, AllByRecursion}
+use Rattle.std.specs.List.{flat_map, prefix_len, AllByRecursion}
 use Rattle.std.specs.Option.{option_map, option_to_list}
 use Rattle.std.proofs.lemmas.List.{append-nil, take_more, length-map, get_or-map}
 use Rattle.std.proofs.lemmas.List.Concat.{flat_map-append}
 use Rattle.std.proofs.lemmas.List.Folds.{list_all-append}
 use Rattle.std.proofs.lemmas.Bool.{cond-true, cond-false, cases_Bool, cases_lt, and_parts, leb-true, le-leb, lt-leb}
 use Rattle.std.proofs.lemmas.Bool.{lt-ltb, le-ltb}
-use Rattle.flow_shop.specs.Least.{first_least}
 use Rattle.flow_shop.specs.Bound.{bound_of}
 use Rattle.flow_shop.specs.Paths.{span}
 use Rattle.flow_shop.specs.Sequences.{IsSequence, IsLeastMakespan}
