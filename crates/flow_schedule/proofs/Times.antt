@@ -5,7 +5,7 @@ use Rattle.std.proofs.lemmas.List.{take_more, take_all}
 use Rattle.flow_limits.specs.Limits.{most_jobs, most_machines, greatest_completion}
 use Rattle.flow_shop.specs.Shop.{Shop, time, IsWithinLimits}
 use Rattle.flow_shop.specs.Paths.{completion, span}
-use Rattle.flow_shop.proofs.Recurrence.{completed, after, completion-push, completion-is, completed-zero}
+use Rattle.flow_shop.proofs.Recurrence.{completion-push, completion-is, completed-zero}
 use Rattle.flow_shop.proofs.Fronts.{completion-small}
 use Rattle.flow_schedule.specs.Timetable.{job_at, start_at, end_at}
 use Rattle.flow_schedule.specs.declared.operations.Operation.{Operation}
