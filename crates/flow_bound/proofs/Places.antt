@@ -5,7 +5,7 @@ use Rattle.std.proofs.Common.{refl, ap, sym, ◌∙◌, inl, inr, arith}
 use Rattle.std.specs.Prelude.{unwrap_or}
 use Rattle.std.specs.List.{insert, list_all, All}
 use Rattle.std.specs.Option.{option_map}
-use Rattle.std.proofs.lemmas.Bool.{false≢true, eq-eqb}
+use Rattle.std.proofs.lemmas.Bool.{false≢true, eq-eqb, or_left, or_right}
 use Rattle.std.proofs.lemmas.Bool.Decides.{nat_tests, eqb_tells}
 use Rattle.std.proofs.lemmas.List.{get_or-take}
 use Rattle.std.proofs.lemmas.List.Folds.{list_all-map, list_any-append}
@@ -141,16 +141,12 @@ jobs-insert n jobs at job are low high fresh = record {
   distinct = distinct-insert jobs at job are.distinct fresh;
 }
 
-pub has-at : (jobs : List ℕ) (index : ℕ) → index < length jobs → has jobs (slice_index_or jobs index 0) ≡ true
-has-at [] index within = absurd (omega arith)
-has-at (first ∷ rest) zero within = ap (λ b. b || has rest first) (eq-eqb first first refl)
-has-at (first ∷ rest) (suc index) within =
-    ap (λ b. nat_eq (slice_index_or rest index 0) first || b) (has-at rest index (omega arith))
-    ∙ or-true (nat_eq (slice_index_or rest index 0) first)
-  where
-    or-true : (b : Bool) → (b || true) ≡ true
-    or-true true = refl
-    or-true false = refl
+-- a list has the job at each of its places
+pub has-at : (jobs : List ℕ) (place : ℕ) → place < length jobs → has jobs (slice_index jobs place) ≡ true
+has-at [] place within = absurd (omega arith)
+has-at (job ∷ jobs) zero within = or_left (nat_eq job job) (has jobs job) (eq-eqb job job refl)
+has-at (job ∷ jobs) (suc place) within =
+    or_right (nat_eq (slice_index jobs place) job) (has jobs (slice_index jobs place)) (has-at jobs place (omega arith))
 
 -- a job of a list of distinct jobs does not stand before its place
 pub before-lacks : (jobs : List ℕ) (index : ℕ) → AreDistinct jobs → index < length jobs →

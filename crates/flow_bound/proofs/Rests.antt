@@ -12,8 +12,9 @@ use Rattle.flow_shop.specs.Sequences.{has}
 use Rattle.flow_shop.proofs.Recurrence.{time_between-first}
 use Rattle.flow_shop.proofs.JobsLeft.{kept, kept-step, kept-more, filter-same, has-filter, least-le, sum_by-ones}
 use Rattle.flow_shop.proofs.JobSetLemmas.{members-is}
-use Rattle.flow_bound.proofs.Steps.{capped, capped-step}
-use Rattle.flow_bound.proofs.Running.{capped-least-all}
+use Rattle.flow_shop.specs.TwoLeast.{least_below}
+use Rattle.flow_shop.proofs.TwoLeast.{least-below-cap}
+use Rattle.flow_bound.proofs.Steps.{least_below-step}
 
 -- the sum over the first numbers that a test passes
 pub sum-take : (f : ℕ → ℕ) (p : ℕ → Bool) (job : ℕ) → 1 ≤ job → p job ≡ true →
@@ -28,18 +29,18 @@ sum-skip f p job low out =
 
 -- and the least over them, with a cap
 abbrev pub least_kept : ℕ → (ℕ → ℕ) → (ℕ → Bool) → ℕ → ℕ
-least_kept cap f p n = capped cap (map f (filter p (numbers 1 n)))
+least_kept cap f p n = least_below cap (map f (filter p (numbers 1 n)))
 
 pub least-take : (cap : ℕ) (f : ℕ → ℕ) (p : ℕ → Bool) (job : ℕ) → 1 ≤ job → p job ≡ true →
     least_kept cap f p (job + 1 - 1) ≡ min (least_kept cap f p (job - 1)) (f job)
 least-take cap f p job low there =
-    capped-step cap f p job low
+    least_below-step cap f p job low
     ∙ ap (λ b. cond b (min (least_kept cap f p (job - 1)) (f job)) (least_kept cap f p (job - 1))) there
 
 pub least-skip : (cap : ℕ) (f : ℕ → ℕ) (p : ℕ → Bool) (job : ℕ) → 1 ≤ job → p job ≡ false →
     least_kept cap f p (job + 1 - 1) ≡ least_kept cap f p (job - 1)
 least-skip cap f p job low out =
-    capped-step cap f p job low
+    least_below-step cap f p job low
     ∙ ap (λ b. cond b (min (least_kept cap f p (job - 1)) (f job)) (least_kept cap f p (job - 1))) out
 
 -- the least over a set, and what is at most as great as each
@@ -49,8 +50,8 @@ pub least-whole : (cap bound : ℕ) (f : ℕ → ℕ) (set : List Bool) (n job :
 least-whole cap bound f set n job small below some none end =
     let e : job - 1 ≡ n = omega arith in
     ap (least_kept cap f (contains set)) e
-    ∙ ap (λ xs. capped cap (map f xs)) (sym (members-is set n none))
-    ∙ (capped-least-all cap bound f (members set) small below some).0
+    ∙ ap (λ xs. least_below cap (map f xs)) (sym (members-is set n none))
+    ∙ (least-below-cap cap bound f (members set) some small below).0
 
 pub sum-whole : (f : ℕ → ℕ) (set : List Bool) (n job : ℕ) → ((k : ℕ) → n < k → contains set k ≡ false) → job ≡ n + 1 →
     kept f (contains set) (job - 1) ≡ sum_by f (members set)
@@ -158,7 +159,7 @@ least-more : (cap : ℕ) (f : ℕ → ℕ) (p : ℕ → Bool) (n : ℕ) →
 least-more cap f p n =
     let a : suc n ≡ suc n + 1 - 1 = omega arith in
     let b : suc n - 1 ≡ n = omega arith in
-    ap (least_kept cap f p) a ∙ capped-step cap f p (suc n) (omega arith)
+    ap (least_kept cap f p) a ∙ least_below-step cap f p (suc n) (omega arith)
     ∙ ap (λ m. cond (p (suc n)) (min (least_kept cap f p m) (f (suc n))) (least_kept cap f p m)) b
 
 least-from : (cap : ℕ) (f : ℕ → ℕ) (after : List Bool) (job : ℕ) → contains after job ≡ false → (n : ℕ) → 1 ≤ job →
@@ -176,7 +177,7 @@ least-from cap f after job out (suc n) low high =
           let pass : q (suc n) ≡ true = ap (λ b. b || p (suc n)) (eq-eqb (suc n) job e) in
           let fail : p (suc n) ≡ false = ap p e ∙ out in
           let before : least_kept cap f q n ≡ least_kept cap f p n =
-          ap (λ xs. capped cap (map f xs)) (same-below after job n here) in
+          ap (λ xs. least_below cap (map f xs)) (same-below after job n here) in
           let taken : cond (q (suc n)) (min (least_kept cap f q n) (f (suc n))) (least_kept cap f q n)
           ≡ min (least_kept cap f q n) (f (suc n)) =
           ap (λ b. cond b (min (least_kept cap f q n) (f (suc n))) (least_kept cap f q n)) pass in
@@ -209,12 +210,12 @@ least-with cap bound f after n job small below low high within none out some =
     let is = members-with after n job low high within none in
     let longer : 0 < length (members (slice_set after (job - 1) true)) =
     omega (arith, more, sum_by-ones (members (slice_set after (job - 1) true))) in
-    let new = capped-least-all cap bound f (members (slice_set after (job - 1) true)) small below longer in
-    let old = capped-least-all cap bound f (members after) small below some in
-    let step : capped cap (map f (members (slice_set after (job - 1) true)))
-    ≡ min (f job) (capped cap (map f (members after))) =
-    ap (λ xs. capped cap (map f xs)) is ∙ least-from cap f after job out n low high
-    ∙ ap (λ xs. min (f job) (capped cap (map f xs))) (sym (members-is after n none)) in
+    let new = least-below-cap cap bound f (members (slice_set after (job - 1) true)) longer small below in
+    let old = least-below-cap cap bound f (members after) some small below in
+    let step : least_below cap (map f (members (slice_set after (job - 1) true)))
+    ≡ min (f job) (least_below cap (map f (members after))) =
+    ap (λ xs. least_below cap (map f xs)) is ∙ least-from cap f after job out n low high
+    ∙ ap (λ xs. min (f job) (least_below cap (map f xs))) (sym (members-is after n none)) in
     omega (arith, new.0, old.0, step)
 
 -- arrays that are written from the last machine down

@@ -1,10 +1,10 @@
 -- Running sums of times, and the least, the greatest and the sum over the first numbers.
 use Rattle.std.proofs.Common.{◌≡◌, ◌≢◌, ℕ, zero, suc, ◌+◌, ◌-◌, ◌*◌, ◌<◌, ◌≤◌, min, max, List, [], ◌∷◌, ◌++◌, length}
 use Rattle.std.proofs.Common.{length-append, map, slice_index, set, replicate, ap, sym, ◌∙◌, inl, inr, arith}
-use Rattle.std.specs.List.{sum_by}
+use Rattle.std.specs.List.{range_with_len, sum_by}
 use Rattle.std.proofs.lemmas.Bool.{cases_lt}
 use Rattle.std.proofs.lemmas.List.{get_or-set_other, get_or-set_same}
-use Rattle.std.proofs.lemmas.List.Sums.{sum_by_push}
+use Rattle.std.proofs.lemmas.List.Sums.{sum_by_push, sum_by-append}
 use Rattle.flow_limits.specs.Limits.{most_machines, greatest_time}
 use Rattle.flow_shop.specs.Shop.{Shop, numbers, time, time_between, IsWithinLimits}
 use Rattle.flow_shop.specs.Least.{least, greatest}
@@ -12,9 +12,10 @@ use Rattle.flow_shop.proofs.Extremes.{greatest-append, map-map-append}
 use Rattle.flow_shop.proofs.Fronts.{zeros}
 use Rattle.flow_shop.proofs.JobsLeft.{numbers-more}
 use Rattle.flow_shop.proofs.Recurrence.{time_between-more, time_between-none}
-use Rattle.flow_shop.proofs.Fronts.{zeros}
-use Rattle.flow_shop.proofs.TwoLeast.{least-le-first}
-use Rattle.flow_bound.proofs.Steps.{capped, capped-push, capped-is, time_between-small}
+use Rattle.flow_shop.proofs.Taken.{range-split}
+use Rattle.flow_shop.specs.TwoLeast.{least_below}
+use Rattle.flow_shop.proofs.TwoLeast.{least-push, least-below-cap}
+use Rattle.flow_bound.proofs.Steps.{time_between-small}
 
 -- a value that is written for one more number
 pub done-more : (f : ℕ → ℕ) (xs : List ℕ) (k value : ℕ) → 1 ≤ k → k - 1 < length xs → value ≡ f k →
@@ -46,12 +47,12 @@ numbers-step (suc n) low =
 pub sum-step : (f : ℕ → ℕ) (k : ℕ) → 1 ≤ k → sum_by f (numbers 1 (k + 1 - 1)) ≡ sum_by f (numbers 1 (k - 1)) + f k
 sum-step f k low = ap (sum_by f) (numbers-step k low) ∙ sum_by_push f (numbers 1 (k - 1)) k
 
-pub least-step : (cap : ℕ) (f : ℕ → ℕ) (k : ℕ) → 1 ≤ k → capped cap (map f (numbers 1 (k + 1 - 1)))
-    ≡ min (capped cap (map f (numbers 1 (k - 1)))) (f k)
+pub least-step : (cap : ℕ) (f : ℕ → ℕ) (k : ℕ) → 1 ≤ k → least_below cap (map f (numbers 1 (k + 1 - 1)))
+    ≡ min (least_below cap (map f (numbers 1 (k - 1)))) (f k)
 least-step cap f k low =
-    ap (λ xs. capped cap (map f xs)) (numbers-step k low)
-    ∙ ap (capped cap) (map-map-append f (numbers 1 (k - 1)) (k ∷ []))
-    ∙ capped-push cap (map f (numbers 1 (k - 1))) (f k)
+    ap (λ xs. least_below cap (map f xs)) (numbers-step k low)
+    ∙ ap (least_below cap) (map-map-append f (numbers 1 (k - 1)) (k ∷ []))
+    ∙ least-push cap (map f (numbers 1 (k - 1))) (f k)
 
 pub greatest-step : (f : ℕ → ℕ) (k : ℕ) → 1 ≤ k → greatest (map f (numbers 1 (k + 1 - 1)))
     ≡ max (greatest (map f (numbers 1 (k - 1)))) (f k)
@@ -63,46 +64,19 @@ greatest-step f k low =
     ∙ greatest-append (map f (numbers 1 (k - 1))) (f k ∷ []) in
     omega (arith, pushed)
 
--- a cap above all values takes no part
-pub capped-least-all : (cap bound : ℕ) (f : ℕ → ℕ) (xs : List ℕ) → ((j : ℕ) → f j ≤ bound) → bound ≤ cap →
-    0 < length xs →
-    (capped cap (map f xs) ≡ least (map f xs)) × (least (map f xs) ≤ bound)
-capped-least-all cap bound f [] small below some = absurd (omega arith)
-capped-least-all cap bound f (x ∷ xs) small below some =
-    let is = capped-is cap (f x) (map f xs) in
-    let first = least-le-first (f x) (map f xs) in
-    let here : f x ≤ bound = small x in
-    (omega (arith, is, first, here), omega (arith, first, here))
-
--- the times up to a machine and those behind it
-pub time_between-split : (shop : Shop) (job k m : ℕ) → k ≤ m →
-    time_between shop job 1 m ≡ time_between shop job 1 k + time_between shop job (k + 1) m
-time_between-split shop job k zero h =
-    omega (
-      arith,
-      time_between-none shop job 1 0 (omega arith),
-      ap
-          (time_between shop job 1) none,
-      time_between-none shop job (k + 1) 0 (omega arith),
-    )
-  where
-    none : k ≡ 0
-    none = omega arith
-time_between-split shop job k (suc m) h =
-    elim (cases_lt m k) [
-      | inl here ↦
-          let e : k ≡ suc m = omega arith in
-          let same : time_between shop job 1 k ≡ time_between shop job 1 (suc m) = ap (time_between shop job 1) e in
-          omega (arith, same, time_between-none shop job (k + 1) (suc m) (omega arith))
-      | inr below ↦
-          omega (
-            arith,
-            time_between-split shop job k m (omega arith),
-            time_between-more shop job 1 m
-                (omega arith),
-            time_between-more shop job (k + 1) m (omega arith),
-          )
-    ]
+-- a job's time on some machines, parted behind one of them
+pub time_between-split : (shop : Shop) (job from here last : ℕ) → from ≤ here + 1 → here ≤ last →
+    time_between shop job from last ≡ time_between shop job from here + time_between shop job (here + 1) last
+time_between-split shop job from here last low high =
+    let len : last + 1 - from ≡ (here + 1 - from) + (last - here) = omega arith in
+    let next : from + (here + 1 - from) ≡ here + 1 = omega arith in
+    let rest : last - here ≡ last + 1 - (here + 1) = omega arith in
+    ap (λ n. sum_by (time shop job) (range_with_len from n)) len
+    ∙ ap (sum_by (time shop job)) (range-split from (here + 1 - from) (last - here))
+    ∙ sum_by-append (time shop job) (range_with_len from (here + 1 - from))
+    (range_with_len (from + (here + 1 - from)) (last - here))
+    ∙ ap (λ k. time_between shop job from here + sum_by (time shop job) (range_with_len k (last - here))) next
+    ∙ ap (λ n. time_between shop job from here + sum_by (time shop job) (range_with_len (here + 1) n)) rest
 
 -- the time on one more machine
 pub head-step : (shop : Shop) (job machine : ℕ) → 1 ≤ machine →
@@ -134,11 +108,11 @@ times-none shop n job first low = zeros n (job - 1) ∙ sym (time_between-none s
 -- the least over all jobs, and its cap
 pub least-of-jobs : (cap bound : ℕ) (f : ℕ → ℕ) (n job : ℕ) → ((j : ℕ) → f j ≤ bound) → bound ≤ cap → 1 ≤ n →
     job ≡ n + 1 →
-    (capped cap (map f (numbers 1 (job - 1))) ≡ least (map f (numbers 1 n))) × (least (map f (numbers 1 n)) ≤ bound)
+    (least_below cap (map f (numbers 1 (job - 1))) ≡ least (map f (numbers 1 n))) × (least (map f (numbers 1 n)) ≤ bound)
 least-of-jobs cap bound f zero job small below some end = absurd (omega arith)
 least-of-jobs cap bound f (suc n) job small below some end =
     let e : job - 1 ≡ suc n = omega arith in
     let long : 0 < length (numbers 1 (suc n)) =
     omega (arith, ap length (numbers-more n), length-append (numbers 1 n) (suc n ∷ [])) in
-    let whole = capped-least-all cap bound f (numbers 1 (suc n)) small below long in
-    (ap (λ m. capped cap (map f (numbers 1 m))) e ∙ whole.0, whole.1)
+    let whole = least-below-cap cap bound f (numbers 1 (suc n)) long small below in
+    (ap (λ m. least_below cap (map f (numbers 1 m))) e ∙ whole.0, whole.1)

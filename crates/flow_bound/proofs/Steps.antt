@@ -1,57 +1,40 @@
 -- One turn of the loop over the jobs: the least tail so far, and the times that fit.
 use Rattle.std.proofs.Common.{◌≡◌, ℕ, zero, suc, ◌+◌, ◌-◌, ◌*◌, ◌<◌, ◌≤◌, min, Bool, true, false, cond, List, [], ◌∷◌}
-use Rattle.std.proofs.Common.{◌++◌, length, map, subst, refl, ap, ◌∙◌, inl, inr, arith}
+use Rattle.std.proofs.Common.{◌++◌, length, map, subst, ap, ◌∙◌, inl, inr, arith}
 use Rattle.std.specs.List.{filter}
 use Rattle.std.proofs.lemmas.Bool.{cases_lt}
+use Rattle.std.proofs.lemmas.List.{map_push, append-nil}
 use Rattle.flow_limits.specs.Limits.{greatest_time}
 use Rattle.flow_shop.specs.Shop.{Shop, numbers, time, time_between, IsWithinLimits}
-use Rattle.flow_shop.specs.Least.{least}
+use Rattle.flow_shop.specs.TwoLeast.{least_below}
 use Rattle.flow_shop.proofs.JobsLeft.{sum_by-jobs_left, sum_by-ones, filter-more}
 use Rattle.flow_shop.proofs.Recurrence.{time_between-more, time_between-none}
 use Rattle.flow_shop.proofs.Fronts.{time-small}
+use Rattle.flow_shop.proofs.TwoLeast.{least-push}
 use Rattle.flow_shop.specs.Paths.{span}
 use Rattle.flow_shop.specs.Front.{IsFrontOf}
 use Rattle.flow_shop.specs.Sequences.{jobs_left, IsSequence, Extends}
 use Rattle.flow_shop.specs.Bound.{machine_bound, released_bound}
 use Rattle.flow_shop.proofs.Admissible.{admissible-front, released-front}
 
--- the least of a list and a cap
-abbrev pub capped : ℕ → List ℕ → ℕ
-capped cap [] = cap
-capped cap (x ∷ xs) = min x (capped cap xs)
+least_below_kept : (cap : ℕ) (f : ℕ → ℕ) (xs : List ℕ) (k : ℕ) (b : Bool) →
+    least_below cap (map f (xs ++ cond b (k ∷ []) [])) ≡ cond b (min (least_below cap (map f xs)) (f k)) (least_below cap (map f xs))
+least_below_kept cap f xs k true = ap (least_below cap) (map_push f xs k) ∙ least-push cap (map f xs) (f k)
+least_below_kept cap f xs k false = ap (λ ys. least_below cap (map f ys)) (append-nil xs)
 
-pub capped-push : (cap : ℕ) (xs : List ℕ) (x : ℕ) → capped cap (xs ++ x ∷ []) ≡ min (capped cap xs) x
-capped-push cap [] x = omega arith
-capped-push cap (y ∷ ys) x = omega (arith, capped-push cap ys x)
-
-map-push : (f : ℕ → ℕ) (xs : List ℕ) (x : ℕ) → map f (xs ++ x ∷ []) ≡ map f xs ++ f x ∷ []
-map-push f [] x = refl
-map-push f (y ∷ ys) x = ap (λ zs. f y ∷ zs) (map-push f ys x)
-
-capped_kept : (cap : ℕ) (f : ℕ → ℕ) (xs : List ℕ) (k : ℕ) (b : Bool) →
-    capped cap (map f (xs ++ cond b (k ∷ []) [])) ≡ cond b (min (capped cap (map f xs)) (f k)) (capped cap (map f xs))
-capped_kept cap f xs k true = ap (capped cap) (map-push f xs k) ∙ capped-push cap (map f xs) (f k)
-capped_kept cap f [] k false = refl
-capped_kept cap f (x ∷ xs) k false = ap (min (f x)) (capped_kept cap f xs k false)
-
-pub capped-step : (cap : ℕ) (f : ℕ → ℕ) (p : ℕ → Bool) (k : ℕ) → 1 ≤ k →
-    capped cap (map f (filter p (numbers 1 (k + 1 - 1))))
-    ≡ cond (p k) (min (capped cap (map f (filter p (numbers 1 (k - 1))))) (f k)) (capped cap (map f (filter p (numbers 1
+pub least_below-step : (cap : ℕ) (f : ℕ → ℕ) (p : ℕ → Bool) (k : ℕ) → 1 ≤ k →
+    least_below cap (map f (filter p (numbers 1 (k + 1 - 1))))
+    ≡ cond (p k) (min (least_below cap (map f (filter p (numbers 1 (k - 1))))) (f k)) (least_below cap (map f (filter p (numbers 1
     (k - 1)))))
-capped-step cap f p zero low = absurd (omega arith)
-capped-step cap f p (suc n) low =
+least_below-step cap f p zero low = absurd (omega arith)
+least_below-step cap f p (suc n) low =
     let a : suc n + 1 - 1 ≡ suc n = omega arith in
     let b : n ≡ suc n - 1 = omega arith in
-    ap (λ m. capped cap (map f (filter p (numbers 1 m)))) a
-    ∙ ap (λ xs. capped cap (map f xs)) (filter-more p n)
-    ∙ capped_kept cap f (filter p (numbers 1 n)) (suc n) (p (suc n))
-    ∙ ap (λ m. cond (p (suc n)) (min (capped cap (map f (filter p (numbers 1 m)))) (f (suc n))) (capped cap (map f
+    ap (λ m. least_below cap (map f (filter p (numbers 1 m)))) a
+    ∙ ap (λ xs. least_below cap (map f xs)) (filter-more p n)
+    ∙ least_below_kept cap f (filter p (numbers 1 n)) (suc n) (p (suc n))
+    ∙ ap (λ m. cond (p (suc n)) (min (least_below cap (map f (filter p (numbers 1 m)))) (f (suc n))) (least_below cap (map f
     (filter p (numbers 1 m))))) b
-
--- a cap above the first number of a list takes no part
-pub capped-is : (cap : ℕ) (x : ℕ) (xs : List ℕ) → capped cap (x ∷ xs) ≡ min (least (x ∷ xs)) cap
-capped-is cap x [] = refl
-capped-is cap x (y ∷ ys) = omega (arith, capped-is cap y ys)
 
 -- the times from a machine on fit
 pub time_between-small : (shop : Shop) (job a b : ℕ) → 1 ≤ a → IsWithinLimits shop →

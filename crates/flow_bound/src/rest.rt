@@ -18,7 +18,7 @@ use flow_shop::{Front, Instance, JobSet};
 
 /// The lags of a set of jobs to a machine: for each machine before it, the least time that a job of the set needs from
 /// there to it.
-type Lags = [u32; MAX_MACHINES];
+pub type Lags = [u32; MAX_MACHINES];
 
 /// The rest of a set of jobs: the remaining work of each machine, and the lags to it. It stores no set. For callers
 /// alone: the search keeps `Loads`, and lags of its own.
@@ -101,7 +101,7 @@ fn lags_after(instance: &Instance, after: &JobSet, job: u16, machine: u16, lags:
 }
 
 /// The release of a machine, for every set with these lags to it.
-fn release_from_lags(front: &Front, lags: &Lags, machine: u16) -> u64
+pub fn release_from_lags(front: &Front, lags: &Lags, machine: u16) -> u64
     requires from { 1 ≤ machine }
     requires to { machine ≤ most_machines }
     requires within { (place : ℕ) → place < machine → slice_index front.now place ≤ greatest_completion }

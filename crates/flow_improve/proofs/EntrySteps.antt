@@ -1,9 +1,9 @@
 -- Entries once a job is put at an end.
-use Rattle.std.proofs.Common.{◌≡◌, ℕ, zero, suc, ◌+◌, ◌-◌, ◌<◌, ◌≤◌, true, false, ◌||◌, nat_eq, List, [], ◌∷◌, ◌++◌}
-use Rattle.std.proofs.Common.{length, slice_index, take, drop, set, refl, ap, sym, ◌∙◌, subst, inl, inr, arith}
+use Rattle.std.proofs.Common.{◌≡◌, ℕ, ◌+◌, ◌-◌, ◌<◌, ◌≤◌, true, false, ◌||◌, nat_eq, List, [], ◌∷◌, ◌++◌}
+use Rattle.std.proofs.Common.{length, slice_index, take, drop, set, ap, sym, ◌∙◌, subst, inl, inr, arith}
 use Rattle.std.specs.List.{swap}
 use Rattle.std.specs.List.Sorted.{IsPermutation}
-use Rattle.std.proofs.lemmas.Bool.{eq-eqb, false≢true}
+use Rattle.std.proofs.lemmas.Bool.{false≢true}
 use Rattle.std.proofs.lemmas.List.{take-append-drop, take-set-le, take_more_set, drop-set-lt, drop-set}
 use Rattle.std.proofs.lemmas.List.{get_or-take, get_or-drop, length-set, length-take, length-drop}
 use Rattle.std.proofs.lemmas.List.Edits.{swap_is}
@@ -13,17 +13,9 @@ use Rattle.flow_shop.specs.Sequences.{has, AreDistinct}
 use Rattle.flow_nodes.specs.Nodes.{IsNode}
 use Rattle.flow_shop.proofs.JobsLeft.{apart, bool_cases}
 use Rattle.flow_bound.proofs.ByTotal.{sequence-moved}
+use Rattle.flow_bound.proofs.Places.{has-at}
 use Rattle.flow_improve.specs.internal.Beams.{IsEntry, first_of, last_of, job_at}
 use Rattle.flow_improve.specs.declared.two_ended.entry.Entry.{Entry}
-
--- a list has the job at each of its places
-has-at : (jobs : List ℕ) (place : ℕ) → place < length jobs → has jobs (slice_index jobs place) ≡ true
-has-at [] place within = absurd (omega arith)
-has-at (job ∷ jobs) zero within = ap (λ b. b || has jobs job) (eq-eqb job job refl)
-has-at (job ∷ jobs) (suc place) within = elim (bool_cases (nat_eq (slice_index jobs place) job)) [
-  | inl same ↦ ap (λ b. b || has jobs (slice_index jobs place)) same
-  | inr other ↦ ap (λ b. b || has jobs (slice_index jobs place)) other ∙ has-at jobs place (omega arith)
-]
 
 -- neither list of an entry has a job between them
 left-between : (jobs : List ℕ) (first place before : ℕ) → AreDistinct jobs → first ≤ place → place < before →

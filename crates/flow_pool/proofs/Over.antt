@@ -1,7 +1,8 @@
 -- Answers that are over the budget, and what the first refusal says.
-use Rattle.std.proofs.Common.{◌≡◌, ℕ, zero, suc, ◌+◌, ◌<◌, ◌≤◌, Bool, true, false, ◌||◌, List, [], ◌∷◌, ◌++◌, length}
+use Rattle.std.proofs.Common.{◌≡◌, ℕ, zero, suc, ◌+◌, ◌<◌, ◌≤◌, true, false, ◌||◌, List, [], ◌∷◌, ◌++◌, length}
 use Rattle.std.proofs.Common.{map, Some, None, refl, sym, ap, ◌∙◌, arith}
 use Rattle.std.specs.Prelude.{slice_index_or}
+use Rattle.std.proofs.lemmas.Bool.{or_parts, or_right}
 use Rattle.std.proofs.lemmas.List.Folds.{list_any-append}
 use Rattle.flow_search.specs.declared.outcome.Outcome.{Outcome}
 use Rattle.flow_search.specs.declared.outcome.Outcome.TheVariants as outcome
@@ -11,25 +12,17 @@ use Rattle.flow_search.specs.Plans.{Planned, prefixes_of}
 use Rattle.flow_search.specs.Outcomes.{AreLawful}
 use Rattle.flow_search.specs.Verdicts.{first_refusal}
 use Rattle.flow_search.proofs.Tallies.{refusals}
-use Rattle.flow_pool.specs.declared.ends.Answer.{Answer}
+use Rattle.flow_pool.specs.declared.messages.Answer.{Answer}
 use Rattle.flow_pool.specs.internal.HubSteps.{is_over_budget, any_over_budget}
 use Rattle.flow_pool.specs.internal.Runs.{IsRunFault}
-
-or-false : (a b : Bool) → (a || b) ≡ false → a ≡ false
-or-false true b h = h
-or-false false b h = refl
-
-or-true : (a b : Bool) → b ≡ true → (a || b) ≡ true
-or-true true b h = refl
-or-true false b h = h
 
 -- where none of more answers is over the budget, none was
 pub any_over_budget-push : (answers more : List Answer) (a : Answer) → more ≡ answers ++ a ∷ [] →
     any_over_budget more ≡ false → any_over_budget answers ≡ false
 any_over_budget-push answers more a pushed none =
-    or-false (any_over_budget answers) (any_over_budget (a ∷ []))
+    (or_parts (any_over_budget answers) (any_over_budget (a ∷ []))
     (sym (list_any-append (λ (b : Answer). is_over_budget b.outcome) answers (a ∷ []))
-    ∙ (sym (ap any_over_budget pushed) ∙ none))
+    ∙ (sym (ap any_over_budget pushed) ∙ none))).0
 
 -- one of the answers is over the budget
 pub any_over_budget-at : (answers : List Answer) (i : ℕ) (a : Answer) → i < length answers →
@@ -38,7 +31,7 @@ any_over_budget-at [] i a l here over = absurd (omega arith)
 any_over_budget-at (x ∷ xs) zero a l here over =
     ap (λ b. b || any_over_budget xs) (ap (λ (y : Answer). is_over_budget y.outcome) here ∙ over)
 any_over_budget-at (x ∷ xs) (suc i) a l here over =
-    or-true (is_over_budget x.outcome) (any_over_budget xs) (any_over_budget-at xs i a (omega arith) here over)
+    or_right (is_over_budget x.outcome) (any_over_budget xs) (any_over_budget-at xs i a (omega arith) here over)
 
 -- where nothing is refused, no answer is over the budget
 pub none-over_budget : (number : ℕ) (answers : List Answer) →

@@ -4,7 +4,7 @@ use Rattle.std.proofs.Common.{zero, suc, ◌≢◌}
 use Rattle.std.specs.Prelude.{cond, nat_eq}
 use Rattle.std.specs.List.{range_with_len}
 use Rattle.std.proofs.lemmas.Bool.Decides.{nat_tests, eqb_tells}
-use Rattle.flow_pool.specs.declared.ends.Task.TheVariants.{End}
+use Rattle.flow_pool.specs.declared.messages.Task.TheVariants.{End}
 use Rattle.flow_pool.specs.Deal.{dealt_from}
 use Rattle.flow_pool.specs.Work.{asking, tasks_of, times_asked}
 use Rattle.flow_pool.proofs.Undeal.{dealt_from-nil, dealt_from-here, dealt_from-other}

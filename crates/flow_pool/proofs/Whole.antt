@@ -14,11 +14,11 @@ use Rattle.flow_search.specs.Plans.{Planned}
 use Rattle.flow_search.specs.Outcomes.{IsLawful, AreLawful, IsDone}
 use Rattle.flow_lanes.specs.Lane.{Lane}
 use Rattle.flow_lanes.specs.declared.settled.Settled.{Settled}
-use Rattle.flow_pool.specs.declared.ends.Task.{Task}
-use Rattle.flow_pool.specs.declared.ends.Task.TheVariants.{End}
-use Rattle.flow_pool.specs.declared.ends.Answer.{Answer}
-use Rattle.flow_pool.specs.declared.ends.HubEnds.{HubEnds}
-use Rattle.flow_pool.specs.declared.ends.WorkerEnds.{WorkerEnds}
+use Rattle.flow_pool.specs.declared.messages.Task.{Task}
+use Rattle.flow_pool.specs.declared.messages.Task.TheVariants.{End}
+use Rattle.flow_pool.specs.declared.messages.Answer.{Answer}
+use Rattle.flow_pool.specs.declared.lane_ends.HubEnds.{HubEnds}
+use Rattle.flow_pool.specs.declared.lane_ends.WorkerEnds.{WorkerEnds}
 use Rattle.flow_pool.specs.Report.{run_slots}
 use Rattle.flow_pool.specs.Deal.{dealt, by_worker}
 use Rattle.flow_pool.specs.Work.{share, asking, tasks_of, prefix_count, answered, IsLawfulAnswer}

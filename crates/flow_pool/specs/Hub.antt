@@ -3,9 +3,9 @@ use Rattle.std.specs.Prelude.{◌≡◌, ℕ, ◌≤◌, List, [], length, map, 
 use Rattle.std.specs.Global.{Vec}
 use Rattle.flow_search.specs.Plans.{Planned}
 use Rattle.flow_lanes.specs.Lane.{Lane}
-use Rattle.flow_pool.specs.declared.ends.Task.{Task}
-use Rattle.flow_pool.specs.declared.ends.Answer.{Answer}
-use Rattle.flow_pool.specs.declared.ends.HubEnds.{HubEnds}
+use Rattle.flow_pool.specs.declared.messages.Task.{Task}
+use Rattle.flow_pool.specs.declared.messages.Answer.{Answer}
+use Rattle.flow_pool.specs.declared.lane_ends.HubEnds.{HubEnds}
 use Rattle.flow_pool.specs.Deal.{dealt, by_worker}
 use Rattle.flow_pool.specs.Work.{prefix_count, tasks_of}
 

@@ -7,8 +7,8 @@ use Rattle.flow_search.specs.declared.verdict.Verdict.{Verdict}
 use Rattle.flow_search.specs.declared.verdict.RunFault.{RunFault}
 use Rattle.flow_search.specs.declared.verdict.RunFault.TheVariants as run_fault
 use Rattle.flow_lanes.specs.declared.settled.Settled.{Settled}
-use Rattle.flow_pool.specs.declared.ends.Task.{Task}
-use Rattle.flow_pool.specs.declared.ends.Answer.{Answer}
+use Rattle.flow_pool.specs.declared.messages.Task.{Task}
+use Rattle.flow_pool.specs.declared.messages.Answer.{Answer}
 use Rattle.flow_pool.specs.declared.run.solve.Report.{Report}
 use Rattle.flow_pool.specs.declared.run.solve.SolveFault.{SolveFault}
 use Rattle.flow_pool.specs.declared.run.solve.SolveFault.TheVariants.{Memory, Threads, OverBudget}

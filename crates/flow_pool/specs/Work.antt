@@ -4,10 +4,10 @@ use Rattle.std.specs.List.{range_with_len}
 use Rattle.flow_search.specs.declared.outcome.Outcome.TheVariants.{NoPrefix}
 use Rattle.flow_search.specs.Plans.{Planned, prefixes_of}
 use Rattle.flow_search.specs.Outcomes.{IsLawful}
-use Rattle.flow_pool.specs.declared.ends.Task.{Task}
-use Rattle.flow_pool.specs.declared.ends.Task.TheVariants.{Prefix, End}
-use Rattle.flow_pool.specs.declared.ends.Answer.{Answer}
-use Rattle.flow_pool.specs.declared.ends.WorkerEnds.{WorkerEnds}
+use Rattle.flow_pool.specs.declared.messages.Task.{Task}
+use Rattle.flow_pool.specs.declared.messages.Task.TheVariants.{Prefix, End}
+use Rattle.flow_pool.specs.declared.messages.Answer.{Answer}
+use Rattle.flow_pool.specs.declared.lane_ends.WorkerEnds.{WorkerEnds}
 use Rattle.flow_lanes.specs.Lane.{Lane}
 use Rattle.flow_pool.specs.Deal.{dealt}
 

@@ -5,7 +5,7 @@ use Rattle.std.proofs.lemmas.List.{take_more, take_all}
 use Rattle.flow_limits.specs.Limits.{most_jobs, most_machines, greatest_completion}
 use Rattle.flow_shop.specs.Shop.{Shop, time, IsWithinLimits}
 use Rattle.flow_shop.specs.Paths.{completion, span}
-use Rattle.flow_shop.proofs.Recurrence.{completed, after, completion-push, completion-is}
+use Rattle.flow_shop.proofs.Recurrence.{completion-push, completion-is, completed-zero}
 use Rattle.flow_shop.proofs.Fronts.{completion-small}
 use Rattle.flow_schedule.specs.Timetable.{job_at, start_at, end_at}
 use Rattle.flow_schedule.specs.declared.operations.Operation.{Operation}
@@ -34,15 +34,10 @@ end-step shop sequence place machine below =
     ∙ ap (λ jobs. max (completion shop (take place sequence) (machine + 1)) (completion shop jobs machine)
     + time shop job (machine + 1)) (sym longer)
 
--- nothing is done before the first machine
-no-machine : (shop : Shop) (free : ℕ → ℕ) (jobs : List ℕ) → free 0 ≡ 0 → completed shop free jobs 0 ≡ 0
-no-machine shop free [] none = none
-no-machine shop free (job ∷ jobs) none = no-machine shop (after shop free job) jobs refl
-
 -- no job leaves before the first machine
 pub end-first_machine : (shop : Shop) (sequence : List ℕ) (place : ℕ) → end_at shop sequence place 0 ≡ 0
 end-first_machine shop sequence place =
-    completion-is shop (take place sequence) 0 ∙ no-machine shop (λ _. 0) (take place sequence) refl
+    completion-is shop (take place sequence) 0 ∙ completed-zero shop (λ _. 0) (take place sequence) refl
 
 -- no job leaves before the first place
 pub end-first_job : (shop : Shop) (sequence : List ℕ) (machine : ℕ) → end_at shop sequence 0 machine ≡ 0

@@ -88,8 +88,8 @@ machine_name_text machine =
 -- what stands above the rows of a picture of some size
 abbrev pub top_text : Shop → ℕ → Option ℕ → ℕ → ℕ → List ℕ
 top_text shop makespan lower width height =
-    svg_text width height ++ title_text shop makespan lower ++ sheet_text width height ++ heading_text shop makespan lower
-    ++ legend_text
+    svg_text width height ++ title_text shop makespan lower ++ sheet_text width height
+    ++ heading_text shop makespan lower ++ legend_text
 
 -- the head of a picture of the shop with a makespan of this breadth and a lower bound, whose ticks are a step apart;
 -- the group of the bars opens last

@@ -4,8 +4,8 @@ ghost use Rattle.std.specs.Prelude.{◌≡◌, ◌≤◌, ◌++◌, OnOk, IfOk};
 ghost use Rattle.std.specs.List.{flat_map};
 ghost use Rattle.flow_limits.specs.Limits.{greatest_completion, most_machines};
 ghost use Rattle.flow_shop.specs.Shop.{numbers};
-ghost use Rattle.flow_schedule.specs.PictureHead.{svg_text, value_text, sizes_text, title_text, sheet_text, heading_text};
-ghost use Rattle.flow_schedule.specs.PictureHead.{legend_text, top_text, machine_name_text, head_text};
+ghost use Rattle.flow_schedule.specs.PictureHead.{svg_text, value_text, sizes_text, title_text, sheet_text};
+ghost use Rattle.flow_schedule.specs.PictureHead.{heading_text, legend_text, top_text, machine_name_text, head_text};
 
 use crate::axis::{push_axis_name, push_ticks};
 use crate::scale::{LEFT, ROW, TOP, y_of};

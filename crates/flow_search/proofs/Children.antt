@@ -1,6 +1,6 @@
 -- The bounds of a node's children.
 use Rattle.std.proofs.Common.{◌≡◌, ℕ, zero, suc, ◌+◌, ◌-◌, ◌*◌, ◌≤◌, Bool, true, false, cond, List, [], ◌∷◌, ◌++◌, map}
-use Rattle.std.proofs.Common.{slice_index, refl, ap, sym, ◌∙◌, inl, inr, arith}
+use Rattle.std.proofs.Common.{slice_index, ap, sym, ◌∙◌, inl, inr, arith}
 use Rattle.std.specs.List.{filter}
 use Rattle.std.proofs.lemmas.List.{append-nil}
 use Rattle.std.proofs.lemmas.Bool.Decides.{eqb_tells}
@@ -132,10 +132,6 @@ child-released shop node left job machine late t tail behind frame limits is kid
     (omega arith) in
     let sum = left-sum (λ j. time shop j machine) shop.jobs node job kid.from kid.to kid.fresh in
     omega (arith, is_late, low, is.loads_are.sums_are machine from to, sum, is_t, behind_is, cap.0)
-
-pub map-push : (f : ℕ → ℕ) (jobs : List ℕ) (job : ℕ) → map f (jobs ++ job ∷ []) ≡ map f jobs ++ f job ∷ []
-map-push f [] job = refl
-map-push f (k ∷ ks) job = ap (λ xs. f k ∷ xs) (map-push f ks job)
 
 -- the jobs so far that pass a test
 pub filter-take : (p : ℕ → Bool) (job : ℕ) → 1 ≤ job → p job ≡ true →

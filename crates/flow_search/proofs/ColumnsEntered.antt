@@ -37,14 +37,8 @@ use Rattle.flow_search.specs.internal.Columns.{IsColumnLeft, IsFrameOf, IsRowOf,
 use Rattle.flow_search.specs.internal.Columns.{AreJobsOf, IsFew}
 use Rattle.flow_search.proofs.Nodes.{filter-here, left-count, left-is, members-are, numbers-none}
 use Rattle.flow_search.proofs.JobsTaken.{filter-has, left-here}
-use Rattle.flow_search.proofs.Increasing.{
-  has-at,
-  place-of,
-  Increases,
-  increases-filter,
-  increases-order,
-  below-filter,
-}
+use Rattle.flow_bound.proofs.Places.{has-at}
+use Rattle.flow_search.proofs.Increasing.{place-of, Increases, increases-filter, increases-order, below-filter}
 use Rattle.std.proofs.lemmas.List.FromFn.{get_or-range_with_len, length-range_with_len}
 
 left-at : (shop : Shop) (list front jobs : List ℕ) (column : ℕ) → IsFew shop list front jobs → column < length jobs →

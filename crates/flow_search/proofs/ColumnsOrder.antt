@@ -13,7 +13,8 @@ use Rattle.flow_search.specs.declared.eight.group.Group.{Group}
 use Rattle.flow_search.specs.declared.eight.group.ColumnFrame.{ColumnFrame}
 use Rattle.flow_search.specs.internal.Columns.{IsColumnLeft, IsFrameOf, job_of, columns_of}
 use Rattle.flow_search.proofs.JobsTaken.{filter-has, left-here}
-use Rattle.flow_search.proofs.Increasing.{has-at, Increases, increases-filter, increases-from, place-of}
+use Rattle.flow_bound.proofs.Places.{has-at}
+use Rattle.flow_search.proofs.Increasing.{Increases, increases-filter, increases-from, place-of}
 
 has-rest : (x k : ℕ) (xs : List ℕ) → has xs k ≡ true → has (x ∷ xs) k ≡ true
 has-rest x k xs h = or_right (nat_eq k x) (has xs k) h

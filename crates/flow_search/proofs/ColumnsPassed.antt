@@ -1,10 +1,10 @@
 -- One machine of the pass over a node's children.
-use Rattle.std.proofs.Common.{◌≡◌, ◌≢◌, ◌⊎◌, ℕ, zero, suc, ◌+◌, ◌-◌, ◌*◌, ◌<◌, ◌≤◌, max, not}
+use Rattle.std.proofs.Common.{◌≡◌, ◌≢◌, ◌⊎◌, ℕ, ◌+◌, ◌-◌, ◌*◌, ◌<◌, ◌≤◌, max, not}
 use Rattle.std.proofs.Common.{List, [], ◌∷◌, ◌++◌, length, map, slice_index, slice_index_or, replicate, set, refl, ap}
 use Rattle.std.proofs.Common.{sym, ◌∙◌, subst, inl, inr, arith}
 use Rattle.std.specs.List.{sum_by}
 use Rattle.std.proofs.lemmas.Bool.{cases_lt, cases_order}
-use Rattle.std.proofs.lemmas.List.{get_or-set_other, get_or-set_same}
+use Rattle.std.proofs.lemmas.List.{get_or-set_other, get_or-set_same, get_or-replicate}
 use Rattle.flow_limits.specs.Limits.{most_jobs, greatest_time, greatest_completion}
 use Rattle.flow_shop.specs.Shop.{Shop, time, time_between, IsWithinLimits}
 use Rattle.flow_shop.specs.Least.{least}
@@ -233,10 +233,9 @@ front-small shop list group frame place limits at to =
 pub free-none : (shop : Shop) (list : List ℕ) (job : ℕ) → 0 ≡ completion shop (list ++ job ∷ []) 0
 free-none shop list job = sym (completion-after shop list job 0)
 
-pub all-same : (n v column : ℕ) → column < n → slice_index (replicate n v) column ≡ v
-all-same zero v column h = absurd (omega (arith, h))
-all-same (suc n) v zero h = refl
-all-same (suc n) v (suc column) h = all-same n v column (omega (arith, h))
+-- each column has the same number
+pub all-same : (number column : ℕ) → column < 8 → slice_index (replicate 8 number) column ≡ number
+all-same number column low = get_or-replicate 8 column number 0 low
 
 pub passed-start : (shop : Shop) (bound : Bound) (list : List ℕ) (limit unpruned flag : ℕ) → unpruned ≡ 0 → flag ≡ 1 →
     IsPassed shop bound list limit 0 unpruned flag

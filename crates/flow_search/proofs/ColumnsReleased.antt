@@ -1,18 +1,18 @@
 -- The release of a machine at a child in a column.
-use Rattle.std.proofs.Common.{◌≡◌, ◌≢◌, ℕ, ◌+◌, ◌-◌, ◌<◌, ◌≤◌, max, List, [], ◌∷◌, map}
-use Rattle.std.proofs.Common.{slice_index, slice_index_or, refl, ap, sym, ◌∙◌, arith}
-use Rattle.std.specs.List.{range_with_len, sum_by}
-use Rattle.std.proofs.lemmas.List.Sums.{sum_by-append}
+use Rattle.std.proofs.Common.{◌≡◌, ◌≢◌, ℕ, ◌+◌, ◌-◌, ◌<◌, ◌≤◌, max, List, [], map}
+use Rattle.std.proofs.Common.{slice_index, slice_index_or, ap, sym, ◌∙◌, arith}
+use Rattle.std.specs.List.{sum_by}
 use Rattle.flow_limits.specs.Limits.{most_machines}
 use Rattle.flow_shop.specs.Shop.{Shop, numbers, time, time_between, IsWithinLimits}
-use Rattle.flow_shop.specs.Least.{least, greatest}
+use Rattle.flow_shop.specs.Least.{greatest}
 use Rattle.flow_shop.specs.Sequences.{jobs_left}
 use Rattle.flow_shop.specs.Bound.{release, released_bound_at, front_of}
-use Rattle.flow_shop.proofs.Recurrence.{completion-push, time_between-first, time_between-none}
+use Rattle.flow_shop.proofs.Recurrence.{completion-push, time_between-first}
 use Rattle.flow_shop.proofs.Fronts.{tail-small}
-use Rattle.flow_shop.proofs.Extremes.{greatest-append, map-map-append}
 use Rattle.flow_shop.proofs.Admissible.{front_of-is}
-use Rattle.flow_shop.proofs.Taken.{range-split, left-sum}
+use Rattle.flow_shop.proofs.Taken.{left-sum}
+use Rattle.flow_bound.proofs.Releases.{start_from, start-here}
+use Rattle.flow_bound.proofs.Running.{greatest-step, time_between-split}
 use Rattle.flow_search.specs.declared.eight.group.TheConstants.{GONE}
 use Rattle.flow_search.specs.declared.eight.group.MachineRow.{MachineRow}
 use Rattle.flow_search.specs.declared.eight.group.Group.{Group}
@@ -20,62 +20,31 @@ use Rattle.flow_search.specs.declared.eight.group.ColumnFrame.{ColumnFrame}
 use Rattle.flow_search.specs.internal.Columns.{IsLeastOfOthers, IsColumnLeft, IsFrameOf, IsOpened, job_of, child}
 use Rattle.flow_search.proofs.ColumnsPassed.{least-left, behind-is}
 
--- a job's time on some machines, parted behind one of them
-pub between-split : (shop : Shop) (job from here last : ℕ) → from ≤ here + 1 → here ≤ last →
-    time_between shop job from last ≡ time_between shop job from here + time_between shop job (here + 1) last
-between-split shop job from here last low high =
-    let len : last + 1 - from ≡ (here + 1 - from) + (last - here) = omega arith in
-    let next : from + (here + 1 - from) ≡ here + 1 = omega arith in
-    let rest : last - here ≡ last + 1 - (here + 1) = omega arith in
-    ap (λ n. sum_by (time shop job) (range_with_len from n)) len
-    ∙ ap (sum_by (time shop job)) (range-split from (here + 1 - from) (last - here))
-    ∙ sum_by-append (time shop job) (range_with_len from (here + 1 - from))
-    (range_with_len (from + (here + 1 - from)) (last - here))
-    ∙ ap (λ k. time_between shop job from here + sum_by (time shop job) (range_with_len k (last - here))) next
-    ∙ ap (λ n. time_between shop job from here + sum_by (time shop job) (range_with_len (here + 1) n)) rest
-
--- when a machine is free, and the least time that one of some jobs needs from there to before another machine
-abbrev pub need : Shop → List ℕ → List ℕ → ℕ → ℕ → ℕ
-need shop front left machine from =
-    slice_index front (from - 1) + least (map (λ job. time_between shop job from (machine - 1)) left)
-
 greatest-more : (f : ℕ → ℕ) (n : ℕ) →
     greatest (map f (numbers 1 (n + 1))) ≡ max (greatest (map f (numbers 1 n))) (f (n + 1))
 greatest-more f n =
-    let len : n + 1 + 1 - 1 ≡ (n + 1 - 1) + 1 = omega arith in
-    let last : 1 + (n + 1 - 1) ≡ n + 1 = omega arith in
-    let one : greatest (f (n + 1) ∷ []) ≡ f (n + 1) = omega arith in
-    ap (λ k. greatest (map f (range_with_len 1 k))) len
-    ∙ ap (λ xs. greatest (map f xs)) (range-split 1 (n + 1 - 1) 1)
-    ∙ ap greatest (map-map-append f (numbers 1 n) (range_with_len (1 + (n + 1 - 1)) 1))
-    ∙ greatest-append (map f (numbers 1 n)) (map f (range_with_len (1 + (n + 1 - 1)) 1))
-    ∙ ap (λ k. max (greatest (map f (numbers 1 n))) (greatest (f k ∷ []))) last
-    ∙ ap (max (greatest (map f (numbers 1 n)))) one
+    let next : n + 1 + 1 - 1 ≡ n + 1 = omega arith in
+    let here : n + 1 - 1 ≡ n = omega arith in
+    sym (ap (λ k. greatest (map f (numbers 1 k))) next)
+    ∙ greatest-step f (n + 1) (omega arith)
+    ∙ ap (λ k. max (greatest (map f (numbers 1 k))) (f (n + 1))) here
 
-least-none : (f : ℕ → ℕ) (jobs : List ℕ) → ((job : ℕ) → f job ≡ 0) → least (map f jobs) ≡ 0
-least-none f [] none = refl
-least-none f (job ∷ []) none = none job
-least-none f (job ∷ other ∷ jobs) none = omega (arith, none job, least-none f (other ∷ jobs) none)
-
--- the release, from the needs of the earlier machines
+-- the release, from the starts from the earlier machines
 pub release-is : (shop : Shop) (front left : List ℕ) (place : ℕ) →
     release shop front left (place + 1)
-    ≡ max (slice_index front place) (greatest (map (need shop front left (place + 1)) (numbers 1 place)))
+    ≡ max (slice_index front place) (greatest (map (start_from shop front left (place + 1)) (numbers 1 place)))
 release-is shop front left place =
     let e : place + 1 - 1 ≡ place = omega arith in
-    let none = least-none (λ job. time_between shop job (place + 1) (place + 1 - 1)) left
-    (λ job. time_between-none shop job (place + 1) (place + 1 - 1) (omega arith)) in
-    let here : need shop front left (place + 1) (place + 1) ≡ slice_index front place =
-    omega (arith, none, ap (slice_index front) e) in
-    omega (arith, greatest-more (need shop front left (place + 1)) place, here)
+    let here = start-here shop front left (place + 1) (omega arith) ∙ ap (slice_index front) e in
+    omega (arith, greatest-more (start_from shop front left (place + 1)) place, here)
 
 -- one more machine
-pub need-more : (shop : Shop) (front left : List ℕ) (machine place first made next : ℕ) →
-    made ≡ max first (greatest (map (need shop front left machine) (numbers 1 place))) →
-    next ≡ max made (need shop front left machine (place + 1)) →
-    next ≡ max first (greatest (map (need shop front left machine) (numbers 1 (place + 1))))
-need-more shop front left machine place first made next was is =
-    omega (arith, was, is, greatest-more (need shop front left machine) place)
+pub start_from-more : (shop : Shop) (front left : List ℕ) (machine place first made next : ℕ) →
+    made ≡ max first (greatest (map (start_from shop front left machine) (numbers 1 place))) →
+    next ≡ max made (start_from shop front left machine (place + 1)) →
+    next ≡ max first (greatest (map (start_from shop front left machine) (numbers 1 (place + 1))))
+start_from-more shop front left machine place first made next was is =
+    omega (arith, was, is, greatest-more (start_from shop front left machine) place)
 
 -- what a column's job needs between two machines
 pub between-is : (shop : Shop) (list : List ℕ) (group : Group) (frame : ColumnFrame) (row : MachineRow)
@@ -106,12 +75,12 @@ between-is shop list group frame row column earlier place at here before to =
       arith,
       needs earlier (omega (arith, before, to)),
       needs place to,
-      between-split shop job (earlier + 1) place shop.machines (omega (arith, before)) (omega (arith, to)),
+      time_between-split shop job (earlier + 1) place shop.machines (omega (arith, before)) (omega (arith, to)),
       ap (time_between shop job (earlier + 1)) e,
     )
 
--- the need of an earlier machine, from the columns
-pub need-is : (shop : Shop) (list : List ℕ) (group : Group) (frame : ColumnFrame) (row : MachineRow)
+-- the start from an earlier machine, from the columns
+pub start_from-is : (shop : Shop) (list : List ℕ) (group : Group) (frame : ColumnFrame) (row : MachineRow)
     (column other earlier place value : ℕ) (between masked : List ℕ) → IsWithinLimits shop →
     IsOpened shop list group frame → IsColumnLeft frame column → IsColumnLeft frame other → other ≢ column →
     earlier < place → place < shop.machines →
@@ -123,9 +92,9 @@ pub need-is : (shop : Shop) (list : List ℕ) (group : Group) (frame : ColumnFra
     ((k : ℕ) → k < 8 → slice_index masked k ≡ max (slice_index between k) (slice_index frame.gone k)) →
     IsLeastOfOthers masked column value →
     slice_index (slice_index_or frame.free earlier []) column + value
-    ≡ need shop (front_of shop (child list group column)) (jobs_left shop.jobs (child list group column)) (place + 1)
+    ≡ start_from shop (front_of shop (child list group column)) (jobs_left shop.jobs (child list group column)) (place + 1)
     (earlier + 1)
-need-is shop list group frame row column other earlier place value between masked limits opened here there differ before
+start_from-is shop list group frame row column other earlier place value between masked limits opened here there differ before
     to
     are made is =
     let f : ℕ → ℕ = λ job. time_between shop job (earlier + 1) (place + 1 - 1) in
@@ -134,7 +103,7 @@ need-is shop list group frame row column other earlier place value between maske
     λ k left. are k left.within ∙ between-is shop list group frame row k earlier place at left before to in
     let most : shop.machines ≤ most_machines = limits.machines in
     let e : place + 1 - 1 ≡ place = omega arith in
-    let all = between-split shop (job_of group other) (earlier + 1) place shop.machines (omega (arith, before))
+    let all = time_between-split shop (job_of group other) (earlier + 1) place shop.machines (omega (arith, before))
     (omega (arith, to)) in
     let small : slice_index between other < GONE =
     omega (

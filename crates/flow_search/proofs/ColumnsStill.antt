@@ -11,24 +11,26 @@ pub pruned-sooner : (shop : Shop) (weak strong : Bound) (list : List ℕ) (limit
     ((machine : ℕ) → 1 ≤ machine → weak shop list machine ≤ strong shop list machine) →
     IsUnprunedCount shop weak list limit machines first → IsPassed shop strong list limit place unpruned flag →
     place < machines → strong shop list (place + 1) < limit → first ≤ place → flag ≡ 0
-pruned-sooner shop weak strong list limit place machines first unpruned flag stronger is was to under low = elim was.state [
-  | inl still ↦
-      let cut : limit ≤ weak shop list (first + 1) = is.cut (omega (arith, low, to)) in
-      let more = stronger (first + 1) (omega arith) in
-      elim (cases_lt first place) [
-        | inl before ↦
-            let missed : strong shop list (first + 1) < limit = was.is.above (first + 1) (omega arith)
-            (omega (arith, before, still.1)) in
-            absurd (omega (arith, cut, more, missed))
-        | inr here ↦
-            let e : first ≡ place = omega (arith, here, low) in
-            absurd (omega (arith, cut, more, under, ap (λ k. strong shop list (k + 1)) e))
-      ]
-  | inr cut ↦ cut.0
-]
+pruned-sooner shop weak strong list limit place machines first unpruned flag stronger is was to under low =
+    elim was.state [
+      | inl still ↦
+          let cut : limit ≤ weak shop list (first + 1) = is.cut (omega (arith, low, to)) in
+          let more = stronger (first + 1) (omega arith) in
+          elim (cases_lt first place) [
+            | inl before ↦
+                let missed : strong shop list (first + 1) < limit = was.is.above (first + 1) (omega arith)
+                (omega (arith, before, still.1)) in
+                absurd (omega (arith, cut, more, missed))
+            | inr here ↦
+                let e : first ≡ place = omega (arith, here, low) in
+                absurd (omega (arith, cut, more, under, ap (λ k. strong shop list (k + 1)) e))
+          ]
+      | inr cut ↦ cut.0
+    ]
 
 -- a column that one of two bounds has cut so far needs no further machine
-pub still-none : (shop : Shop) (weak strong : Bound) (list : List ℕ) (limit place machines first unpruned flag still : ℕ) →
+pub still-none : (shop : Shop) (weak strong : Bound) (list : List ℕ)
+    (limit place machines first unpruned flag still : ℕ) →
     ((machine : ℕ) → 1 ≤ machine → weak shop list machine ≤ strong shop list machine) →
     IsUnprunedCount shop weak list limit machines first → IsPassed shop strong list limit place unpruned flag →
     place < machines → (place < first → still ≡ flag) → still ≡ 0 →

@@ -90,8 +90,8 @@ unpruned-found shop bound count search some finds =
     (sym finds)
 
 -- once the plus is written, at the node
-plus-is : (shop : Shop) (bound : Bound) (count : ℕ) (node : List ℕ) (st : Incumbent) (mid : SearchState) → IsUnpruned shop
-    bound count node st →
+plus-is : (shop : Shop) (bound : Bound) (count : ℕ) (node : List ℕ) (st : Incumbent) (mid : SearchState) →
+    IsUnpruned shop bound count node st →
     mid.node.items ≡ node → incumbent_of mid ≡ st →
     walk shop bound count node st
     ≡ (43 ∷ (children_walked shop bound (count - 1) mid).0, (children_walked shop bound (count - 1) mid).1)

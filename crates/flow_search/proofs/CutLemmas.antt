@@ -2,6 +2,7 @@
 use Rattle.std.proofs.Common.{◌≡◌, ℕ, zero, suc, ◌+◌, ◌-◌, ◌*◌, ◌<◌, ◌≤◌, true, false, not, List, [], ◌∷◌, ◌++◌, length}
 use Rattle.std.proofs.Common.{take, drop, slice_index_or, refl, ap, sym, ◌∙◌, arith, append_assoc, length-append}
 use Rattle.std.proofs.Math.Nat.{mul_assoc}
+use Rattle.std.proofs.Math.Seq.{take-append_seam, drop-append-add}
 use Rattle.std.specs.List.{filter, flat_map, concat, AllByRecursion}
 use Rattle.std.proofs.lemmas.List.{append-nil}
 use Rattle.std.proofs.lemmas.List.Folds.{concat-append}
@@ -124,25 +125,12 @@ joined-at size [] i h low = absurd (omega arith)
 joined-at size (l ∷ ls) zero h low =
     let none : 0 * size ≡ 0 = omega arith in
     ap (λ k. take size (drop k (l ++ concat ls))) none ∙ ap (λ k. take k (l ++ concat ls)) (sym h.0)
-    ∙ first l (concat ls)
-  where
-    first : (xs ys : List ℕ) → take (length xs) (xs ++ ys) ≡ xs
-    first [] ys = start ys
-      where
-        start : (ys : List ℕ) → take 0 ys ≡ []
-        start ys = refl
-    first (x ∷ xs) ys = ap (λ zs. x ∷ zs) (first xs ys)
+    ∙ take-append_seam l (concat ls)
 joined-at size (l ∷ ls) (suc i) h low =
     let size_is : length l ≡ size = h.0 in
     let at : suc i * size ≡ length l + i * size = omega (arith, size_is) in
-    ap (λ k. take size (drop k (l ++ concat ls))) at ∙ ap (take size) (past l (concat ls) (i * size))
+    ap (λ k. take size (drop k (l ++ concat ls))) at ∙ ap (take size) (drop-append-add l (concat ls) (i * size))
     ∙ joined-at size ls i h.1 (omega arith)
-  where
-    past : (xs ys : List ℕ) (k : ℕ) → drop (length xs + k) (xs ++ ys) ≡ drop k ys
-    past [] ys k = let same : 0 + k ≡ k = omega arith in ap (λ m. drop m ys) same
-    past (x ∷ xs) ys k =
-        let same : length (x ∷ xs) + k ≡ suc (length xs + k) = omega arith in
-        ap (λ m. drop m (x ∷ xs ++ ys)) same ∙ past xs ys k
 
 pub joined-fits : (size count i : ℕ) → i < count → i * size + size ≤ count * size
 joined-fits size zero i h = absurd (omega arith)

@@ -1,12 +1,13 @@
 -- A cut has all lists of its depth in lexicographic order, and each sequence extends exactly one of them.
-use Rattle.std.proofs.Common.{◌≡◌, ℕ, zero, suc, ◌+◌, ◌-◌, ◌<◌, ◌≤◌, true, false, not, ◌||◌, nat_eq, List, [], ◌∷◌}
+use Rattle.std.proofs.Common.{◌≡◌, ℕ, zero, suc, ◌+◌, ◌-◌, ◌<◌, ◌≤◌, true, false, not, ◌||◌, List, [], ◌∷◌}
 use Rattle.std.proofs.Common.{◌++◌, length, take, slice_index_or, refl, ap, sym, subst, ◌∙◌, inl, inr, arith}
 use Rattle.std.proofs.Common.{append_assoc}
+use Rattle.std.proofs.Math.Seq.{take-append_seam}
 use Rattle.std.specs.List.{flat_map, AllPairs, AllByRecursion, Contains}
 use Rattle.std.proofs.lemmas.List.{append-nil}
 use Rattle.std.proofs.lemmas.List.Elements.{All-from_recursion, recursion_from_All, All-contains_itself}
 use Rattle.std.proofs.lemmas.List.Kept.{AllPairs-cons}
-use Rattle.std.proofs.lemmas.Bool.{cases_order, false≢true, or_left, or_right, eq-eqb}
+use Rattle.std.proofs.lemmas.Bool.{cases_order, false≢true}
 use Rattle.std.proofs.lemmas.Bool.Decides.{eqb_tells}
 use Rattle.flow_shop.specs.Sequences.{has, jobs_left, AreDistinct, AreJobs, extensions, cut, Extends}
 use Rattle.flow_shop.proofs.JobsLeft.{has-filter}
@@ -15,7 +16,7 @@ use Rattle.flow_search.specs.Search.{comes_before}
 use Rattle.flow_search.specs.Cuts.{CutHasDepth, CutIsWhole, CutIsOrdered, CutParts}
 use Rattle.flow_search.proofs.Lists.{all-append, all-weaken, all-flat_map, Above, above-range}
 use Rattle.flow_search.proofs.Earlier.{before-less, before-self, all-extend}
-use Rattle.flow_search.proofs.Walk.{Fresh}
+use Rattle.flow_search.proofs.Walk.{Fresh, has-at}
 use Rattle.flow_search.proofs.LeastVerdict.{all-pieces, at-extension, cut-fresh}
 use Rattle.flow_search.proofs.Prefixes.{cut-prefixes}
 
@@ -79,13 +80,9 @@ numbered (x ∷ xs) = (
       (suc h.0, omega arith, h.2)) (numbered xs),
 )
 
-take-front : (xs rest : List ℕ) → take (length xs) (xs ++ rest) ≡ xs
-take-front [] rest = refl
-take-front (x ∷ xs) rest = ap (λ ys. x ∷ ys) (take-front xs rest)
-
 same-front : (xs ys rest more : List ℕ) → xs ++ rest ≡ ys ++ more → length xs ≡ length ys → xs ≡ ys
-same-front xs ys rest more e size = sym (take-front xs rest) ∙ ap (take (length xs)) e
-    ∙ ap (λ k. take k (ys ++ more)) size ∙ take-front ys more
+same-front xs ys rest more e size = sym (take-append_seam xs rest) ∙ ap (take (length xs)) e
+    ∙ ap (λ k. take k (ys ++ more)) size ∙ take-append_seam ys more
 
 -- two numbers whose lists the same jobs extend are not one before the other
 not-before : (n depth one other : ℕ) (jobs : List ℕ) → one < other → other < length (cut n depth) →
@@ -134,15 +131,11 @@ cut_has_depth n depth =
     ))
     (cut-fresh n depth [] (tt, tt)))
 
-has-there : (jobs : List ℕ) (job : ℕ) (rest : List ℕ) → has (jobs ++ job ∷ rest) job ≡ true
-has-there [] job rest = or_left (nat_eq job job) (has rest job) (eq-eqb job job refl)
-has-there (x ∷ xs) job rest = or_right (nat_eq job x) (has (xs ++ job ∷ rest) job) (has-there xs job rest)
-
 -- no job of a list of distinct ones stands among those before it
 not-earlier : (jobs : List ℕ) (job : ℕ) (rest : List ℕ) → AreDistinct (jobs ++ job ∷ rest) → has jobs job ≡ false
 not-earlier [] job rest d = refl
 not-earlier (x ∷ xs) job rest d = elim (eqb_tells job x) [
-  | inl same ↦ absurd (false≢true (sym d.0 ∙ ap (has (xs ++ job ∷ rest)) (sym same.1) ∙ has-there xs job rest))
+  | inl same ↦ absurd (false≢true (sym d.0 ∙ ap (has (xs ++ job ∷ rest)) (sym same.1) ∙ has-at xs job rest))
   | inr other ↦ ap (λ b. b || has xs job) other.0 ∙ not-earlier xs job rest d.1
 ]
 

@@ -1,20 +1,13 @@
 -- Increasing lists: the numbers of a range that pass a test.
-use Rattle.std.proofs.Common.{◌≡◌, ◌≢◌, ℕ, zero, suc, ◌+◌, ◌<◌, ◌≤◌, Bool, true, false, cond, ◌||◌, nat_eq, List, []}
+use Rattle.std.proofs.Common.{◌≡◌, ◌≢◌, ℕ, zero, suc, ◌+◌, ◌<◌, ◌≤◌, Bool, true, false, cond, ◌||◌, List, []}
 use Rattle.std.proofs.Common.{◌∷◌, ◌++◌, length, take, drop, slice_index, refl, ap, sym, ◌∙◌, inl, inr, arith}
 use Rattle.std.specs.List.{filter, range_with_len}
-use Rattle.std.proofs.lemmas.Bool.{cases_eq, cases_lt, false≢true, eq-eqb, or_left, or_right}
+use Rattle.std.proofs.lemmas.Bool.{cases_eq, cases_lt, false≢true}
 use Rattle.std.proofs.lemmas.Bool.Decides.{eqb_tells}
 use Rattle.flow_shop.specs.Sequences.{has}
 use Rattle.flow_shop.proofs.JobsLeft.{bool_cases}
 
--- a list has what stands at each place, and nothing else
-
-pub has-at : (xs : List ℕ) (k : ℕ) → k < length xs → has xs (slice_index xs k) ≡ true
-has-at [] k low = absurd (omega (arith, low))
-has-at (x ∷ xs) zero low = or_left (nat_eq x x) (has xs x) (eq-eqb x x refl)
-has-at (x ∷ xs) (suc k) low =
-    or_right (nat_eq (slice_index xs k) x) (has xs (slice_index xs k)) (has-at xs k (omega (arith, low)))
-
+-- what a list has stands at one of its places
 pub place-of : (xs : List ℕ) (job : ℕ) → has xs job ≡ true → (k : ℕ) × (k < length xs) × (slice_index xs k ≡ job)
 place-of [] job h = absurd (false≢true h)
 place-of (x ∷ xs) job h = elim (eqb_tells job x) [

@@ -51,17 +51,21 @@ both numbers column xs ys u v a b = record {
   ];
 }
 
+-- what holds of each of the columns holds of all
+each : (P : ℕ → Type 0) → P 0 → P 1 → P 2 → P 3 → P 4 → P 5 → P 6 → P 7 → (k : ℕ) → k < 8 → P k
+each P a b c d e f g h zero low = a
+each P a b c d e f g h (suc zero) low = b
+each P a b c d e f g h (suc (suc zero)) low = c
+each P a b c d e f g h (suc (suc (suc zero))) low = d
+each P a b c d e f g h (suc (suc (suc (suc zero)))) low = e
+each P a b c d e f g h (suc (suc (suc (suc (suc zero))))) low = f
+each P a b c d e f g h (suc (suc (suc (suc (suc (suc zero)))))) low = g
+each P a b c d e f g h (suc (suc (suc (suc (suc (suc (suc zero))))))) low = h
+each P a b c d e f g h (suc (suc (suc (suc (suc (suc (suc (suc k)))))))) low = absurd (omega (arith, low))
+
 eight : (p : ℕ → Bool) → p 0 ≡ true → p 1 ≡ true → p 2 ≡ true → p 3 ≡ true → p 4 ≡ true → p 5 ≡ true → p 6 ≡ true →
     p 7 ≡ true → (k : ℕ) → k < 8 → p k ≡ true
-eight p a b c d e f g h zero low = a
-eight p a b c d e f g h (suc zero) low = b
-eight p a b c d e f g h (suc (suc zero)) low = c
-eight p a b c d e f g h (suc (suc (suc zero))) low = d
-eight p a b c d e f g h (suc (suc (suc (suc zero)))) low = e
-eight p a b c d e f g h (suc (suc (suc (suc (suc zero))))) low = f
-eight p a b c d e f g h (suc (suc (suc (suc (suc (suc zero)))))) low = g
-eight p a b c d e f g h (suc (suc (suc (suc (suc (suc (suc zero))))))) low = h
-eight p a b c d e f g h (suc (suc (suc (suc (suc (suc (suc (suc k)))))))) low = absurd (omega (arith, low))
+eight p = each (λ k. p k ≡ true)
 
 -- the partner of a column, and three pairs
 seven : (numbers : List ℕ) (column p a x b y c z value : ℕ) → is_other column p ≡ true → is_other column a ≡ true →
@@ -130,14 +134,3 @@ others-are t p0 p1 p2 p3 low high f0 f1 f2 f3 r0 r1 r2 r3 r4 r5 r6 r7 ep0 ep1 ep
     (seven t 7 3 2 6 0 4 1 5 r7 refl refl refl refl refl refl refl
     (eight (λ k. nat_eq k 7 || has (3 ∷ 2 ∷ 6 ∷ 0 ∷ 4 ∷ 1 ∷ 5 ∷ []) k) refl refl refl refl refl refl refl refl) cc) in
     columns column within
-  where
-    each : (P : ℕ → Type 0) → P 0 → P 1 → P 2 → P 3 → P 4 → P 5 → P 6 → P 7 → (k : ℕ) → k < 8 → P k
-    each P a b c d e f g h zero low = a
-    each P a b c d e f g h (suc zero) low = b
-    each P a b c d e f g h (suc (suc zero)) low = c
-    each P a b c d e f g h (suc (suc (suc zero))) low = d
-    each P a b c d e f g h (suc (suc (suc (suc zero)))) low = e
-    each P a b c d e f g h (suc (suc (suc (suc (suc zero))))) low = f
-    each P a b c d e f g h (suc (suc (suc (suc (suc (suc zero)))))) low = g
-    each P a b c d e f g h (suc (suc (suc (suc (suc (suc (suc zero))))))) low = h
-    each P a b c d e f g h (suc (suc (suc (suc (suc (suc (suc (suc k)))))))) low = absurd (omega (arith, low))

@@ -16,7 +16,7 @@ use Rattle.flow_search.specs.internal.TwoLeast.{time_to, least_of_none}
 use Rattle.flow_search.specs.internal.Lags.{IsLagged}
 use Rattle.flow_search.specs.declared.two_least.TwoLeast.{TwoLeast}
 use Rattle.flow_search.proofs.Children.{child-least}
-use Rattle.flow_search.proofs.ColumnsReleased.{between-split}
+use Rattle.flow_bound.proofs.Running.{time_between-split}
 
 -- from the machine at a place on
 pub row-needs : (shop : Shop) (job : ℕ) (row : Row) (place : ℕ) → IsRow shop job row → place < shop.machines →
@@ -55,7 +55,7 @@ row-time-to shop job machine place row is from to low =
       arith,
       row-needs shop job row place is (omega (arith, low, to)),
       row-needs shop job row (machine - 1) is (omega (arith, from, to)),
-      between-split shop job (place + 1) (machine - 1) shop.machines (omega (arith, low)) (omega (arith, to)),
+      time_between-split shop job (place + 1) (machine - 1) shop.machines (omega (arith, low)) (omega (arith, to)),
     )
 
 pub time_to-small : (shop : Shop) (machine place job : ℕ) → IsWithinLimits shop → machine ≤ shop.machines →
@@ -63,7 +63,7 @@ pub time_to-small : (shop : Shop) (machine place job : ℕ) → IsWithinLimits s
 time_to-small shop machine place job limits to low =
     omega (
       arith,
-      between-split shop job (place + 1) (machine - 1) shop.machines (omega (arith, low)) (omega (arith, to)),
+      time_between-split shop job (place + 1) (machine - 1) shop.machines (omega (arith, low)) (omega (arith, to)),
       tail-small shop job (shop.machines - place) place limits (omega (arith, low, to)),
       limits.machines,
     )

@@ -1,11 +1,12 @@
 -- What the code of the search does at a node is what the walk does.
 use Rattle.std.proofs.Common.{◌≡◌, ◌≢◌, ℕ, zero, suc, ◌+◌, ◌-◌, ◌<◌, ◌≤◌, Bool, true, false, cond, not, ◌||◌, nat_eq}
-use Rattle.std.proofs.Common.{nat_le, List, [], ◌∷◌, ◌++◌, Some, None, length, map, set, slice_index}
+use Rattle.std.proofs.Common.{nat_le, List, [], ◌∷◌, ◌++◌, Some, None, length, map, slice_index}
 use Rattle.std.proofs.Common.{slice_index_or, slice_set, take, refl, ap, sym, ◌∙◌, inl, inr, arith, length-append}
 use Rattle.std.specs.List.{filter, find, range_with_len, sum_by}
+use Rattle.std.proofs.Math.Bool.{or-false}
 use Rattle.std.proofs.lemmas.Bool.{cond-true, cond-false, eqb-false, eq-eqb, ne_eqb}
 use Rattle.std.proofs.lemmas.Bool.Decides.{eqb_tells}
-use Rattle.std.proofs.lemmas.List.{get_or-set_other, get_or-set_same}
+use Rattle.std.proofs.lemmas.List.{get_or-set_other, get_or-set_same, length-set}
 use Rattle.std.proofs.lemmas.List.Folds.{list_any-append}
 use Rattle.std.proofs.lemmas.List.Elements.{recursion_from_All, All-from_recursion}
 use Rattle.flow_shop.specs.Shop.{Shop, numbers, time, time_between, IsWithinLimits}
@@ -171,15 +172,6 @@ machine-is shop p machine limits e =
     let most : shop.machines ≤ most_machines = limits.machines in
     (at.1.0, omega (arith, at.1.1))
 
-pub size-set : (xs : List Bool) (i : ℕ) (b : Bool) → length (set xs i b) ≡ length xs
-size-set [] i b = refl
-size-set (x ∷ xs) zero b = refl
-size-set (x ∷ xs) (suc i) b = ap suc (size-set xs i b)
-
-or-none : (b : Bool) → (b || false) ≡ b
-or-none true = refl
-or-none false = refl
-
 not-false : (b : Bool) → true ≡ not b → b ≡ false
 not-false true e = absurd (cc)
 not-false false e = refl
@@ -223,12 +215,12 @@ at-child shop node front next unscheduled count left job at e low high there is_
             get_or-set_other unscheduled (job - 1) (k - 1) false false far
             ∙ at.left k from to
             ∙ ap not (sym (list_any-append (nat_eq k) node (job ∷ []) ∙ ap (λ b. has node k || (b || false)) other.0
-            ∙ or-none (has node k)))
+            ∙ or-false (has node k)))
       ];
       none = λ k past.
           let far : k - 1 ≢ job - 1 = omega arith in
           get_or-set_other unscheduled (job - 1) (k - 1) false false far ∙ at.none k past;
-      size = size-set unscheduled (job - 1) false ∙ at.size;
+      size = length-set unscheduled (job - 1) false ∙ at.size;
     }
 
 -- taking a member out and putting it in again

@@ -5,7 +5,7 @@ use Rattle.std.proofs.Common.{sym, subst, ◌∙◌, inl, inr, arith, append_ass
 use Rattle.std.specs.List.{find}
 use Rattle.std.proofs.lemmas.Bool.{cases_lt}
 use Rattle.std.proofs.lemmas.Bool.Decides.{eqb_tells}
-use Rattle.std.proofs.lemmas.List.{append-nil, get_or-set_other, get_or-set_same, ext_get_or}
+use Rattle.std.proofs.lemmas.List.{append-nil, get_or-set_other, get_or-set_same, ext_get_or, length-set}
 use Rattle.flow_limits.specs.Limits.{most_jobs}
 use Rattle.flow_shop.specs.Shop.{Shop, numbers}
 use Rattle.flow_shop.specs.Front.{IsFrontOf}
@@ -23,7 +23,7 @@ use Rattle.flow_search.specs.internal.Frames.{IsFrame, IsChild, IsStack, IsWalki
 use Rattle.flow_search.specs.declared.frame.Frame.{Frame}
 use Rattle.flow_search.specs.declared.state.SearchState.{SearchState}
 use Rattle.flow_search.proofs.Walk.{answer_of}
-use Rattle.flow_search.proofs.Nodes.{at-child, size-set, members-are, left-count, put-back}
+use Rattle.flow_search.proofs.Nodes.{at-child, members-are, left-count, put-back}
 use Rattle.flow_shop.proofs.Taken.{has-other}
 use Rattle.flow_search.proofs.NextChild.{left-next, left-none, longer-part, resume-next, resume-none, moved}
 use Rattle.flow_search.proofs.NextChild.{moved-frame}
@@ -120,7 +120,7 @@ at-parent shop node front set count left job f at frame kid jobs =
       none = λ k past.
           let far : k - 1 ≢ job - 1 = omega arith in
           get_or-set_other set (job - 1) (k - 1) true false far ∙ at.none k past;
-      size = size-set set (job - 1) true ∙ at.size;
+      size = length-set set (job - 1) true ∙ at.size;
     }
 
 -- the set of the jobs left at a node is one alone

@@ -2,14 +2,13 @@
 use Rattle.std.proofs.Common.{◌≡◌, ℕ, zero, suc, ◌+◌, ◌-◌, ◌<◌, ◌≤◌, Bool, true, false, cond, not, ◌&&◌, nat_lt, nat_le}
 use Rattle.std.proofs.Common.{List, [], ◌∷◌, ◌++◌, Option, Some, None, length, map, take, slice_index_or, Vec, Global}
 use Rattle.std.proofs.Common.{refl, ap, sym, subst, ◌∙◌, inl, inr, arith, unwrap_or}
-use Rattle.std.specs.List.{flat_map, list_all, prefix_len, AllByRecursion}
+use Rattle.std.specs.List.{flat_map, prefix_len, AllByRecursion}
 use Rattle.std.specs.Option.{option_map, option_to_list}
 use Rattle.std.proofs.lemmas.List.{append-nil, take_more, length-map, get_or-map}
 use Rattle.std.proofs.lemmas.List.Concat.{flat_map-append}
 use Rattle.std.proofs.lemmas.List.Folds.{list_all-append}
 use Rattle.std.proofs.lemmas.Bool.{cond-true, cond-false, cases_Bool, cases_lt, and_parts, leb-true, le-leb, lt-leb}
 use Rattle.std.proofs.lemmas.Bool.{lt-ltb, le-ltb}
-use Rattle.flow_shop.specs.Least.{first_least}
 use Rattle.flow_shop.specs.Bound.{bound_of}
 use Rattle.flow_shop.specs.Paths.{span}
 use Rattle.flow_shop.specs.Sequences.{IsSequence, IsLeastMakespan}
@@ -26,11 +25,9 @@ use Rattle.flow_search.specs.declared.tally.Tally.{Tally}
 use Rattle.flow_search.specs.declared.verdict.Verdict.{Verdict}
 use Rattle.flow_search.specs.declared.verdict.RunFault.{RunFault}
 use Rattle.flow_search.specs.declared.verdict.RunFault.TheVariants.{OverBudget}
+use Rattle.flow_search.proofs.BestOf.{first, none_under}
 use Rattle.flow_search.proofs.Lists.{all-append}
 use Rattle.flow_search.proofs.LeastVerdict.{verdict_is_least}
-
-abbrev first : List Found → Option Found
-first = first_least (λ f. f.value)
 
 -- of two that may be there the lower one, on ties the earlier
 abbrev pub lower : Option Found → Option Found → Option Found
@@ -38,24 +35,21 @@ lower None next = next
 lower (Some f) None = Some f
 lower (Some f) (Some g) = cond (nat_lt g.value f.value) (Some g) (Some f)
 
-abbrev at_least : ℕ → List Found → Bool
-at_least v fs = list_all (λ f. nat_le v f.value) fs
-
 -- the first least of a list is no lower than what bounds the list
-first-bounded : (v : ℕ) (fs : List Found) (g : Found) → at_least v fs ≡ true → first fs ≡ Some g → v ≤ g.value
+first-bounded : (v : ℕ) (fs : List Found) (g : Found) → none_under v fs ≡ true → first fs ≡ Some g → v ≤ g.value
 first-bounded v [] g all e = let none : None ≡ Some g = e in absurd (cc)
 first-bounded v (f ∷ fs) g all e =
-    let parts = and_parts (nat_le v f.value) (at_least v fs) all in
-    elim (cases_Bool (at_least f.value fs)) [
+    let parts = and_parts (nat_le v f.value) (none_under v fs) all in
+    elim (cases_Bool (none_under f.value fs)) [
       | inl low ↦
-          let is : Some f ≡ Some g = sym (cond-true (at_least f.value fs) (Some f) (first fs) low) ∙ e in
+          let is : Some f ≡ Some g = sym (cond-true (none_under f.value fs) (Some f) (first fs) low) ∙ e in
           let same : f ≡ g = cc in
           subst (λ h. v ≤ h.value) same (leb-true v f.value parts.0)
-      | inr high ↦ first-bounded v fs g parts.1 (sym (cond-false (at_least f.value fs) (Some f) (first fs) high) ∙ e)
+      | inr high ↦ first-bounded v fs g parts.1 (sym (cond-false (none_under f.value fs) (Some f) (first fs) high) ∙ e)
     ]
 
 -- a lower one at the end wins
-lower-end : (v : ℕ) (fs : List Found) (g : Found) (o : Option Found) → at_least v fs ≡ true → g.value < v →
+lower-end : (v : ℕ) (fs : List Found) (g : Found) (o : Option Found) → none_under v fs ≡ true → g.value < v →
     first fs ≡ o → lower o (Some g) ≡ Some g
 lower-end v fs g None all below e = refl
 lower-end v fs g (Some f) all below e =
@@ -71,34 +65,34 @@ pub first-push : (fs : List Found) (g : Found) → first (fs ++ g ∷ []) ≡ lo
 first-push [] g = refl
 first-push (f ∷ fs) g =
     let ih = first-push fs g in
-    let test : at_least f.value (fs ++ g ∷ []) ≡ (at_least f.value fs && nat_le f.value g.value) =
+    let test : none_under f.value (fs ++ g ∷ []) ≡ (none_under f.value fs && nat_le f.value g.value) =
     list_all-append (λ h. nat_le f.value h.value) fs (g ∷ [])
-    ∙ ap (λ b. at_least f.value fs && b) (and-true (nat_le f.value g.value)) in
+    ∙ ap (λ b. none_under f.value fs && b) (and-true (nat_le f.value g.value)) in
     let rest : Option Found = first (fs ++ g ∷ []) in
-    elim (cases_Bool (at_least f.value fs)) [
+    elim (cases_Bool (none_under f.value fs)) [
       | inl all ↦
-          let here : first (f ∷ fs) ≡ Some f = cond-true (at_least f.value fs) (Some f) (first fs) all in
+          let here : first (f ∷ fs) ≡ Some f = cond-true (none_under f.value fs) (Some f) (first fs) all in
           elim (cases_lt g.value f.value) [
             | inl below ↦
-                let no : at_least f.value (fs ++ g ∷ []) ≡ false = test ∙ ap (λ b. b && nat_le f.value g.value) all
+                let no : none_under f.value (fs ++ g ∷ []) ≡ false = test ∙ ap (λ b. b && nat_le f.value g.value) all
                 ∙ lt-leb f.value g.value below in
-                cond-false (at_least f.value (fs ++ g ∷ [])) (Some f) rest no
+                cond-false (none_under f.value (fs ++ g ∷ [])) (Some f) rest no
                 ∙ ih
                 ∙ lower-end f.value fs g (first fs) all below refl
                 ∙ sym (ap (λ o. lower o (Some g)) here
                 ∙ cond-true (nat_lt g.value f.value) (Some g) (Some f) (lt-ltb g.value f.value below))
             | inr above ↦
-                let yes : at_least f.value (fs ++ g ∷ []) ≡ true = test ∙ ap (λ b. b && nat_le f.value g.value) all
+                let yes : none_under f.value (fs ++ g ∷ []) ≡ true = test ∙ ap (λ b. b && nat_le f.value g.value) all
                 ∙ le-leb f.value g.value above in
-                cond-true (at_least f.value (fs ++ g ∷ [])) (Some f) rest yes
+                cond-true (none_under f.value (fs ++ g ∷ [])) (Some f) rest yes
                 ∙ sym (ap (λ o. lower o (Some g)) here
                 ∙ cond-false (nat_lt g.value f.value) (Some g) (Some f) (le-ltb g.value f.value above))
           ]
       | inr some ↦
-          let no : at_least f.value (fs ++ g ∷ []) ≡ false = test ∙ ap (λ b. b && nat_le f.value g.value) some in
-          cond-false (at_least f.value (fs ++ g ∷ [])) (Some f) rest no
+          let no : none_under f.value (fs ++ g ∷ []) ≡ false = test ∙ ap (λ b. b && nat_le f.value g.value) some in
+          cond-false (none_under f.value (fs ++ g ∷ [])) (Some f) rest no
           ∙ ih
-          ∙ sym (ap (λ o. lower o (Some g)) (cond-false (at_least f.value fs) (Some f) (first fs) some))
+          ∙ sym (ap (λ o. lower o (Some g)) (cond-false (none_under f.value fs) (Some f) (first fs) some))
     ]
 
 lower-none : (o : Option Found) → lower o None ≡ o

@@ -28,8 +28,8 @@ found-none p from (suc n) none =
     ap (λ b. cond b (Some from) (find p (range_with_len (from + 1) n))) (none from (omega arith) (omega arith))
     ∙ found-none p (from + 1) n (λ i a b. none i (omega (arith, a)) (omega (arith, b)))
 
-pub count-found : (shop : Shop) (bound : Bound) (list : List ℕ) (limit unpruned : ℕ) → IsUnprunedCount shop bound list limit
-    shop.machines unpruned →
+pub count-found : (shop : Shop) (bound : Bound) (list : List ℕ) (limit unpruned : ℕ) →
+    IsUnprunedCount shop bound list limit shop.machines unpruned →
     find (λ machine. nat_le limit (bound shop list machine)) (numbers 1 shop.machines) ≡ cond
     (nat_lt unpruned shop.machines) (Some (unpruned + 1)) None
 count-found shop bound list limit unpruned is = elim (cases_lt unpruned shop.machines) [

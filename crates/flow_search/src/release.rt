@@ -1,10 +1,8 @@
 //! Releases at a node with more than eight jobs left, and at its children.
 
-ghost use Rattle.std.specs.Prelude.{◌≡◌, ℕ, ◌+◌, ◌-◌, ◌*◌, ◌<◌, ◌≤◌, List, [], ◌∷◌, ◌++◌, length};
-ghost use Rattle.std.specs.Prelude.{map, slice_index};
+ghost use Rattle.std.specs.Prelude.{◌≡◌, ℕ, ◌+◌, ◌-◌, ◌*◌, ◌<◌, ◌≤◌, List, [], ◌∷◌, ◌++◌, length, slice_index};
 ghost use Rattle.flow_limits.specs.Limits.{most_machines, greatest_time, greatest_completion};
 ghost use Rattle.flow_shop.specs.Shop.{Shop};
-ghost use Rattle.flow_shop.specs.Least.{least};
 ghost use Rattle.flow_shop.specs.Front.{IsWithinFront};
 ghost use Rattle.flow_shop.specs.JobSet.{members};
 ghost use Rattle.flow_shop.specs.Bound.{release, released_bound};
@@ -12,32 +10,14 @@ ghost use Rattle.flow_shop.specs.Sequences.{jobs_left};
 ghost use Rattle.flow_bound.specs.Loads.{AreLoadsOf};
 ghost use Rattle.flow_search.specs.internal.Walk.{first_reaching};
 ghost use Rattle.flow_shop.specs.JobSet.{IsSetOf};
-ghost use Rattle.flow_search.specs.internal.TwoLeast.{time_to, least_of_none};
 ghost use Rattle.flow_search.specs.internal.Lags.{IsLagged};
 ghost use Rattle.flow_search.specs.internal.Settings.{shop_of};
 
 use crate::setting::Setting;
 use crate::two_least::{TwoLeast, least_lags, without};
-use flow_bound::Loads;
+use flow_bound::{Loads, release_from_lags};
 use flow_limits::MAX_MACHINES;
 use flow_shop::{Front, JobSet, Row};
-
-/// The release of a machine, by the least lag of the jobs left from each earlier machine to it.
-fn release_at_node(front: &Front, times: &[u32; MAX_MACHINES], machine: u16) -> u64
-    requires from { 1 ≤ machine }
-    requires to { machine ≤ most_machines }
-    requires within { (place : ℕ) → place < machine → slice_index front.now place ≤ greatest_completion }
-    ensures value { (shop : Shop) (jobs : List ℕ) → ((place : ℕ) → place < machine - 1 →
-        slice_index times.now place ≡ least (map (time_to shop machine place) jobs)) →
-        result ≡ release shop front.now jobs machine }
-    ensures limit { result ≤ greatest_completion + least_of_none }
-{
-    let mut made = front.at(machine);
-    for earlier in 1..machine {
-        made = made.max(front.at(earlier) + u64::from(times[earlier as usize - 1]));
-    }
-    made
-}
 
 /// The first machine that prunes a node by the released bound: whose released bound there reaches a value.
 pub fn pruning_of_node_released(
@@ -56,7 +36,7 @@ pub fn pruning_of_node_released(
 {
     for machine in 1..setting.instance.machines() + 1 {
         let lags = least_lags(setting, set, machine);
-        let release = release_at_node(front, &lags.least, machine);
+        let release = release_from_lags(front, &lags.least, machine);
         if value <= release + u64::from(loads.sum(machine)) + u64::from(loads.tail(machine)) {
             return Some(machine);
         }

@@ -208,8 +208,8 @@ static CHECK: [Word; 6] = [
     Word {
         name: "verbose",
         kind: Kind::Flag,
-        help: "Prints then the block, its size, whether the times are those of its seed, how long the proof is, and the \
-SHA-256 of FILE and CERT",
+        help: "Prints then the block, its size, whether the times are those of its seed, how long the proof is, and \
+the SHA-256 of FILE and CERT",
     },
     Word {
         name: "optimal",

@@ -34,33 +34,33 @@ fn push_tails(instance: &Instance, rows: &[Row], tails: &mut Times, job: u16, ro
     }
 }
 
-/// The makespan with a job between two lists, from the heads of the first and the tails of the second.
-fn span_between(instance: &Instance, rows: &[Row], heads: &Times, job: u16, tails: &Times) -> u64
+/// The makespan with a job between two lists, from the front of the first and the tails of the second.
+fn span_between(instance: &Instance, rows: &[Row], front: &Times, job: u16, tails: &Times) -> u64
     requires rows { AreRows instance.now rows.now }
     requires job_from { 1 ≤ job }
     requires job_to { job ≤ instance.now.jobs }
-    requires heads { IsWithinFront instance.now heads.now }
+    requires front { IsWithinFront instance.now front.now }
     requires tails { IsWithinFront instance.now tails.now }
-    ensures { (front back : List ℕ) → IsFrontOf instance.now front heads.now → AreTails instance.now back tails.now →
-        result ≡ span instance.now (front ++ job ∷ back) }
+    ensures { (before behind : List ℕ) → IsFrontOf instance.now before front.now →
+        AreTails instance.now behind tails.now → result ≡ span instance.now (before ++ job ∷ behind) }
 {
     let times = &rows[job as usize - 1].times;
-    let mut head: u32 = 0;
+    let mut completion: u32 = 0;
     let mut most: u32 = 0;
     for machine in 1..instance.machines() + 1 {
         let place = machine as usize - 1;
-        head = heads[place].max(head) + times[place];
-        most = most.max(head + tails[place]);
+        completion = front[place].max(completion) + times[place];
+        most = most.max(completion + tails[place]);
     }
     u64::from(most)
 }
 
-/// The makespan with a job between two lists, from the heads of the first and the tails of the second. Turns the heads
-/// into those of the first list with its own next job at its end.
+/// The makespan with a job between two lists, from the front of the first and the tails of the second. Turns the front
+/// into that of the first list with its own next job at its end.
 fn span_and_push(
     instance: &Instance,
     rows: &[Row],
-    heads: &mut Times,
+    front: &mut Times,
     job: u16,
     tails: &Times,
     next: u16,
@@ -70,25 +70,25 @@ fn span_and_push(
     requires job_to { job ≤ instance.now.jobs }
     requires next_from { 1 ≤ next }
     requires next_to { next ≤ instance.now.jobs }
-    requires heads { IsWithinFront instance.now heads.old }
+    requires front { IsWithinFront instance.now front.old }
     requires tails { IsWithinFront instance.now tails.now }
-    ensures span { (front back : List ℕ) → IsFrontOf instance.now front heads.old →
-        AreTails instance.now back tails.now → result ≡ span instance.now (front ++ job ∷ back) }
-    ensures heads { (jobs : List ℕ) → IsFrontOf instance.now jobs heads.old →
-        IsFrontOf instance.now (jobs ++ next ∷ []) heads.new }
+    ensures span { (before behind : List ℕ) → IsFrontOf instance.now before front.old →
+        AreTails instance.now behind tails.now → result ≡ span instance.now (before ++ job ∷ behind) }
+    ensures front { (jobs : List ℕ) → IsFrontOf instance.now jobs front.old →
+        IsFrontOf instance.now (jobs ++ next ∷ []) front.new }
 {
     let times = &rows[job as usize - 1].times;
     let next_times = &rows[next as usize - 1].times;
-    let mut head: u32 = 0;
+    let mut completion: u32 = 0;
     let mut most: u32 = 0;
     let mut free: u32 = 0;
     for machine in 1..instance.machines() + 1 {
         let place = machine as usize - 1;
-        let before = heads[place];
-        head = before.max(head) + times[place];
-        most = most.max(head + tails[place]);
-        free = before.max(free) + next_times[place];
-        heads[place] = free;
+        let here = front[place];
+        completion = here.max(completion) + times[place];
+        most = most.max(completion + tails[place]);
+        free = here.max(free) + next_times[place];
+        front[place] = free;
     }
     u64::from(most)
 }
@@ -135,12 +135,12 @@ pub(crate) fn fill_spans(
         slice_index spans.new place ≡ span instance.now (insert partial.now place job) }
 {
     fill_tails(instance, rows, partial, tails);
-    let mut heads = [0; MAX_MACHINES];
+    let mut front = [0; MAX_MACHINES];
     for (index, next) in partial.iter().enumerate() {
-        spans[index] = span_and_push(instance, rows, &mut heads, job, &tails[index], *next);
+        spans[index] = span_and_push(instance, rows, &mut front, job, &tails[index], *next);
     }
     let last = partial.len();
-    spans[last] = span_between(instance, rows, &heads, job, &tails[last]);
+    spans[last] = span_between(instance, rows, &front, job, &tails[last]);
 }
 
 /// The makespan of a partial sequence with a job put in at each place; entry `i`: put in behind the first `i` jobs. For

@@ -6,9 +6,9 @@ use Rattle.std.specs.Global.{Vec}
 use Rattle.flow_search.specs.declared.outcome.Outcome.{Outcome}
 use Rattle.flow_search.specs.declared.outcome.Outcome.TheVariants.{Done, OverBudget, NoMemory, NoPrefix}
 use Rattle.flow_search.specs.Plans.{Planned}
-use Rattle.flow_pool.specs.declared.ends.Task.{Task}
-use Rattle.flow_pool.specs.declared.ends.Answer.{Answer}
-use Rattle.flow_pool.specs.declared.ends.HubEnds.{HubEnds}
+use Rattle.flow_pool.specs.declared.messages.Task.{Task}
+use Rattle.flow_pool.specs.declared.messages.Answer.{Answer}
+use Rattle.flow_pool.specs.declared.lane_ends.HubEnds.{HubEnds}
 use Rattle.flow_pool.specs.Deal.{by_worker}
 use Rattle.flow_pool.specs.Work.{share, asking, tasks_of, prefix_count}
 use Rattle.flow_pool.specs.Hub.{hub_lanes, sent_lists, received_lists, all_dealt}

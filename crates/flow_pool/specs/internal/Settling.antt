@@ -2,11 +2,11 @@
 use Rattle.std.specs.Prelude.{◌≡◌, ◌+◌, ◌<◌, Bool, true, false, List, [], ◌∷◌, ◌++◌, length}
 use Rattle.flow_lanes.specs.Lane.{Lane}
 use Rattle.flow_lanes.specs.declared.settled.Settled.{Settled}
-use Rattle.flow_pool.specs.declared.ends.Task.{Task}
-use Rattle.flow_pool.specs.declared.ends.Task.TheVariants.{Prefix, End}
-use Rattle.flow_pool.specs.declared.ends.Answer.{Answer}
-use Rattle.flow_pool.specs.declared.ends.HubEnds.{HubEnds}
-use Rattle.flow_pool.specs.declared.ends.WorkerEnds.{WorkerEnds}
+use Rattle.flow_pool.specs.declared.messages.Task.{Task}
+use Rattle.flow_pool.specs.declared.messages.Task.TheVariants.{Prefix, End}
+use Rattle.flow_pool.specs.declared.messages.Answer.{Answer}
+use Rattle.flow_pool.specs.declared.lane_ends.HubEnds.{HubEnds}
+use Rattle.flow_pool.specs.declared.lane_ends.WorkerEnds.{WorkerEnds}
 use Rattle.flow_pool.specs.Work.{answered, asking}
 
 -- `End` stands once among the tasks, last

@@ -1,8 +1,8 @@
 -- What holds before the workers are started, and after they have ended.
 use Rattle.std.specs.Prelude.{◌≡◌, ℕ, ◌<◌, ◌≤◌, List, length, map, All}
 use Rattle.flow_limits.specs.Limits.{most_workers}
-use Rattle.flow_pool.specs.declared.ends.HubEnds.{HubEnds}
-use Rattle.flow_pool.specs.declared.ends.WorkerEnds.{WorkerEnds}
+use Rattle.flow_pool.specs.declared.lane_ends.HubEnds.{HubEnds}
+use Rattle.flow_pool.specs.declared.lane_ends.WorkerEnds.{WorkerEnds}
 use Rattle.flow_pool.specs.declared.threads.Started.{Started}
 use Rattle.flow_pool.specs.declared.threads.Started.TheVariants.{Complete, UsedUp, Refused}
 use Rattle.flow_pool.specs.Work.{IsFresh, worker_lanes, Fit}

@@ -9,7 +9,7 @@ ghost use Rattle.flow_pool.specs.internal.HubSteps.{hub_slots};
 ghost use Rattle.flow_pool.specs.internal.Settling.{IsReadyHub};
 ghost use Rattle.flow_pool.specs.internal.Runs.{IsMade};
 
-use crate::ends::HubState;
+use crate::lane_ends::HubState;
 use crate::settling::LanePair;
 use crate::{HubEnds, WorkerEnds};
 use crossbeam_utils::sync::Parker;

@@ -5,8 +5,8 @@ ghost use Rattle.flow_pool.specs.declared.run.solve.SolveFault.TheVariants.{Memo
 ghost use Rattle.flow_pool.specs.Report.{IsReport, IsSolveFault, solve_fault};
 ghost use Rattle.flow_pool.specs.internal.Runs.{IsMade, IsRun};
 
-use crate::ends::HubState;
 use crate::gate::HubGate;
+use crate::lane_ends::HubState;
 use crate::refusal::Refusal;
 use crate::run::make::{Made, make_run};
 use crate::settling::{LanePair, settle_all};

@@ -69,7 +69,8 @@ pub fn retest_children(setting: &Setting, group: &Group, frame: &mut ColumnFrame
     requires { (list : List ℕ) × IsTested (shop_of setting.now) (pruning_bound setting.now) list group.now frame.old }
     ensures kept { KeepsColumns frame.old frame.new }
     ensures value { frame.new.value ≡ value }
-    ensures tested { (list : List ℕ) → IsTested (shop_of setting.now) (pruning_bound setting.now) list group.now frame.old →
+    ensures tested { (list : List ℕ) →
+        IsTested (shop_of setting.now) (pruning_bound setting.now) list group.now frame.old →
         IsTested (shop_of setting.now) (pruning_bound setting.now) list group.now frame.new }
 {
     if value != frame.value {

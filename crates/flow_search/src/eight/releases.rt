@@ -61,8 +61,8 @@ fn unpruned_by_releases(
     requires small { AreSmallFrees instance.now frame.now }
     ensures { (list : List ℕ) (column other : ℕ) → IsTested instance.now bound_at list group.now frame.now →
         IsColumnLeft frame.now column → IsColumnLeft frame.now other → other ≢ column →
-        IsUnprunedCount instance.now released_bound_at (child list group.now column) frame.now.value instance.now.machines
-        (slice_index result column) }
+        IsUnprunedCount instance.now released_bound_at (child list group.now column) frame.now.value
+        instance.now.machines (slice_index result column) }
 {
     // No bound is so great.
     let limit = frame.value.min(u64::from(u32::MAX)) as u32;

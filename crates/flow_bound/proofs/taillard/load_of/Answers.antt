@@ -5,7 +5,7 @@ use Rattle.std.proofs.lemmas.List.{get_or-set_same}
 use Rattle.flow_limits.specs.Limits.{most_machines, greatest_time}
 use Rattle.flow_shop.specs.Shop.{numbers, time, time_between}
 use Rattle.flow_shop.specs.Least.{least}
-use Rattle.flow_bound.proofs.Steps.{capped}
+use Rattle.flow_shop.specs.TwoLeast.{least_below}
 use Rattle.flow_bound.proofs.Running.{done-more, others-stay, head-step, head-small, tail-small, time_between-split}
 use Rattle.flow_bound.proofs.Running.{sum-step, least-step, least-of-jobs}
 use Rattle.flow_bound.proofs.taillard.load_of.Goals as goal
@@ -30,7 +30,7 @@ overflow_sub-totals c =
       c.requires.totals c.loop-job.job (omega arith) (omega arith),
       c.time-time.ensures.value,
       head-step shop c.loop-job.job c.args.machine c.requires.from,
-      time_between-split shop c.loop-job.job c.args.machine shop.machines c.requires.to,
+      time_between-split shop c.loop-job.job 1 c.args.machine shop.machines (omega arith) c.requires.to,
     )
 
 pub loop-job-preserved : goal.loop-job-preserved
@@ -46,12 +46,12 @@ loop-job-preserved c =
     let written = get_or-set_same c.loop-job.heads (job - 1) (slice_index_or c.loop-job.heads (job - 1) 0
     + c.time-time.result) 0 within in
     let total = c.requires.totals job (omega arith) (omega arith) in
-    let split = time_between-split shop job machine shop.machines c.requires.to in
+    let split = time_between-split shop job 1 machine shop.machines (omega arith) c.requires.to in
     let least_head : c.loop-job.least_head
-    ≡ capped 4294967295 (map (λ job. time_between shop job 1 (machine - 1)) (numbers 1 (job - 1))) = before.head in
+    ≡ least_below 4294967295 (map (λ job. time_between shop job 1 (machine - 1)) (numbers 1 (job - 1))) = before.head in
     let work : c.loop-job.work ≡ sum_by (λ job. time shop job machine) (numbers 1 (job - 1)) = before.work in
     let least_tail : c.loop-job.least_tail
-    ≡ capped 4294967295 (map (λ job. time_between shop job (machine + 1) shop.machines) (numbers 1 (job - 1))) =
+    ≡ least_below 4294967295 (map (λ job. time_between shop job (machine + 1) shop.machines) (numbers 1 (job - 1))) =
     before.tail in
     record {
       length = grind (arith, common_steps);

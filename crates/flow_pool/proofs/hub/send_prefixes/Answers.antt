@@ -1,5 +1,5 @@
 use Rattle.std.proofs.Common.{[], length, refl, ap, rules, arith, ◌∙◌}
-use Rattle.flow_pool.specs.declared.ends.HubEnds.{HubEnds}
+use Rattle.flow_pool.specs.declared.lane_ends.HubEnds.{HubEnds}
 use Rattle.flow_pool.specs.Deal.{dealt}
 use Rattle.flow_pool.specs.internal.HubSteps.{asked}
 use Rattle.flow_pool.proofs.Asked.{map-by_worker, dealt-nil, asked-none, pushed_at-asked}

@@ -1,6 +1,6 @@
 use Rattle.std.proofs.Common.{◌%◌, ◌∙◌, length, ap, arith}
 use Rattle.std.proofs.Math.Seq.{map-set_same}
-use Rattle.flow_pool.specs.declared.ends.HubEnds.{HubEnds}
+use Rattle.flow_pool.specs.declared.lane_ends.HubEnds.{HubEnds}
 use Rattle.flow_pool.specs.Hub.{hub_lanes}
 use Rattle.flow_pool.proofs.Hubs.{all_dealt-push}
 use Rattle.flow_pool.proofs.Over.{any_over_budget-push}

@@ -1,6 +1,6 @@
 use Rattle.std.proofs.Common.{ap}
 use Rattle.std.proofs.Math.Seq.{map-set_same}
-use Rattle.flow_pool.specs.declared.ends.HubEnds.{HubEnds}
+use Rattle.flow_pool.specs.declared.lane_ends.HubEnds.{HubEnds}
 use Rattle.flow_pool.specs.Hub.{hub_lanes}
 use Rattle.flow_pool.proofs.Hubs.{map-set-pushed}
 use Rattle.flow_pool.proofs.hub.try_send_on.Goals as goal

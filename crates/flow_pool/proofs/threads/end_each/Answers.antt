@@ -3,7 +3,7 @@ use Rattle.std.proofs.Math.Nat.{le_refl}
 use Rattle.std.proofs.Math.Seq.{map-set_same}
 use Rattle.std.proofs.lemmas.List.{get_or-set_other}
 use Rattle.std.proofs.lemmas.List.Elements.{AllWithin-more_set}
-use Rattle.flow_pool.specs.declared.ends.Task.TheVariants.{End}
+use Rattle.flow_pool.specs.declared.messages.Task.TheVariants.{End}
 use Rattle.flow_pool.specs.Hub.{hub_lanes}
 use Rattle.flow_pool.specs.internal.Settling.{IsReadyHub, IsCollected, ends_once}
 use Rattle.flow_pool.proofs.threads.end_each.Goals as goal

@@ -15,5 +15,6 @@ returns-in_ok-push_words-2 c =
     ∙ ap (λ same. if same then codes "optimal " ++ decimal c.args.makespan
     else if nat_lt c.in-Some.lower c.args.makespan then bounded else plain)
     (ne_eqb c.in-Some.lower c.args.makespan c.if-lower-makespan.false)
-    ∙ ap (λ below. if below then bounded else plain) (lt-ltb c.in-Some.lower c.args.makespan c.if-lower-makespan-2.true) in
+    ∙ ap (λ below. if below then bounded else plain)
+    (lt-ltb c.in-Some.lower c.args.makespan c.if-lower-makespan-2.true) in
     two ∙ ap (λ text. c.args.out.now.items ++ text) (sym value)

@@ -7,7 +7,8 @@ use Rattle.flow_shop.specs.Sequences.{jobs_left}
 use Rattle.flow_shop.specs.Bound.{release}
 use Rattle.flow_search.specs.internal.TwoLeast.{time_to}
 use Rattle.flow_search.specs.internal.Lags.{IsLagged}
-use Rattle.flow_search.proofs.ColumnsReleased.{need, need-more, release-is}
+use Rattle.flow_bound.proofs.Releases.{start_from}
+use Rattle.flow_search.proofs.ColumnsReleased.{start_from-more, release-is}
 use Rattle.flow_search.proofs.Needs.{row-needs-small, child-need}
 use Rattle.flow_search.proofs.release.release_at_child.Goals as goal
 use Rattle.flow_search.proofs.release.release_at_child.Goals.{After-without-least}
@@ -69,7 +70,7 @@ loop-place-preserved c =
       value = λ shop node front left job is same.
           let step = least-is (goal.at.loop-place-preserved c).After-without-least shop node left job is in
           let e : place + 1 - 1 ≡ place = omega arith in
-          need-more shop front (jobs_left shop.jobs (node ++ job ∷ [])) c.args.machine place
+          start_from-more shop front (jobs_left shop.jobs (node ++ job ∷ [])) c.args.machine place
           (slice_index front (c.args.machine - 1)) c.loop-place.made c.max-made.result
           (i.value shop node front left job is same)
           (omega (
@@ -89,8 +90,8 @@ returns-clause-value c shop node front left job is same =
     (arith, c.loop-place-test.false, c.loop-place.auto.place-end, c.requires.from) in
     c.loop-place.invariant.value shop node front left job is same
     ∙ ap (λ n. max (slice_index front (c.args.machine - 1))
-    (greatest (map (need shop front jobs c.args.machine) (numbers 1 n)))) last
+    (greatest (map (start_from shop front jobs c.args.machine) (numbers 1 n)))) last
     ∙ ap (λ k. max (slice_index front (c.args.machine - 1))
-    (greatest (map (need shop front jobs k) (numbers 1 (c.args.machine - 1))))) (sym e)
+    (greatest (map (start_from shop front jobs k) (numbers 1 (c.args.machine - 1))))) (sym e)
     ∙ sym (release-is shop front jobs (c.args.machine - 1))
     ∙ ap (release shop front jobs) e

@@ -4,10 +4,10 @@ use Rattle.flow_shop.specs.Shop.{Shop, numbers}
 use Rattle.flow_shop.specs.Least.{greatest}
 use Rattle.flow_shop.specs.Sequences.{jobs_left}
 use Rattle.flow_search.specs.internal.Lags.{IsLagged}
-use Rattle.flow_search.proofs.ColumnsReleased.{need}
+use Rattle.flow_bound.proofs.Releases.{start_from}
 use Rattle.flow_search.proofs.release.release_at_child.Given as goal
 
--- the greatest need of the machines so far
+-- the greatest start from the machines so far
 abbrev pub invariant-loop-place : goal.invariant-loop-place
 invariant-loop-place l = record {
   least : slice_index l.free (l.machine - 1) ≤ l.made;
@@ -16,5 +16,5 @@ invariant-loop-place l = record {
       IsLagged shop node left job l.machine l.row l.lags →
       ((place : ℕ) → place < l.machine → slice_index l.free place ≡ slice_index front place) →
       l.made ≡ max (slice_index front (l.machine - 1))
-      (greatest (map (need shop front (jobs_left shop.jobs (node ++ job ∷ [])) l.machine) (numbers 1 l.place)));
+      (greatest (map (start_from shop front (jobs_left shop.jobs (node ++ job ∷ [])) l.machine) (numbers 1 l.place)));
 }

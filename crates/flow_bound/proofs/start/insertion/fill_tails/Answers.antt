@@ -4,7 +4,7 @@ use Rattle.std.proofs.lemmas.List.{drop_more}
 use Rattle.flow_limits.specs.Limits.{most_machines}
 use Rattle.flow_bound.specs.internal.Tails.{AreTails}
 use Rattle.flow_bound.proofs.Filled.{row-written}
-use Rattle.flow_bound.proofs.HeadsAndTails.{tails-end, tails-within}
+use Rattle.flow_bound.proofs.FrontsAndTails.{tails-end, tails-within}
 use Rattle.flow_bound.proofs.start.insertion.fill_tails.Goals as goal
 
 pub loop-place-init : goal.loop-place-init

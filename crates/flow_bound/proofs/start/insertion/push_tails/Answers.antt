@@ -8,7 +8,7 @@ use Rattle.flow_shop.specs.Shop.{time}
 use Rattle.flow_shop.proofs.Fronts.{time-small}
 use Rattle.flow_bound.specs.Insertion.{tail}
 use Rattle.flow_bound.specs.internal.Tails.{AreTails}
-use Rattle.flow_bound.proofs.HeadsAndTails.{tail-past, tail-step}
+use Rattle.flow_bound.proofs.FrontsAndTails.{tail-past, tail-step}
 use Rattle.flow_bound.proofs.start.insertion.push_tails.Goals as goal
 
 pub loop-place-init : goal.loop-place-init

@@ -7,14 +7,14 @@ use Rattle.flow_shop.specs.Shop.{numbers, time}
 use Rattle.flow_shop.specs.Least.{greatest}
 use Rattle.flow_shop.proofs.Recurrence.{after}
 use Rattle.flow_shop.proofs.Fronts.{free_at, after-step, done-more, front-push, time-small}
-use Rattle.flow_bound.proofs.HeadsAndTails.{between-is}
+use Rattle.flow_bound.proofs.FrontsAndTails.{between-is}
 use Rattle.flow_bound.proofs.Running.{greatest-step}
 use Rattle.flow_bound.proofs.start.insertion.span_and_push.Goals as goal
 
 pub loop-machine-preserved : goal.loop-machine-preserved
 loop-machine-preserved c =
     let shop = c.args.instance.now in
-    let old = c.args.heads.now in
+    let old = c.args.front.now in
     let tails = c.args.tails.now in
     let machine = c.loop-machine.machine in
     let here = c.loop-machine.invariant in
@@ -27,18 +27,18 @@ loop-machine-preserved c =
     let next_rows = c.requires.rows.each c.args.next _ c.requires.next_from c.requires.next_to in
     let next_there : row_time c.args.next ≡ time shop c.args.next machine =
     (next_rows machine (omega arith) (omega arith)).0 in
-    let within : machine - 1 < length c.loop-machine.heads = omega (arith, here.length) in
-    let same : slice_index c.loop-machine.heads (machine - 1) ≡ slice_index old (machine - 1) =
+    let within : machine - 1 < length c.loop-machine.front = omega (arith, here.length) in
+    let same : slice_index c.loop-machine.front (machine - 1) ≡ slice_index old (machine - 1) =
     here.others (machine - 1) (omega arith) in
-    let head : c.max.result + row_time c.args.job ≡ after shop (free_at old) c.args.job machine =
-    after-step shop old c.loop-machine.heads c.args.job machine c.loop-machine.head (row_time c.args.job) (c.max.result
-    + row_time c.args.job)
-    (omega arith) here.head same there (omega (arith, c.max.ensures)) in
-    let value = after-step shop old c.loop-machine.heads c.args.next machine c.loop-machine.free (row_time
+    let completion : c.max.result + row_time c.args.job ≡ after shop (free_at old) c.args.job machine =
+    after-step shop old c.loop-machine.front c.args.job machine c.loop-machine.completion (row_time
+    c.args.job) (c.max.result + row_time c.args.job)
+    (omega arith) here.completion same there (omega (arith, c.max.ensures)) in
+    let value = after-step shop old c.loop-machine.front c.args.next machine c.loop-machine.free (row_time
     c.args.next) (c.max-in-loop-machine.result + row_time c.args.next)
     (omega arith) here.free same next_there (omega (arith, c.max-in-loop-machine.ensures)) in
     let old_small : slice_index old (machine - 1) ≤ greatest_completion =
-    c.requires.heads (machine - 1) (omega arith) in
+    c.requires.front (machine - 1) (omega arith) in
     let tail_small : slice_index tails (machine - 1) ≤ greatest_completion =
     c.requires.tails (machine - 1) (omega arith) in
     let next : machine + 1 - 1 ≡ machine = omega arith in
@@ -47,13 +47,13 @@ loop-machine-preserved c =
     let time_small = time-small shop c.args.job machine c.machines-machine-end.ensures.limits in
     let next_small = time-small shop c.args.next machine c.machines-machine-end.ensures.limits in
     record {
-      head = head ∙ ap (after shop (free_at old) c.args.job) (sym next);
-      most = omega (arith, step, here.most, head, c.max-most.ensures);
-      head_small = omega (arith, here.head_small, same, old_small, there, time_small, c.max.ensures);
+      completion = completion ∙ ap (after shop (free_at old) c.args.job) (sym next);
+      most = omega (arith, step, here.most, completion, c.max-most.ensures);
+      completion_small = omega (arith, here.completion_small, same, old_small, there, time_small, c.max.ensures);
       most_small = omega (
         arith,
         here.most_small,
-        here.head_small,
+        here.completion_small,
         same,
         old_small,
         tail_small,
@@ -73,22 +73,22 @@ loop-machine-preserved c =
         next_small,
         c.max-in-loop-machine.ensures,
       );
-      done = done-more shop old c.loop-machine.heads c.args.next machine (c.max-in-loop-machine.result
+      done = done-more shop old c.loop-machine.front c.args.next machine (c.max-in-loop-machine.result
           + row_time c.args.next) (omega arith) within value here.done;
       others = λ place high. let other : place ≢ machine - 1 = omega arith in
           rw get_or-set_other (here.others place (omega arith));
     }
 
 pub returns-clause-span : goal.returns-clause-span
-returns-clause-span c front back is_front are_tails =
+returns-clause-span c before behind is_front are_tails =
     let shop = c.args.instance.now in
     let last : c.loop-machine.machine - 1 ≡ shop.machines = omega arith in
-    let value : ℕ → ℕ = λ machine. after shop (free_at c.args.heads.now) c.args.job machine
+    let value : ℕ → ℕ = λ machine. after shop (free_at c.args.front.now) c.args.job machine
     + free_at c.args.tails.now machine in
-    between-is shop front back c.args.heads.now c.args.tails.now c.args.job c.from.result is_front are_tails
+    between-is shop before behind c.args.front.now c.args.tails.now c.args.job c.from.result is_front are_tails
     (c.from.ensures ∙ c.loop-machine.invariant.most ∙ ap (λ n. greatest (map value (numbers 1 n))) last)
 
-pub returns-clause-heads : goal.returns-clause-heads
-returns-clause-heads c jobs front =
-    front-push c.args.instance.now jobs c.args.heads.now c.loop-machine.heads c.args.next
+pub returns-clause-front : goal.returns-clause-front
+returns-clause-front c jobs front =
+    front-push c.args.instance.now jobs c.args.front.now c.loop-machine.front c.args.next
     (λ machine low high. c.loop-machine.invariant.done machine low (omega arith)) front

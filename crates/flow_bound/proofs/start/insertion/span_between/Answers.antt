@@ -4,14 +4,14 @@ use Rattle.flow_shop.specs.Shop.{numbers, time}
 use Rattle.flow_shop.specs.Least.{greatest}
 use Rattle.flow_shop.proofs.Recurrence.{after}
 use Rattle.flow_shop.proofs.Fronts.{free_at, after-step, time-small}
-use Rattle.flow_bound.proofs.HeadsAndTails.{between-is}
+use Rattle.flow_bound.proofs.FrontsAndTails.{between-is}
 use Rattle.flow_bound.proofs.Running.{greatest-step}
 use Rattle.flow_bound.proofs.start.insertion.span_between.Goals as goal
 
 pub loop-machine-preserved : goal.loop-machine-preserved
 loop-machine-preserved c =
     let shop = c.args.instance.now in
-    let heads = c.args.heads.now in
+    let front = c.args.front.now in
     let tails = c.args.tails.now in
     let machine = c.loop-machine.machine in
     let from_time : ℕ = slice_index (slice_index_or c.args.rows.now (c.args.job - 1) (record {
@@ -21,30 +21,30 @@ loop-machine-preserved c =
     let there : from_time ≡ time shop c.args.job machine =
     (c.requires.rows.each c.args.job _ c.requires.job_from c.requires.job_to machine (omega arith) (omega arith)).0 in
     let before = c.loop-machine.invariant in
-    let head : c.max.result + from_time ≡ after shop (free_at heads) c.args.job machine =
-    after-step shop heads heads c.args.job machine c.loop-machine.head from_time (c.max.result + from_time)
-    (omega arith) before.head (omega arith) there (omega (arith, c.max.ensures)) in
-    let head_small : slice_index heads (machine - 1) ≤ greatest_completion =
-    c.requires.heads (machine - 1) (omega arith) in
+    let completion : c.max.result + from_time ≡ after shop (free_at front) c.args.job machine =
+    after-step shop front front c.args.job machine c.loop-machine.completion from_time (c.max.result + from_time)
+    (omega arith) before.completion (omega arith) there (omega (arith, c.max.ensures)) in
+    let front_small : slice_index front (machine - 1) ≤ greatest_completion =
+    c.requires.front (machine - 1) (omega arith) in
     let tail_small : slice_index tails (machine - 1) ≤ greatest_completion =
     c.requires.tails (machine - 1) (omega arith) in
     let next : machine + 1 - 1 ≡ machine = omega arith in
-    let step = greatest-step (λ machine. after shop (free_at heads) c.args.job machine
+    let step = greatest-step (λ machine. after shop (free_at front) c.args.job machine
     + free_at tails machine) machine (omega arith) in
     let most : c.loop-machine.most
-    ≡ greatest (map (λ machine. after shop (free_at heads) c.args.job machine
+    ≡ greatest (map (λ machine. after shop (free_at front) c.args.job machine
     + free_at tails machine) (numbers 1 (machine - 1))) =
     before.most in
     let time_small = time-small shop c.args.job machine c.machines-machine-end.ensures.limits in
     record {
-      head = head ∙ ap (after shop (free_at heads) c.args.job) (sym next);
-      most = omega (arith, step, most, head, c.max-most.ensures);
-      head_small = omega (arith, before.head_small, head_small, there, time_small, c.max.ensures);
+      completion = completion ∙ ap (after shop (free_at front) c.args.job) (sym next);
+      most = omega (arith, step, most, completion, c.max-most.ensures);
+      completion_small = omega (arith, before.completion_small, front_small, there, time_small, c.max.ensures);
       most_small = omega (
         arith,
         before.most_small,
-        before.head_small,
-        head_small,
+        before.completion_small,
+        front_small,
         tail_small,
         there,
         time_small,
@@ -54,10 +54,10 @@ loop-machine-preserved c =
     }
 
 pub returns : goal.returns
-returns c front back is_front are_tails =
+returns c before behind is_front are_tails =
     let shop = c.args.instance.now in
     let last : c.loop-machine.machine - 1 ≡ shop.machines = omega arith in
-    let value : ℕ → ℕ = λ machine. after shop (free_at c.args.heads.now) c.args.job machine
+    let value : ℕ → ℕ = λ machine. after shop (free_at c.args.front.now) c.args.job machine
     + free_at c.args.tails.now machine in
-    between-is shop front back c.args.heads.now c.args.tails.now c.args.job c.from.result is_front are_tails
+    between-is shop before behind c.args.front.now c.args.tails.now c.args.job c.from.result is_front are_tails
     (c.from.ensures ∙ c.loop-machine.invariant.most ∙ ap (λ n. greatest (map value (numbers 1 n))) last)

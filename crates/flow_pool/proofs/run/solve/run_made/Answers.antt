@@ -1,6 +1,6 @@
 use Rattle.std.proofs.Common.{◌≡◌, ◌∙◌, None, Some, length, map, sym, ap, rules, arith}
 use Rattle.flow_search.specs.Verdicts.{first_refusal}
-use Rattle.flow_pool.specs.declared.ends.Answer.{Answer}
+use Rattle.flow_pool.specs.declared.messages.Answer.{Answer}
 use Rattle.flow_pool.proofs.Over.{IsRunFault-first, none-over_budget}
 use Rattle.flow_pool.proofs.Whole.{answers-of-run, lawful-outcomes, All-IsDoneAnswer, AreWholeWork-from_parts}
 use Rattle.flow_pool.proofs.Whole.{HasCollected-dealt}

@@ -21,14 +21,14 @@ loop-place-init c = record {
   columns = refl;
   next = refl;
   size = search rules;
-  free_small = λ column low. omega (arith, all-same 8 0 column low);
-  unpruned_small = λ column low. omega (arith, all-same 8 0 column low);
-  flags_small = λ column low. omega (arith, all-same 8 1 column low);
-  free = λ list column at here. all-same 8 0 column here.within ∙ free-none c.args.instance.now list (job_of
+  free_small = λ column low. omega (arith, all-same 0 column low);
+  unpruned_small = λ column low. omega (arith, all-same 0 column low);
+  flags_small = λ column low. omega (arith, all-same 1 column low);
+  free = λ list column at here. all-same 0 column here.within ∙ free-none c.args.instance.now list (job_of
       c.args.group.now column);
   passed = λ list column other at here there differ.
       passed-start c.args.instance.now bound_at (child list c.args.group.now column) c.args.value _ _
-      (all-same 8 0 column here.within) (all-same 8 1 column here.within);
+      (all-same 0 column here.within) (all-same 1 column here.within);
   done_small = λ place column h low. absurd (omega (arith, h));
   done = λ list place column at here h. absurd (omega (arith, h));
 }
@@ -126,7 +126,12 @@ loop-place-preserved c =
             )
             | inr over ↦ omega (arith, c.where_less-flags.ensures.cut column low over)
           ] in
-          omega (arith, c.sums-unpruned.ensures.each column low, flag, c.loop-place.invariant.unpruned_small column low);
+          omega (
+            arith,
+            c.sums-unpruned.ensures.each column low,
+            flag,
+            c.loop-place.invariant.unpruned_small column low,
+          );
       flags_small = λ column low. elim (cases_lt (slice_index c.sums.result column) c.saturating_sub-room.result) [
         | inl under ↦ omega (
           arith,

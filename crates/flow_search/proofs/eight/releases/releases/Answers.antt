@@ -10,7 +10,8 @@ use Rattle.flow_search.specs.declared.eight.group.TheConstants.{GONE}
 use Rattle.flow_search.specs.declared.eight.group.MachineRow.{MachineRow}
 use Rattle.flow_search.specs.internal.Columns.{child}
 use Rattle.flow_search.proofs.ColumnsPassed.{row-small}
-use Rattle.flow_search.proofs.ColumnsReleased.{need, need-is, need-more, release-is}
+use Rattle.flow_bound.proofs.Releases.{start_from}
+use Rattle.flow_search.proofs.ColumnsReleased.{start_from-is, start_from-more, release-is}
 use Rattle.flow_search.proofs.eight.releases.releases.Goals as goal
 use Rattle.flow_search.proofs.eight.releases.releases.Goals.{After-others-least}
 
@@ -40,7 +41,7 @@ sums-requires c = record {
       omega (arith, small.time, small.tail);
 }
 
--- the need of the machine in a column, at most
+-- the start from the machine in a column, at most
 sum-small : (c : After-others-least) (column : ℕ) → column < 8 →
     slice_index (slice_index_or c.args.frame.now.free c.loop-earlier.earlier []) column
     + slice_index c.others-least.result column
@@ -78,7 +79,7 @@ loop-earlier-preserved c = record {
       );
   each = λ list column other opened here there differ.
       let shop : Shop = c.args.instance.now in
-      let step = need-is shop list c.args.group.now c.args.frame.now none column other c.loop-earlier.earlier
+      let step = start_from-is shop list c.args.group.now c.args.frame.now none column other c.loop-earlier.earlier
       c.args.place
       (slice_index c.others-least.result column) c.differences-between.result c.greater.result
       c.machines.ensures.limits opened here there differ c.loop-earlier-test.true c.requires.to
@@ -89,7 +90,7 @@ loop-earlier-preserved c = record {
         c.sums-needs.ensures.each k low,
       ))
       c.greater.ensures.each (c.others-least.ensures.each column here.within) in
-      need-more shop (front_of shop (child list c.args.group.now column))
+      start_from-more shop (front_of shop (child list c.args.group.now column))
       (jobs_left shop.jobs (child list c.args.group.now column)) (c.args.place + 1) c.loop-earlier.earlier
       (slice_index (slice_index_or c.args.frame.now.free c.args.place []) column)
       (slice_index c.loop-earlier.late column) (slice_index c.greater-in-loop-earlier.result column)
@@ -117,7 +118,7 @@ returns-clause-each c list column other opened here there differ =
     (omega (arith, c.requires.to)))
     ∙ ap (slice_index front) back in
     c.loop-earlier.invariant.each list column other opened here there differ
-    ∙ ap (λ n. max n (greatest (map (need shop front left (c.args.place + 1)) (numbers 1 c.loop-earlier.earlier)))) free
-    ∙ ap (λ n. max (slice_index front c.args.place) (greatest (map (need shop front left (c.args.place + 1))
+    ∙ ap (λ n. max n (greatest (map (start_from shop front left (c.args.place + 1)) (numbers 1 c.loop-earlier.earlier)))) free
+    ∙ ap (λ n. max (slice_index front c.args.place) (greatest (map (start_from shop front left (c.args.place + 1))
     (numbers 1 n)))) e
     ∙ sym (release-is shop front left c.args.place)

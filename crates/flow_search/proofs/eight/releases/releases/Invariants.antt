@@ -6,10 +6,10 @@ use Rattle.flow_shop.specs.Sequences.{jobs_left}
 use Rattle.flow_shop.specs.Bound.{front_of}
 use Rattle.flow_search.specs.internal.Columns.{IsOpened, IsColumnLeft, child}
 use Rattle.flow_search.specs.declared.eight.group.TheConstants.{GONE}
-use Rattle.flow_search.proofs.ColumnsReleased.{need}
+use Rattle.flow_bound.proofs.Releases.{start_from}
 use Rattle.flow_search.proofs.eight.releases.releases.Given as goal
 
--- the greatest need of the machines so far
+-- the greatest start from the machines so far
 abbrev pub invariant-loop-earlier : goal.invariant-loop-earlier
 invariant-loop-earlier l = record {
   small : (column : ℕ) → column < 8 →
@@ -17,6 +17,6 @@ invariant-loop-earlier l = record {
   each : (list : List ℕ) (column other : ℕ) → IsOpened l.instance list l.group l.frame → IsColumnLeft l.frame column →
       IsColumnLeft l.frame other → other ≢ column →
       slice_index l.late column ≡ max (slice_index (slice_index_or l.frame.free l.place []) column)
-      (greatest (map (need l.instance (front_of l.instance (child list l.group column))
+      (greatest (map (start_from l.instance (front_of l.instance (child list l.group column))
       (jobs_left l.instance.jobs (child list l.group column)) (l.place + 1)) (numbers 1 l.earlier)));
 }

@@ -18,15 +18,15 @@ none = record { time = []; tail = [] }
 
 pub loop-place-init : goal.loop-place-init
 loop-place-init c = record {
-  unpruned_small = λ column low. omega (arith, all-same 8 0 column low);
+  unpruned_small = λ column low. omega (arith, all-same 0 column low);
   flags_small = λ column low. elim (cases_lt (slice_index c.args.frame.now.gone column) 1) [
-    | inl under ↦ omega (arith, c.where_less-flags.ensures.kept column low under, all-same 8 1 column low)
+    | inl under ↦ omega (arith, c.where_less-flags.ensures.kept column low under, all-same 1 column low)
     | inr over ↦ omega (arith, c.where_less-flags.ensures.cut column low over)
   ];
   passed = λ list column other tested here there differ.
       passed-start c.args.instance.now released_bound_at (child list c.args.group.now column) c.args.frame.now.value _ _
-      (all-same 8 0 column here.within)
-      (c.where_less-flags.ensures.kept column here.within (omega (arith, here.left)) ∙ all-same 8 1 column here.within);
+      (all-same 0 column here.within)
+      (c.where_less-flags.ensures.kept column here.within (omega (arith, here.left)) ∙ all-same 1 column here.within);
 }
 
 pub releases-requires-clause-opened : goal.releases-requires-clause-opened

@@ -17,11 +17,13 @@ use Rattle.flow_search.proofs.eight.walk.visit_column.Goals.{After-machines-mach
 tested : (c : After-machines-machines) → 1 ≤ c.args.left →
     IsUnprunedCount c.args.setting.now.instance.now (bound_of c.args.setting.now.version) (child
     c.args.search.now.node.items c.args.group.now c.args.column)
-    c.args.search.now.value c.args.setting.now.instance.now.machines (slice_index c.args.frame.now.unpruned c.args.column)
+    c.args.search.now.value c.args.setting.now.instance.now.machines
+    (slice_index c.args.frame.now.unpruned c.args.column)
 tested c some =
     subst (λ value. IsUnprunedCount c.args.setting.now.instance.now (bound_of c.args.setting.now.version)
     (child c.args.search.now.node.items c.args.group.now c.args.column)
-    value c.args.setting.now.instance.now.machines (slice_index c.args.frame.now.unpruned c.args.column)) c.requires.value
+    value c.args.setting.now.instance.now.machines (slice_index c.args.frame.now.unpruned c.args.column))
+    c.requires.value
     (unpruned-here c.args.setting.now.instance.now (bound_of c.args.setting.now.version) c.args.search.now.node.items
     c.args.group.now c.args.frame.now
     c.args.column

@@ -1,11 +1,10 @@
 use Rattle.std.proofs.Common.{◌≡◌, ◌≢◌, ℕ, ◌<◌, min, max, map, set, slice_index, ap, sym, ◌∙◌, inl, inr, arith}
 use Rattle.std.proofs.lemmas.Bool.{cases_lt}
-use Rattle.std.proofs.lemmas.List.{get_or-set_same, get_or-set_other, length-set}
+use Rattle.std.proofs.lemmas.List.{get_or-set_same, get_or-set_other, length-set, map_push}
 use Rattle.flow_limits.specs.Limits.{most_machines}
 use Rattle.flow_shop.specs.TwoLeast.{least_below, second_below}
 use Rattle.flow_search.specs.internal.TwoLeast.{least_of_none}
 use Rattle.flow_shop.proofs.TwoLeast.{least-push, second-push}
-use Rattle.flow_search.proofs.Children.{map-push}
 use Rattle.flow_search.proofs.two_least.TwoLeast.take.Goals as goal
 
 pub loop-place-preserved : goal.loop-place-preserved
@@ -65,7 +64,7 @@ returns c number jobs job are old place low =
       done.0
           ∙ ap (λ n. min n (slice_index c.args.numbers.now place)) was.0
           ∙ ap (min (least_below least_of_none (map (number place) jobs))) is
-          ∙ sym (ap (least_below least_of_none) (map-push (number place) jobs job)
+          ∙ sym (ap (least_below least_of_none) (map_push (number place) jobs job)
           ∙ least-push least_of_none (map (number place) jobs) (number place job)),
       done.1
           ∙ ap (λ n. min n (max (slice_index c.args.self.now.least place) (slice_index c.args.numbers.now place))) was.1
@@ -74,6 +73,6 @@ returns c number jobs job are old place low =
           ∙ ap (λ n. min (second_below least_of_none least_of_none (map (number place) jobs))
           (max (least_below least_of_none
           (map (number place) jobs)) n)) is
-          ∙ sym (ap (second_below least_of_none least_of_none) (map-push (number place) jobs job)
+          ∙ sym (ap (second_below least_of_none least_of_none) (map_push (number place) jobs job)
           ∙ second-push least_of_none least_of_none (map (number place) jobs) (number place job)),
     )

@@ -1,4 +1,4 @@
--- The makespan of a list with a job between two others is that of its heads and tails, and tails go by a recurrence.
+-- The makespan of a list with a job between two others is that of a front and tails, and tails go by a recurrence.
 use Rattle.std.proofs.Common.{◌≡◌, ℕ, zero, suc, ◌+◌, ◌-◌, ◌<◌, ◌≤◌, max, List, [], ◌∷◌, ◌++◌, length, drop, map}
 use Rattle.std.proofs.Common.{slice_index, replicate, refl, ap, sym, ◌∙◌, inl, inr, arith}
 use Rattle.std.proofs.lemmas.Bool.{cases_lt}
@@ -11,10 +11,10 @@ use Rattle.flow_shop.specs.Front.{IsFrontOf, IsWithinFront}
 use Rattle.flow_shop.proofs.Extremes.{range-le-greatest, greatest-range-le}
 use Rattle.flow_shop.proofs.Recurrence.{after, completed, completion-is, completion-after, after-same}
 use Rattle.flow_shop.proofs.Recurrence.{time_between-none, time_between-first, weight-le-completed, completed-attained}
-use Rattle.flow_shop.proofs.Recurrence.{path-up, path-le-greatest, greatest-path-le}
+use Rattle.flow_shop.proofs.Recurrence.{path-up, path-le-greatest, greatest-path-le, completed-zero}
 use Rattle.flow_shop.proofs.Admissible.{completed-append, after-later}
 use Rattle.flow_shop.proofs.Fronts.{free_at, completion-small, zeros}
-use Rattle.flow_bound.specs.Insertion.{tail, SpanIsOfHeadsAndTails}
+use Rattle.flow_bound.specs.Insertion.{tail, SpanIsOfFrontsAndTails}
 use Rattle.flow_bound.specs.internal.Tails.{AreTails}
 use Rattle.flow_bound.proofs.MachineLoads.{completed-grows}
 
@@ -42,10 +42,10 @@ free-and-tail shop free jobs machine low before =
     (λ machines e path. omega (arith, weight-le-completed shop free jobs machines machine shop.machines low e path)) in
     omega (arith, before, behind)
 
--- a job's head on a machine comes before the end
-head-before : (shop : Shop) (free : ℕ → ℕ) (job : ℕ) (jobs : List ℕ) (machine : ℕ) → machine ≤ shop.machines →
+-- a job's completion time on a machine comes before the end
+completion-before : (shop : Shop) (free : ℕ → ℕ) (job : ℕ) (jobs : List ℕ) (machine : ℕ) → machine ≤ shop.machines →
     1 ≤ shop.machines → after shop free job machine ≤ completed shop (after shop free job) jobs shop.machines
-head-before shop free job jobs machine high some =
+completion-before shop free job jobs machine high some =
     omega (
       arith,
       after-later shop free job machine shop.machines high,
@@ -53,16 +53,12 @@ head-before shop free job jobs machine high some =
           (after shop free job) jobs shop.machines some,
     )
 
-completed-none : (shop : Shop) (free : ℕ → ℕ) (jobs : List ℕ) → free 0 ≡ 0 → completed shop free jobs 0 ≡ 0
-completed-none shop free [] z = z
-completed-none shop free (job ∷ jobs) z = completed-none shop (after shop free job) jobs refl
-
--- the end is the greatest of the heads and tails
-end-is-greatest : (shop : Shop) (free head : ℕ → ℕ) (job : ℕ) (jobs : List ℕ) →
-    ((machine : ℕ) → head machine ≡ after shop free job machine) →
+-- the end is the greatest sum of the job's completion time and a tail
+end-is-greatest : (shop : Shop) (free leaves : ℕ → ℕ) (job : ℕ) (jobs : List ℕ) →
+    ((machine : ℕ) → leaves machine ≡ after shop free job machine) →
     completed shop (after shop free job) jobs shop.machines
-    ≡ greatest (map (λ machine. head machine + tail shop jobs machine) (numbers 1 shop.machines))
-end-is-greatest shop free head job jobs heads =
+    ≡ greatest (map (λ machine. leaves machine + tail shop jobs machine) (numbers 1 shop.machines))
+end-is-greatest shop free leaves job jobs same =
     elim (cases_lt 0 shop.machines) [
       | inl some ↦
           let path = completed-attained shop (after shop free job) jobs shop.machines some in
@@ -73,27 +69,27 @@ end-is-greatest shop free head job jobs heads =
           + 1 - 1) (completed shop (after shop free job) jobs shop.machines)
           (λ machine low top. omega (
             arith,
-            heads machine,
+            same machine,
             free-and-tail shop (after shop free job) jobs machine low
-                (head-before shop free job jobs machine (omega arith) some),
+                (completion-before shop free job jobs machine (omega arith) some),
           )) in
-          omega (arith, above, below, heavy, path.5, heads path.0)
+          omega (arith, above, below, heavy, path.5, same path.0)
       | inr none ↦
           let e : shop.machines ≡ 0 = omega arith in
           ap (completed shop (after shop free job) jobs) e
-          ∙ completed-none shop (after shop free job) jobs refl
+          ∙ completed-zero shop (after shop free job) jobs refl
           ∙ sym (ap (λ last. greatest (map value (numbers 1 last))) e)
     ]
   where
     value : ℕ → ℕ
-    value machine = head machine + tail shop jobs machine
+    value machine = leaves machine + tail shop jobs machine
 
-pub span-is-of-heads-and-tails : SpanIsOfHeadsAndTails
-span-is-of-heads-and-tails shop front back job =
-    completion-is shop (front ++ job ∷ back) shop.machines
-    ∙ ap (λ free. free shop.machines) (completed-append shop (λ _. 0) front (job ∷ back))
-    ∙ end-is-greatest shop (completed shop (λ _. 0) front) (completion shop (front ++ job
-    ∷ [])) job back (completion-after shop front job)
+pub span-is-of-fronts-and-tails : SpanIsOfFrontsAndTails
+span-is-of-fronts-and-tails shop before behind job =
+    completion-is shop (before ++ job ∷ behind) shop.machines
+    ∙ ap (λ free. free shop.machines) (completed-append shop (λ _. 0) before (job ∷ behind))
+    ∙ end-is-greatest shop (completed shop (λ _. 0) before) (completion shop (before ++ job
+    ∷ [])) job behind (completion-after shop before job)
 
 -- the empty list has no tail
 pub tail-none : (shop : Shop) (machine : ℕ) → tail shop [] machine ≡ 0
@@ -186,7 +182,7 @@ tail-le-span shop jobs machine low high =
     omega (
       arith,
       completion-is shop (0 ∷ jobs) shop.machines,
-      free-and-tail shop (after shop (λ _. 0) 0) jobs machine low (head-before shop (λ _. 0) 0 jobs machine high
+      free-and-tail shop (after shop (λ _. 0) 0) jobs machine low (completion-before shop (λ _. 0) 0 jobs machine high
           (omega arith)),
     )
 
@@ -214,31 +210,31 @@ greatest-le f g last same =
     greatest-range-le f 1 (last + 1 - 1) (greatest (map g (numbers 1 last)))
     (λ k low high. omega (arith, same k low (omega arith), range-le-greatest g 1 (last + 1 - 1) k low high))
 
--- the makespan from the heads of the jobs before and the tails of those behind
-pub between-is : (shop : Shop) (front back heads tails : List ℕ) (job most : ℕ) → IsFrontOf shop front heads →
-    AreTails shop back tails →
-    most ≡ greatest (map (λ machine. after shop (free_at heads) job machine
+-- the makespan from the front of the jobs before and the tails of those behind
+pub between-is : (shop : Shop) (before behind front tails : List ℕ) (job most : ℕ) → IsFrontOf shop before front →
+    AreTails shop behind tails →
+    most ≡ greatest (map (λ machine. after shop (free_at front) job machine
     + free_at tails machine) (numbers 1 shop.machines)) →
-    most ≡ span shop (front ++ job ∷ back)
-between-is shop front back heads tails job most is_front are_tails is =
+    most ≡ span shop (before ++ job ∷ behind)
+between-is shop before behind front tails job most is_front are_tails is =
     let below = greatest-le given wanted shop.machines same in
     let above = greatest-le wanted given shop.machines (λ k low high. sym (same k low high)) in
-    let law = span-is-of-heads-and-tails shop front back job in
+    let law = span-is-of-fronts-and-tails shop before behind job in
     omega (arith, is, below, above, law)
   where
     given : ℕ → ℕ
-    given machine = after shop (free_at heads) job machine + free_at tails machine
+    given machine = after shop (free_at front) job machine + free_at tails machine
 
     wanted : ℕ → ℕ
-    wanted machine = completion shop (front ++ job ∷ []) machine + tail shop back machine
+    wanted machine = completion shop (before ++ job ∷ []) machine + tail shop behind machine
 
     same : (machine : ℕ) → 1 ≤ machine → machine ≤ shop.machines → given machine ≡ wanted machine
     same machine low high =
         omega (
           arith,
-          after-same shop job (free_at heads) (completed shop (λ _. 0) front) machine
-              (λ k from to. is_front k from (omega arith) ∙ completion-is shop front k),
-          completion-after shop front job machine,
+          after-same shop job (free_at front) (completed shop (λ _. 0) before) machine
+              (λ k from to. is_front k from (omega arith) ∙ completion-is shop before k),
+          completion-after shop before job machine,
           are_tails machine low high,
         )
 
