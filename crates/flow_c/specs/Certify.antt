@@ -1,14 +1,13 @@
 -- What a search for a two-ended certificate gives, and why it gives nothing.
 use Rattle.std.specs.Prelude.{ℕ, ◌≡◌, ◌+◌, ◌<◌, ◌≤◌, List, [], ◌∷◌, length, Option}
-use Rattle.std.specs.Int.{is_in_range}
 use Rattle.std.specs.Option.{option_map}
-use Rattle.flow_limits.specs.Limits.{most_directions}
 use Rattle.flow_shop.specs.Refusals.{fault_unless, first_fault}
 use Rattle.flow_shop.specs.Shop.{Shop}
 use Rattle.flow_shop.specs.Ends.{end_bound}
 use Rattle.flow_shop.specs.Paths.{span}
 use Rattle.flow_check.specs.TwoEnded.{IsTwoEnded}
 use Rattle.flow_check.specs.declared.bounds.Bounds.{Bounds}
+use Rattle.flow_certify.specs.Signs.{may_be_most}
 use Rattle.flow_c.specs.Faults.{makespan_fault, fault_of_effort, room_fault}
 use Rattle.flow_c.specs.declared.shop.ShopNumbers.{ShopNumbers}
 use Rattle.flow_c.specs.declared.effort.EffortNumbers.{EffortNumbers}
@@ -17,7 +16,7 @@ use Rattle.flow_c.specs.declared.fault.Fault.TheVariants.{Room, Effort, Directio
 
 -- why a number of directions is refused
 abbrev pub directions_fault : ℕ → Option Fault
-directions_fault directions = fault_unless (is_in_range 1 most_directions directions) Directions
+directions_fault directions = fault_unless (may_be_most directions) Directions
 
 -- why nothing is searched: the numbers are no instance, the jobs no sequence of it, the other numbers not within their
 -- limits, or a sequence has no room

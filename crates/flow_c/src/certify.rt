@@ -19,7 +19,7 @@ use crate::fault::Fault;
 use crate::outcome::Outcome;
 use crate::room::{Entries, fill, need};
 use crate::shop::ShopNumbers;
-use crate::text::TextRoom;
+use crate::text::{TextRoom, empty_text};
 use flow_cert::write_two_ended;
 use flow_certify::{MostDirections, certify};
 use flow_check::Bounds;
@@ -61,7 +61,7 @@ fn around(
     ensures text { IfOk result (λ text. text.bytes ≡ two_ended_text instance.now bounds sequence.now []) }
     ensures refused { IfErr result (λ fault. number fault ≡ memory) }
 {
-    let mut text = MemorySink::new(alloc, usize::MAX);
+    let mut text = empty_text(alloc);
     write_two_ended(instance, bounds, sequence, &[], &mut text)?;
     Ok(text)
 }

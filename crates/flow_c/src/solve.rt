@@ -18,7 +18,7 @@ use crate::fault::Fault;
 use crate::outcome::Outcome;
 use crate::room::{Entries, need};
 use crate::shop::ShopNumbers;
-use crate::text::TextRoom;
+use crate::text::{TextRoom, empty_text};
 use flow_cert::write_certificate;
 use flow_check::Bounds;
 use flow_search::{Options, Plan, PlanFault, Verdict, prepare_from, solve_plain};
@@ -77,7 +77,7 @@ fn certificate(alloc: Global, plan: &Plan, verdict: &Verdict) -> Result<MemorySi
     ensures text { IfOk result (λ text. text.bytes ≡ certificate_of plan.now) }
     ensures refused { IfErr result (λ fault. number fault ≡ memory) }
 {
-    let mut text = MemorySink::new(alloc, usize::MAX);
+    let mut text = empty_text(alloc);
     write_certificate(plan, verdict, &mut text)?;
     Ok(text)
 }

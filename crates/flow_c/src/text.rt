@@ -1,9 +1,11 @@
-//! A text, in room that a caller lends.
+//! Texts: one that is written, and one in room that a caller lends.
 
-ghost use Rattle.std.specs.Prelude.{◌≡◌, ◌≤◌, length, take, drop};
+ghost use Rattle.std.specs.Prelude.{◌≡◌, ◌-◌, ◌^◌, ◌≤◌, false, [], length, take, drop};
 ghost use Rattle.flow_c.specs.Rooms.{IsSameRoom};
 
 use crate::room::fill;
+use flow_text::MemorySink;
+use std::alloc::Global;
 
 /// Room for a text, and its length.
 #[repr(C)]
@@ -12,6 +14,13 @@ pub struct TextRoom<'a> {
     pub bytes: &'a mut [u8],
     /// How many bytes the text has.
     pub length: usize,
+}
+
+/// An empty text, which may have as many bytes as memory has room for.
+pub(crate) fn empty_text(alloc: Global) -> MemorySink
+    ensures { result ≡ record { bytes = []; limit = 2 ^ 64 - 1; failed = false } }
+{
+    MemorySink::new(alloc, usize::MAX)
 }
 
 impl TextRoom<'_> {

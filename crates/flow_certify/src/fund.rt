@@ -1,4 +1,4 @@
-//! How many directions the searches of a run may write.
+//! How many directions all searches for a certificate may write.
 
 ghost use Rattle.std.specs.Prelude.{◌≤◌, min};
 ghost use Rattle.flow_certify.specs.Signs.{most_signs};
@@ -11,13 +11,13 @@ const MOST_SIGNS: u64 = 999_990_000;
 /// The greatest makespan whose search has lanes of 16 bits. Beyond it a direction costs about twice as much.
 const NARROW: u64 = 65_535;
 
-/// How many directions all searches of a run may write, for each one that is given, at a cost of 1.
+/// How many directions all searches may write, for each one that is given, at a cost of 1.
 const SHARE: u64 = 850;
 
 /// The part of a direction's cost that does not depend on the shop; each job adds 1 for each machine.
 const FIXED: u64 = 450;
 
-/// The directions that the searches of a run may write. There are fewer where each of them costs more.
+/// The directions that all searches may write. There are fewer where each of them costs more.
 #[derive(Clone, Copy)]
 pub(crate) struct Fund {
     /// How many the next searches may write.
@@ -30,7 +30,7 @@ pub(crate) struct Fund {
 }
 
 impl Fund {
-    /// The directions of a run, where so many are given, and the start has this makespan.
+    /// The directions of all searches, where so many are given, and the start has this makespan.
     pub(crate) fn new(instance: &Instance, makespan: u64, directions: u32) -> Fund {
         let jobs = u64::from(instance.jobs());
         let narrow = jobs * u64::from(instance.machines()) + FIXED;
@@ -48,7 +48,7 @@ impl Fund {
     }
 
     /// The most directions of one search: as many as are given, but no more than four fifths of those of all searches.
-    pub(crate) fn whole(&self, directions: u32) -> u64
+    pub(crate) fn most(&self, directions: u32) -> u64
         ensures { result ≤ min directions most_signs }
     {
         let all = self.left.saturating_add(self.kept);

@@ -4,8 +4,8 @@
 mod certified;
 mod fund;
 mod most;
-mod run;
 mod search;
+mod searches;
 mod task;
 
 pub use certified::Certified;

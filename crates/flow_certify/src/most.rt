@@ -1,8 +1,8 @@
 //! How many directions a certificate may have.
 
-ghost use Rattle.std.specs.Prelude.{◌≡◌, true, false, IfSome, IfNone};
-ghost use Rattle.std.specs.Int.{is_in_range};
-ghost use Rattle.flow_limits.specs.Limits.{most_directions};
+ghost use Rattle.std.specs.Prelude.{◌≡◌, true};
+ghost use Rattle.std.specs.Option.{SomeIff};
+ghost use Rattle.flow_certify.specs.Signs.{may_be_most};
 
 use flow_limits::MAX_DIRECTIONS;
 use std::marker::Model;
@@ -15,14 +15,13 @@ pub struct MostDirections {
 
 impl Model for MostDirections {
     ghost use Rattle.std.specs.Prelude.{ℕ, ◌≡◌, true};
-    ghost use Rattle.std.specs.Int.{is_in_range};
-    ghost use Rattle.flow_limits.specs.Limits.{most_directions};
+    ghost use Rattle.flow_certify.specs.Signs.{may_be_most};
 
     ghost Value = { ℕ };
 
     ghost view = { λ m. m.count };
 
-    ghost invariant = { λ m. is_in_range 1 most_directions m.count ≡ true };
+    ghost invariant = { λ m. may_be_most m.count ≡ true };
 
     ghost inverse = { λ count. record { count = count } };
 }
@@ -30,9 +29,7 @@ impl Model for MostDirections {
 impl MostDirections {
     /// So many; `None` where they are not in `1..=MAX_DIRECTIONS`.
     pub fn new(count: u32) -> Option<MostDirections>
-        ensures same { IfSome result (λ most. most ≡ count) }
-        ensures accepted { IfSome result (λ _. is_in_range 1 most_directions count ≡ true) }
-        ensures refused { IfNone result (is_in_range 1 most_directions count ≡ false) }
+        ensures { SomeIff result (may_be_most count ≡ true) count }
     {
         if count < 1 || count > MAX_DIRECTIONS {
             return None;

@@ -6,11 +6,11 @@ ghost use Rattle.flow_shop.specs.Sequences.{IsSequence};
 ghost use Rattle.flow_shop.specs.Directions.{Proves};
 ghost use Rattle.flow_shop.specs.Ends.{end_bound};
 ghost use Rattle.flow_certify.specs.Signs.{most_signs};
-ghost use Rattle.flow_certify.specs.internal.Runs.{IsLater, IsRun};
+ghost use Rattle.flow_certify.specs.internal.Searches.{AreLater, AreSearches};
 
 use crate::certified::Certified;
 use crate::most::MostDirections;
-use crate::run::Run;
+use crate::searches::Searches;
 use crate::task::Task;
 use flow_bound::taillard_bound;
 use flow_directions::{News, Prover};
@@ -34,43 +34,43 @@ const SMALL: [u64; 2] = [10_000, 100_000];
 const MIDDLE: [u64; 3] = [10_000, 100_000, 1_000_000];
 
 /// Searches from the start, and from the best of a narrow beam, with small budgets; and then further. Where no better
-/// sequence exists, the whole budget is used at once.
+/// sequence exists, the greatest budget is used at once.
 fn prove_best<P: Prover>(
     task: &Task<P>,
     start: &Sequence,
     effort: &Effort,
-    run: &mut Run,
+    searches: &mut Searches,
 ) -> Result<(), AllocError>
     requires ready { P.is_ready task.now.prover.now }
     requires start { length start.now ≡ task.now.instance.now.jobs }
-    requires run { IsRun task.now.instance.now run.old }
-    ensures { IsLater task.now.instance.now run.old run.new }
+    requires searches { AreSearches task.now.instance.now searches.old }
+    ensures { AreLater task.now.instance.now searches.old searches.new }
 {
-    let whole = run.whole;
-    run.begin(task, 1);
-    if run.known.upper == taillard_bound(task.instance) {
-        run.fund.release();
-        return run.prove_upper(task, whole);
+    let most = searches.most;
+    searches.begin(task, 1);
+    if searches.known.upper == taillard_bound(task.instance) {
+        searches.fund.release();
+        return searches.prove_upper(task, most);
     }
-    run.prove_with(task, &SMALL)?;
-    if run.is_proved() {
+    searches.prove_with(task, &SMALL)?;
+    if searches.is_proved() {
         return Ok(());
     }
-    run.begin(task, 2);
+    searches.begin(task, 2);
     let width = effort.width().min(NARROW);
     let narrow = beam(task.alloc, task.instance, start, width, effort.beam_work())?;
-    run.take(task.alloc, &narrow)?;
+    searches.take(task.alloc, &narrow)?;
     if narrow.whole {
-        run.fund.release();
-        return run.prove_upper(task, whole);
+        searches.fund.release();
+        return searches.prove_upper(task, most);
     }
-    run.prove_with(task, &SMALL)?;
-    if run.is_proved() {
+    searches.prove_with(task, &SMALL)?;
+    if searches.is_proved() {
         return Ok(());
     }
-    run.begin(task, 3);
+    searches.begin(task, 3);
     let beamed = widened(task.alloc, task.instance, start, narrow, effort)?;
-    prove_on(task, start, effort, &beamed, run)
+    prove_on(task, start, effort, &beamed, searches)
 }
 
 /// The same from the best of the whole beam, and of rounds, with greater budgets.
@@ -79,31 +79,31 @@ fn prove_on<P: Prover>(
     start: &Sequence,
     effort: &Effort,
     beamed: &Reached,
-    run: &mut Run,
+    searches: &mut Searches,
 ) -> Result<(), AllocError>
     requires ready { P.is_ready task.now.prover.now }
     requires start { length start.now ≡ task.now.instance.now.jobs }
     requires sequence { IsSequence task.now.instance.now.jobs beamed.now.sequence }
     requires value { beamed.now.value ≡ span task.now.instance.now beamed.now.sequence }
-    requires run { IsRun task.now.instance.now run.old }
-    ensures { IsLater task.now.instance.now run.old run.new }
+    requires searches { AreSearches task.now.instance.now searches.old }
+    ensures { AreLater task.now.instance.now searches.old searches.new }
 {
-    let whole = run.whole;
-    run.take(task.alloc, beamed)?;
+    let most = searches.most;
+    searches.take(task.alloc, beamed)?;
     if beamed.whole {
-        run.fund.release();
-        return run.prove_upper(task, whole);
+        searches.fund.release();
+        return searches.prove_upper(task, most);
     }
-    run.prove_with(task, &MIDDLE)?;
-    if run.is_proved() {
+    searches.prove_with(task, &MIDDLE)?;
+    if searches.is_proved() {
         return Ok(());
     }
-    run.begin(task, 4);
-    let best = run.best(task.alloc)?;
+    searches.begin(task, 4);
+    let best = searches.best(task.alloc)?;
     let best = rounds_of_both(task.alloc, task.instance, start, &best, effort)?;
-    run.take(task.alloc, &best)?;
-    run.prove_with(task, &MIDDLE)?;
-    run.prove_upper(task, whole / 10)
+    searches.take(task.alloc, &best)?;
+    searches.prove_with(task, &MIDDLE)?;
+    searches.prove_upper(task, most / 10)
 }
 
 /// What the whole beam reaches: what the narrow one did, where it is no wider.
@@ -127,52 +127,60 @@ fn widened(
 }
 
 /// Looks for a sequence that has the proved number as its makespan, by a beam that is aimed at the next number.
-fn aim<P: Prover>(task: &Task<P>, effort: &Effort, run: &mut Run) -> Result<(), AllocError>
+fn aim<P: Prover>(
+    task: &Task<P>,
+    effort: &Effort,
+    searches: &mut Searches,
+) -> Result<(), AllocError>
     requires ready { P.is_ready task.now.prover.now }
-    requires run { IsRun task.now.instance.now run.old }
-    ensures { IsLater task.now.instance.now run.old run.new }
+    requires searches { AreSearches task.now.instance.now searches.old }
+    ensures { AreLater task.now.instance.now searches.old searches.new }
 {
-    if run.is_proved() {
+    if searches.is_proved() {
         return Ok(());
     }
-    let number = run.known.lower.saturating_add(1);
+    let number = searches.known.lower.saturating_add(1);
     let width = effort.width().saturating_mul(8).min(AIMED);
     let work = effort.beam_work().saturating_mul(AIMED_SHARE);
     let aimed = beam_below(
         task.alloc,
         task.instance,
-        &run.known.sequence,
+        &searches.known.sequence,
         number,
         width,
         work,
     )?;
-    run.take(task.alloc, &aimed)
+    searches.take(task.alloc, &aimed)
 }
 
 /// Looks for better sequences by narrower beams, each aimed half of the way between the proved number, or the greatest
 /// one that such a beam came to no sequence below, and the best makespan.
-fn halve<P: Prover>(task: &Task<P>, effort: &Effort, run: &mut Run) -> Result<(), AllocError>
+fn halve<P: Prover>(
+    task: &Task<P>,
+    effort: &Effort,
+    searches: &mut Searches,
+) -> Result<(), AllocError>
     requires ready { P.is_ready task.now.prover.now }
-    requires run { IsRun task.now.instance.now run.old }
-    ensures { IsLater task.now.instance.now run.old run.new }
+    requires searches { AreSearches task.now.instance.now searches.old }
+    ensures { AreLater task.now.instance.now searches.old searches.new }
 {
     let width = effort.width() / 4;
     let work = effort.beam_work() / 2;
-    let mut missed = run.known.lower.saturating_add(1);
-    let mut top = run.known.upper;
+    let mut missed = searches.known.lower.saturating_add(1);
+    let mut top = searches.known.upper;
     'halved: while top.saturating_sub(missed) > 1 {
         let number = missed + (top - missed) / 2;
         let aimed = beam_below(
             task.alloc,
             task.instance,
-            &run.known.sequence,
+            &searches.known.sequence,
             number,
             width,
             work,
         )?;
         if aimed.value < number {
             top = aimed.value;
-            run.take(task.alloc, &aimed)?;
+            searches.take(task.alloc, &aimed)?;
         } else {
             missed = number;
         }
@@ -181,30 +189,34 @@ fn halve<P: Prover>(task: &Task<P>, effort: &Effort, run: &mut Run) -> Result<()
 }
 
 /// Raises the proved number with greater and greater budgets, looks for a sequence that has it as its makespan, and for
-/// better ones, and searches below the makespan of the best sequence with the whole budget.
-fn prove_more<P: Prover>(task: &Task<P>, effort: &Effort, run: &mut Run) -> Result<(), AllocError>
+/// better ones, and searches below the makespan of the best sequence with the greatest budget.
+fn prove_more<P: Prover>(
+    task: &Task<P>,
+    effort: &Effort,
+    searches: &mut Searches,
+) -> Result<(), AllocError>
     requires ready { P.is_ready task.now.prover.now }
-    requires run { IsRun task.now.instance.now run.old }
-    ensures { IsLater task.now.instance.now run.old run.new }
+    requires searches { AreSearches task.now.instance.now searches.old }
+    ensures { AreLater task.now.instance.now searches.old searches.new }
 {
-    let whole = run.whole;
-    run.fund.release();
-    run.begin(task, 5);
-    run.raise(task, SMALL[0].min(whole / 10))?;
-    run.raise(task, whole / 30)?;
-    run.begin(task, 6);
-    aim(task, effort, run)?;
-    run.begin(task, 7);
-    halve(task, effort, run)?;
-    run.prove_upper(task, whole)?;
-    run.begin(task, 8);
-    let proved = run.known.lower;
-    run.raise(task, whole / 10)?;
-    if run.known.lower == proved {
+    let most = searches.most;
+    searches.fund.release();
+    searches.begin(task, 5);
+    searches.raise(task, SMALL[0].min(most / 10))?;
+    searches.raise(task, most / 30)?;
+    searches.begin(task, 6);
+    aim(task, effort, searches)?;
+    searches.begin(task, 7);
+    halve(task, effort, searches)?;
+    searches.prove_upper(task, most)?;
+    searches.begin(task, 8);
+    let proved = searches.known.lower;
+    searches.raise(task, most / 10)?;
+    if searches.known.lower == proved {
         return Ok(());
     }
-    aim(task, effort, run)?;
-    run.prove_upper(task, whole)
+    aim(task, effort, searches)?;
+    searches.prove_upper(task, most)
 }
 
 /// Bounds of the least makespan, a sequence that has the upper one, and directions that prove the lower one. The prover
@@ -232,13 +244,13 @@ pub fn certify<P: Prover>(
         instance,
         prover,
     };
-    let mut run = Run::new(alloc, instance, start, most.count())?;
-    prove_best(&task, start, effort, &mut run)?;
-    if !run.is_proved() {
-        prove_more(&task, effort, &mut run)?;
+    let mut searches = Searches::new(alloc, instance, start, most.count())?;
+    prove_best(&task, start, effort, &mut searches)?;
+    if !searches.is_proved() {
+        prove_more(&task, effort, &mut searches)?;
     }
-    run.tell(&task);
+    searches.tell(&task);
     prover.tell(News::Ended);
-    let Run { known, .. } = run;
+    let Searches { known, .. } = searches;
     Ok(known)
 }

@@ -3,10 +3,11 @@ use Rattle.std.specs.Prelude.{◌≡◌, ℕ, ◌≤◌, List, [], ◌∷◌, le
 use Rattle.std.specs.Int.{is_in_range}
 use Rattle.flow_core.specs.Shop.{Shop}
 use Rattle.flow_core.specs.Ends.{end_bound}
-use Rattle.flow_core.specs.Limits.{most_certificate, most_directions, most_workers}
+use Rattle.flow_core.specs.Limits.{most_certificate, most_workers}
 use Rattle.flow_core.specs.Refusals.{fault_unless, first_fault}
 use Rattle.flow_check.specs.TwoEnded.{AreProved, IsTwoEnded}
 use Rattle.flow_check.specs.declared.bounds.Bounds.{Bounds}
+use Rattle.flow_certify.specs.Signs.{may_be_most}
 use Rattle.flow_requests.specs.declared.CertifyRequest.{CertifyRequest}
 use Rattle.flow_commands.specs.Output.{Output}
 use Rattle.flow_commands.specs.Improve.{IsImproved, improve_fault}
@@ -18,7 +19,7 @@ use Rattle.flow_commands.specs.declared.fault.CommandFault.TheVariants.{Directio
 abbrev pub certify_fault : CertifyRequest → Option CommandFault
 certify_fault request = first_fault (
     improve_fault request.improve
-    ∷ fault_unless (is_in_range 1 most_directions request.directions) Directions
+    ∷ fault_unless (may_be_most request.directions) Directions
     ∷ fault_unless (is_in_range 1 most_workers request.workers) Workers
     ∷ [])
 

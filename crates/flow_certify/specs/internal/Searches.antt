@@ -1,11 +1,11 @@
--- What a search for bounds knows, and what its steps keep.
+-- What searches for directions found, and what their steps keep.
 use Rattle.std.specs.Prelude.{◌≡◌, ℕ, ◌≤◌, ◌<◌, ◌⊎◌, Bool, true, false, length}
 use Rattle.flow_shop.specs.Shop.{Shop}
 use Rattle.flow_shop.specs.Paths.{span}
 use Rattle.flow_shop.specs.Sequences.{IsSequence}
 use Rattle.flow_shop.specs.Directions.{Proves}
 use Rattle.flow_certify.specs.declared.certified.Certified.{Certified}
-use Rattle.flow_certify.specs.declared.run.Run.{Run}
+use Rattle.flow_certify.specs.declared.searches.Searches.{Searches}
 
 -- a sequence and its makespan, and a number and directions that prove it, no more than so many
 pub record IsCertified (shop : Shop) (most : ℕ) (known : Certified) : Type 0 where
@@ -14,19 +14,19 @@ pub record IsCertified (shop : Shop) (most : ℕ) (known : Certified) : Type 0 w
   pub proved : Proves shop known.lower known.directions.items
   pub few : length known.directions.items ≤ most
 
--- what a run knows is so of the shop
-abbrev pub IsRun : Shop → Run → Type 0
-IsRun shop run = IsCertified shop run.whole run.known
+-- what searches found is so of the shop
+abbrev pub AreSearches : Shop → Searches → Type 0
+AreSearches shop searches = IsCertified shop searches.most searches.known
 
--- after a step what a run knows is so, its sequence is no worse, and no less is proved
-pub record IsLater (shop : Shop) (before after : Run) : Type 0 where
-  pub run : IsRun shop after
-  pub whole : after.whole ≡ before.whole
+-- after a step what searches found is so, their sequence is no worse, and no less is proved
+pub record AreLater (shop : Shop) (before after : Searches) : Type 0 where
+  pub searches : AreSearches shop after
+  pub most : after.most ≡ before.most
   pub upper : after.known.upper ≤ before.known.upper
   pub lower : before.known.lower ≤ after.known.lower
 
 -- after a search below a number: it was over; or the number is proved; or a sequence below it is known
-abbrev pub IsSearched : ℕ → Run → Run → Bool → Type 0
+abbrev pub IsSearched : ℕ → Searches → Searches → Bool → Type 0
 IsSearched number before after true =
     (after.known.lower ≡ before.known.lower) × (after.known.upper ≡ before.known.upper)
 IsSearched number before after false =

@@ -1,7 +1,7 @@
 use Rattle.std.proofs.Common.{◌≡◌, ◌∙◌, []}
 use Rattle.flow_shop.specs.Ends.{end_bound}
 use Rattle.flow_certify.proofs.Empty.{proves-bound}
-use Rattle.flow_certify.proofs.run.root_bound.Goals as goal
+use Rattle.flow_certify.proofs.searches.root_bound.Goals as goal
 
 pub returns-clause-proved : goal.returns-clause-proved
 returns-clause-proved c =

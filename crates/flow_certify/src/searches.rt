@@ -7,7 +7,7 @@ ghost use Rattle.flow_shop.specs.Directions.{Proves};
 ghost use Rattle.flow_shop.specs.Ends.{end_bound};
 ghost use Rattle.flow_shop.specs.Sequences.{IsSequence};
 ghost use Rattle.flow_certify.specs.Signs.{most_signs};
-ghost use Rattle.flow_certify.specs.internal.Runs.{IsLater, IsRun, IsSearched};
+ghost use Rattle.flow_certify.specs.internal.Searches.{AreLater, AreSearches, IsSearched};
 
 use crate::certified::Certified;
 use crate::fund::Fund;
@@ -20,10 +20,10 @@ use std::alloc::{AllocError, Global};
 
 /// Searches for directions, and what they found.
 #[derive(Drop)]
-pub(crate) struct Run {
+pub(crate) struct Searches {
     pub(crate) known: Certified,
     /// The most directions of one search.
-    pub(crate) whole: u64,
+    pub(crate) most: u64,
     pub(crate) fund: Fund,
     /// The greatest budget with which the search below the makespan of the sequence was over.
     over: Option<u64>,
@@ -37,30 +37,31 @@ fn root_bound(instance: &Instance) -> u64
     u64::from(Node::root(instance).bound(instance))
 }
 
-impl Run {
-    /// A run that knows a sequence, and what empty directions prove: the bound of the node of two empty lists.
+impl Searches {
+    /// What is known before the first search: a sequence, and what empty directions prove, the bound of the node of two
+    /// empty lists.
     pub(crate) fn new(
         alloc: Global,
         instance: &Instance,
         start: &Sequence,
         directions: u32,
-    ) -> Result<Run, AllocError>
+    ) -> Result<Searches, AllocError>
         requires { length start.now ≡ instance.now.jobs }
-        ensures run { IfOk result (IsRun instance.now) }
-        ensures upper { IfOk result (λ run. run.known.upper ≡ span instance.now start.now) }
-        ensures floor { IfOk result (λ run. end_bound instance.now [] [] ≤ run.known.lower) }
-        ensures whole { IfOk result (λ run. run.whole ≤ min directions most_signs) }
+        ensures searches { IfOk result (AreSearches instance.now) }
+        ensures upper { IfOk result (λ searches. searches.known.upper ≡ span instance.now start.now) }
+        ensures floor { IfOk result (λ searches. end_bound instance.now [] [] ≤ searches.known.lower) }
+        ensures most { IfOk result (λ searches. searches.most ≤ min directions most_signs) }
     {
         let upper = makespan(instance, start);
         let fund = Fund::new(instance, upper, directions);
-        Ok(Run {
+        Ok(Searches {
             known: Certified {
                 lower: root_bound(instance),
                 upper,
                 sequence: Sequence::of_known(alloc, start.jobs())?,
                 directions: Vec::new(alloc),
             },
-            whole: fund.whole(directions),
+            most: fund.most(directions),
             fund,
             over: None,
         })
@@ -89,7 +90,7 @@ impl Run {
 
     /// The sequence and its makespan, as what a search for a better one has reached.
     pub(crate) fn best(&self, alloc: Global) -> Result<Reached, AllocError>
-        ensures { (shop : Shop) → IsRun shop self.now →
+        ensures { (shop : Shop) → AreSearches shop self.now →
             IfOk result (λ best. IsSequence shop.jobs best.sequence) }
     {
         Ok(Reached {
@@ -101,8 +102,8 @@ impl Run {
 
     /// Takes a sequence where its makespan is smaller.
     pub(crate) fn take(&mut self, alloc: Global, reached: &Reached) -> Result<(), AllocError>
-        ensures { (shop : Shop) → IsRun shop self.old → IsSequence shop.jobs reached.now.sequence →
-            reached.now.value ≡ span shop reached.now.sequence → IsLater shop self.old self.new }
+        ensures { (shop : Shop) → AreSearches shop self.old → IsSequence shop.jobs reached.now.sequence →
+            reached.now.value ≡ span shop reached.now.sequence → AreLater shop self.old self.new }
     {
         if reached.value < self.known.upper {
             let sequence = Sequence::of_known(alloc, reached.sequence.jobs())?;
@@ -114,8 +115,8 @@ impl Run {
     /// Takes a sequence of a smaller makespan.
     fn become_better(&mut self, sequence: Sequence, makespan: u64)
         requires { makespan < self.old.known.upper }
-        ensures later { (shop : Shop) → IsRun shop self.old → IsSequence shop.jobs sequence →
-            makespan ≡ span shop sequence → IsLater shop self.old self.new }
+        ensures later { (shop : Shop) → AreSearches shop self.old → IsSequence shop.jobs sequence →
+            makespan ≡ span shop sequence → AreLater shop self.old self.new }
         ensures lower { self.new.known.lower ≡ self.old.known.lower }
         ensures upper { self.new.known.upper ≡ makespan }
     {
@@ -126,10 +127,10 @@ impl Run {
 
     /// Takes directions that prove a number.
     fn hold(&mut self, number: u64, directions: Vec<u8>)
-        requires few { length directions.items ≤ self.old.whole }
+        requires few { length directions.items ≤ self.old.most }
         requires no_less { self.old.known.lower ≤ number }
-        ensures later { (shop : Shop) → IsRun shop self.old → Proves shop number directions.items →
-            IsLater shop self.old self.new }
+        ensures later { (shop : Shop) → AreSearches shop self.old → Proves shop number directions.items →
+            AreLater shop self.old self.new }
         ensures lower { self.new.known.lower ≡ number }
         ensures upper { self.new.known.upper ≡ self.old.known.upper }
     {
@@ -141,7 +142,7 @@ impl Run {
     /// Notes that the search below a number was over with a budget.
     fn note_over(&mut self, number: u64, budget: u64)
         ensures known { self.new.known ≡ self.old.known }
-        ensures whole { self.new.whole ≡ self.old.whole }
+        ensures most { self.new.most ≡ self.old.most }
     {
         self.fund.spend(budget);
         if number == self.known.upper {
@@ -162,13 +163,13 @@ impl Run {
         budget: u64,
     ) -> Result<bool, AllocError>
         requires ready { P.is_ready task.now.prover.now }
-        requires run { IsRun task.now.instance.now self.old }
+        requires searches { AreSearches task.now.instance.now self.old }
         requires from { self.old.known.lower ≤ number }
         requires to { number ≤ self.old.known.upper }
-        ensures later { IsLater task.now.instance.now self.old self.new }
+        ensures later { AreLater task.now.instance.now self.old self.new }
         ensures searched { IfOk result (IsSearched number self.old self.new) }
     {
-        let budget = budget.min(self.whole).min(self.fund.left);
+        let budget = budget.min(self.most).min(self.fund.left);
         if self.is_over(number, budget) {
             return Ok(true);
         }
@@ -205,8 +206,8 @@ impl Run {
         budget: u64,
     ) -> Result<(), AllocError>
         requires ready { P.is_ready task.now.prover.now }
-        requires run { IsRun task.now.instance.now self.old }
-        ensures { IsLater task.now.instance.now self.old self.new }
+        requires searches { AreSearches task.now.instance.now self.old }
+        ensures { AreLater task.now.instance.now self.old self.new }
     {
         'better: while !self.is_proved() {
             let upper = self.known.upper;
@@ -224,8 +225,8 @@ impl Run {
         budgets: &[u64],
     ) -> Result<(), AllocError>
         requires ready { P.is_ready task.now.prover.now }
-        requires run { IsRun task.now.instance.now self.old }
-        ensures { IsLater task.now.instance.now self.old self.new }
+        requires searches { AreSearches task.now.instance.now self.old }
+        ensures { AreLater task.now.instance.now self.old self.new }
     {
         'budgets: for budget in budgets {
             self.prove_upper(task, *budget)?;
@@ -237,8 +238,8 @@ impl Run {
     /// number whose search was over.
     pub(crate) fn raise<P: Prover>(&mut self, task: &Task<P>, budget: u64) -> Result<(), AllocError>
         requires ready { P.is_ready task.now.prover.now }
-        requires run { IsRun task.now.instance.now self.old }
-        ensures { IsLater task.now.instance.now self.old self.new }
+        requires searches { AreSearches task.now.instance.now self.old }
+        ensures { AreLater task.now.instance.now self.old self.new }
     {
         let mut step = 1u64;
         let mut top = self.known.upper.saturating_add(1);
