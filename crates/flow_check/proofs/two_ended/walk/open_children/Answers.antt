@@ -1,4 +1,4 @@
-use Rattle.std.proofs.Common.{◌≡◌, ◌-◌, ◌/◌, ◌<◌, length, arith}
+use Rattle.std.proofs.Common.{◌-◌, ◌/◌, ◌<◌, length, arith}
 use Rattle.flow_check.proofs.OpenSteps.{job-tells}
 use Rattle.flow_check.proofs.two_ended.walk.open_children.Goals as goal
 
