@@ -1,31 +1,22 @@
 -- The jobs at the marked places of a pack: those left, and those whose children are below a number.
-use Rattle.std.proofs.Common.{◌≡◌, ◌≢◌, ◌↔◌, ℕ, zero, suc, ◌+◌, ◌*◌, ◌/◌, ◌%◌, ◌<◌, min, Bool, true, false, not, nat_lt}
-use Rattle.std.proofs.Common.{List, [], ◌∷◌, ◌++◌, length, slice_index, slice_index_or, take, drop, set, refl, ap, sym}
+use Rattle.std.proofs.Common.{◌≡◌, ℕ, zero, suc, ◌+◌, ◌*◌, ◌/◌, ◌%◌, ◌<◌, Bool, true, false, not}
+use Rattle.std.proofs.Common.{List, [], ◌∷◌, ◌++◌, length, slice_index, slice_index_or, take, drop, refl, ap, sym}
 use Rattle.std.proofs.Common.{◌∙◌, subst, inl, inr, arith}
-use Rattle.std.specs.Prelude.{IsBitSet, bit_and}
 use Rattle.std.specs.Int.{bit_at}
 use Rattle.std.specs.Global.{Vec}
 use Rattle.std.specs.List.{AllByRecursion}
 use Rattle.std.proofs.lemmas.Bool.{cases_eq}
-use Rattle.std.proofs.lemmas.Bool.Decides.{Decides-ltb}
 use Rattle.std.proofs.lemmas.List.{get_or-take, get_or-drop}
 use Rattle.std.proofs.lemmas.List.Elements.{filter_passes, recursion_from_All}
-use Rattle.std.proofs.lemmas.Nat.{bit_set_by_shift}
-use Rattle.std.proofs.lemmas.Nat.Bits.{bit_at-lt, bit_at_and, bit_at-zero, shr_and_one}
 use Rattle.flow_shop.specs.Shop.{Shop, numbers}
 use Rattle.flow_shop.specs.Sequences.{has, jobs_left}
-use Rattle.flow_shop.specs.declared.end.End.{End}
-use Rattle.flow_nodes.specs.Nodes.{IsJob, IsNode}
-use Rattle.flow_nodes.specs.Groups.{IsGroup, child_bound}
-use Rattle.flow_nodes.specs.declared.node.Node.{Node}
+use Rattle.flow_nodes.specs.Groups.{IsGroup}
 use Rattle.flow_nodes.specs.Marks.{mark, chosen}
 use Rattle.flow_directions.specs.internal.Packs.{IsBranch}
 use Rattle.flow_directions.specs.declared.branch.Branch.{Branch}
 use Rattle.flow_directions.specs.declared.pack.Pack.{Pack}
 use Rattle.flow_nodes.proofs.MarkedNames.{kept, kept-yes, kept-no}
 use Rattle.flow_nodes.proofs.ChosenNames.{chosen-kept}
-use Rattle.flow_nodes.proofs.MarkSteps.{mark-there, mark-elsewhere}
-use Rattle.flow_nodes.proofs.ChildBounds.{child-bound-small}
 
 -- what holds of the names kept holds of the name of a marked place
 kept-each : (P : ℕ → Type 0) (marks : ℕ → ℕ) (names : List ℕ) → AllByRecursion P (kept marks names) → (place : ℕ) →
