@@ -184,6 +184,7 @@ pub fn run_solve_as<R: Threads + Wait + Sync, S: Source, T: Source, G: Gate + Sy
         (source_run S.Source file.old file.new)) }
     ensures start_stays { is_some start.new ≡ is_some start.old }
 {
+    // This is no `Command`: the kit proves no method of a trait yet that hands a gate to threads.
     let picked = read_picked(alloc, file, index)?;
     let start = read_second(alloc, start, FileKind::Text)?;
     solve_block(rt, alloc, picked, start, request, gate, out)

@@ -1,4 +1,4 @@
-use Rattle.std.proofs.Common.{◌≡◌, ◌≤◌, ◌⊎◌, ◌∷◌, All, None, ap, sym, ◌∙◌, subst, map, inl, arith}
+use Rattle.std.proofs.Common.{◌≡◌, ◌≤◌, ◌⊎◌, ◌∷◌, All, ap, sym, ◌∙◌, subst, map, inl, arith}
 use Rattle.std.proofs.lemmas.Result.{IfOk-weaker}
 use Rattle.flow_directions.specs.Search.{IsAdvanced}
 use Rattle.flow_workers.specs.internal.Pieces.{IsSearched, pieces_met, written}
