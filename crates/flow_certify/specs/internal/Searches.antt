@@ -14,11 +14,11 @@ pub record IsCertified (shop : Shop) (most : ℕ) (known : Certified) : Type 0 w
   pub proved : Proves shop known.lower known.directions.items
   pub few : length known.directions.items ≤ most
 
--- what searches found is so of the shop
+-- what searches found holds for the shop: the makespan of their sequence, and the number that their directions prove
 abbrev pub AreSearches : Shop → Searches → Type 0
 AreSearches shop searches = IsCertified shop searches.most searches.known
 
--- after a step what searches found is so, their sequence is no worse, and no less is proved
+-- after a step what searches found still holds, their sequence is no worse, and no smaller number is proved
 pub record AreLater (shop : Shop) (before after : Searches) : Type 0 where
   pub searches : AreSearches shop after
   pub most : after.most ≡ before.most
