@@ -1,7 +1,7 @@
 //! The work of `flowshop` in plain safe Rust, with no proofs and no other crates: a program to measure beside.
 //!
 //! It is written apart from the proved crates, from the rules of docs/formats.md, and writes the same texts. Each
-//! bound is computed anew at each node, and each insertion's makespan from heads and tails. Of workers, prefix `i`
+//! bound is computed anew at each node, and each insertion's makespan from fronts and tails. Of workers, prefix `i`
 //! belongs to worker `i mod k`. It checks no texts: second_checker does.
 //!
 //! Build it with `rustc --edition 2024 -O bench/plain.rs`.
