@@ -15,7 +15,7 @@ use Rattle.flow_shop.proofs.Recurrence.{after, completed, completion-is, complet
 use Rattle.flow_shop.proofs.Fronts.{free_at, front-within, time-small}
 use Rattle.flow_shop.proofs.Admissible.{front_of-is}
 use Rattle.flow_shop.proofs.Extremes.{map-map-append}
-use Rattle.flow_shop.proofs.JobsLeft.{kept-small, filter-more}
+use Rattle.flow_shop.proofs.JobsLeft.{kept-small, none-has}
 use Rattle.std.proofs.lemmas.Bool.Decides.{eqb_tells}
 use Rattle.flow_shop.specs.TwoLeast.{tails, least_below, second_below}
 use Rattle.flow_check.specs.internal.Nodes.{IsNode, AreKnown, AreTwoLeastTails, no_least}
@@ -32,16 +32,6 @@ pub work-small : (shop : Shop) (list : List ℕ) (machine : ℕ) → IsWithinLim
 work-small shop list machine limits =
     kept-small (λ job. time shop job machine) (λ job. not (has list job)) greatest_time shop.jobs
     (λ k. time-small shop k machine limits)
-
-none-has : (n : ℕ) → length (jobs_left n []) ≡ n
-none-has zero = refl
-none-has (suc n) = omega (
-  arith,
-  ap length (filter-more (λ job. true) n),
-  length-append (filter (λ job. true)
-      (numbers 1 n)) (suc n ∷ []),
-  none-has n,
-)
 
 -- before any bound asks for a tail
 none-known : (shop : Shop) (list least second : List ℕ) →
@@ -228,20 +218,6 @@ child-bound shop list node left job machine free t tail behind two limits is fro
     ∙ sym (front_of-is shop (list ++ job ∷ []) machine from to) in
     let sum = left-sum (λ j. time shop j machine) shop.jobs list job low high fresh in
     (omega (arith, front, is.work machine from to, sum, is_t, behind_is, cap.0), omega (arith, behind_is, cap.0, cap.1))
-
--- one more machine of a row
-pub filled-more : (P : ℕ → ℕ → Type 0) (xs : List ℕ) (machine v : ℕ) → 1 ≤ machine → machine - 1 < length xs →
-    P machine v → ((k : ℕ) → 1 ≤ k → k < machine → P k (slice_index xs (k - 1))) →
-    (k : ℕ) → 1 ≤ k → k < machine + 1 → P k (slice_index (set xs (machine - 1) v) (k - 1))
-filled-more P xs machine v from within here done k low high = elim (cases_lt k machine) [
-  | inl earlier ↦
-      let other : k - 1 ≢ machine - 1 = omega (arith, earlier, low) in
-      subst (P k) (sym (get_or-set_other xs (machine - 1) (k - 1) v 0 other)) (done k low earlier)
-  | inr last ↦
-      let e : machine ≡ k = omega (arith, last, high) in
-      subst (λ i. P i (slice_index (set xs (machine - 1) v) (i - 1))) e (subst (P machine) (sym (get_or-set_same xs
-      (machine - 1) v 0 within)) here)
-]
 
 pub work-fits : (shop : Shop) (list : List ℕ) (node : Node) (left machine : ℕ) → IsWithinLimits shop →
     IsNode shop list node left → 1 ≤ machine → machine ≤ shop.machines →

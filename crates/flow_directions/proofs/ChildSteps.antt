@@ -8,6 +8,7 @@ use Rattle.flow_shop.specs.Directions.{first_with, last_with}
 use Rattle.flow_shop.specs.declared.end.End.{End}
 use Rattle.flow_shop.proofs.EndSteps.{count-child}
 use Rattle.flow_nodes.specs.Nodes.{IsNode}
+use Rattle.flow_nodes.proofs.KeptNodes.{lengths}
 use Rattle.flow_directions.specs.Search.{directions_of, first_below}
 use Rattle.flow_directions.specs.internal.Lists.{HasLists}
 use Rattle.flow_nodes.specs.Marks.{chosen}
@@ -20,7 +21,7 @@ use Rattle.flow_directions.specs.declared.walk.SearchStop.{SearchStop}
 use Rattle.flow_directions.specs.declared.walk.SearchStop.TheVariants.{Below, Over, Memory}
 use Rattle.flow_directions.specs.declared.walk.Written.{Written}
 use Rattle.flow_nodes.specs.declared.marks.Marks.{Marks}
-use Rattle.flow_directions.proofs.WalkSteps.{IsOpen, Stands, head-same, lists-count, whole-lists}
+use Rattle.flow_directions.proofs.WalkSteps.{IsOpen, Stands, head-same, whole-lists}
 use Rattle.flow_directions.proofs.WalkSteps.{stands-reached, stands-written, stands-longer}
 use Rattle.flow_shop.specs.Ends.{end_bound}
 use Rattle.flow_directions.proofs.VisitSteps.{visits-whole}
@@ -308,7 +309,7 @@ module _ {V : Type 0} {list : V → List ℕ} {cap width : ℕ} {shop : Shop} {n
           stands-job lists2.jobs.items
           (ap first_reached child-visits
           ∙ ap Some (sym (whole-lists shop.jobs (first_with end first job) (last_with end last job) lists2 has_lists
-          (omega (arith, lists-count end first last job, at-count, one)))))
+          (omega (arith, lengths end first last job, at-count, one)))))
 
       -- with the directions that are written
       pub last-written : old ++ directions_of shop number first last ≡ new

@@ -266,12 +266,6 @@ whole-lists jobs first last lists are whole =
     ∙ ap (λ n. first ++ drop n lists.jobs.items) e
     ∙ ap (λ xs. first ++ xs) are.ends
 
--- how many jobs the lists of a child have
-pub lists-count : (end : End) (first last : List ℕ) (job : ℕ) →
-    length (first_with end first job) + length (last_with end last job) ≡ suc (length first + length last)
-lists-count Front first last job = omega (arith, length-append first (job ∷ []))
-lists-count Back first last job = omega arith
-
 -- a node that is opened has a direction more
 pub opens-longer : (shop : Shop) (number : ℕ) (first last : List ℕ) (left : ℕ) (old : List ℕ) →
     end_bound shop first last < number → length (jobs_left shop.jobs (first ++ last)) ≡ left → 1 ≤ left →

@@ -73,7 +73,7 @@ fn weigh<V: Lanes>(
 /// Whether the search looks ahead, where so many children are below the number at the end of the plain rule and at the
 /// other one, and so many jobs are left.
 #[inline(always)]
-fn is_close(plain: u32, other: u32, left: u32) -> bool
+fn looks_ahead(plain: u32, other: u32, left: u32) -> bool
     ensures { result ≡ nat_le 2 plain && nat_le (2 * other) (3 * plain) && nat_le 3 left }
 {
     plain >= 2 && 2 * u64::from(other) <= 3 * u64::from(plain) && left >= 3
@@ -108,7 +108,7 @@ pub(crate) fn look_ahead<V: Lanes>(
     let groups = pack.groups.len();
     let plain_count = plain.below.count(groups);
     let other_count = other.below.count(groups);
-    if is_close(plain_count, other_count, branch.left.count(groups)) {
+    if looks_ahead(plain_count, other_count, branch.left.count(groups)) {
         let weight = weigh(instance, pack, branch, limit, plain, u32::MAX);
         if weigh(instance, pack, branch, limit, other, weight) < weight {
             return *other;

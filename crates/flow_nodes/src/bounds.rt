@@ -92,8 +92,9 @@ impl Node {
         self.child_bounds(end, group).below(number)
     }
 
-    /// Marks the places of groups whose jobs make children below a number at an end, of the places that are marked as
-    /// left. The places behind those of the groups keep their marks.
+    /// Of the places of groups, marks those that are marked as left and whose jobs make children below a number at an
+    /// end. The limit is the number, or the greatest of 32 bits where that is less. The places behind those of the
+    /// groups keep their marks.
     #[inline(always)]
     pub fn mark_below<V: Lanes>(
         &self,

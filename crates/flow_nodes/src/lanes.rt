@@ -106,54 +106,6 @@ impl Lanes for u16x16 {
     ghost narrow = { Prim.search rules };
 }
 
-impl Lanes for u16x32 {
-    const CAP: u32 = 65_535;
-
-    ghost CAP = { 65535 };
-
-    const WIDTH: usize = 32;
-
-    ghost WIDTH = { 32 };
-
-    ghost list = { λ lanes. lanes };
-
-    #[inline(always)]
-    fn all(number: u64) -> u16x32 {
-        u16x32::splat(number.min(65_535) as u16)
-    }
-
-    #[inline(always)]
-    fn at_least(self, other: u16x32) -> u16x32 {
-        self.simd_max(other)
-    }
-
-    #[inline(always)]
-    fn plus(self, other: u16x32) -> u16x32 {
-        self.saturating_add(other)
-    }
-
-    #[inline(always)]
-    fn below(self, number: u32) -> u64 {
-        self.simd_lt(u16x32::splat(number as u16)).to_bitmask()
-    }
-
-    #[inline(always)]
-    fn at(self, lane: usize) -> u32 {
-        u32::from(self.to_array()[lane])
-    }
-
-    #[inline(always)]
-    fn load(numbers: &[u32]) -> u16x32 {
-        let mut lanes = [0; 32];
-        for lane in 0..32 {
-            lanes[lane] = numbers[lane].min(65_535) as u16;
-        }
-        u16x32::from_array(lanes)
-    }
-
-    ghost narrow = { Prim.search rules };
-}
-
 impl Lanes for u32x16 {
     const CAP: u32 = 4_294_967_295;
 

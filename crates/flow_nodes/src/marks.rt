@@ -10,8 +10,8 @@ use crate::group::LANES;
 /// How many words have marks of the most jobs.
 const WORDS: usize = 50;
 
-/// A mark of each of the first places, or none: as many places as the most jobs. Those of the first sixteen are in the
-/// first word, the lowest bit first.
+/// Which places are marked, of as many as a shop may have jobs. The first word has the marks of the first sixteen, the
+/// lowest bit first.
 #[derive(Clone, Copy)]
 pub struct Marks {
     /// The words.
@@ -77,19 +77,21 @@ impl Marks {
         self.words[place / LANES]
     }
 
-    /// The first marked place of so many, from one on; or one behind them, in the word of the last.
+    /// The first marked place from one on, of the places of so many words.
     #[inline(always)]
-    pub fn next(&self, from: usize, count: usize) -> Option<usize>
-        requires { count ≤ most_jobs }
+    pub fn next(&self, from: usize, words: usize) -> Option<usize>
+        requires { words ≤ 50 }
         ensures from { IfSome result (λ place. from ≤ place) }
-        ensures within { IfSome result (λ place. place / 16 < (count + 15) / 16) }
+        ensures within { IfSome result (λ place. place < words * 16) }
         ensures marked { IfSome result (λ place. mark self.now.words place ≡ 1) }
         ensures least { IfSome result (λ place. (other : ℕ) → from ≤ other → other < place →
             mark self.now.words other ≡ 0) }
-        ensures none { IfNone result ((other : ℕ) → from ≤ other → other < count → mark self.now.words other ≡ 0) }
+        ensures none { IfNone result ((other : ℕ) → from ≤ other → other < words * 16 →
+            mark self.now.words other ≡ 0) }
     {
+        let end = words * LANES;
         let mut place = from;
-        'words: while place < count {
+        'words: while place < end {
             let rest = self.word(place) >> (place % LANES);
             if rest != 0 {
                 return Some(place + rest.trailing_zeros() as usize);
@@ -106,13 +108,17 @@ impl Marks {
         ensures size { length self.new.words ≡ 50 }
         ensures within { IfSome result (λ place. place < words * 16) }
         ensures marked { IfSome result (λ place. mark self.old.words place ≡ 1) }
+        ensures taken { IfSome result (λ place. mark self.new.words place ≡ 0) }
+        ensures others { IfSome result (λ place. (other : ℕ) → other ≢ place →
+            mark self.new.words other ≡ mark self.old.words other) }
+        ensures kept { IfNone result (self.new ≡ self.old) }
         ensures fewer { (place : ℕ) → mark self.new.words place ≡ 1 → mark self.old.words place ≡ 1 }
         ensures first { IfSome result (λ place. (names : List ℕ) → length names ≡ words * 16 →
             chosen self.old.words names ≡ slice_index names place ∷ chosen self.new.words names) }
         ensures none { IfNone result ((names : List ℕ) → length names ≡ words * 16 →
             chosen self.old.words names ≡ []) }
     {
-        let Some(place) = self.next(0, words * LANES) else {
+        let Some(place) = self.next(0, words) else {
             return None;
         };
         self.clear(place);

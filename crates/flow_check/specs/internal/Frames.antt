@@ -17,7 +17,7 @@ pub record AreLeft (shop : Shop) (first last : List ℕ) (marks : Marks) : Type 
   pub all : (job : ℕ) → 1 ≤ job → job ≤ shop.jobs → has (first ++ last) job ≡ false → job_mark marks job ≡ 1
   pub only : (job : ℕ) → 1 ≤ job → job_mark marks job ≡ 1 → (job ≤ shop.jobs) × (has (first ++ last) job ≡ false)
 
--- the jobs left whose children at an end are below a number are marked, and no others of the words of the instance
+-- of the jobs that the words of the instance have, those left whose children at an end are below a number are marked
 pub record AreOpen (shop : Shop) (number : ℕ) (end : End) (first last : List ℕ) (marks : Marks) : Type 0 where
   pub all : (job : ℕ) → 1 ≤ job → job ≤ shop.jobs → has (first ++ last) job ≡ false →
       child_bound shop end first last job < number → job_mark marks job ≡ 1
@@ -46,7 +46,7 @@ abbrev pub last_of : List ℕ → List Frame → List ℕ
 last_of last [] = last
 last_of last (frame ∷ frames) = last_of (last_with frame.end last frame.job) frames
 
--- the frames of a node, of its child that is read, and so on, of which the last one's child is read too
+-- frames of which each is of the child that the one before it reads, and the last one reads a child too
 abbrev pub AreFrames : Shop → ℕ → List ℕ → List ℕ → List Frame → Type 0
 AreFrames shop number first last [] = Unit {0}
 AreFrames shop number first last (frame ∷ frames) =

@@ -17,7 +17,7 @@ ghost use Rattle.flow_check.specs.declared.fault.CheckFault.TheVariants.{Memory}
 
 use crate::fault::CheckFault;
 use crate::two_ended::DIRECTIONS;
-use flow_nodes::{Lanes, Marks, Node, groups};
+use flow_nodes::{LANES, Lanes, Marks, Node, groups};
 use flow_shop::{End, Instance};
 use std::alloc::{AllocError, Global};
 use std::simd::prelude::*;
@@ -165,7 +165,8 @@ impl Path {
             job_mark (here self.now).below other ≡ 0) }
     {
         let frame = &self.frames[self.depth];
-        let place = frame.below.next(frame.job as usize, jobs as usize)?;
+        let words = (jobs as usize + (LANES - 1)) / LANES;
+        let place = frame.below.next(frame.job as usize, words)?;
         Some(place as u16 + 1)
     }
 

@@ -1,7 +1,7 @@
 use Rattle.std.proofs.Common.{◌≡◌, ◌*◌, length, ap, sym, ◌∙◌, arith}
 use Rattle.flow_directions.proofs.EndTaken.{close-is, plain-far, plain-kept, other-lighter}
 use Rattle.flow_directions.proofs.ahead.look_ahead.Goals as goal
-use Rattle.flow_directions.proofs.ahead.look_ahead.Goals.{then-is_close+else-weigh-weight, else-is_close}
+use Rattle.flow_directions.proofs.ahead.look_ahead.Goals.{then-looks_ahead+else-weigh-weight, else-looks_ahead}
 
 pub returns-then-weigh-weight-clause-end : goal.returns-then-weigh-weight-clause-end
 returns-then-weigh-weight-clause-end g c number first last limit is are =
@@ -13,7 +13,7 @@ returns-then-weigh-weight-clause-end g c number first last limit is are =
     c.count-plain_count.result c.count-other_count.result c.count.result (c.count-plain_count.ensures names size)
     (c.count-other_count.ensures names size) (c.count.ensures names size ∙ ap length is.left) in
     other-lighter shop number first last c.args.pack.now c.args.plain.now c.args.other.now are
-    (sym close ∙ sym c.is_close.ensures ∙ c.if-is_close.true)
+    (sym close ∙ sym c.looks_ahead.ensures ∙ c.if-looks_ahead.true)
     (omega (
       arith,
       c.weigh-weight.ensures.small,
@@ -32,8 +32,8 @@ returns-clause-end g c number first last limit is are =
     let close = close-is shop number first last c.args.pack.now c.args.plain.now c.args.other.now are
     c.count-plain_count.result c.count-other_count.result c.count.result (c.count-plain_count.ensures names size)
     (c.count-other_count.ensures names size) (c.count.ensures names size ∙ ap length is.left) in
-    elim c.if-is_close.branch [
-      | then-is_close+else-weigh-weight w ↦
+    elim c.if-looks_ahead.branch [
+      | then-looks_ahead+else-weigh-weight w ↦
           plain-kept shop number first last c.args.pack.now c.args.plain.now c.args.other.now are
           (omega (
             arith,
@@ -41,7 +41,7 @@ returns-clause-end g c number first last limit is are =
                 (omega (arith, w.weigh-weight.ensures.small)),
             w.weigh.ensures.reaches number first last limit is are.other_below w.if-weigh-weight.false,
           ))
-      | else-is_close w ↦
+      | else-looks_ahead w ↦
           plain-far shop number first last c.args.pack.now c.args.plain.now c.args.other.now are
-          (sym close ∙ sym c.is_close.ensures ∙ w.if-is_close.false)
+          (sym close ∙ sym c.looks_ahead.ensures ∙ w.if-looks_ahead.false)
     ]

@@ -2,10 +2,11 @@ use Rattle.std.proofs.Common.{◌≡◌, ℕ, ◌+◌, ◌-◌, ◌<◌, ◌≤�
 use Rattle.std.proofs.lemmas.List.{length-set}
 use Rattle.flow_shop.specs.Limits.{most_machines, greatest_completion}
 use Rattle.flow_shop.specs.Shop.{time}
+use Rattle.flow_shop.proofs.Lists.{filled-more}
 use Rattle.flow_shop.proofs.Recurrence.{after}
 use Rattle.flow_shop.proofs.Fronts.{free_at, after-step, time-small}
 use Rattle.flow_check.specs.internal.Nodes.{no_least}
-use Rattle.flow_check.proofs.NodeSteps.{node-within, work-covers, filled-more, child-completion, child-node}
+use Rattle.flow_check.proofs.NodeSteps.{node-within, work-covers, child-completion, child-node}
 use Rattle.flow_check.proofs.node.Node.become_child.Goals as goal
 use Rattle.flow_check.proofs.node.Node.become_child.Goals.{After-max}
 

@@ -10,4 +10,4 @@ invariant-words l = record {
 }
 
 abbrev pub decreases-words : goal.decreases-words
-decreases-words l = l.count - l.place
+decreases-words l = l.end - l.place
