@@ -23,7 +23,7 @@ use std::alloc::Global;
 use std::sync::Wait;
 use std::thread::Threads;
 
-/// A watch that is told where that was asked for.
+/// A watch that is told news only where the request asks for it.
 #[derive(Clone, Copy)]
 struct IfAsked<'a, W> {
     watch: &'a W,
@@ -42,7 +42,7 @@ impl<'a, W: Watch> Watch for IfAsked<'a, W> {
     }
 }
 
-/// As what the second file of a request is read.
+/// The kind of the second file that a request reads.
 fn kind_of(request: &Request) -> FileKind
     ensures { result ≡ kind_of request.now }
 {
