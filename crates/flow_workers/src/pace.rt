@@ -129,5 +129,8 @@ fn paces_are_those_stated(rt: HostRuntime) {
         );
     }
     let pace = Pace::new(4, 20, 500, 400_000, 1_400_000);
-    assert!(rt; pace.grant(40_000) == 1_250, "after 40000 of a round of 50000");
+    assert!(rt;
+        pace.grant(40_000) == 1_250,
+        "after 40000 of a round of 50000"
+    );
 }
