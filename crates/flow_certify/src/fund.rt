@@ -5,13 +5,13 @@ ghost use Rattle.flow_certify.specs.Signs.{most_signs};
 
 use flow_shop::Instance;
 
-/// The most directions of a two-ended certificate: with its other lines it is then within the bytes that `check` reads.
+/// The most directions that fit, with the other lines of a two-ended certificate, into the text that `check` reads.
 const MOST_SIGNS: u64 = 999_990_000;
 
 /// The greatest makespan whose search has lanes of 16 bits. Beyond it a direction costs about twice as much.
 const NARROW: u64 = 65_535;
 
-/// How many directions all searches may write, for each one that is given, at a cost of 1.
+/// All searches together may write this many times the caller's limit of directions, divided by what a direction costs.
 const SHARE: u64 = 850;
 
 /// The part of a direction's cost that does not depend on the shop; each job adds 1 for each machine.
@@ -30,7 +30,8 @@ pub(crate) struct Fund {
 }
 
 impl Fund {
-    /// The directions of all searches, where so many are given, and the start has this makespan.
+    /// What all searches together may write, where the caller's limit is `directions`, and `makespan` is that of the
+    /// start.
     pub(crate) fn new(instance: &Instance, makespan: u64, directions: u32) -> Fund {
         let jobs = u64::from(instance.jobs());
         let narrow = jobs * u64::from(instance.machines()) + FIXED;
@@ -47,7 +48,8 @@ impl Fund {
         }
     }
 
-    /// The most directions of one search: as many as are given, but no more than four fifths of those of all searches.
+    /// The most directions of one search: the caller's limit, but no more than `check` reads, and no more than four
+    /// fifths of what all searches may write.
     pub(crate) fn most(&self, directions: u32) -> u64
         ensures { result ≤ min directions most_signs }
     {

@@ -1,4 +1,4 @@
-//! How many directions a certificate may have.
+//! The limit that a caller sets on the directions of a certificate.
 
 ghost use Rattle.std.specs.Prelude.{◌≡◌, true};
 ghost use Rattle.std.specs.Option.{SomeIff};
@@ -7,7 +7,7 @@ ghost use Rattle.flow_certify.specs.Signs.{may_be_most};
 use flow_limits::MAX_DIRECTIONS;
 use std::marker::Model;
 
-/// The most directions that a certificate may have, which are in `1..=MAX_DIRECTIONS`.
+/// The limit that a caller sets on the directions of a certificate: a number in `1..=MAX_DIRECTIONS`.
 #[derive(Clone, Copy)]
 pub struct MostDirections {
     count: u32,
@@ -27,7 +27,7 @@ impl Model for MostDirections {
 }
 
 impl MostDirections {
-    /// So many; `None` where they are not in `1..=MAX_DIRECTIONS`.
+    /// A limit of so many; `None` where that is not in `1..=MAX_DIRECTIONS`.
     pub fn new(count: u32) -> Option<MostDirections>
         ensures { SomeIff result (may_be_most count ≡ true) count }
     {
@@ -37,7 +37,7 @@ impl MostDirections {
         Some(MostDirections { count })
     }
 
-    /// How many they are.
+    /// How many directions it allows.
     pub(crate) fn count(&self) -> u32
         ensures { result ≡ self.now }
     {

@@ -46,26 +46,16 @@ fn prove_best<P: Prover>(
     requires searches { AreSearches task.now.instance.now searches.old }
     ensures { AreLater task.now.instance.now searches.old searches.new }
 {
-    let most = searches.most;
     searches.begin(task, 1);
-    if searches.known.upper == taillard_bound(task.instance) {
-        searches.fund.release();
-        return searches.prove_upper(task, most);
-    }
-    searches.prove_with(task, &SMALL)?;
-    if searches.is_proved() {
+    let whole = searches.known.upper == taillard_bound(task.instance);
+    if searches.try_budgets(task, &SMALL, whole)? {
         return Ok(());
     }
     searches.begin(task, 2);
     let width = effort.width().min(NARROW);
     let narrow = beam(task.alloc, task.instance, start, width, effort.beam_work())?;
     searches.take(task.alloc, &narrow)?;
-    if narrow.whole {
-        searches.fund.release();
-        return searches.prove_upper(task, most);
-    }
-    searches.prove_with(task, &SMALL)?;
-    if searches.is_proved() {
+    if searches.try_budgets(task, &SMALL, narrow.whole)? {
         return Ok(());
     }
     searches.begin(task, 3);
@@ -88,14 +78,8 @@ fn prove_on<P: Prover>(
     requires searches { AreSearches task.now.instance.now searches.old }
     ensures { AreLater task.now.instance.now searches.old searches.new }
 {
-    let most = searches.most;
     searches.take(task.alloc, beamed)?;
-    if beamed.whole {
-        searches.fund.release();
-        return searches.prove_upper(task, most);
-    }
-    searches.prove_with(task, &MIDDLE)?;
-    if searches.is_proved() {
+    if searches.try_budgets(task, &MIDDLE, beamed.whole)? {
         return Ok(());
     }
     searches.begin(task, 4);
@@ -103,7 +87,7 @@ fn prove_on<P: Prover>(
     let best = rounds_of_both(task.alloc, task.instance, start, &best, effort)?;
     searches.take(task.alloc, &best)?;
     searches.prove_with(task, &MIDDLE)?;
-    searches.prove_upper(task, most / 10)
+    searches.prove_upper(task, searches.most / 10)
 }
 
 /// What the whole beam reaches: what the narrow one did, where it is no wider.

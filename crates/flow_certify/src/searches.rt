@@ -1,6 +1,6 @@
 //! Searches for directions, one after the other, and what they found so far.
 
-ghost use Rattle.std.specs.Prelude.{◌≡◌, ◌↔◌, ◌<◌, ◌≤◌, min, [], length, IfOk, IsTrue};
+ghost use Rattle.std.specs.Prelude.{◌≡◌, ◌↔◌, ◌⊎◌, ◌<◌, ◌≤◌, min, false, [], length, IfOk, IsTrue};
 ghost use Rattle.flow_shop.specs.Shop.{Shop};
 ghost use Rattle.flow_shop.specs.Paths.{span};
 ghost use Rattle.flow_shop.specs.Directions.{Proves};
@@ -90,8 +90,9 @@ impl Searches {
 
     /// The sequence and its makespan, as what a search for a better one has reached.
     pub(crate) fn best(&self, alloc: Global) -> Result<Reached, AllocError>
-        ensures { (shop : Shop) → AreSearches shop self.now →
-            IfOk result (λ best. IsSequence shop.jobs best.sequence) }
+        ensures sequence { IfOk result (λ best. best.sequence ≡ self.now.known.sequence) }
+        ensures value { IfOk result (λ best. best.value ≡ self.now.known.upper) }
+        ensures whole { IfOk result (λ best. best.whole ≡ false) }
     {
         Ok(Reached {
             sequence: Sequence::of_known(alloc, self.known.sequence.jobs())?,
@@ -102,8 +103,9 @@ impl Searches {
 
     /// Takes a sequence where its makespan is smaller.
     pub(crate) fn take(&mut self, alloc: Global, reached: &Reached) -> Result<(), AllocError>
-        ensures { (shop : Shop) → AreSearches shop self.old → IsSequence shop.jobs reached.now.sequence →
+        ensures later { (shop : Shop) → AreSearches shop self.old → IsSequence shop.jobs reached.now.sequence →
             reached.now.value ≡ span shop reached.now.sequence → AreLater shop self.old self.new }
+        ensures upper { IfOk result (λ unit. self.new.known.upper ≡ min self.old.known.upper reached.now.value) }
     {
         if reached.value < self.known.upper {
             let sequence = Sequence::of_known(alloc, reached.sequence.jobs())?;
@@ -232,6 +234,30 @@ impl Searches {
             self.prove_upper(task, *budget)?;
         }
         Ok(())
+    }
+
+    /// The same; where no better sequence exists (`whole`), with the greatest budget at once. Returns whether that is
+    /// so, or the makespan is proved.
+    pub(crate) fn try_budgets<P: Prover>(
+        &mut self,
+        task: &Task<P>,
+        budgets: &[u64],
+        whole: bool,
+    ) -> Result<bool, AllocError>
+        requires ready { P.is_ready task.now.prover.now }
+        requires searches { AreSearches task.now.instance.now self.old }
+        ensures later { AreLater task.now.instance.now self.old self.new }
+        ensures ended { IfOk result (λ ended.
+            IsTrue ended ↔ (IsTrue whole ⊎ (self.new.known.upper ≤ self.new.known.lower))) }
+    {
+        if whole {
+            self.fund.release();
+            let most = self.most;
+            self.prove_upper(task, most)?;
+            return Ok(true);
+        }
+        self.prove_with(task, budgets)?;
+        Ok(self.is_proved())
     }
 
     /// Raises the proved number with a budget: by 1, 2, 4 and so on, but by no more than half of the way to the least

@@ -3,7 +3,8 @@
 ghost use Rattle.std.specs.Prelude.{◌≡◌, ◌≤◌, ◌<◌, ◌*◌};
 ghost use Rattle.flow_workers.specs.internal.Paces.{GoesOn, left_of, bytes_of_piece, most_bytes};
 
-/// So many directions times jobs come first, which one worker searches: threads would cost more than they save.
+/// One worker searches alone until the directions so far, times the jobs, are at least this: threads would cost more
+/// than they save.
 const ALONE: u64 = 240_000;
 
 /// The least directions of a round, for each worker, where there are as many so far.
@@ -15,8 +16,8 @@ const MOST: u64 = 200_000;
 /// The least directions that a node is given, so that dealing it costs little beside its search.
 const LEAST_OF_NODE: u64 = 500;
 
-/// The most bytes of pieces before a round, as they are reckoned here. With more of them one node is searched in a
-/// round, so that few pieces are added.
+/// Where the pieces are reckoned to have more bytes than this, a round searches one node alone, so that it adds few
+/// pieces.
 const MOST_BYTES: usize = 100_000_000;
 
 /// How much is searched in a round.
@@ -31,7 +32,7 @@ pub(crate) struct Pace {
     pub(crate) whole: u64,
     /// The least directions that a node is given.
     pub(crate) least: u64,
-    /// With so many more directions the search is over its budget.
+    /// One more than the directions that are left of the budget.
     pub(crate) left: u64,
 }
 
@@ -127,4 +128,9 @@ fn paces_are_those_stated(rt: HostRuntime) {
             "after {written} of {pieces} pieces, {workers} workers"
         );
     }
+    let pace = Pace::new(4, 20, 500, 400_000, 1_400_000);
+    assert!(rt;
+        pace.grant(40_000) == 1_250,
+        "after 40000 of a round of 50000"
+    );
 }
