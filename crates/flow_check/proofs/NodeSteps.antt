@@ -1,12 +1,11 @@
 -- The fronts, the work left and the bounds of lists.
-use Rattle.std.proofs.Common.{◌≡◌, ◌≢◌, ℕ, zero, suc, ◌+◌, ◌-◌, ◌*◌, ◌<◌, ◌≤◌, true, false, not, List, []}
-use Rattle.std.proofs.Common.{◌∷◌, ◌++◌, length, slice_index, replicate, refl, ap, sym, ◌∙◌, subst, inl, inr, arith}
+use Rattle.std.proofs.Common.{◌≡◌, ◌≢◌, ℕ, suc, ◌+◌, ◌-◌, ◌*◌, ◌≤◌, false, not, List, []}
+use Rattle.std.proofs.Common.{◌∷◌, ◌++◌, length, slice_index, replicate, ap, sym, ◌∙◌, subst, inl, inr, arith}
 use Rattle.std.proofs.Common.{set, length-append, map}
-use Rattle.std.specs.List.{filter, sum_by}
+use Rattle.std.specs.List.{sum_by}
 use Rattle.std.proofs.lemmas.List.{get_or-set_same, get_or-set_other, get_or-replicate, length-set}
-use Rattle.std.proofs.lemmas.Bool.{cases_lt}
 use Rattle.flow_shop.specs.Limits.{most_jobs, most_machines, greatest_time}
-use Rattle.flow_shop.specs.Shop.{Shop, numbers, time, time_between, IsWithinLimits}
+use Rattle.flow_shop.specs.Shop.{Shop, time, time_between, IsWithinLimits}
 use Rattle.flow_shop.specs.Paths.{completion}
 use Rattle.flow_shop.specs.Front.{IsFrontOf, IsWithinFront}
 use Rattle.flow_shop.specs.Sequences.{has, jobs_left}

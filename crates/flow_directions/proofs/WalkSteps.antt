@@ -1,5 +1,5 @@
 -- What is still to be searched of a node, while its children are.
-use Rattle.std.proofs.Common.{◌≡◌, ℕ, suc, ◌+◌, ◌-◌, ◌<◌, ◌≤◌, Bool, true, false, cond, not, ◌||◌, nat_eq, nat_lt}
+use Rattle.std.proofs.Common.{◌≡◌, ℕ, ◌+◌, ◌-◌, ◌<◌, ◌≤◌, Bool, true, false, cond, not, ◌||◌, nat_eq, nat_lt}
 use Rattle.std.proofs.Common.{List, [], ◌∷◌, ◌++◌, length, drop, filter, Some, None, refl, ap, sym, ◌∙◌, subst}
 use Rattle.std.proofs.Common.{inl, inr, arith, append_assoc, append-nil, length-append, slice_index_or}
 use Rattle.std.specs.List.{flat_map, AllByRecursion}
@@ -10,7 +10,6 @@ use Rattle.flow_shop.specs.Sequences.{has, jobs_left, AreDistinct}
 use Rattle.flow_shop.specs.Ends.{end_bound}
 use Rattle.flow_shop.specs.Directions.{sign, first_with, last_with}
 use Rattle.flow_shop.specs.declared.end.End.{End}
-use Rattle.flow_shop.specs.declared.end.End.TheVariants.{Front, Back}
 use Rattle.flow_shop.proofs.JobsLeft.{each-left}
 use Rattle.flow_shop.proofs.LeastFound.{in-order}
 use Rattle.flow_nodes.specs.Nodes.{IsJob}
