@@ -5,6 +5,7 @@
 //! kind stands in `fault`, a law of the definitions in `laws`.
 #![tactic(auto)]
 
+mod any_request;
 mod block;
 mod certify;
 mod check;
@@ -17,13 +18,13 @@ mod laws;
 mod neh;
 mod printed;
 mod report;
-mod run_request;
 mod schedule;
 mod solve;
 mod span;
 mod start;
 mod timed;
 
+pub use any_request::run_request;
 pub use certify::run_certify;
 pub use check::{run_check, run_check_as};
 pub use fault::{CommandFault, ToolFault};
@@ -36,7 +37,6 @@ pub use generate::run_gen;
 pub use improve::run_improve;
 pub use laws::{each_start_gives_one, report_states_lengths};
 pub use neh::run_neh;
-pub use run_request::run_request;
 pub use schedule::run_schedule;
 pub use solve::{run_solve, run_solve_as};
 pub use span::run_span;

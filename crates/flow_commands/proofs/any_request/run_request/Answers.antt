@@ -2,7 +2,7 @@ use Rattle.flow_commands.specs.Request.{SaysTrue, answers, kind_of}
 use Rattle.flow_commands.specs.Runs.{run_of, second_run, sink_run, source_run}
 use Rattle.flow_commands.proofs.Truths.{request-says-true}
 use Rattle.flow_commands.proofs.Written.{came-both}
-use Rattle.flow_commands.proofs.run_request.run_request.Goals as goal
+use Rattle.flow_commands.proofs.any_request.run_request.Goals as goal
 
 pub returns-clause-proved : goal.returns-clause-proved
 returns-clause-proved g c =
