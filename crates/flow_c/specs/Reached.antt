@@ -1,5 +1,5 @@
 -- What a search of better sequences comes to, and what a call for one gives.
-use Rattle.std.specs.Prelude.{ℕ, ◌≡◌, ◌≤◌, ◌⊎◌, List, length, take, drop, Option, None, Result, IfOk, OnOk, IfErr}
+use Rattle.std.specs.Prelude.{ℕ, ◌≡◌, ◌≤◌, ◌⊎◌, List, take, drop, Option, None, Result, IfOk, OnOk, IfErr}
 use Rattle.flow_shop.specs.Paths.{span}
 use Rattle.flow_shop.specs.Sequences.{IsSequence}
 use Rattle.flow_improve.specs.declared.reached.Reached.{Reached}
