@@ -1,8 +1,13 @@
 //! A sequence that a search reached, in room that a caller lends.
 
-ghost use Rattle.std.specs.Prelude.{◌≡◌, ◌≤◌, length, take, drop, cond};
+ghost use Rattle.std.specs.Prelude.{◌≡◌, ℕ, ◌≤◌, List, Option, length, take, drop, cond};
+ghost use Rattle.flow_c.specs.Reached.{Finds, GivesReached};
 ghost use Rattle.flow_c.specs.Rooms.{IsSameRoom};
+ghost use Rattle.flow_c.specs.declared.fault.Fault.{Fault};
+ghost use Rattle.flow_c.specs.declared.shop.ShopNumbers.{ShopNumbers};
 
+use crate::fault::Fault;
+use crate::outcome::Outcome;
 use crate::room::fill;
 use flow_improve::Reached;
 
@@ -32,5 +37,22 @@ impl ReachedRoom<'_> {
         fill(reached.sequence.jobs(), self.sequence);
         self.makespan = reached.value;
         self.whole = u32::from(reached.whole);
+    }
+
+    /// Takes what a search found, and says how the call ends.
+    pub(crate) fn answer(&mut self, found: Result<Reached, Fault>) -> Outcome
+        requires { (numbers : ShopNumbers) × (start : List ℕ) × (refusal : Option Fault)
+            × Finds numbers start refusal (length self.old.sequence.now) found }
+        ensures { (numbers : ShopNumbers) (start : List ℕ) (refusal : Option Fault) →
+            Finds numbers start refusal (length self.old.sequence.now) found →
+            GivesReached numbers start refusal self.old self.new result }
+    {
+        match found {
+            Ok(reached) => {
+                self.put(&reached);
+                Outcome::done()
+            }
+            Err(fault) => Outcome::refused(fault),
+        }
     }
 }

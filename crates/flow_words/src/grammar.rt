@@ -236,104 +236,94 @@ static SCHEDULE: [Word; 4] = [
     },
 ];
 
+/// A command: its name, what it does, the example that its help ends with, and its words.
+#[derive(Drop)]
+struct CommandWords {
+    name: &'static str,
+    about: &'static str,
+    example: &'static str,
+    words: &'static [Word],
+}
+
+/// All commands, in the order of the help.
+fn commands() -> [CommandWords; 8] {
+    [
+        CommandWords {
+            name: "certify",
+            about: "Writes a two-ended certificate: a sequence, and bounds of the least makespan, which are one number \
+where that is proved",
+            example: "Example: ./flowshop certify examples/three_machines.txt 1 >certificate",
+            words: &CERTIFY,
+        },
+        CommandWords {
+            name: "span",
+            about: "Prints the makespan of jobs in the given order",
+            example: "Example: ./flowshop span examples/two_machines.txt 1 2 3 1",
+            words: &SPAN,
+        },
+        CommandWords {
+            name: "gen",
+            about: "Writes the instance of a seed, with its bounds",
+            example: "Example: ./flowshop gen 20 5 873654221",
+            words: &GEN,
+        },
+        CommandWords {
+            name: "neh",
+            about: "Prints the starting sequence and its makespan",
+            example: "Example: ./flowshop neh examples/three_machines.txt 1",
+            words: &NEH,
+        },
+        CommandWords {
+            name: "improve",
+            about: "Prints a sequence that is no worse than a starting sequence, and its makespan",
+            example: "Example: ./flowshop improve examples/taillard_20_5.txt 1 --rounds 100",
+            words: &IMPROVE,
+        },
+        CommandWords {
+            name: "solve",
+            about: "Finds the least makespan, and writes a certificate of it",
+            example: "Example: ./flowshop solve examples/three_machines.txt 1 --depth 0",
+            words: &SOLVE,
+        },
+        CommandWords {
+            name: "check",
+            about: "Checks a certificate, two-ended or not, and prints what it proves",
+            example: "Example: ./flowshop check examples/three_machines.txt 1 certificate --optimal",
+            words: &CHECK,
+        },
+        CommandWords {
+            name: "schedule",
+            about: "Writes when each job of a sequence or a certificate starts and ends on each machine, as a table or a \
+picture",
+            example: "Example: ./flowshop schedule examples/three_machines.txt 1 certificate --form svg",
+            words: &SCHEDULE,
+        },
+    ]
+}
+
 /// The grammar of the command line. It keeps a frame of its own: a caller's would hold all commands to its end.
 #[inline(never)]
 pub fn make_command<'a>(alloc: Global) -> Result<Command<'a>, AllocError> {
-    let command = Command::new(alloc, "flowshop")
+    let mut command = Command::new(alloc, "flowshop")
         .about("Least makespans of permutation flow shops, with certificates")
         .after_help("Example: ./flowshop certify examples/taillard_20_5.txt 1 >certificate")
         .version(VERSION)
         .subcommand_required(true);
-    let command = with(Ok(command), certify_command(alloc));
-    let command = with(command, span_command(alloc));
-    let command = with(command, gen_command(alloc));
-    let command = with(command, neh_command(alloc));
-    let command = with(command, improve_command(alloc));
-    let command = with(command, solve_command(alloc));
-    let command = with(command, check_command(alloc));
-    with(command, schedule_command(alloc))
+    for words in &commands() {
+        command = command.subcommand(command_of(alloc, words)?)?;
+    }
+    Ok(command)
 }
 
-/// A command with one more below it, where both could be made.
-fn with<'a>(
-    command: Result<Command<'a>, AllocError>,
-    below: Result<Command<'a>, AllocError>,
-) -> Result<Command<'a>, AllocError> {
-    command?.subcommand(below?)
-}
-
-fn certify_command<'a>(alloc: Global) -> Result<Command<'a>, AllocError> {
-    let about =
-        "Writes a two-ended certificate: a sequence, and bounds of the least makespan, which are one number where \
-that is proved";
-    let example = "Example: ./flowshop certify examples/three_machines.txt 1 >certificate";
-    command_of(alloc, "certify", about, example, &CERTIFY)
-}
-
-fn span_command<'a>(alloc: Global) -> Result<Command<'a>, AllocError> {
-    let about = "Prints the makespan of jobs in the given order";
-    let example = "Example: ./flowshop span examples/two_machines.txt 1 2 3 1";
-    command_of(alloc, "span", about, example, &SPAN)
-}
-
-fn gen_command<'a>(alloc: Global) -> Result<Command<'a>, AllocError> {
-    let about = "Writes the instance of a seed, with its bounds";
-    command_of(
-        alloc,
-        "gen",
-        about,
-        "Example: ./flowshop gen 20 5 873654221",
-        &GEN,
-    )
-}
-
-fn neh_command<'a>(alloc: Global) -> Result<Command<'a>, AllocError> {
-    let about = "Prints the starting sequence and its makespan";
-    let example = "Example: ./flowshop neh examples/three_machines.txt 1";
-    command_of(alloc, "neh", about, example, &NEH)
-}
-
-fn improve_command<'a>(alloc: Global) -> Result<Command<'a>, AllocError> {
-    let about = "Prints a sequence that is no worse than a starting sequence, and its makespan";
-    let example = "Example: ./flowshop improve examples/taillard_20_5.txt 1 --rounds 100";
-    command_of(alloc, "improve", about, example, &IMPROVE)
-}
-
-fn solve_command<'a>(alloc: Global) -> Result<Command<'a>, AllocError> {
-    let about = "Finds the least makespan, and writes a certificate of it";
-    let example = "Example: ./flowshop solve examples/three_machines.txt 1 --depth 0";
-    command_of(alloc, "solve", about, example, &SOLVE)
-}
-
-fn check_command<'a>(alloc: Global) -> Result<Command<'a>, AllocError> {
-    let about = "Checks a certificate, two-ended or not, and prints what it proves";
-    let example = "Example: ./flowshop check examples/three_machines.txt 1 certificate --optimal";
-    command_of(alloc, "check", about, example, &CHECK)
-}
-
-fn schedule_command<'a>(alloc: Global) -> Result<Command<'a>, AllocError> {
-    let about =
-        "Writes when each job of a sequence or a certificate starts and ends on each machine, as a table or a picture";
-    let example =
-        "Example: ./flowshop schedule examples/three_machines.txt 1 certificate --form svg";
-    command_of(alloc, "schedule", about, example, &SCHEDULE)
-}
-
-/// A command: its name, what it does, what its help ends with, and its words.
-fn command_of<'a>(
-    alloc: Global,
-    name: &'a str,
-    about: &'a str,
-    example: &'a str,
-    words: &[Word],
-) -> Result<Command<'a>, AllocError> {
+/// The grammar of a command.
+fn command_of<'a>(alloc: Global, command: &CommandWords) -> Result<Command<'a>, AllocError> {
     let mut args = Vec::new(alloc);
-    for word in words {
+    for word in command.words {
         args.push(argument_of(alloc, word))?;
     }
-    Command::new(alloc, name)
-        .about(about)
-        .after_help(example)
+    Command::new(alloc, command.name)
+        .about(command.about)
+        .after_help(command.example)
         .args(args)
 }
 
