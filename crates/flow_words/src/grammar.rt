@@ -293,8 +293,8 @@ where that is proved",
         },
         CommandWords {
             name: "schedule",
-            about: "Writes when each job of a sequence or a certificate starts and ends on each machine, as a table or a \
-picture",
+            about: "Writes when each job of a sequence or a certificate starts and ends on each machine, as a table or \
+a picture",
             example: "Example: ./flowshop schedule examples/three_machines.txt 1 certificate --form svg",
             words: &SCHEDULE,
         },
