@@ -13,7 +13,7 @@ use Rattle.flow_shop.proofs.Recurrence.{time_between-first}
 use Rattle.flow_shop.proofs.JobsLeft.{kept, kept-step, kept-more, filter-same, has-filter, least-le, sum_by-ones}
 use Rattle.flow_shop.proofs.JobSetLemmas.{members-is}
 use Rattle.flow_shop.specs.TwoLeast.{least_below}
-use Rattle.flow_shop.proofs.TwoLeast.{least-below-cap}
+use Rattle.flow_shop.proofs.TwoLeastSteps.{least-below-cap}
 use Rattle.flow_bound.proofs.Steps.{least_below-step}
 
 -- the sum over the first numbers that a test passes

@@ -14,7 +14,7 @@ use Rattle.flow_shop.proofs.JobsLeft.{numbers-more}
 use Rattle.flow_shop.proofs.Recurrence.{time_between-more, time_between-none}
 use Rattle.flow_shop.proofs.Taken.{range-split}
 use Rattle.flow_shop.specs.TwoLeast.{least_below}
-use Rattle.flow_shop.proofs.TwoLeast.{least-push, least-below-cap}
+use Rattle.flow_shop.proofs.TwoLeastSteps.{least-push, least-below-cap}
 use Rattle.flow_bound.proofs.Steps.{time_between-small}
 
 -- a value that is written for one more number

@@ -10,7 +10,7 @@ use Rattle.flow_shop.specs.TwoLeast.{least_below}
 use Rattle.flow_shop.proofs.JobsLeft.{sum_by-jobs_left, sum_by-ones, filter-more}
 use Rattle.flow_shop.proofs.Recurrence.{time_between-more, time_between-none}
 use Rattle.flow_shop.proofs.Fronts.{time-small}
-use Rattle.flow_shop.proofs.TwoLeast.{least-push}
+use Rattle.flow_shop.proofs.TwoLeastSteps.{least-push}
 use Rattle.flow_shop.specs.Paths.{span}
 use Rattle.flow_shop.specs.Front.{IsFrontOf}
 use Rattle.flow_shop.specs.Sequences.{jobs_left, IsSequence, Extends}

@@ -22,7 +22,7 @@ use Rattle.flow_check.specs.internal.Links.{children}
 use Rattle.flow_check.specs.declared.node.Node.{Node}
 use Rattle.flow_check.specs.declared.node.TwoLeastTails.{TwoLeastTails}
 use Rattle.flow_shop.proofs.Taken.{left-sum, left-count, left-split, left-without, left_under}
-use Rattle.flow_shop.proofs.TwoLeast.{Without, without-one, least-below-cap}
+use Rattle.flow_shop.proofs.TwoLeastSteps.{Without, without-one, least-below-cap}
 use Rattle.flow_shop.proofs.Fronts.{tail-small}
 
 -- the sum of the times of the jobs left fits

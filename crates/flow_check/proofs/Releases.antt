@@ -17,7 +17,7 @@ use Rattle.flow_shop.proofs.Fronts.{free_at, time-small, tail-small}
 use Rattle.flow_shop.proofs.JobsLeft.{numbers-more}
 use Rattle.flow_shop.proofs.Recurrence.{after, time_between-first, time_between-none}
 use Rattle.flow_shop.proofs.Taken.{left-count}
-use Rattle.flow_shop.proofs.TwoLeast.{Without, least-below-cap}
+use Rattle.flow_shop.proofs.TwoLeastSteps.{Without, least-below-cap}
 use Rattle.flow_check.specs.internal.Lags.{AreTwoLeastLagsTo, lags}
 use Rattle.flow_check.specs.internal.Nodes.{IsNode, no_least}
 use Rattle.flow_check.specs.declared.node.Node.{Node}

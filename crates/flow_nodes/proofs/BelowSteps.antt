@@ -7,6 +7,7 @@ use Rattle.std.proofs.lemmas.Nat.Bits.{bit_at-lt, bit_at_and, bit_at-zero}
 use Rattle.flow_shop.specs.Shop.{Shop}
 use Rattle.flow_shop.specs.Sequences.{has}
 use Rattle.flow_shop.specs.declared.end.End.{End}
+use Rattle.flow_nodes.specs.Lanes.{limit_of}
 use Rattle.flow_nodes.specs.Nodes.{IsNode}
 use Rattle.flow_nodes.specs.Groups.{IsGroup, child_bound}
 use Rattle.flow_nodes.specs.Marks.{mark}
@@ -56,7 +57,7 @@ module _ (left words : List ℕ) (group word place : ℕ) (within : group < leng
 -- what the bits of a group say of one of its jobs that is left
 pub lane-tells : {V : Type 0} (list : V → List ℕ) (cap width : ℕ) (wide : width ≡ 16) (shop : Shop) (number limit : ℕ)
     (end : End) (first last : List ℕ) (node : Node) (jobs : List ℕ) (vectors : List V) (bits lane : ℕ) →
-    IsNode shop first last node → IsGroup list cap width shop jobs vectors → limit ≡ min number 4294967295 →
+    IsNode shop first last node → IsGroup list cap width shop jobs vectors → limit ≡ limit_of number →
     lane < 16 → has (first ++ last) (slice_index jobs lane) ≡ false →
     IsBitSet bits lane ↔ (child_bound shop end first last (slice_index jobs lane) < limit) →
     bit_at bits lane ≡ 1 ↔ (child_bound shop end first last (slice_index jobs lane) < number)

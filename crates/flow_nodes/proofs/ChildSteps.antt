@@ -1,6 +1,6 @@
 -- The bounds of children, machine by machine from either end.
 use Rattle.std.proofs.Common.{◌≡◌, ℕ, suc, ◌+◌, ◌-◌, ◌<◌, ◌≤◌, max, false, List, [], ◌∷◌, ◌++◌, map, slice_index}
-use Rattle.std.proofs.Common.{refl, ap, sym, ◌∙◌, arith}
+use Rattle.std.proofs.Common.{refl, ap, ◌∙◌, arith}
 use Rattle.std.specs.List.{range_with_len}
 use Rattle.flow_shop.specs.Shop.{Shop, numbers, time}
 use Rattle.flow_shop.specs.Least.{greatest}
@@ -8,23 +8,13 @@ use Rattle.flow_shop.specs.Sequences.{has}
 use Rattle.flow_shop.specs.Ends.{front, back, end_bound_at}
 use Rattle.flow_shop.specs.declared.end.End.{End}
 use Rattle.flow_shop.specs.declared.end.End.TheVariants.{Front, Back}
-use Rattle.flow_shop.proofs.Extremes.{range-le-greatest, greatest-range-le}
+use Rattle.flow_shop.proofs.Ranges.{greatest-next, greatest-same}
 use Rattle.flow_shop.proofs.EndSteps.{front_by_recurrence, back-past, back-is, sum-child}
 use Rattle.flow_nodes.specs.declared.node.Node.{Node}
 use Rattle.flow_nodes.specs.Nodes.{AreOf, IsJob, IsNode, work}
 use Rattle.flow_nodes.specs.Groups.{child_bound}
 use Rattle.flow_nodes.specs.internal.Children.{front_child_at, back_child_at, greatest_at}
-use Rattle.flow_nodes.proofs.NodeSteps.{greatest-step}
 use Rattle.flow_nodes.proofs.KeptNodes.{end-bound-is}
-
-greatest-next : (f : ℕ → ℕ) (n : ℕ) →
-    greatest (map f (numbers 1 (n + 1))) ≡ max (greatest (map f (numbers 1 n))) (f (n + 1))
-greatest-next f n =
-    let more : n + 1 ≡ n + 1 + 1 - 1 = omega arith in
-    let less : n + 1 - 1 ≡ n = omega arith in
-    ap (λ i. greatest (map f (numbers 1 i))) more
-    ∙ greatest-step f (n + 1) (omega arith)
-    ∙ ap (λ i. max (greatest (map f (numbers 1 i))) (f (n + 1))) less
 
 greatest-before : (f : ℕ → ℕ) (k m : ℕ) → k ≤ m →
     greatest (map f (numbers k m)) ≡ max (greatest (map f (numbers (k + 1) m))) (f k)
@@ -39,17 +29,6 @@ greatest-none : (f : ℕ → ℕ) (m : ℕ) → greatest (map f (numbers (m + 1)
 greatest-none f m =
     let none : m + 1 - (m + 1) ≡ 0 = omega arith in
     ap (λ n. greatest (map f (range_with_len (m + 1) n))) none
-
-greatest-le : (f g : ℕ → ℕ) (n : ℕ) → ((k : ℕ) → 1 ≤ k → k ≤ n → f k ≡ g k) →
-    greatest (map f (numbers 1 n)) ≤ greatest (map g (numbers 1 n))
-greatest-le f g n same =
-    greatest-range-le f 1 (n + 1 - 1) (greatest (map g (numbers 1 n)))
-    (λ k low high. omega (arith, same k low (omega arith), range-le-greatest g 1 (n + 1 - 1) k low high))
-
-greatest-same : (f g : ℕ → ℕ) (n : ℕ) → ((k : ℕ) → 1 ≤ k → k ≤ n → f k ≡ g k) →
-    greatest (map f (numbers 1 n)) ≡ greatest (map g (numbers 1 n))
-greatest-same f g n same =
-    omega (arith, greatest-le f g n same, greatest-le g f n (λ k low high. sym (same k low high)))
 
 are-at : (shop : Shop) (value : ℕ → ℕ) (xs : List ℕ) (place : ℕ) → AreOf shop value xs → place < shop.machines →
     slice_index xs place ≡ value (place + 1)

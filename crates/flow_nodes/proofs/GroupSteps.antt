@@ -51,8 +51,3 @@ groups-push P groups vector before here group none within = elim (cases_lt group
       subst (λ n. P n (slice_index_or (groups ++ vector ∷ []) n none).items) (sym same)
       (subst (λ v. P (length groups) v.items) (sym (get_or-append_seam groups vector [] none)) here)
 ]
-
--- an element of a list that has some
-pub some-of : {A : Type 0} (list : List A) → 0 < length list → A
-some-of [] low = absurd (omega arith)
-some-of (one ∷ list) low = one

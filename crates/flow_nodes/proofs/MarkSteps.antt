@@ -1,5 +1,5 @@
 -- What is done to marks of places, and how the next marked place is found.
-use Rattle.std.proofs.Common.{◌≡◌, ◌≢◌, ℕ, zero, suc, ◌+◌, ◌-◌, ◌*◌, ◌/◌, ◌%◌, ◌^◌, ◌<◌, ◌≤◌, List, [], ◌∷◌, ◌++◌}
+use Rattle.std.proofs.Common.{◌≡◌, ◌≢◌, ℕ, suc, ◌+◌, ◌-◌, ◌*◌, ◌/◌, ◌%◌, ◌^◌, ◌<◌, ◌≤◌, List, [], ◌∷◌, ◌++◌}
 use Rattle.std.proofs.Common.{length, slice_index, take, drop, set, replicate, refl, ap, sym, subst, ◌∙◌, inl, inr}
 use Rattle.std.proofs.Common.{pow-suc, arith}
 use Rattle.std.specs.Prelude.{IsBitSet, bit_and, bit_or, count_ones}
@@ -12,6 +12,7 @@ use Rattle.std.proofs.lemmas.Nat.{bit_set_by_shift, ones_le_self, shr-shr, shr_l
 use Rattle.std.proofs.lemmas.Nat.Bits.{bit_at-zero, bit_at-suc, bit_at_lowest, bit_at-trailing_zeros, bit_at_above}
 use Rattle.std.proofs.lemmas.Nat.Bits.{bit_at_set_same, bit_at_set_other, bit_at_clear_same, bit_at_clear_other}
 use Rattle.std.proofs.lemmas.Nat.Bits.{shr_and_one}
+use Rattle.flow_shop.proofs.Fronts.{zeros}
 use Rattle.flow_nodes.specs.Marks.{mark, picked, chosen}
 use Rattle.flow_nodes.proofs.MarkedNames.{kept, kept-yes, kept-no, kept-same, kept-none, kept-parted, kept-first}
 use Rattle.flow_nodes.proofs.ChosenNames.{chosen-kept, chosen-group, picked-bits}
@@ -22,11 +23,6 @@ bit-set n k is = sym (shr_and_one n k) ∙ (bit_set_by_shift n k).1 is
 
 pub set-bit : (n k : ℕ) → bit_at n k ≡ 1 → IsBitSet n k
 set-bit n k is = (bit_set_by_shift n k).0 (shr_and_one n k ∙ is)
-
-zeros : (n i : ℕ) → slice_index (replicate n 0) i ≡ 0
-zeros zero i = refl
-zeros (suc n) zero = refl
-zeros (suc n) (suc i) = zeros n i
 
 -- no place is marked where all words are 0
 pub mark-none : (n place : ℕ) → mark (replicate n 0) place ≡ 0

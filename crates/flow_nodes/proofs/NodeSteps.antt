@@ -1,14 +1,15 @@
 -- What the code of a node computes, machine by machine and job by job.
-use Rattle.std.proofs.Common.{◌≡◌, ◌≢◌, ℕ, zero, suc, ◌+◌, ◌-◌, ◌<◌, ◌≤◌, min, max, List, [], ◌∷◌, ◌++◌, length}
+use Rattle.std.proofs.Common.{◌≡◌, ◌≢◌, ℕ, zero, suc, ◌+◌, ◌-◌, ◌<◌, ◌≤◌, min, List, [], ◌∷◌, ◌++◌, length}
 use Rattle.std.proofs.Common.{map, slice_index, set, refl, ap, sym, ◌∙◌, subst, inl, inr, arith, length-append}
 use Rattle.std.proofs.lemmas.Bool.{cases_lt}
 use Rattle.std.proofs.lemmas.List.{get_or-set_same, get_or-set_other}
 use Rattle.flow_limits.specs.Limits.{most_jobs, most_machines, greatest_completion}
 use Rattle.flow_shop.specs.Shop.{Shop, IsWithinLimits, numbers, time, time_between}
-use Rattle.flow_shop.specs.Least.{least, greatest}
+use Rattle.flow_shop.specs.Least.{least}
 use Rattle.flow_shop.proofs.Recurrence.{completion-is, after-first, time_between-more}
-use Rattle.flow_shop.proofs.Extremes.{greatest-append, map-map-append}
+use Rattle.flow_shop.proofs.Extremes.{map-map-append}
 use Rattle.flow_shop.proofs.JobsLeft.{InRange, numbers-more}
+use Rattle.flow_shop.proofs.Ranges.{numbers-step}
 use Rattle.flow_shop.proofs.Fronts.{completion-small, tail-small}
 use Rattle.flow_shop.specs.Ends.{front, back}
 use Rattle.flow_shop.proofs.EndBounds.{head-le, tail-le, through}
@@ -27,29 +28,12 @@ least-push [] x some = absurd (omega arith)
 least-push (y ∷ []) x some = refl
 least-push (y ∷ z ∷ zs) x some = omega (arith, least-push (z ∷ zs) x (omega arith))
 
-greatest-push : (xs : List ℕ) (x : ℕ) → greatest (xs ++ x ∷ []) ≡ max (greatest xs) x
-greatest-push xs x = omega (arith, greatest-append xs (x ∷ []))
-
 length-map : (f : ℕ → ℕ) (xs : List ℕ) → length (map f xs) ≡ length xs
 length-map f [] = refl
 length-map f (x ∷ xs) = ap suc (length-map f xs)
 
 some-numbers : (n : ℕ) → 0 < length (numbers 1 (suc n))
 some-numbers n = omega (arith, ap length (numbers-more n), length-append (numbers 1 n) (suc n ∷ []))
-
-numbers-step : (k : ℕ) → 1 ≤ k → numbers 1 (k + 1 - 1) ≡ numbers 1 (k - 1) ++ k ∷ []
-numbers-step zero low = absurd (omega arith)
-numbers-step (suc n) low =
-    let next : suc n + 1 - 1 ≡ suc n = omega arith in
-    let e : n ≡ suc n - 1 = omega arith in
-    ap (numbers 1) next ∙ numbers-more n ∙ ap (λ i. numbers 1 i ++ suc n ∷ []) e
-
-pub greatest-step : (f : ℕ → ℕ) (k : ℕ) → 1 ≤ k →
-    greatest (map f (numbers 1 (k + 1 - 1))) ≡ max (greatest (map f (numbers 1 (k - 1)))) (f k)
-greatest-step f k low =
-    ap (λ xs. greatest (map f xs)) (numbers-step k low)
-    ∙ ap greatest (map-map-append f (numbers 1 (k - 1)) (k ∷ []))
-    ∙ greatest-push (map f (numbers 1 (k - 1))) (f k)
 
 pub least-step : (f : ℕ → ℕ) (k : ℕ) → 2 ≤ k →
     least (map f (numbers 1 (k + 1 - 1))) ≡ min (least (map f (numbers 1 (k - 1)))) (f k)

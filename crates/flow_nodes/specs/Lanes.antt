@@ -5,6 +5,11 @@ use Rattle.std.specs.Prelude.{ℕ, ◌≡◌, ◌<◌, List, length, slice_index
 abbrev pub capped : ℕ → ℕ → ℕ
 capped cap number = min number cap
 
+-- the limit that stands for a number in 32 bits: the number, or the greatest of 32 bits where that is less; no bound of
+-- a child is greater
+abbrev pub limit_of : ℕ → ℕ
+limit_of number = min number 4294967295
+
 -- a lane of so many has a number, or the cap where that is less
 pub record HasLane (cap width : ℕ) (lanes : List ℕ) (lane number : ℕ) : Type 0 where
   pub count : length lanes ≡ width

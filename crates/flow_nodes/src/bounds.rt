@@ -1,14 +1,14 @@
 //! The bounds of the children that put the jobs of a group at an end, side by side.
 
 ghost use Rattle.std.specs.Prelude.{◌≡◌, ℕ, ◌/◌, ◌%◌, ◌<◌, ◌≤◌, ◌↔◌, false, List, ◌++◌, length, slice_index};
-ghost use Rattle.std.specs.Prelude.{slice_index_or, min, IsBitSet};
+ghost use Rattle.std.specs.Prelude.{slice_index_or, IsBitSet};
 ghost use Rattle.std.specs.Global.{Vec};
 ghost use Rattle.flow_limits.specs.Limits.{most_machines};
 ghost use Rattle.flow_shop.specs.Shop.{Shop};
 ghost use Rattle.flow_shop.specs.Sequences.{has};
 ghost use Rattle.flow_shop.specs.declared.end.End.{End};
 ghost use Rattle.flow_shop.specs.declared.end.End.TheVariants.{Front, Back};
-ghost use Rattle.flow_nodes.specs.Lanes.{HasLane};
+ghost use Rattle.flow_nodes.specs.Lanes.{HasLane, limit_of};
 ghost use Rattle.flow_nodes.specs.Nodes.{IsNode};
 ghost use Rattle.flow_nodes.specs.Groups.{IsGroup, child_bound};
 ghost use Rattle.flow_nodes.specs.Marks.{mark};
@@ -114,7 +114,7 @@ impl Node {
         ensures within { (place : ℕ) → place / 16 < length groups.now → mark below.new.words place ≡ 1 →
             mark left.now.words place ≡ 1 }
         ensures exact { (shop : Shop) (number : ℕ) (first last jobs : List ℕ) (place : ℕ) (none : Vec V) →
-            limit ≡ min number 4294967295 → IsNode shop first last self.now → place / 16 < length groups.now →
+            limit ≡ limit_of number → IsNode shop first last self.now → place / 16 < length groups.now →
             IsGroup V.list V.CAP V.WIDTH shop jobs (slice_index_or groups.now (place / 16) none).items →
             mark left.now.words place ≡ 1 → has (first ++ last) (slice_index jobs (place % 16)) ≡ false →
             mark below.new.words place ≡ 1

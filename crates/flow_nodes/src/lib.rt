@@ -5,12 +5,16 @@
 mod bounds;
 mod group;
 mod lanes;
+mod limit;
 mod marks;
 mod node;
+mod plain_end;
 #[cfg(test)]
 mod tests;
 
 pub use group::{LANES, groups, write_group};
 pub use lanes::Lanes;
+pub use limit::{fits_narrow_lanes, limit_of};
 pub use marks::Marks;
 pub use node::{Node, time_of_all};
+pub use plain_end::{fewer_below, greater_sum};

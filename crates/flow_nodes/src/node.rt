@@ -7,6 +7,7 @@ ghost use Rattle.flow_shop.specs.Least.{least};
 ghost use Rattle.flow_shop.specs.Sequences.{has};
 ghost use Rattle.flow_shop.specs.Directions.{first_with, last_with};
 ghost use Rattle.flow_shop.specs.Ends.{back, end_bound, front};
+ghost use Rattle.flow_nodes.specs.Groups.{child_bound};
 ghost use Rattle.flow_nodes.specs.Nodes.{AreOf, IsJob, IsMachine, IsNode, work};
 
 use flow_limits::MAX_MACHINES;
@@ -168,5 +169,18 @@ impl Node {
             greatest = greatest.max(self.front[place] + self.work[place] + self.back[place]);
         }
         greatest
+    }
+
+    /// The bound of the child that puts a job that is left at an end.
+    pub fn child_bound(&self, instance: &Instance, end: End, job: u16) -> u32
+        requires job { IsJob instance.now job }
+        requires left { (first : List ℕ) × (last : List ℕ) × IsNode instance.now first last self.now
+            × (has (first ++ last) job ≡ false) }
+        ensures { (first last : List ℕ) → IsNode instance.now first last self.now →
+            has (first ++ last) job ≡ false → result ≡ child_bound instance.now end first last job }
+    {
+        let mut child = *self;
+        child.put(instance, end, job);
+        child.bound(instance)
     }
 }

@@ -20,7 +20,7 @@ use Rattle.flow_search.specs.internal.Frames.{IsFrame, IsChild, left_from}
 use Rattle.flow_search.specs.declared.frame.Frame.{Frame}
 use Rattle.flow_shop.proofs.Extremes.{map-map-append}
 use Rattle.flow_shop.proofs.Taken.{left-sum, left-count, left-split, left-without, left_under}
-use Rattle.flow_shop.proofs.TwoLeast.{Without, without-one, least-below-cap}
+use Rattle.flow_shop.proofs.TwoLeastSteps.{Without, without-one, least-below-cap}
 use Rattle.flow_shop.proofs.Fronts.{tail-small}
 
 pub frame-within : (shop : Shop) (node : List ℕ) (left : ℕ) (frame : Frame) → IsWithinLimits shop →

@@ -6,7 +6,7 @@ use Rattle.flow_shop.specs.Shop.{Shop, time_between, IsWithinLimits}
 use Rattle.flow_shop.specs.Least.{least}
 use Rattle.flow_shop.specs.TwoLeast.{least_below}
 use Rattle.flow_shop.specs.Sequences.{jobs_left}
-use Rattle.flow_shop.proofs.TwoLeast.{Without, least-below-cap}
+use Rattle.flow_shop.proofs.TwoLeastSteps.{Without, least-below-cap}
 use Rattle.flow_shop.proofs.Taken.{left-count}
 use Rattle.flow_shop.specs.Rows.{IsRow}
 use Rattle.flow_shop.specs.declared.row.Row.{Row}

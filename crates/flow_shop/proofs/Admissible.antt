@@ -1,5 +1,5 @@
 -- The makespan of a sequence that begins with a list is at least the machine bound of the list, and its released bound.
-use Rattle.std.proofs.Common.{◌≡◌, ℕ, zero, suc, ◌+◌, ◌-◌, ◌<◌, ◌≤◌, Bool, true, false, ◌||◌, nat_eq, List, [], ◌∷◌}
+use Rattle.std.proofs.Common.{◌≡◌, ℕ, zero, suc, ◌+◌, ◌-◌, ◌<◌, ◌≤◌, true, false, ◌||◌, nat_eq, List, [], ◌∷◌}
 use Rattle.std.proofs.Common.{◌++◌, length, map, slice_index, refl, ap, ◌∙◌, subst, inl, inr, arith, length-append}
 use Rattle.std.specs.List.{sum_by}
 use Rattle.std.proofs.lemmas.Bool.{cases_lt, eq-eqb}
@@ -13,6 +13,7 @@ use Rattle.flow_shop.specs.Least.{least}
 use Rattle.flow_shop.specs.Sequences.{has, jobs_left, IsSequence, Extends}
 use Rattle.flow_shop.specs.Bound.{machine_bound, released_bound, release, front_of}
 use Rattle.flow_shop.specs.Bound.{BoundIsAdmissible, ReleasedBoundIsAdmissible, ReleasedBoundIsStronger}
+use Rattle.flow_shop.proofs.Bools.{or-true}
 use Rattle.flow_shop.proofs.Extremes.{range-le-greatest, greatest-range-le}
 use Rattle.flow_shop.proofs.Recurrence.{after, completed, completion-is, time_between-more, time_between-none}
 use Rattle.flow_shop.proofs.Recurrence.{time_between-first}
@@ -90,10 +91,6 @@ start-bound shop free n k m start j (i ∷ is) low high range begins =
       ih.3,
       omega (arith, ih.4, begins, sum_by-cons (λ job. time shop job k) j (i ∷ is)),
     )
-  where
-    or-true : (b : Bool) → (b || true) ≡ true
-    or-true true = refl
-    or-true false = refl
 
 -- jobs start when the machine is free
 pub rest-bound : (shop : Shop) (free : ℕ → ℕ) (n k m : ℕ) (rest : List ℕ) → 1 ≤ k → k ≤ m → 0 < length rest →

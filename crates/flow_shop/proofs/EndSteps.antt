@@ -54,7 +54,7 @@ to-last shop last job k high =
     let path = stay last shop.machines in
     omega (arith, with-first shop last path.0 job k shop.machines high path.1 path.2)
 
-time-alone : (shop : Shop) (job k : ℕ) → time_between shop job k k ≡ time shop job k
+pub time-alone : (shop : Shop) (job k : ℕ) → time_between shop job k k ≡ time shop job k
 time-alone shop job k =
     omega (arith, time_between-first shop job k k (omega arith), time_between-none shop job (k + 1) k (omega arith))
 

@@ -27,16 +27,21 @@ pub front-empty : (shop : Shop) (machine : ℕ) → slice_index (replicate most_
     ≡ completion shop [] machine
 front-empty shop machine = zeros most_machines (machine - 1) ∙ sym (completion-is shop [] machine)
 
+-- the front of a list and one more job give when the longer list leaves a machine
+pub child-completion : (shop : Shop) (list front : List ℕ) (job machine : ℕ) → machine ≤ shop.machines →
+    IsFrontOf shop list front → after shop (free_at front) job machine ≡ completion shop (list ++ job ∷ []) machine
+child-completion shop list front job machine to is =
+    after-same shop job (free_at front) (completed shop (λ _. 0) list) machine
+    (λ k low high. is k low (omega (arith, high, to)) ∙ completion-is shop list k)
+    ∙ sym (completion-after shop list job machine)
+
 -- a front that has the recurrence's values is that of the longer list
 pub front-push : (shop : Shop) (jobs old new : List ℕ) (job : ℕ) →
     ((machine : ℕ) → 1 ≤ machine → machine ≤ shop.machines →
     free_at new machine ≡ after shop (free_at old) job machine) → IsFrontOf shop jobs old →
     IsFrontOf shop (jobs ++ job ∷ []) new
 front-push shop jobs old new job values front machine from to =
-    values machine from to
-    ∙ after-same shop job (free_at old) (completed shop (λ _. 0) jobs) machine (λ k low high. front k low (omega arith)
-    ∙ completion-is shop jobs k)
-    ∙ sym (completion-after shop jobs job machine)
+    values machine from to ∙ child-completion shop jobs old job machine to front
 
 -- the time of any job on any machine is within the limit
 pub time-small : (shop : Shop) (job machine : ℕ) → IsWithinLimits shop → time shop job machine ≤ greatest_time

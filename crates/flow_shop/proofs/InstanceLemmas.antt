@@ -62,7 +62,7 @@ within-times times small = split (nat_lt (position_or_len is_too_great times) (l
 pub range-in : (most n : ℕ) → is_in_range 1 most n ≡ true → (1 ≤ n) × (n ≤ most)
 range-in most n e = grind (arith, nat_tests)
 
-in-range : (most n : ℕ) → 1 ≤ n → n ≤ most → is_in_range 1 most n ≡ true
+pub in-range : (most n : ℕ) → 1 ≤ n → n ≤ most → is_in_range 1 most n ≡ true
 in-range most n low high = grind (arith, nat_tests)
 
 pub instance-fault-none-is : (shop : Shop) → instance_fault shop.jobs shop.machines shop.times ≡ None →

@@ -12,6 +12,7 @@ use Rattle.std.proofs.lemmas.Bool.Decides.{eqb_tells}
 use Rattle.flow_shop.specs.Shop.{numbers}
 use Rattle.flow_shop.specs.Least.{least}
 use Rattle.flow_shop.specs.Sequences.{has, jobs_left, AreDistinct, IsSequence}
+use Rattle.flow_shop.proofs.Bools.{or-true}
 use Rattle.flow_shop.proofs.Lists.{all-push, all-at, has-first}
 use Rattle.flow_shop.proofs.Recurrence.{range-more}
 
@@ -158,7 +159,7 @@ pub sum_by-ones : (xs : List ℕ) → sum_by (λ _. 1) xs ≡ length xs
 sum_by-ones [] = refl
 sum_by-ones (x ∷ xs) = omega (arith, sum_by-cons (λ _. 1) x xs, sum_by-ones xs)
 
-kept-le : (p : ℕ → Bool) (n : ℕ) → kept (λ _. 1) p n ≤ n
+pub kept-le : (p : ℕ → Bool) (n : ℕ) → kept (λ _. 1) p n ≤ n
 kept-le p zero = omega arith
 kept-le p (suc n) = omega (arith, kept-more (λ _. 1) p n, kept-le p n, one (p (suc n)))
   where
@@ -276,10 +277,6 @@ has-filter p (suc n) k pass low high =
           ap (λ b. has (cond b (suc n ∷ []) []) k) there ∙ ap (λ b. b || false) (eq-eqb k (suc n) e) in
           ap (λ b. has (filter p (numbers 1 n)) k || b) found ∙ or-true (has (filter p (numbers 1 n)) k)
     ]
-  where
-    or-true : (b : Bool) → (b || true) ≡ true
-    or-true true = refl
-    or-true false = refl
 
 -- each job of the rest of a sequence is left
 pub left-has : (n : ℕ) (jobs rest : List ℕ) (k : ℕ) → IsSequence n (jobs ++ rest) → has rest k ≡ true → 1 ≤ k → k ≤ n →

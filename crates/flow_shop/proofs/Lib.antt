@@ -2,14 +2,16 @@ pub mod Extremes
 pub mod Recurrence
 pub mod Fronts
 pub mod JobsLeft
+pub mod Ranges
 pub mod Admissible
 pub mod InstanceLemmas
 pub mod SequenceLemmas
 pub mod JobSetLemmas
 pub mod Transposes
 pub mod Taken
-pub mod TwoLeast
+pub mod TwoLeastSteps
 pub mod RowSteps
+pub mod Bools
 pub mod Lists
 pub mod LeastFound
 pub mod NodeJobs

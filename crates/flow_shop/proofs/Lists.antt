@@ -1,15 +1,31 @@
 -- What is found in a list, and what holds of its members.
 use Rattle.std.proofs.Common.{◌≡◌, ◌≢◌, ℕ, ◌+◌, ◌-◌, ◌<◌, ◌≤◌, Bool, true, false, ◌||◌, nat_eq, List, [], ◌∷◌, ◌++◌, length}
-use Rattle.std.proofs.Common.{slice_index, set, Some, refl, ap, sym, subst, ◌∙◌, inl, inr, arith}
+use Rattle.std.proofs.Common.{drop, reverse, slice_index, set, Some, refl, ap, sym, subst, ◌∙◌, inl, inr, arith}
 use Rattle.std.specs.List.{find, AllByRecursion, AllZip}
 use Rattle.std.proofs.lemmas.Bool.{cond-true, cond-false, cases_Bool, cases_lt, eqb-true, false≢true, eq-eqb, or_left}
 use Rattle.std.proofs.lemmas.Bool.Decides.{nat_tests}
-use Rattle.std.proofs.lemmas.List.{get_or-set_same, get_or-set_other}
+use Rattle.std.proofs.lemmas.List.{drop_more, get_or-set_same, get_or-set_other, reverse-append}
 use Rattle.flow_shop.specs.Sequences.{has}
 
 -- a list has its first number
 pub has-first : (x : ℕ) (xs : List ℕ) → has (x ∷ xs) x ≡ true
 has-first x xs = or_left (nat_eq x x) (has xs x) (eq-eqb x x refl)
+
+-- a list that is not empty has a member
+pub some-of : {X : Type 0} (xs : List X) → 0 < length xs → X
+some-of [] low = absurd (omega arith)
+some-of (x ∷ xs) low = x
+
+-- what is left of a list from a place on, counted from 1: the number there, and what is left behind it
+pub drop-at : (xs : List ℕ) (place : ℕ) → 1 ≤ place → place ≤ length xs →
+    drop (place - 1) xs ≡ slice_index xs (place - 1) ∷ drop place xs
+drop-at xs place low high =
+    let here : place - 1 + 1 ≡ place = omega arith in
+    drop_more xs (place - 1) 0 (omega arith) ∙ ap (λ k. slice_index xs (place - 1) ∷ drop k xs) here
+
+-- a longer list, turned
+pub reverse-push : {X : Type 0} (xs new : List X) (x : X) → new ≡ xs ++ x ∷ [] → reverse new ≡ x ∷ reverse xs
+reverse-push xs new x e = ap reverse e ∙ reverse-append xs (x ∷ [])
 
 -- that two numbers differ can be said either way round
 pub not_eq-sym : (a b : ℕ) → nat_eq a b ≡ false → nat_eq b a ≡ false

@@ -7,13 +7,15 @@ use Rattle.std.proofs.lemmas.Option.{none-some}
 use Rattle.std.proofs.lemmas.Bool.{eq-eqb, false≢true}
 use Rattle.std.proofs.lemmas.Bool.Decides.{nat_tests}
 use Rattle.std.proofs.lemmas.List.Folds.{list_any-append}
-use Rattle.std.proofs.lemmas.List.Elements.{All-from_recursion, recursion_from_All}
+use Rattle.std.proofs.lemmas.List.Elements.{All-nil, All-from_recursion, recursion_from_All}
 use Rattle.flow_shop.specs.Refusals.{fault_unless, first_fault}
 use Rattle.flow_shop.specs.Sequences.{AreJobs, has, AreDistinct, IsSequence}
 use Rattle.flow_shop.specs.SequenceFaults.{place_fault, sequence_fault, but_memory}
 use Rattle.flow_shop.specs.declared.sequence.SequenceFault.{SequenceFault}
 use Rattle.flow_shop.specs.declared.sequence.SequenceFault.TheVariants.{Length, Job, Twice}
 use Rattle.flow_shop.proofs.JobsLeft.{InRange}
+use Rattle.flow_shop.proofs.InstanceLemmas.{in-range, range-in}
+use Rattle.flow_shop.proofs.Taken.{has-more, has-same}
 
 -- the two tests of a job, and then the rest
 abbrev tested : Bool → Bool → ℕ → Option SequenceFault → Option SequenceFault
@@ -44,25 +46,9 @@ tested-none true false place rest e = (refl, refl, e)
 tested-none true true place rest e = absurd (none-some (Twice place) (sym e))
 tested-none false held place rest e = absurd (none-some (Job place) (sym e))
 
-in-range : (n job : ℕ) → is_in_range 1 n job ≡ true → (1 ≤ job) × (job ≤ n)
-in-range n job e = grind (arith, nat_tests)
-
-range-in : (n job : ℕ) → 1 ≤ job → job ≤ n → is_in_range 1 n job ≡ true
-range-in n job low high = grind (arith, nat_tests)
-
-has-last : (earlier : List ℕ) (job : ℕ) → has (earlier ++ job ∷ []) job ≡ true
-has-last earlier job =
-    list_any-append (nat_eq job) earlier (job ∷ [])
-    ∙ ap (λ b. has earlier job || (b || false)) (eq-eqb job job refl)
-    ∙ or-true (has earlier job)
-  where
-    or-true : (b : Bool) → (b || true) ≡ true
-    or-true true = refl
-    or-true false = refl
-
-has-more : (earlier : List ℕ) (job other : ℕ) → has earlier other ≡ true → has (earlier ++ job ∷ []) other ≡ true
-has-more earlier job other h =
-    list_any-append (nat_eq other) earlier (job ∷ []) ∙ ap (λ b. b || has (job ∷ []) other) h
+-- no jobs are distinct jobs of any range
+pub no-jobs : (n : ℕ) → AreJobs n []
+no-jobs n = record { range = All-nil (λ job. (1 ≤ job) × (job ≤ n)); distinct = tt }
 
 -- jobs without a fault: each is in range, none stands among the earlier ones, and they are distinct
 pub record ArePlaced (n : ℕ) (earlier jobs : List ℕ) : Type 0 where
@@ -86,10 +72,10 @@ placed n earlier (job ∷ jobs) e =
     + 1) (place_fault n (earlier ++ job ∷ []) jobs) e in
     let rest = placed n (earlier ++ job ∷ []) jobs here.2 in
     record {
-      range = (in-range n job here.0, rest.range);
+      range = (range-in n job here.0, rest.range);
       fresh = λ other held. ap (λ b. b || has jobs other) (other-job earlier job other here.1 held)
           ∙ rest.fresh other (has-more earlier job other held);
-      distinct = (rest.fresh job (has-last earlier job), rest.distinct);
+      distinct = (rest.fresh job (has-same earlier job), rest.distinct);
     }
 
 -- a list without a fault has distinct jobs
@@ -127,7 +113,7 @@ no-fault : (n : ℕ) (earlier jobs : List ℕ) → InRange n jobs → AreDistinc
 no-fault n earlier [] range distinct fresh = refl
 no-fault n earlier (job ∷ jobs) range distinct fresh =
     ap (λ b. tested b (has earlier job) (length earlier + 1) (place_fault n (earlier ++ job
-    ∷ []) jobs)) (range-in n job range.0.0 range.0.1)
+    ∷ []) jobs)) (in-range n job range.0.0 range.0.1)
     ∙ ap (λ b. tested true b (length earlier + 1) (place_fault n (earlier ++ job
     ∷ []) jobs)) (new-job (has earlier job) refl)
     ∙ no-fault n (earlier ++ job ∷ []) jobs range.1 distinct.1 (apart-more earlier jobs job distinct.0 fresh)

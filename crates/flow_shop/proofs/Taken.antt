@@ -8,6 +8,7 @@ use Rattle.std.proofs.lemmas.List.Sums.{sum_by-append, sum_by-cons}
 use Rattle.std.proofs.lemmas.Bool.{eq-eqb, ne_eqb}
 use Rattle.flow_shop.specs.Shop.{numbers}
 use Rattle.flow_shop.specs.Sequences.{has, jobs_left}
+use Rattle.flow_shop.proofs.Bools.{or-true}
 
 -- whether a longer list has a job
 
@@ -26,11 +27,7 @@ has-other list job k h = has-push list job k ∙ ap (λ b. has list k || b) (ne_
     or_none false = refl
 
 pub has-same : (list : List ℕ) (job : ℕ) → has (list ++ job ∷ []) job ≡ true
-has-same list job = has-push list job job ∙ ap (λ b. has list job || b) (eq-eqb job job refl) ∙ or_all (has list job)
-  where
-    or_all : (b : Bool) → (b || true) ≡ true
-    or_all true = refl
-    or_all false = refl
+has-same list job = has-push list job job ∙ ap (λ b. has list job || b) (eq-eqb job job refl) ∙ or-true (has list job)
 
 pub has-more : (list : List ℕ) (job k : ℕ) → has list k ≡ true → has (list ++ job ∷ []) k ≡ true
 has-more list job k h = has-push list job k ∙ ap (λ b. b || nat_eq k job) h

@@ -4,11 +4,12 @@ use Rattle.std.proofs.Common.{length, slice_index, subst, ap, sym, ◌∙◌, ar
 use Rattle.std.proofs.Math.Nat.{mod-lt, div-lt_iff_lt-mul, mul-le-mul_right, mul_comm, add-mul}
 use Rattle.std.proofs.lemmas.Nat.{mod-mul-add, div-mul-add, div-add-mod'}
 use Rattle.std.proofs.lemmas.List.{ext_get_or}
-use Rattle.std.proofs.lemmas.Bool.{eqb-true, false≢true}
+use Rattle.std.proofs.lemmas.Bool.{eqb-true}
 use Rattle.std.specs.Cmp.Lexicographic.{pointwise, bytes_decides}
 use Rattle.std.proofs.lemmas.List.FromFn.{get_or-map-range_with_len, length-map-range_with_len}
 use Rattle.flow_shop.specs.Shop.{Shop, time}
 use Rattle.flow_shop.specs.internal.Transposed.{transposed}
+use Rattle.flow_shop.proofs.Bools.{both-true}
 
 -- where the number of a place is taken from
 abbrev pub taken_from : ℕ → ℕ → ℕ → ℕ
@@ -97,10 +98,6 @@ transposed-same n m xs ys some xs_count ys_count =
     (λ same. (bytes_decides xs ys).1
     (sym (back xs xs_count) ∙ ap (transposed m n) ((bytes_decides (transposed n m xs) (transposed n m ys)).0 same)
     ∙ back ys ys_count))
-
-both-true : (p q : Bool) → (p && q) ≡ true → (p ≡ true) × (q ≡ true)
-both-true true q h = (refl, h)
-both-true false q h = absurd (false≢true h)
 
 -- whether two instances are the same, where their sizes are
 pub same-sizes : (n m k l : ℕ) (xs ys : List ℕ) → (nat_eq n k && nat_eq m l) ≡ true → 0 < m →

@@ -8,6 +8,8 @@ mod job_set;
 mod laws;
 mod row;
 mod sequence;
+mod two_least;
+mod version;
 
 pub use end::End;
 pub use front::{Front, front_push, makespan};
@@ -21,3 +23,5 @@ pub use laws::{
 };
 pub use row::{Row, rows};
 pub use sequence::{Sequence, SequenceFault, first_job_at_fault};
+pub use two_least::TwoLeast;
+pub use version::has_releases;

@@ -1,7 +1,7 @@
 use Rattle.std.proofs.Common.{◌≡◌, ℕ, ◌≤◌, ◌+◌, ◌-◌, ◌∙◌, max, slice_index, arith}
 use Rattle.std.proofs.lemmas.Grind.{common_steps}
 use Rattle.flow_shop.specs.Ends.{end_bound_at}
-use Rattle.flow_nodes.proofs.NodeSteps.{greatest-step}
+use Rattle.flow_shop.proofs.Ranges.{greatest-step}
 use Rattle.flow_nodes.proofs.KeptNodes.{node-small, end-bound-is}
 use Rattle.flow_nodes.proofs.node.Node.bound.Goals as goal
 

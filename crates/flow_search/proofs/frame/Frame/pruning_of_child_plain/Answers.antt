@@ -9,7 +9,7 @@ use Rattle.flow_shop.proofs.Fronts.{free_at, after-step, time-small}
 use Rattle.flow_search.specs.internal.Frames.{IsFrame, IsChild}
 use Rattle.flow_search.proofs.Children.{child-completion, child-bound, frame-within}
 use Rattle.flow_search.proofs.Nodes.{find-here, find-skip, find-past}
-use Rattle.flow_shop.proofs.TwoLeast.{Without}
+use Rattle.flow_shop.proofs.TwoLeastSteps.{Without}
 use Rattle.flow_search.proofs.frame.Frame.pruning_of_child_plain.Goals as goal
 use Rattle.flow_search.proofs.frame.Frame.pruning_of_child_plain.Goals.{After-from, After-from-in-loop-machine}
 use Rattle.flow_search.proofs.frame.Frame.pruning_of_child_plain.Goals.{then-row-place}

@@ -11,7 +11,7 @@ use Rattle.flow_shop.specs.declared.row.Row.{Row}
 use Rattle.flow_shop.proofs.Admissible.{front_of-is, released_bound_is_stronger}
 use Rattle.flow_shop.proofs.Recurrence.{after}
 use Rattle.flow_shop.proofs.Fronts.{free_at, after-step, time-small}
-use Rattle.flow_shop.proofs.TwoLeast.{Without}
+use Rattle.flow_shop.proofs.TwoLeastSteps.{Without}
 use Rattle.flow_search.specs.internal.Frames.{IsFrame, IsChild}
 use Rattle.flow_search.specs.internal.Lags.{AreLeastLags, IsLagged}
 use Rattle.flow_search.specs.declared.two_least.TwoLeast.{TwoLeast}

@@ -4,7 +4,7 @@ use Rattle.std.proofs.lemmas.List.{get_or-set_same, get_or-set_other, length-set
 use Rattle.flow_limits.specs.Limits.{most_machines}
 use Rattle.flow_shop.specs.TwoLeast.{least_below, second_below}
 use Rattle.flow_search.specs.internal.TwoLeast.{least_of_none}
-use Rattle.flow_shop.proofs.TwoLeast.{least-push, second-push}
+use Rattle.flow_shop.proofs.TwoLeastSteps.{least-push, second-push}
 use Rattle.flow_search.proofs.two_least.TwoLeast.take.Goals as goal
 
 pub loop-place-preserved : goal.loop-place-preserved

@@ -1,16 +1,12 @@
 -- The two least of some numbers.
-use Rattle.std.proofs.Common.{◌≡◌, ◌≢◌, ℕ, ◌+◌, ◌<◌, ◌≤◌, min, max, List, [], ◌∷◌, ◌++◌, length, map, refl, ap, inl}
+use Rattle.std.proofs.Common.{◌≡◌, ◌≢◌, ℕ, ◌+◌, ◌<◌, ◌≤◌, min, max, List, [], ◌∷◌, ◌++◌, length, map, refl, ap, sym, ◌∙◌, inl}
 use Rattle.std.proofs.Common.{inr, arith}
 use Rattle.std.proofs.lemmas.Bool.Decides.{eqb_tells}
 use Rattle.flow_shop.specs.Shop.{Shop, time_between}
 use Rattle.flow_shop.specs.Least.{least}
-use Rattle.flow_shop.specs.TwoLeast.{least_below, second_below, tails}
+use Rattle.flow_shop.specs.TwoLeast.{IsLeastWithout, least_below, second_below, tails}
 
--- a number is the least without one of them, y: the second least where y is the least, else the least
-abbrev pub Without : ℕ → ℕ → ℕ → ℕ → Type 0
-Without y p q m = (y ≡ p → m ≡ q) × (y ≢ p → m ≡ p)
-
-without-more : (y p q m v : ℕ) → p ≤ q → p ≤ y → Without y p q m → Without y (min p v) (min q (max p v)) (min m v)
+without-more : (y p q m v : ℕ) → p ≤ q → p ≤ y → IsLeastWithout y p q m → IsLeastWithout y (min p v) (min q (max p v)) (min m v)
 without-more y p q m v ordered low is = elim (eqb_tells y p) [
   | inl same ↦
       let e : y ≡ p = same.1 in
@@ -22,15 +18,15 @@ without-more y p q m v ordered low is = elim (eqb_tells y p) [
       (λ g. omega (arith, n, f, g, ordered, low), λ g. omega (arith, f))
 ]
 
-without-rest : (y p q m : ℕ) (vs : List ℕ) → p ≤ q → p ≤ y → Without y p q m →
-    Without y (least_below p vs) (second_below p q vs) (least_below m vs)
+without-rest : (y p q m : ℕ) (vs : List ℕ) → p ≤ q → p ≤ y → IsLeastWithout y p q m →
+    IsLeastWithout y (least_below p vs) (second_below p q vs) (least_below m vs)
 without-rest y p q m [] ordered low is = is
 without-rest y p q m (v ∷ vs) ordered low is =
     without-rest y (min p v) (min q (max p v)) (min m v) vs (omega (arith, ordered)) (omega (arith, low))
     (without-more y p q m v ordered low is)
 
 pub without-one : (y a b : ℕ) (us vs : List ℕ) → a ≤ b →
-    Without y (least_below a (us ++ y ∷ vs)) (second_below a b (us ++ y ∷ vs)) (least_below a (us ++ vs))
+    IsLeastWithout y (least_below a (us ++ y ∷ vs)) (second_below a b (us ++ y ∷ vs)) (least_below a (us ++ vs))
 without-one y a b (u ∷ us) vs ordered = without-one y (min a u) (min b (max a u)) us vs (omega (arith, ordered))
 without-one y a b [] vs ordered =
     without-rest y (min a y) (min b (max a y)) a vs (omega (arith, ordered)) (omega arith) (
@@ -38,6 +34,14 @@ without-one y a b [] vs ordered =
           (arith, g, ordered),
       λ g. omega (arith, g),
     )
+
+-- there is one least without a number
+pub same-without : (y z p q r s m n : ℕ) → y ≡ z → p ≡ q → r ≡ s → IsLeastWithout y p r m → IsLeastWithout z q s n →
+    m ≡ n
+same-without y z p q r s m n yz pq rs a b = elim (eqb_tells y p) [
+  | inl same ↦ omega (arith, a.0 same.1, b.0 (sym yz ∙ same.1 ∙ pq), rs)
+  | inr other ↦ omega (arith, a.1 other.1, b.1 (λ e. other.1 (yz ∙ e ∙ sym pq)), pq)
+]
 
 least-below-is : (c x : ℕ) (xs : List ℕ) → least_below c (x ∷ xs) ≡ min c (least (x ∷ xs))
 least-below-is c x [] = refl
