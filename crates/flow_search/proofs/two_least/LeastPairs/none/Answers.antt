@@ -1,8 +1,8 @@
 use Rattle.std.proofs.Common.{◌<◌, arith}
 use Rattle.std.proofs.lemmas.List.{get_or-replicate}
 use Rattle.flow_limits.specs.Limits.{most_machines}
-use Rattle.flow_search.specs.internal.TwoLeast.{least_of_none}
-use Rattle.flow_search.proofs.two_least.TwoLeast.none.Goals as goal
+use Rattle.flow_shop.specs.TwoLeast.{least_of_none}
+use Rattle.flow_search.proofs.two_least.LeastPairs.none.Goals as goal
 
 pub returns : goal.returns
 returns c number count small place low =

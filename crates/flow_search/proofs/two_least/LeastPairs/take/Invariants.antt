@@ -1,6 +1,6 @@
 use Rattle.std.proofs.Common.{◌≡◌, ℕ, ◌<◌, ◌≤◌, min, max, length, slice_index}
 use Rattle.flow_limits.specs.Limits.{most_machines}
-use Rattle.flow_search.proofs.two_least.TwoLeast.take.Given as goal
+use Rattle.flow_search.proofs.two_least.LeastPairs.take.Given as goal
 
 -- the places so far have the job's number taken in; the others are as they were
 abbrev pub invariant-loop-place : goal.invariant-loop-place

@@ -2,10 +2,9 @@ use Rattle.std.proofs.Common.{◌≡◌, ◌≢◌, ℕ, ◌<◌, min, max, map,
 use Rattle.std.proofs.lemmas.Bool.{cases_lt}
 use Rattle.std.proofs.lemmas.List.{get_or-set_same, get_or-set_other, length-set, map_push}
 use Rattle.flow_limits.specs.Limits.{most_machines}
-use Rattle.flow_shop.specs.TwoLeast.{least_below, second_below}
-use Rattle.flow_search.specs.internal.TwoLeast.{least_of_none}
+use Rattle.flow_shop.specs.TwoLeast.{least_below, second_below, least_of_none}
 use Rattle.flow_shop.proofs.TwoLeastSteps.{least-push, second-push}
-use Rattle.flow_search.proofs.two_least.TwoLeast.take.Goals as goal
+use Rattle.flow_search.proofs.two_least.LeastPairs.take.Goals as goal
 
 pub loop-place-preserved : goal.loop-place-preserved
 loop-place-preserved c =
@@ -14,34 +13,33 @@ loop-place-preserved c =
     let low : place < most_machines = omega (arith, c.loop-place-test.true, c.requires) in
     let here = i.others place (omega arith) in
     record {
-      least_size = length-set c.loop-place.self.least place c.min-in-loop-place.result ∙ i.least_size;
-      second_size = length-set c.loop-place.self.second place c.min.result ∙ i.second_size;
+      least_size = length-set c.loop-place.self.least place c.with-two.result.least ∙ i.least_size;
+      second_size = length-set c.loop-place.self.second place c.with-two.result.second ∙ i.second_size;
       done = λ k below. elim (cases_lt k place) [
         | inl before ↦
             let other : k ≢ place = omega arith in
             let was = i.done k before in (
-              get_or-set_other c.loop-place.self.least place k c.min-in-loop-place.result 0 other ∙ was.0,
-              get_or-set_other c.loop-place.self.second place k c.min.result 0 other ∙ was.1,
+              get_or-set_other c.loop-place.self.least place k c.with-two.result.least 0 other ∙ was.0,
+              get_or-set_other c.loop-place.self.second place k c.with-two.result.second 0 other ∙ was.1,
             )
         | inr at ↦
             let e : k ≡ place = omega arith in
-            let least : c.min-in-loop-place.result
-            ≡ min (slice_index c.args.self.now.least place) (slice_index c.args.numbers.now place) =
-            c.min-in-loop-place.ensures ∙ ap (λ n. min n (slice_index c.args.numbers.now place)) here.0 in
-            let second : c.min.result
-            ≡ min (slice_index c.args.self.now.second place) (max (slice_index c.args.self.now.least place)
-            (slice_index c.args.numbers.now place)) =
-            c.min.ensures
-            ∙ ap (λ n. min n c.max.result) here.1
-            ∙ ap (min (slice_index c.args.self.now.second place)) (c.max.ensures
-            ∙ ap (λ n. max n (slice_index c.args.numbers.now place)) here.0) in (
-              ap (slice_index (set c.loop-place.self.least place c.min-in-loop-place.result)) e
-                  ∙ get_or-set_same c.loop-place.self.least place c.min-in-loop-place.result 0 (omega
+            let number : ℕ = slice_index c.args.numbers.now place in
+            let was_least = c.at.ensures.least ∙ here.0 in
+            let least : c.with-two.result.least ≡ min (slice_index c.args.self.now.least place) number =
+            c.with-two.ensures.least ∙ ap (λ n. min n number) was_least in
+            let second : c.with-two.result.second
+            ≡ min (slice_index c.args.self.now.second place) (max (slice_index c.args.self.now.least place) number) =
+            c.with-two.ensures.second
+            ∙ ap (λ n. min n (max c.at.result.least number)) (c.at.ensures.second ∙ here.1)
+            ∙ ap (λ n. min (slice_index c.args.self.now.second place) (max n number)) was_least in (
+              ap (slice_index (set c.loop-place.self.least place c.with-two.result.least)) e
+                  ∙ get_or-set_same c.loop-place.self.least place c.with-two.result.least 0 (omega
                   (arith, i.least_size))
                   ∙ least
                   ∙ ap (λ n. min (slice_index c.args.self.now.least n) (slice_index c.args.numbers.now n)) (sym e),
-              ap (slice_index (set c.loop-place.self.second place c.min.result)) e
-                  ∙ get_or-set_same c.loop-place.self.second place c.min.result 0 (omega (arith, i.second_size))
+              ap (slice_index (set c.loop-place.self.second place c.with-two.result.second)) e
+                  ∙ get_or-set_same c.loop-place.self.second place c.with-two.result.second 0 (omega (arith, i.second_size))
                   ∙ second
                   ∙ ap (λ n. min (slice_index c.args.self.now.second n) (max (slice_index c.args.self.now.least n)
                   (slice_index c.args.numbers.now n))) (sym e),
@@ -50,8 +48,8 @@ loop-place-preserved c =
       others = λ k above.
           let other : k ≢ place = omega arith in
           let was = i.others k (omega arith) in (
-            get_or-set_other c.loop-place.self.least place k c.min-in-loop-place.result 0 other ∙ was.0,
-            get_or-set_other c.loop-place.self.second place k c.min.result 0 other ∙ was.1,
+            get_or-set_other c.loop-place.self.least place k c.with-two.result.least 0 other ∙ was.0,
+            get_or-set_other c.loop-place.self.second place k c.with-two.result.second 0 other ∙ was.1,
           );
     }
 
