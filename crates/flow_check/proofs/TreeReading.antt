@@ -1,8 +1,6 @@
 -- The steps of reading a tree with a stack.
 use Rattle.std.proofs.Common.{◌≡◌, ◌≢◌, ℕ, zero, suc, ◌+◌, ◌<◌, ◌≤◌, Bool, true, false, List, [], ◌∷◌, ◌++◌, length}
 use Rattle.std.proofs.Common.{drop, slice_index, slice_set, Result, Ok, Err, refl, ap, sym, subst, ◌∙◌, arith, get_or}
-use Rattle.std.proofs.Common.{reverse}
-use Rattle.std.proofs.lemmas.List.{reverse-append}
 use Rattle.std.proofs.Math.Seq.{drop-cons}
 use Rattle.flow_shop.specs.Shop.{Shop}
 use Rattle.flow_shop.specs.Bound.{bound_of}
@@ -312,6 +310,3 @@ drop-past [] zero h = refl
 drop-past [] (suc at) h = refl
 drop-past (b ∷ bs) zero h = absurd (omega (arith, h))
 drop-past (b ∷ bs) (suc at) h = drop-past bs at (omega (arith, h))
-
-pub reverse-push : {A : Type 0} (xs new : List A) (x : A) → new ≡ xs ++ x ∷ [] → reverse new ≡ x ∷ reverse xs
-reverse-push xs new x e = ap reverse e ∙ reverse-append xs (x ∷ [])

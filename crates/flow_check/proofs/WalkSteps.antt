@@ -8,6 +8,7 @@ use Rattle.std.proofs.lemmas.Bool.Decides.{eqb_tells}
 use Rattle.std.proofs.lemmas.List.{length-take-le}
 use Rattle.flow_shop.specs.Shop.{Shop}
 use Rattle.flow_shop.specs.Sequences.{has}
+use Rattle.flow_shop.proofs.Bools.{or-true}
 use Rattle.flow_shop.proofs.Taken.{left_from, has-push}
 use Rattle.flow_shop.proofs.EndSteps.{has-child}
 use Rattle.flow_shop.specs.declared.end.End.{End}
@@ -38,10 +39,6 @@ child-has end first last job k = has-child end first last job k ∙ has-push (fi
 or-false : (b : Bool) → (b || false) ≡ b
 or-false true = refl
 or-false false = refl
-
-or-true : (b : Bool) → (b || true) ≡ true
-or-true true = refl
-or-true false = refl
 
 pub left-without : (shop : Shop) (end : End) (first last : List ℕ) (old new : Marks) (job : ℕ) →
     AreLeft shop first last old → ((other : ℕ) → 1 ≤ other → other ≢ job → job_mark new other ≡ job_mark old other) →
@@ -288,8 +285,8 @@ parent-back shop number frames aboves above are e =
 pub left-back : (shop : Shop) (number : ℕ) (frames aboves : List Frame) (above : Frame) (old new : Marks) →
     AreFrames shop number [] [] frames → frames ≡ aboves ++ above ∷ [] →
     AreLeft shop (first_of [] frames) (last_of [] frames) old →
-    ((other : ℕ) → 1 ≤ other → other ≢ above.job → job_mark new other ≡ job_mark old other) → job_mark new above.job ≡ 1 →
-    AreLeft shop (first_of [] aboves) (last_of [] aboves) new
+    ((other : ℕ) → 1 ≤ other → other ≢ above.job → job_mark new other ≡ job_mark old other) →
+    job_mark new above.job ≡ 1 → AreLeft shop (first_of [] aboves) (last_of [] aboves) new
 left-back shop number frames aboves above old new are e left others same =
     let is = parent-back shop number frames aboves above are e in
     left-with shop above.end (first_of [] aboves) (last_of [] aboves) old new above.job is.is_frame.job is.left

@@ -8,7 +8,7 @@ ghost use Rattle.flow_shop.specs.Limits.{most_jobs};
 use crate::node::Node;
 use crate::release::{TwoLeastLags, forget, unknown_lags};
 use crate::trees_text::TreesText;
-use flow_shop::Instance;
+use flow_shop::{Instance, has_releases};
 use std::alloc::{AllocError, Global};
 
 /// A place in the text of the trees.
@@ -90,7 +90,12 @@ impl TreeReader {
         let jobs = instance.jobs();
         let links = all_links(alloc, jobs)?;
         let frames = all_frames(alloc, jobs, &Node::root(instance))?;
-        let lags = unknown_lags(alloc, if version == 2 { instance.machines() } else { 0 })?;
+        let places = if has_releases(version) {
+            instance.machines()
+        } else {
+            0
+        };
+        let lags = unknown_lags(alloc, places)?;
         Ok(TreeReader {
             links,
             frames,

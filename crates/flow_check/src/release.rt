@@ -11,9 +11,10 @@ ghost use Rattle.flow_nodes.specs.Nodes.{IsMachine, IsJob};
 ghost use Rattle.flow_check.specs.internal.Nodes.{IsNode, IsAt, IsChild, grown, left_before};
 ghost use Rattle.flow_check.specs.internal.Lags.{AreTwoLeastLagsTo, AreKept, AreUnknown, TakesIn};
 
-use crate::node::{Node, bound, least_without};
+use crate::node::{Node, bound};
 use crate::trees_text::TreesText;
 use flow_limits::MAX_MACHINES;
+use flow_shop::{TwoLeast, has_releases};
 use std::alloc::{AllocError, Global};
 
 /// The two least lags of the jobs left to one machine, from each machine up to it. A job's lag from a machine to
@@ -74,9 +75,13 @@ impl TwoLeastLags {
     {
         for from in 1..machine + 1 {
             let place = from as usize - 1;
-            let lag = lag(text, job, from, machine);
-            self.second[place] = self.second[place].min(self.least[place].max(lag));
-            self.least[place] = self.least[place].min(lag);
+            let two = TwoLeast {
+                least: self.least[place],
+                second: self.second[place],
+            };
+            let more = two.with(lag(text, job, from, machine));
+            self.least[place] = more.least;
+            self.second[place] = more.second;
         }
     }
 }
@@ -172,8 +177,11 @@ fn child_gain(text: &TreesText, node: &Node, lags: &TwoLeastLags, job: u16, mach
         let place = from as usize - 1;
         free = node.front[place].max(free) + u64::from(row.times[place]);
         let own = lag(text, job, from, machine);
-        let lag = least_without(own, lags.least[place], lags.second[place]);
-        release = release.max(free + u64::from(lag));
+        let two = TwoLeast {
+            least: lags.least[place],
+            second: lags.second[place],
+        };
+        release = release.max(free + u64::from(two.without(own)));
     }
     release - free
 }
@@ -202,7 +210,7 @@ fn gain(
         bound_at text.now.shop.now (grown list child) machine + result
         ≡ bound_of text.now.version text.now.shop.now (grown list child) machine }
 {
-    if text.version != 2 {
+    if !has_releases(text.version) {
         return 0;
     }
     let lags = lags_of(text, kept, links, machine);
