@@ -16,9 +16,9 @@ use Rattle.flow_shop.proofs.Extremes.{map-map-append}
 use Rattle.flow_shop.proofs.JobsLeft.{kept-small, none-has}
 use Rattle.std.proofs.lemmas.Bool.Decides.{eqb_tells}
 use Rattle.flow_shop.specs.TwoLeast.{tails, least_below, second_below, least_of_none, IsLeastWithout}
-use Rattle.flow_check.specs.internal.Nodes.{IsNode, AreKnown, AreTwoLeastTails}
+use Rattle.flow_check.specs.internal.Nodes.{IsListNode, AreKnown, AreTwoLeastTails}
 use Rattle.flow_check.specs.internal.Links.{children}
-use Rattle.flow_check.specs.declared.node.Node.{Node}
+use Rattle.flow_check.specs.declared.node.ListNode.{ListNode}
 use Rattle.flow_shop.specs.declared.two_least.TwoLeast.{TwoLeast}
 use Rattle.flow_shop.proofs.Taken.{left-sum, left-count, left-split, left-without, left_under}
 use Rattle.flow_shop.proofs.TwoLeastSteps.{without-one, same-without, least-below-cap}
@@ -41,10 +41,10 @@ none-known shop list least second none least_size second_size = record {
 }
 
 -- once a machine is asked for
-pub known-more : (shop : Shop) (list : List ℕ) (node : Node) (left machine : ℕ) (two : TwoLeast) →
+pub known-more : (shop : Shop) (list : List ℕ) (node : ListNode) (left machine : ℕ) (two : TwoLeast) →
     IsWithinLimits shop →
-    IsNode shop list node left → 1 ≤ machine → machine ≤ shop.machines → AreTwoLeastTails shop list machine two →
-    IsNode shop list (record {
+    IsListNode shop list node left → 1 ≤ machine → machine ≤ shop.machines → AreTwoLeastTails shop list machine two →
+    IsListNode shop list (record {
       front = node.front;
       work = node.work;
       least =
@@ -89,11 +89,11 @@ known-more shop list node left machine two limits is from to low = record {
 }
 
 -- the empty list
-pub root-node : (shop : Shop) (node : Node) → IsWithinLimits shop → IsFrontOf shop [] node.front →
+pub root-node : (shop : Shop) (node : ListNode) → IsWithinLimits shop → IsFrontOf shop [] node.front →
     ((machine : ℕ) → 1 ≤ machine → machine ≤ shop.machines →
     slice_index node.work (machine - 1) ≡ sum_by (λ job. time shop job machine) (jobs_left shop.jobs [])) →
     length node.work ≡ most_machines → node.least ≡ replicate most_machines least_of_none →
-    node.second ≡ replicate most_machines least_of_none → IsNode shop [] node shop.jobs
+    node.second ≡ replicate most_machines least_of_none → IsListNode shop [] node shop.jobs
 root-node shop node limits times work size least second =
     let most : shop.machines ≤ most_machines = limits.machines in
     record {
@@ -108,14 +108,14 @@ root-node shop node limits times work size least second =
     }
 
 -- a list's child
-pub child-node : (shop : Shop) (list : List ℕ) (node child : Node) (left job : ℕ) → IsWithinLimits shop →
-    IsNode shop list node (suc left) → 1 ≤ job → job ≤ shop.jobs → has list job ≡ false →
+pub child-node : (shop : Shop) (list : List ℕ) (node child : ListNode) (left job : ℕ) → IsWithinLimits shop →
+    IsListNode shop list node (suc left) → 1 ≤ job → job ≤ shop.jobs → has list job ≡ false →
     IsFrontOf shop (list ++ job ∷ []) child.front → length child.work ≡ most_machines →
     ((machine : ℕ) → 1 ≤ machine → machine ≤ shop.machines →
     slice_index child.work (machine - 1) + time shop job machine ≡ slice_index node.work (machine - 1)) →
     ((machine : ℕ) → 1 ≤ machine → machine ≤ shop.machines → slice_index child.least (machine - 1) ≡ least_of_none) →
     length child.least ≡ most_machines → length child.second ≡ most_machines →
-    IsNode shop (list ++ job ∷ []) child left
+    IsListNode shop (list ++ job ∷ []) child left
 child-node shop list node child left job limits is low high fresh times size less least least_size second_size =
     record {
       times = times;
@@ -133,14 +133,15 @@ child-node shop list node child left job limits is low high fresh times size les
     }
 
 -- the time of a job that is left is no more than the sum of all
-pub work-covers : (shop : Shop) (list : List ℕ) (node : Node) (left job machine : ℕ) → IsNode shop list node left →
-    1 ≤ job → job ≤ shop.jobs → has list job ≡ false → 1 ≤ machine → machine ≤ shop.machines →
+pub work-covers : (shop : Shop) (list : List ℕ) (node : ListNode) (left job machine : ℕ) →
+    IsListNode shop list node left → 1 ≤ job → job ≤ shop.jobs → has list job ≡ false → 1 ≤ machine →
+    machine ≤ shop.machines →
     time shop job machine ≤ slice_index node.work (machine - 1)
 work-covers shop list node left job machine is low high fresh from to =
     omega (arith, is.work machine from to, left-sum (λ j. time shop j machine) shop.jobs list job low high fresh)
 
-pub node-within : (shop : Shop) (list : List ℕ) (node : Node) (left : ℕ) → IsWithinLimits shop →
-    IsNode shop list node left → IsWithinFront shop node.front
+pub node-within : (shop : Shop) (list : List ℕ) (node : ListNode) (left : ℕ) → IsWithinLimits shop →
+    IsListNode shop list node left → IsWithinFront shop node.front
 node-within shop list node left limits is = front-within shop list node.front limits (omega (arith, is.count)) is.times
 
 -- the least over the jobs left once a job is taken, from the two least before
@@ -163,9 +164,10 @@ without-left f n list job y p q m low high fresh is_p is_q is_y picked =
     ∙ sym (ap (least_below least_of_none) rest)
 
 -- the bound of a list with jobs left
-pub own-bound : (shop : Shop) (list : List ℕ) (node : Node) (left machine : ℕ) (two : TwoLeast) →
+pub own-bound : (shop : Shop) (list : List ℕ) (node : ListNode) (left machine : ℕ) (two : TwoLeast) →
     IsWithinLimits shop →
-    IsNode shop list node (suc left) → 1 ≤ machine → machine ≤ shop.machines → AreTwoLeastTails shop list machine two →
+    IsListNode shop list node (suc left) → 1 ≤ machine → machine ≤ shop.machines →
+    AreTwoLeastTails shop list machine two →
     (slice_index node.front (machine - 1) + slice_index node.work (machine - 1) + two.least
     ≡ bound_at shop list machine) × (two.least ≤ most_machines * greatest_time)
 own-bound shop list node left machine two limits is from to low =
@@ -179,9 +181,9 @@ own-bound shop list node left machine two limits is from to low =
     (omega (arith, front, is.work machine from to, low.0, cap.0), omega (arith, low.0, cap.0, cap.1))
 
 -- the bound of a child with jobs left
-pub child-bound : (shop : Shop) (list : List ℕ) (node : Node) (left job machine free t tail behind : ℕ)
+pub child-bound : (shop : Shop) (list : List ℕ) (node : ListNode) (left job machine free t tail behind : ℕ)
     (two : TwoLeast) →
-    IsWithinLimits shop → IsNode shop list node (suc (suc left)) → 1 ≤ machine → machine ≤ shop.machines →
+    IsWithinLimits shop → IsListNode shop list node (suc (suc left)) → 1 ≤ machine → machine ≤ shop.machines →
     1 ≤ job → job ≤ shop.jobs → has list job ≡ false → AreTwoLeastTails shop list machine two →
     free ≡ completion shop (list ++ job ∷ []) machine → t ≡ time shop job machine →
     tail ≡ time_between shop job (machine + 1) shop.machines → IsLeastWithout tail two.least two.second behind →
@@ -203,8 +205,8 @@ child-bound shop list node left job machine free t tail behind two limits is fro
     let sum = left-sum (λ j. time shop j machine) shop.jobs list job low high fresh in
     (omega (arith, front, is.work machine from to, sum, is_t, behind_is, cap.0), omega (arith, behind_is, cap.0, cap.1))
 
-pub work-fits : (shop : Shop) (list : List ℕ) (node : Node) (left machine : ℕ) → IsWithinLimits shop →
-    IsNode shop list node left → 1 ≤ machine → machine ≤ shop.machines →
+pub work-fits : (shop : Shop) (list : List ℕ) (node : ListNode) (left machine : ℕ) → IsWithinLimits shop →
+    IsListNode shop list node left → 1 ≤ machine → machine ≤ shop.machines →
     slice_index node.work (machine - 1) ≤ most_jobs * greatest_time
 work-fits shop list node left machine limits is from to =
     let most : shop.jobs ≤ most_jobs = limits.jobs in

@@ -18,8 +18,8 @@ use Rattle.flow_shop.proofs.Recurrence.{after, time_between-first, time_between-
 use Rattle.flow_shop.proofs.Taken.{left-count}
 use Rattle.flow_shop.proofs.TwoLeastSteps.{least-below-cap}
 use Rattle.flow_check.specs.internal.Lags.{AreTwoLeastLagsTo, lags}
-use Rattle.flow_check.specs.internal.Nodes.{IsNode}
-use Rattle.flow_check.specs.declared.node.Node.{Node}
+use Rattle.flow_check.specs.internal.Nodes.{IsListNode}
+use Rattle.flow_check.specs.declared.node.ListNode.{ListNode}
 use Rattle.flow_check.specs.declared.release.TwoLeastLags.{TwoLeastLags}
 use Rattle.flow_check.proofs.NodeSteps.{without-left}
 
@@ -82,9 +82,9 @@ least-lags shop from machine jobs limits low up high some =
     (λ job. lag-small shop job from machine limits low up high) (omega arith)).0
 
 -- the release for the jobs left of a list
-pub own-release : (shop : Shop) (list : List ℕ) (node : Node) (left machine : ℕ) (two : TwoLeastLags) →
+pub own-release : (shop : Shop) (list : List ℕ) (node : ListNode) (left machine : ℕ) (two : TwoLeastLags) →
     IsWithinLimits shop →
-    IsNode shop list node (suc left) → machine ≤ shop.machines → AreTwoLeastLagsTo shop list machine two →
+    IsListNode shop list node (suc left) → machine ≤ shop.machines → AreTwoLeastLagsTo shop list machine two →
     greatest (map (λ from. slice_index node.front (from - 1) + slice_index two.least (from - 1)) (numbers 1 machine))
     ≡ release shop (front_of shop list) (jobs_left shop.jobs list) machine
 own-release shop list node left machine two limits is high are =
@@ -98,8 +98,8 @@ own-release shop list node left machine two limits is high are =
     ap₂ (λ a b. a + b) front lag)
 
 -- the greatest that is found for a list is the release, which is at least the front
-pub own-late : (shop : Shop) (list : List ℕ) (node : Node) (left machine : ℕ) (two : TwoLeastLags) (late end : ℕ) →
-    IsWithinLimits shop → IsNode shop list node (suc left) → 1 ≤ machine → machine ≤ shop.machines →
+pub own-late : (shop : Shop) (list : List ℕ) (node : ListNode) (left machine : ℕ) (two : TwoLeastLags) (late end : ℕ) →
+    IsWithinLimits shop → IsListNode shop list node (suc left) → 1 ≤ machine → machine ≤ shop.machines →
     AreTwoLeastLagsTo shop list machine two → late ≡ greatest (map (λ from. slice_index node.front (from - 1)
     + slice_index two.least (from - 1)) (numbers 1 end)) → end ≡ machine →
     (late ≡ release shop (front_of shop list) (jobs_left shop.jobs list) machine)
@@ -113,8 +113,8 @@ own-late shop list node left machine two late end limits is low high are found w
     (value, is.times machine low high ∙ sym (front_of-is shop list machine low high), omega (arith, value, least))
 
 -- the release for the jobs left of a list's child
-pub child-release : (shop : Shop) (list : List ℕ) (node : Node) (left job machine : ℕ) →
-    IsNode shop list node left → machine ≤ shop.machines →
+pub child-release : (shop : Shop) (list : List ℕ) (node : ListNode) (left job machine : ℕ) →
+    IsListNode shop list node left → machine ≤ shop.machines →
     greatest (map (λ from. after shop (free_at node.front) job from
     + least (lags shop from machine (jobs_left shop.jobs (list ++ job ∷ [])))) (numbers 1 machine))
     ≡ release shop (front_of shop (list ++ job ∷ [])) (jobs_left shop.jobs (list ++ job ∷ [])) machine
@@ -129,8 +129,8 @@ child-release shop list node left job machine is high =
     ∙ sym (front_of-is shop (list ++ job ∷ []) from low within)))
 
 -- the least lag of the jobs left of a list's child
-pub child-lag : (shop : Shop) (list : List ℕ) (node : Node) (left job from machine y m : ℕ) (two : TwoLeastLags) →
-    IsWithinLimits shop → IsNode shop list node (suc (suc left)) → 1 ≤ job → job ≤ shop.jobs →
+pub child-lag : (shop : Shop) (list : List ℕ) (node : ListNode) (left job from machine y m : ℕ) (two : TwoLeastLags) →
+    IsWithinLimits shop → IsListNode shop list node (suc (suc left)) → 1 ≤ job → job ≤ shop.jobs →
     has list job ≡ false → AreTwoLeastLagsTo shop list machine two → 1 ≤ from → from ≤ machine →
     machine ≤ shop.machines → y ≡ time_between shop job from (machine - 1) →
     IsLeastWithout y (slice_index two.least (from - 1)) (slice_index two.second (from - 1)) m →

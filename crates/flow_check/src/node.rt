@@ -8,7 +8,7 @@ ghost use Rattle.flow_shop.specs.Front.{IsFrontOf, IsWithinFront};
 ghost use Rattle.flow_shop.specs.Sequences.{has, jobs_left};
 ghost use Rattle.flow_shop.specs.Bound.{bound_at};
 ghost use Rattle.flow_check.specs.internal.Links.{AreLinks};
-ghost use Rattle.flow_check.specs.internal.Nodes.{IsNode, IsAt, AreTwoLeastTails, IsChild};
+ghost use Rattle.flow_check.specs.internal.Nodes.{IsListNode, IsAt, AreTwoLeastTails, IsChild};
 ghost use Rattle.flow_nodes.specs.Nodes.{IsMachine, IsJob};
 ghost use Rattle.flow_check.specs.internal.Nodes.{grown, left_before};
 
@@ -21,7 +21,7 @@ use flow_shop::{Instance, TwoLeast};
 /// tail after a machine is its time on all later machines. The two least tails after a machine are found when the
 /// first bound asks for them.
 #[derive(Clone, Copy)]
-pub(crate) struct Node {
+pub(crate) struct ListNode {
     /// The completion time of the list on each machine.
     pub(crate) front: [u64; MAX_MACHINES],
     /// For each machine the sum of the times of the jobs left.
@@ -32,17 +32,17 @@ pub(crate) struct Node {
     second: [u32; MAX_MACHINES],
 }
 
-impl Node {
+impl ListNode {
     /// The empty list.
     pub(crate) fn root(instance: &Instance) -> Self
-        ensures { IsNode instance.now [] result instance.now.jobs }
+        ensures { IsListNode instance.now [] result instance.now.jobs }
     {
         let machines = instance.machines();
         let mut work = [0; MAX_MACHINES];
         for machine in 1..machines + 1 {
             work[machine as usize - 1] = u64::from(time_of_all(instance, machine));
         }
-        Node {
+        ListNode {
             front: [0; MAX_MACHINES],
             work,
             least: [u32::MAX; MAX_MACHINES],
@@ -52,13 +52,13 @@ impl Node {
 
     /// Becomes the node of the child that has this job at its end, where `list` is the node of the list. Only the
     /// instance's machines are written.
-    pub(crate) fn become_child(&mut self, text: &TreesText, list: &Node, job: u16)
-        requires at { (jobs : List ℕ) × (left : ℕ) × IsNode text.now.shop.now jobs list.now left
+    pub(crate) fn become_child(&mut self, text: &TreesText, list: &ListNode, job: u16)
+        requires at { (jobs : List ℕ) × (left : ℕ) × IsListNode text.now.shop.now jobs list.now left
             × (has jobs job ≡ false) }
         requires job { IsJob text.now.shop.now job }
-        ensures { (jobs : List ℕ) (left : ℕ) → IsNode text.now.shop.now jobs list.now (suc left) →
+        ensures { (jobs : List ℕ) (left : ℕ) → IsListNode text.now.shop.now jobs list.now (suc left) →
             has jobs job ≡ false →
-            IsNode text.now.shop.now (jobs ++ job ∷ []) self.new left }
+            IsListNode text.now.shop.now (jobs ++ job ∷ []) self.new left }
     {
         let row = &text.rows[job as usize - 1];
         let machines = text.shop.machines();
@@ -114,7 +114,7 @@ fn find_tails(text: &TreesText, links: &[u16], machine: u16) -> TwoLeast
 }
 
 /// The two least tails of the jobs left after a machine: those that the node keeps, or else they are found and kept.
-fn tails_of(text: &TreesText, node: &mut Node, links: &[u16], machine: u16) -> TwoLeast
+fn tails_of(text: &TreesText, node: &mut ListNode, links: &[u16], machine: u16) -> TwoLeast
     requires at { (list : List ℕ) × (left : ℕ) × IsAt text.now.shop.now list node.old links.now left }
     requires machine { IsMachine text.now.shop.now machine }
     ensures tails { (list : List ℕ) (left : ℕ) → IsAt text.now.shop.now list node.old links.now left →
@@ -137,10 +137,10 @@ fn tails_of(text: &TreesText, node: &mut Node, links: &[u16], machine: u16) -> T
 }
 
 /// The completion time of a list, or of a child of it, on the last machine.
-pub(crate) fn makespan_at(text: &TreesText, node: &Node, child: Option<u16>) -> u64
-    requires at { (list : List ℕ) × (left : ℕ) × IsNode text.now.shop.now list node.now left
+pub(crate) fn makespan_at(text: &TreesText, node: &ListNode, child: Option<u16>) -> u64
+    requires at { (list : List ℕ) × (left : ℕ) × IsListNode text.now.shop.now list node.now left
         × IsChild text.now.shop.now.jobs list child }
-    ensures { (list : List ℕ) (left : ℕ) → IsNode text.now.shop.now list node.now left →
+    ensures { (list : List ℕ) (left : ℕ) → IsListNode text.now.shop.now list node.now left →
         result ≡ completion text.now.shop.now (grown list child) text.now.shop.now.machines }
 {
     let machines = text.shop.machines();
@@ -153,7 +153,7 @@ pub(crate) fn makespan_at(text: &TreesText, node: &Node, child: Option<u16>) -> 
 /// The machine bound of a list, or of a child of it, where jobs are left.
 pub(crate) fn bound(
     text: &TreesText,
-    node: &mut Node,
+    node: &mut ListNode,
     links: &[u16],
     child: Option<u16>,
     machine: u16,

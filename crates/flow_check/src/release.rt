@@ -8,10 +8,10 @@ ghost use Rattle.flow_shop.specs.Sequences.{jobs_left};
 ghost use Rattle.flow_shop.specs.Bound.{bound_at, bound_of, front_of, release};
 ghost use Rattle.flow_check.specs.internal.Links.{AreLinks};
 ghost use Rattle.flow_nodes.specs.Nodes.{IsMachine, IsJob};
-ghost use Rattle.flow_check.specs.internal.Nodes.{IsNode, IsAt, IsChild, grown, left_before};
+ghost use Rattle.flow_check.specs.internal.Nodes.{IsListNode, IsAt, IsChild, grown, left_before};
 ghost use Rattle.flow_check.specs.internal.Lags.{AreTwoLeastLagsTo, AreKept, AreUnknown, TakesIn};
 
-use crate::node::{Node, bound};
+use crate::node::{ListNode, bound};
 use crate::trees_text::TreesText;
 use flow_limits::MAX_MACHINES;
 use flow_shop::{TwoLeast, has_releases};
@@ -138,11 +138,11 @@ fn lags_of(
 }
 
 /// How much later than its front a machine is released for the jobs left of a list.
-fn own_gain(text: &TreesText, node: &Node, lags: &TwoLeastLags, machine: u16) -> u64
-    requires at { (list : List ℕ) × (left : ℕ) × IsNode text.now.shop.now list node.now (suc left)
+fn own_gain(text: &TreesText, node: &ListNode, lags: &TwoLeastLags, machine: u16) -> u64
+    requires at { (list : List ℕ) × (left : ℕ) × IsListNode text.now.shop.now list node.now (suc left)
         × AreTwoLeastLagsTo text.now.shop.now list machine lags.now }
     requires machine { IsMachine text.now.shop.now machine }
-    ensures { (list : List ℕ) (left : ℕ) → IsNode text.now.shop.now list node.now (suc left) →
+    ensures { (list : List ℕ) (left : ℕ) → IsListNode text.now.shop.now list node.now (suc left) →
         AreTwoLeastLagsTo text.now.shop.now list machine lags.now →
         slice_index (front_of text.now.shop.now list) (machine - 1) + result
         ≡ release text.now.shop.now (front_of text.now.shop.now list)
@@ -158,12 +158,12 @@ fn own_gain(text: &TreesText, node: &Node, lags: &TwoLeastLags, machine: u16) ->
 
 /// How much later than its front a machine is released for the jobs left of a list's child that has this job at its
 /// end.
-fn child_gain(text: &TreesText, node: &Node, lags: &TwoLeastLags, job: u16, machine: u16) -> u64
-    requires at { (list : List ℕ) × (left : ℕ) × IsNode text.now.shop.now list node.now (suc (suc left))
+fn child_gain(text: &TreesText, node: &ListNode, lags: &TwoLeastLags, job: u16, machine: u16) -> u64
+    requires at { (list : List ℕ) × (left : ℕ) × IsListNode text.now.shop.now list node.now (suc (suc left))
         × AreTwoLeastLagsTo text.now.shop.now list machine lags.now
         × IsChild text.now.shop.now.jobs list (Some job) }
     requires machine { IsMachine text.now.shop.now machine }
-    ensures { (list : List ℕ) (left : ℕ) → IsNode text.now.shop.now list node.now (suc (suc left)) →
+    ensures { (list : List ℕ) (left : ℕ) → IsListNode text.now.shop.now list node.now (suc (suc left)) →
         AreTwoLeastLagsTo text.now.shop.now list machine lags.now →
         IsChild text.now.shop.now.jobs list (Some job) →
         slice_index (front_of text.now.shop.now (list ++ job ∷ [])) (machine - 1) + result
@@ -189,7 +189,7 @@ fn child_gain(text: &TreesText, node: &Node, lags: &TwoLeastLags, job: u16, mach
 /// How much the bound of the version is above the machine bound of a list, or of a child of it, where jobs are left.
 fn gain(
     text: &TreesText,
-    node: &Node,
+    node: &ListNode,
     kept: &mut [Option<TwoLeastLags>],
     links: &[u16],
     child: Option<u16>,
@@ -224,7 +224,7 @@ fn gain(
 /// left. The machine bound alone is often enough.
 pub(crate) fn reaches(
     text: &TreesText,
-    node: &mut Node,
+    node: &mut ListNode,
     kept: &mut [Option<TwoLeastLags>],
     links: &[u16],
     child: Option<u16>,

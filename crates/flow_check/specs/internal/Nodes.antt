@@ -8,7 +8,7 @@ use Rattle.flow_shop.specs.Front.{IsFrontOf}
 use Rattle.flow_shop.specs.Sequences.{has, jobs_left}
 use Rattle.flow_shop.specs.TwoLeast.{tails, least_below, second_below, least_of_none}
 use Rattle.flow_check.specs.internal.Links.{AreLinks}
-use Rattle.flow_check.specs.declared.node.Node.{Node}
+use Rattle.flow_check.specs.declared.node.ListNode.{ListNode}
 use Rattle.flow_shop.specs.declared.two_least.TwoLeast.{TwoLeast}
 
 -- the two least tails of the jobs left after a machine
@@ -28,7 +28,7 @@ pub record AreKnown (shop : Shop) (list least second : List ℕ) : Type 0 where
   pub second_size : length second ≡ most_machines
 
 -- what is kept of a list with so many jobs left: its front, and the time of the jobs left on each machine
-pub record IsNode (shop : Shop) (list : List ℕ) (node : Node) (left : ℕ) : Type 0 where
+pub record IsListNode (shop : Shop) (list : List ℕ) (node : ListNode) (left : ℕ) : Type 0 where
   pub times : IsFrontOf shop list node.front
   pub work : (machine : ℕ) → 1 ≤ machine → machine ≤ shop.machines →
       slice_index node.work (machine - 1) ≡ sum_by (λ job. time shop job machine) (jobs_left shop.jobs list)
@@ -38,8 +38,8 @@ pub record IsNode (shop : Shop) (list : List ℕ) (node : Node) (left : ℕ) : T
   pub some : length (jobs_left shop.jobs list) ≡ left
 
 -- a list with its node, and its jobs left linked
-pub record IsAt (shop : Shop) (list : List ℕ) (node : Node) (links : List ℕ) (left : ℕ) : Type 0 where
-  pub is_node : IsNode shop list node left
+pub record IsAt (shop : Shop) (list : List ℕ) (node : ListNode) (links : List ℕ) (left : ℕ) : Type 0 where
+  pub is_node : IsListNode shop list node left
   pub are_links : AreLinks shop.jobs list links
 
 -- a list, or a child of it

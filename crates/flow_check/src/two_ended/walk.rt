@@ -25,7 +25,7 @@ use std::simd::prelude::*;
 
 /// A node below the number whose children at an end are read.
 #[derive(Clone, Copy)]
-pub(crate) struct Frame {
+pub(crate) struct NodeFrame {
     /// What is kept of the node.
     pub(crate) node: Node,
     /// The end.
@@ -40,7 +40,7 @@ pub(crate) struct Frame {
 #[derive(Drop)]
 pub(crate) struct Path {
     /// The frames of the nodes, the root's first; and behind them memory for those of the nodes below.
-    pub(crate) frames: Vec<Frame>,
+    pub(crate) frames: Vec<NodeFrame>,
     /// How many nodes are above the node.
     pub(crate) depth: usize,
     /// The jobs left at the node.
@@ -84,13 +84,13 @@ fn open_children<V: Lanes>(
 }
 
 /// A frame for each job, all with the same node.
-fn all_frames(alloc: Global, jobs: u16, node: Node) -> Result<Vec<Frame>, AllocError>
+fn all_frames(alloc: Global, jobs: u16, node: Node) -> Result<Vec<NodeFrame>, AllocError>
     ensures size { IfOk result (λ frames. length frames.items ≡ jobs) }
     ensures each { IfOk result (λ frames. (place : ℕ) → place < jobs → (frame_at frames.items place).node ≡ node) }
 {
     let mut frames = Vec::with_capacity(alloc, jobs as usize)?;
     'frames: while frames.len() < jobs as usize {
-        frames.push(Frame {
+        frames.push(NodeFrame {
             node,
             end: End::Front,
             below: Marks::none(),

@@ -3,7 +3,7 @@ use Rattle.std.proofs.Common.{refl, replicate, arith}
 use Rattle.flow_shop.specs.TwoLeast.{least_of_none}
 use Rattle.flow_shop.proofs.Fronts.{front-empty}
 use Rattle.flow_check.proofs.NodeSteps.{root-node}
-use Rattle.flow_check.proofs.node.Node.root.Goals as goal
+use Rattle.flow_check.proofs.node.ListNode.root.Goals as goal
 
 pub returns : goal.returns
 returns c =

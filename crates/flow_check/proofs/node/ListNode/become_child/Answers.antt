@@ -7,8 +7,8 @@ use Rattle.flow_shop.proofs.Recurrence.{after}
 use Rattle.flow_shop.proofs.Fronts.{free_at, after-step, child-completion, time-small}
 use Rattle.flow_shop.specs.TwoLeast.{least_of_none}
 use Rattle.flow_check.proofs.NodeSteps.{node-within, work-covers, child-node}
-use Rattle.flow_check.proofs.node.Node.become_child.Goals as goal
-use Rattle.flow_check.proofs.node.Node.become_child.Goals.{After-max}
+use Rattle.flow_check.proofs.node.ListNode.become_child.Goals as goal
+use Rattle.flow_check.proofs.node.ListNode.become_child.Goals.{After-max}
 
 pub loop-machine-init : goal.loop-machine-init
 loop-machine-init c = record {

@@ -4,7 +4,7 @@ use Rattle.flow_shop.specs.Shop.{time}
 use Rattle.flow_shop.proofs.Recurrence.{after}
 use Rattle.flow_shop.proofs.Fronts.{free_at}
 use Rattle.flow_shop.specs.TwoLeast.{least_of_none}
-use Rattle.flow_check.proofs.node.Node.become_child.Given as goal
+use Rattle.flow_check.proofs.node.ListNode.become_child.Given as goal
 
 abbrev pub invariant-loop-machine : goal.invariant-loop-machine
 invariant-loop-machine l = record {
