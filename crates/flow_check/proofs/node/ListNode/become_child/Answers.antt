@@ -4,11 +4,11 @@ use Rattle.flow_shop.specs.Limits.{most_machines, greatest_completion}
 use Rattle.flow_shop.specs.Shop.{time}
 use Rattle.flow_shop.proofs.Lists.{filled-more}
 use Rattle.flow_shop.proofs.Recurrence.{after}
-use Rattle.flow_shop.proofs.Fronts.{free_at, after-step, time-small}
-use Rattle.flow_check.specs.internal.Nodes.{no_least}
-use Rattle.flow_check.proofs.NodeSteps.{node-within, work-covers, child-completion, child-node}
-use Rattle.flow_check.proofs.node.Node.become_child.Goals as goal
-use Rattle.flow_check.proofs.node.Node.become_child.Goals.{After-max}
+use Rattle.flow_shop.proofs.Fronts.{free_at, after-step, child-completion, time-small}
+use Rattle.flow_shop.specs.TwoLeast.{least_of_none}
+use Rattle.flow_check.proofs.NodeSteps.{node-within, work-covers, child-node}
+use Rattle.flow_check.proofs.node.ListNode.become_child.Goals as goal
+use Rattle.flow_check.proofs.node.ListNode.become_child.Goals.{After-max}
 
 pub loop-machine-init : goal.loop-machine-init
 loop-machine-init c = record {
@@ -78,7 +78,7 @@ loop-machine-preserved c =
     record {
       front_size = length-set c.loop-machine.self.front place free ∙ i.front_size;
       work_size = length-set c.loop-machine.self.work place work ∙ i.work_size;
-      least_size = length-set c.loop-machine.self.least place no_least ∙ i.least_size;
+      least_size = length-set c.loop-machine.self.least place least_of_none ∙ i.least_size;
       second_size = i.second_size;
       free = value ∙ ap (after c.args.text.now.shop.now (free_at c.args.list.now.front) c.args.job) (sym next);
       small = omega (
@@ -99,7 +99,7 @@ loop-machine-preserved c =
           ≡ slice_index c.args.list.now.work (k - 1)) c.loop-machine.self.work c.loop-machine.machine work is.0 (omega
           (arith, is.0, is.1, most, i.work_size)) (omega (arith, is.2, is.3)) i.work;
       least = filled-more (λ k v. v
-          ≡ no_least) c.loop-machine.self.least c.loop-machine.machine no_least is.0 (omega
+          ≡ least_of_none) c.loop-machine.self.least c.loop-machine.machine least_of_none is.0 (omega
           (arith, is.0, is.1, most, i.least_size)) refl i.least;
     }
 

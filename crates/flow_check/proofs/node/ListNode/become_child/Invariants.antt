@@ -3,8 +3,8 @@ use Rattle.flow_shop.specs.Limits.{most_machines, greatest_time, greatest_comple
 use Rattle.flow_shop.specs.Shop.{time}
 use Rattle.flow_shop.proofs.Recurrence.{after}
 use Rattle.flow_shop.proofs.Fronts.{free_at}
-use Rattle.flow_check.specs.internal.Nodes.{no_least}
-use Rattle.flow_check.proofs.node.Node.become_child.Given as goal
+use Rattle.flow_shop.specs.TwoLeast.{least_of_none}
+use Rattle.flow_check.proofs.node.ListNode.become_child.Given as goal
 
 abbrev pub invariant-loop-machine : goal.invariant-loop-machine
 invariant-loop-machine l = record {
@@ -19,5 +19,5 @@ invariant-loop-machine l = record {
   work : (machine : ℕ) → 1 ≤ machine → machine < l.machine →
       slice_index l.self.work (machine - 1) + time l.text.shop.now l.job machine
       ≡ slice_index l.list.work (machine - 1);
-  least : (machine : ℕ) → 1 ≤ machine → machine < l.machine → slice_index l.self.least (machine - 1) ≡ no_least;
+  least : (machine : ℕ) → 1 ≤ machine → machine < l.machine → slice_index l.self.least (machine - 1) ≡ least_of_none;
 }

@@ -2,7 +2,7 @@ use Rattle.std.proofs.Common.{◌≡◌, ℕ, ◌-◌, ◌≤◌, ◌<◌, [], s
 use Rattle.flow_shop.specs.Limits.{most_machines}
 use Rattle.flow_shop.specs.Shop.{time}
 use Rattle.flow_shop.specs.Sequences.{jobs_left}
-use Rattle.flow_check.proofs.node.Node.root.Given as goal
+use Rattle.flow_check.proofs.node.ListNode.root.Given as goal
 
 abbrev pub invariant-loop-machine : goal.invariant-loop-machine
 invariant-loop-machine l = record {
