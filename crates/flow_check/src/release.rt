@@ -42,13 +42,15 @@ pub(crate) fn unknown_lags(
     Ok(lags)
 }
 
-/// Forgets all lags that are known.
+/// Forgets all lags that are known. No other place is written, since most are not known each time.
 pub(crate) fn forget(lags: &mut [Option<TwoLeastLags>])
     ensures size { length lags.new ≡ length lags.old }
     ensures none { AreUnknown lags.new }
 {
     for place in 0..lags.len() {
-        lags[place] = None;
+        if lags[place].is_some() {
+            lags[place] = None;
+        }
     }
 }
 
