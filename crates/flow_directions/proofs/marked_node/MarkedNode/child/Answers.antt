@@ -1,6 +1,6 @@
 use Rattle.std.proofs.Common.{◌∷◌, ◌++◌, ap, sym, ◌∙◌}
 use Rattle.flow_directions.proofs.LeftSteps.{left-parted}
-use Rattle.flow_directions.proofs.branch.Branch.child.Goals as goal
+use Rattle.flow_directions.proofs.marked_node.MarkedNode.child.Goals as goal
 
 pub returns-clause-left : goal.returns-clause-left
 returns-clause-left c first last names left fresh within named marked =

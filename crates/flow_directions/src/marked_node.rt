@@ -1,4 +1,4 @@
-//! What is kept of a node.
+//! A node, with the marks of the jobs left.
 
 ghost use Rattle.std.specs.Prelude.{◌≡◌, ℕ, ◌<◌, false, List, ◌++◌, length, slice_index};
 ghost use Rattle.flow_limits.specs.Limits.{most_jobs};
@@ -11,19 +11,19 @@ ghost use Rattle.flow_directions.specs.internal.Packs.{HasLeft};
 use flow_nodes::{Marks, Node};
 use flow_shop::{End, Instance};
 
-/// What is kept of a node.
+/// A node, with the marks of the jobs left.
 #[derive(Clone, Copy)]
-pub(crate) struct Branch {
+pub(crate) struct MarkedNode {
     /// Its front, its back, and the time of the jobs left.
     pub(crate) node: Node,
     /// The jobs left: marks of their places in a pack.
     pub(crate) left: Marks,
 }
 
-impl Branch {
-    /// What is kept of the child that puts the job of a marked place at an end.
+impl MarkedNode {
+    /// The child that puts the job of a marked place at an end.
     #[inline(never)]
-    pub(crate) fn child(&self, instance: &Instance, end: End, place: usize, job: u16) -> Branch
+    pub(crate) fn child(&self, instance: &Instance, end: End, place: usize, job: u16) -> MarkedNode
         requires place { place < most_jobs }
         requires job { IsJob instance.now job }
         requires left { (first : List ℕ) × (last : List ℕ) × IsNode instance.now first last self.now.node
