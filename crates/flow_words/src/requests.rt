@@ -1,4 +1,4 @@
-//! What the words of a command line ask for.
+//! The words of a command line become a request here.
 
 use clap::ArgMatches;
 use flow_requests::{
