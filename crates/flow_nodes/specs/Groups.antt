@@ -23,12 +23,16 @@ abbrev pub AreNames : Shop → ℕ → List ℕ → Type 0
 AreNames shop group names =
     (lane : ℕ) → lane < 16 → slice_index names lane ≡ min (group * 16 + lane + 1) shop.jobs
 
+-- how many groups so many jobs have
+abbrev pub group_count : ℕ → ℕ
+group_count jobs = (jobs + 15) / 16
+
 -- the groups of all jobs, sixteen to a group
 pub record AreGroups {V : Type 0} (list : V → List ℕ) (cap width : ℕ) (shop : Shop) (groups : List (Vec V)) :
     Type 0 where
   pub wide : width ≡ 16
   pub limits : IsWithinLimits shop
-  pub count : length groups ≡ (shop.jobs + 15) / 16
+  pub count : length groups ≡ group_count shop.jobs
   pub each : (group : ℕ) (none : Vec V) → group < length groups → (names : List ℕ) × AreNames shop group names
       × IsGroup list cap width shop names (slice_index_or groups group none).items
 

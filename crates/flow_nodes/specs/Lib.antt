@@ -2,4 +2,5 @@ pub mod Lanes
 pub mod Nodes
 pub mod Groups
 pub mod Marks
+pub mod PlainEnd
 pub mod internal

@@ -92,9 +92,8 @@ impl Node {
         self.child_bounds(end, group).below(number)
     }
 
-    /// Of the places of groups, marks those that are marked as left and whose jobs make children below a number at an
-    /// end. The limit is the number, or the greatest of 32 bits where that is less. The places behind those of the
-    /// groups keep their marks.
+    /// Marks the jobs left that make children below a number at an end, among those of the groups. The limit is that of
+    /// the number in 32 bits. The places behind those of the groups keep their marks.
     #[inline(always)]
     pub fn mark_below<V: Lanes>(
         &self,

@@ -3,7 +3,7 @@
 ghost use Rattle.std.specs.Prelude.{◌≡◌, ℕ, ◌<◌, ◌≤◌, List, length, slice_index, IfOk};
 ghost use Rattle.flow_shop.specs.Shop.{time};
 ghost use Rattle.flow_nodes.specs.Nodes.{IsJob, IsMachine};
-ghost use Rattle.flow_nodes.specs.Groups.{AreGroups, AreNames, IsGroup};
+ghost use Rattle.flow_nodes.specs.Groups.{AreGroups, AreNames, IsGroup, group_count};
 
 use crate::lanes::Lanes;
 use flow_shop::Instance;
@@ -58,13 +58,21 @@ fn names_of(instance: &Instance, group: usize) -> [u16; LANES]
     names
 }
 
+/// How many groups so many jobs have.
+#[inline(always)]
+pub fn group_count(jobs: u16) -> usize
+    ensures { result ≡ group_count jobs }
+{
+    (usize::from(jobs) + (LANES - 1)) / LANES
+}
+
 /// The groups of all jobs of an instance, in increasing order. The last job also stands in each lane that is left over.
 pub fn groups<V: Lanes>(alloc: Global, instance: &Instance) -> Result<Vec<Vec<V>>, AllocError>
     requires wide { V.WIDTH ≡ 16 }
     ensures { IfOk result (λ groups. AreGroups V.list V.CAP V.WIDTH instance.now groups.items) }
 {
     let machines = usize::from(instance.machines());
-    let count = (usize::from(instance.jobs()) + (LANES - 1)) / LANES;
+    let count = group_count(instance.jobs());
     let mut groups = Vec::with_capacity(alloc, count)?;
     'groups: while groups.len() < count {
         let mut group = vec![in alloc; V::all(0); machines]?;

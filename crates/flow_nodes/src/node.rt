@@ -139,6 +139,22 @@ impl Node {
         Node { front, back, work }
     }
 
+    /// The front of its first list on each machine, with machine 1 first.
+    #[inline(always)]
+    pub fn fronts(&self) -> &[u32; MAX_MACHINES]
+        ensures { result.now ≡ self.now.front }
+    {
+        &self.front
+    }
+
+    /// The back of its last list on each machine, with machine 1 first.
+    #[inline(always)]
+    pub fn backs(&self) -> &[u32; MAX_MACHINES]
+        ensures { result.now ≡ self.now.back }
+    {
+        &self.back
+    }
+
     /// Puts a job that is left at an end: makes the node its child.
     #[inline(always)]
     pub fn put(&mut self, instance: &Instance, end: End, job: u16)

@@ -6,6 +6,10 @@ use Rattle.flow_shop.specs.Least.{greatest, least}
 use Rattle.flow_shop.specs.Paths.{completion, span}
 use Rattle.flow_shop.specs.Sequences.{jobs_left, IsSequence, Extends}
 
+-- a bound gives a number for an instance, a list of jobs and a machine
+abbrev pub Bound : Type 0
+Bound = Shop → List ℕ → ℕ → ℕ
+
 -- the machine bound: the front on the machine, plus the times of the jobs left on it, plus the least tail of one of
 -- these jobs, which is its time on the later machines (law: bound_is_admissible)
 abbrev pub machine_bound : Shop → List ℕ → List ℕ → ℕ → ℕ
@@ -18,7 +22,7 @@ abbrev pub front_of : Shop → List ℕ → List ℕ
 front_of shop jobs = map (completion shop jobs) (numbers 1 shop.machines)
 
 -- the machine bound of a list (law: bound_is_admissible)
-abbrev pub bound_at : Shop → List ℕ → ℕ → ℕ
+abbrev pub bound_at : Bound
 bound_at shop jobs machine = machine_bound shop (front_of shop jobs) (jobs_left shop.jobs jobs) machine
 
 -- the release of a machine, before which no job left starts on it: for each machine up to this one, its front plus the
@@ -38,35 +42,46 @@ released_bound shop front left machine =
     + least (map (λ job. time_between shop job (machine + 1) shop.machines) left)
 
 -- the released bound of a list (law: released_bound_is_admissible, released_bound_is_stronger)
-abbrev pub released_bound_at : Shop → List ℕ → ℕ → ℕ
+abbrev pub released_bound_at : Bound
 released_bound_at shop jobs machine = released_bound shop (front_of shop jobs) (jobs_left shop.jobs jobs) machine
 
 -- the bound of a certificate version: the released bound for version 2, the machine bound for version 1
-abbrev pub bound_of : ℕ → Shop → List ℕ → ℕ → ℕ
+abbrev pub bound_of : ℕ → Bound
 bound_of version = cond (nat_eq version 2) released_bound_at bound_at
 
--- the letter of a machine: A for 1
+-- the letter of a machine in a tree: A for 1
 abbrev pub letter : ℕ → ℕ
 letter machine = 64 + machine
 
--- the makespan of a sequence that extends a list is at least the bound of the list on each machine
--- (law: bound_is_admissible)
+-- what stands in a tree for a sequence
+abbrev pub point : ℕ
+point = 46
+
+-- what stands in a tree before the trees of the children
+abbrev pub plus : ℕ
+plus = 43
+
+-- a bound is admissible where the makespan of a sequence that extends a list is at least the bound of the list on each
+-- machine
+abbrev pub IsAdmissible : Bound → Type 0
+IsAdmissible bound =
+    (shop : Shop) (jobs sequence : List ℕ) (machine : ℕ) → 1 ≤ machine → machine ≤ shop.machines →
+    IsSequence shop.jobs sequence → Extends sequence jobs → length jobs < shop.jobs →
+    bound shop jobs machine ≤ span shop sequence
+
+-- a bound is at least another on each machine of each list
+abbrev pub IsStronger : Bound → Bound → Type 0
+IsStronger bound other =
+    (shop : Shop) (jobs : List ℕ) (machine : ℕ) → 1 ≤ machine → other shop jobs machine ≤ bound shop jobs machine
+
+-- the machine bound is admissible (law: bound_is_admissible)
 abbrev pub BoundIsAdmissible : Type 0
-BoundIsAdmissible =
-    (shop : Shop) (jobs sequence : List ℕ) (machine : ℕ) → 1 ≤ machine → machine ≤ shop.machines →
-    IsSequence shop.jobs sequence → Extends sequence jobs → length jobs < shop.jobs →
-    bound_at shop jobs machine ≤ span shop sequence
+BoundIsAdmissible = IsAdmissible bound_at
 
--- the makespan of a sequence that extends a list is at least the released bound of the list on each machine
--- (law: released_bound_is_admissible)
+-- the released bound is admissible (law: released_bound_is_admissible)
 abbrev pub ReleasedBoundIsAdmissible : Type 0
-ReleasedBoundIsAdmissible =
-    (shop : Shop) (jobs sequence : List ℕ) (machine : ℕ) → 1 ≤ machine → machine ≤ shop.machines →
-    IsSequence shop.jobs sequence → Extends sequence jobs → length jobs < shop.jobs →
-    released_bound_at shop jobs machine ≤ span shop sequence
+ReleasedBoundIsAdmissible = IsAdmissible released_bound_at
 
--- the released bound of a list is at least its machine bound (law: released_bound_is_stronger)
+-- the released bound is at least the machine bound (law: released_bound_is_stronger)
 abbrev pub ReleasedBoundIsStronger : Type 0
-ReleasedBoundIsStronger =
-    (shop : Shop) (jobs : List ℕ) (machine : ℕ) → 1 ≤ machine →
-    bound_at shop jobs machine ≤ released_bound_at shop jobs machine
+ReleasedBoundIsStronger = IsStronger released_bound_at bound_at

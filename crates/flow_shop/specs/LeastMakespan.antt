@@ -22,7 +22,8 @@ time shop job machine = slice_index shop.times ((machine - 1) * shop.jobs + (job
 abbrev pub time_between : Shop → ℕ → ℕ → ℕ → ℕ
 time_between shop job first last = sum_by (time shop job) (numbers first last)
 
--- the weight of a path, each job's last machine: the sum of their times from the predecessor's last to their own last
+-- a path gives the last machine of each job; its weight is the sum of the jobs' times, of each from the last machine of
+-- the job before it to its own
 abbrev pub weight : Shop → List ℕ → ℕ → List ℕ → ℕ
 weight shop [] first path = 0
 weight shop (job ∷ jobs) first [] = 0
