@@ -3,3 +3,4 @@
 pub(crate) mod insertion;
 mod job_order;
 pub(crate) mod neh;
+pub(crate) mod place;

@@ -1,6 +1,6 @@
 use Rattle.std.proofs.Common.{◌≡◌, ◌+◌, ◌≤◌, take, length, length-take, arith}
 use Rattle.flow_bound.proofs.Places.{at-place}
-use Rattle.flow_bound.proofs.start.neh.best_place.Goals as goal
+use Rattle.flow_bound.proofs.start.place.best_place.Goals as goal
 
 pub returns-clause-makespan : goal.returns-clause-makespan
 returns-clause-makespan c =
