@@ -1,6 +1,6 @@
 //! The files that a command reads: a text, and a second file where there is one.
 
-ghost use Rattle.std.specs.Prelude.{◌≡◌, ◌↔◌, ◌≤◌, ◌++◌, false, true, [], length, IfOk, OnOk, IfErr, IfSome, IsErrOf};
+ghost use Rattle.std.specs.Prelude.{◌≡◌, ◌↔◌, false, true, [], IfOk, OnOk, IfErr, IfSome, IsErrOf};
 ghost use Rattle.std.specs.Prelude.{Err, is_some, unwrap_or};
 ghost use Rattle.std.specs.Io.KnownBytes.{Appends};
 ghost use Rattle.std.specs.Option.{ForSome};
