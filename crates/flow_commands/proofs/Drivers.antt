@@ -1,14 +1,14 @@
 -- What a run of any command comes to, by what the reading of its files and its command come to.
 use Rattle.std.proofs.Common.{◌≡◌, ◌⊎◌, ◌↔◌, sym, subst, inl, inr, ℕ, List, Option, Some, None}
-use Rattle.std.proofs.Common.{Result, Ok, Err}
+use Rattle.std.proofs.Common.{Result, Ok, Err, true}
 use Rattle.std.specs.Prelude.{IfSome, IsErrOf, OnOk, IfErr}
 use Rattle.flow_core.specs.declared.bytes.fault.ReadFault.TheVariants as read
 use Rattle.flow_core.specs.declared.bytes.fault.WriteFault.TheVariants as write
 use Rattle.flow_commands.specs.Output.{Output}
 use Rattle.flow_commands.specs.Block.{IsPicked, Origin, Picks}
-use Rattle.flow_commands.specs.Runs.{Came, CameBoth, CameSecond, Ends, EndsAlone, HasFailed, IsUnread}
+use Rattle.flow_commands.specs.Runs.{Came, CameBoth, CameSecond, Ends, EndsAlone, IsUnread}
 use Rattle.flow_commands.specs.Runs.{IsUnwritten, Ran, Responds}
-use Rattle.flow_commands.specs.Runs.{SecondFailed, SinkFailed, SinkRun, SourceRun, Stands, StopsAt, StopsAtSecond}
+use Rattle.flow_commands.specs.Runs.{SecondFailed, SinkRun, SourceRun, Stands, StopsAt, StopsAtSecond}
 use Rattle.flow_commands.specs.Runs.{Wrote, WrotePart, run_alone, run_of}
 use Rattle.flow_commands.specs.declared.fault.CommandFault.{CommandFault}
 use Rattle.flow_commands.specs.declared.fault.CommandFault.TheVariants as command
@@ -58,10 +58,11 @@ ends-second kind Answers (Some file) None fault came why = absurd came
 pub stopped-at-text : {S T K A : Type 0} (kind : FileKind) (Answers : Relation) (index : ℕ) (text : SourceRun S)
     (second : Option (SourceRun T)) (sink : SinkRun K) (fault : CommandFault) →
     StopsAt Text (λ bytes refusal. Picks bytes index (Err refusal)) text fault →
-    (IsErrOf {T = A} (Err fault) (command.Read read.Device) ↔ HasFailed text) →
+    (IsErrOf {T = A} (Err fault) (command.Read read.Device) ↔ (text.has_failed text.after ≡ true)) →
     (IsErrOf {T = A} (Err fault) (command.Write write.Device) → ⊥) → Stands text →
     IsUnread second → (SecondFailed second → ⊥) → IfSome second Stands →
-    IsUnwritten sink → (SinkFailed sink → ⊥) → Ran kind Answers index (run_of text second sink) (Err fault)
+    IsUnwritten sink → (sink.has_failed sink.after ≡ true → ⊥) →
+    Ran kind Answers index (run_of text second sink) (Err fault)
 stopped-at-text kind Answers index text second sink fault stops device writes_nothing stands unread second_works
     second_stands unwritten out_works = record {
       written = tt;
@@ -81,10 +82,11 @@ stopped-at-text kind Answers index text second sink fault stops device writes_no
 -- a run that stopped at its second file
 pub stopped-at-second : {S T K A : Type 0} (kind : FileKind) (Answers : Relation) (index : ℕ) (origin : Origin)
     (text : SourceRun S) (second : Option (SourceRun T)) (sink : SinkRun K) (fault : CommandFault) →
-    Came Text (λ bytes. IsPicked bytes index origin) text → (HasFailed text → ⊥) → Stands text →
+    Came Text (λ bytes. IsPicked bytes index origin) text → (text.has_failed text.after ≡ true → ⊥) → Stands text →
     SecondStops kind second fault → (IsErrOf {T = A} (Err fault) (command.Read read.Device) ↔ SecondFailed second) →
     (IsErrOf {T = A} (Err fault) (command.Write write.Device) → ⊥) → IfSome second Stands →
-    IsUnwritten sink → (SinkFailed sink → ⊥) → Ran kind Answers index (run_of text second sink) (Err fault)
+    IsUnwritten sink → (sink.has_failed sink.after ≡ true → ⊥) →
+    Ran kind Answers index (run_of text second sink) (Err fault)
 stopped-at-second kind Answers index origin text second sink fault (bytes, within, gave, whole, picked) works stands
     stops device writes_nothing second_stands unwritten out_works = record {
       written = tt;
@@ -118,7 +120,7 @@ stopped-at-second kind Answers index origin text second sink fault (bytes, withi
 pub responded : {S T K A : Type 0} (kind : FileKind) (Answers : Relation) (index : ℕ) (origin : Origin)
     (bytes : Option (Vec ℕ A)) (text : SourceRun S) (second : Option (SourceRun T)) (sink : SinkRun K)
     (result : Result (Unit {0}) CommandFault) → Came Text (λ given. IsPicked given index origin) text →
-    (HasFailed text → ⊥) → Stands text → SecondCame kind second bytes → (SecondFailed second → ⊥) →
+    (text.has_failed text.after ≡ true → ⊥) → Stands text → SecondCame kind second bytes → (SecondFailed second → ⊥) →
     IfSome second Stands → Responds (Answers origin (bytes_of bytes)) sink result →
     Ran kind Answers index (run_of text second sink) result
 responded kind Answers index origin bytes text second sink result (own, within, gave, whole, picked) works stands came

@@ -1,4 +1,3 @@
-mod Begins
 mod Certified
 mod Drivers
 mod Gives

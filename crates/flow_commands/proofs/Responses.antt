@@ -1,12 +1,12 @@
 -- What a command does that reads nothing, by what it answers and what the sink took.
-use Rattle.std.proofs.Common.{◌≡◌, ◌⊎◌, refl, inl, inr, List, ℕ, Result, Ok, Err}
+use Rattle.std.proofs.Common.{◌≡◌, ◌⊎◌, refl, inl, inr, List, ℕ, Result, Ok, Err, true}
 use Rattle.std.specs.Prelude.{IfErr, OnOk}
 use Rattle.flow_core.specs.Bytes.{AddsProperPrefix}
 use Rattle.flow_core.specs.declared.bytes.fault.WriteFault.{WriteFault}
 use Rattle.flow_core.specs.declared.bytes.fault.WriteFault.TheVariants as write
 use Rattle.flow_commands.specs.Output.{Output}
 use Rattle.flow_commands.specs.internal.Devices.{NamesNoDevice}
-use Rattle.flow_commands.specs.Runs.{EndsAlone, IsUnwritten, Responds, SinkFailed, SinkRun, Took, Wrote}
+use Rattle.flow_commands.specs.Runs.{EndsAlone, IsUnwritten, Responds, SinkRun, Took, Wrote}
 use Rattle.flow_commands.specs.declared.fault.CommandFault.{CommandFault}
 use Rattle.flow_commands.specs.declared.fault.CommandFault.TheVariants as command
 
@@ -15,7 +15,7 @@ write-is write.Device = refl
 
 -- nothing was written, since there is no text to write
 pub not-written : {K A : Type 0} (Answers : Output → Type 0) (sink : SinkRun K) (fault : CommandFault) →
-    IsUnwritten sink → (SinkFailed sink → ⊥) → (fault ≡ command.Memory) ⊎ Answers (Err fault) →
+    IsUnwritten sink → (sink.has_failed sink.after ≡ true → ⊥) → (fault ≡ command.Memory) ⊎ Answers (Err fault) →
     NamesNoDevice {T = A} (Err fault) → Responds Answers sink (Err fault)
 not-written Answers sink fault unwritten works why no_device = record {
   written = tt;
@@ -26,7 +26,8 @@ not-written Answers sink fault unwritten works why no_device = record {
 
 -- the sink refused
 pub part-written : {K : Type 0} (Answers : Output → Type 0) (sink : SinkRun K) (fault : WriteFault) (text : List ℕ) →
-    Answers (Ok text) → AddsProperPrefix (sink.taken sink.before) (sink.taken sink.after) text → SinkFailed sink →
+    Answers (Ok text) → AddsProperPrefix (sink.taken sink.before) (sink.taken sink.after) text →
+    sink.has_failed sink.after ≡ true →
     Responds Answers sink (Err (command.Write fault))
 part-written Answers sink fault text answers part failed = record {
   written = tt;
@@ -37,7 +38,7 @@ part-written Answers sink fault text answers part failed = record {
 
 -- the sink took the text
 pub all-written : {K : Type 0} (Answers : Output → Type 0) (sink : SinkRun K) (text : List ℕ) →
-    Answers (Ok text) → Took text sink → (SinkFailed sink → ⊥) → Responds Answers sink (Ok tt)
+    Answers (Ok text) → Took text sink → (sink.has_failed sink.after ≡ true → ⊥) → Responds Answers sink (Ok tt)
 all-written Answers sink text answers took works = record {
   written = (text, answers, took);
   ended = tt;

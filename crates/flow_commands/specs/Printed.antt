@@ -10,11 +10,11 @@ value_line words value = words ++ decimal value ++ codes "\n"
 
 -- a makespan's line
 abbrev pub makespan_line : ℕ → List ℕ
-makespan_line value = codes "makespan " ++ decimal value ++ codes "\n"
+makespan_line value = value_line (codes "makespan ") value
 
 -- the line of a value that a text proves least
 abbrev pub optimal_line : ℕ → List ℕ
-optimal_line value = codes "optimal " ++ decimal value ++ codes "\n"
+optimal_line value = value_line (codes "optimal ") value
 
 -- the line of the bounds that a text proves
 abbrev pub bounds_line : ℕ → ℕ → List ℕ

@@ -83,14 +83,10 @@ GaveBeyond kind source = (bytes : List ℕ) × (¬ IsWithin kind bytes) × Gave 
 abbrev pub Stands : {S : Type 0} → SourceRun S → Type 0
 Stands source = Grows (source.given source.before) (source.given source.after)
 
--- a source has refused
-abbrev pub HasFailed : {S : Type 0} → SourceRun S → Type 0
-HasFailed source = source.has_failed source.after ≡ true
-
 -- there is a second file, and it has refused
 abbrev pub SecondFailed : {S : Type 0} → Option (SourceRun S) → Type 0
 SecondFailed None = ⊥
-SecondFailed (Some second) = HasFailed second
+SecondFailed (Some second) = second.has_failed second.after ≡ true
 
 -- a second file was left unread
 abbrev pub IsUnread : {S : Type 0} → Option (SourceRun S) → Type 0
@@ -99,10 +95,6 @@ IsUnread second = IfSome second (λ file. file.after ≡ file.before)
 -- a sink was left unwritten
 abbrev pub IsUnwritten : {K : Type 0} → SinkRun K → Type 0
 IsUnwritten sink = sink.after ≡ sink.before
-
--- a sink has refused
-abbrev pub SinkFailed : {K : Type 0} → SinkRun K → Type 0
-SinkFailed sink = sink.has_failed sink.after ≡ true
 
 -- a sink took this text
 abbrev pub Took : {K : Type 0} → List ℕ → SinkRun K → Type 0
@@ -131,7 +123,7 @@ pub record Responds {K : Type 0} (Answers : Output → Type 0) (sink : SinkRun K
     (result : Result (Unit {0}) CommandFault) : Type 0 where
   pub written : OnOk result (Wrote Answers sink)
   pub ended : IfErr result (EndsAlone Answers sink)
-  pub write_device : IsErrOf result (command.Write write.Device) ↔ SinkFailed sink
+  pub write_device : IsErrOf result (command.Write write.Device) ↔ (sink.has_failed sink.after ≡ true)
   pub reads_nothing : IsErrOf result (command.Read read.Device) → ⊥
 
 -- a source gave all bytes of a file of a kind and then its end, and this holds of the bytes
@@ -196,7 +188,8 @@ pub record Ran {S T K : Type 0} (kind : FileKind) (Answers : Origin → Option (
     (index : ℕ) (run : CommandRun S T K) (result : Result (Unit {0}) CommandFault) : Type 0 where
   pub written : OnOk result (CameBoth kind index (λ origin second. Wrote (Answers origin second) run.sink) run)
   pub ended : IfErr result (Ends kind Answers index run)
-  pub read_device : IsErrOf result (command.Read read.Device) ↔ (HasFailed run.text ⊎ SecondFailed run.second)
-  pub write_device : IsErrOf result (command.Write write.Device) ↔ SinkFailed run.sink
+  pub read_device : IsErrOf result (command.Read read.Device)
+      ↔ ((run.text.has_failed run.text.after ≡ true) ⊎ SecondFailed run.second)
+  pub write_device : IsErrOf result (command.Write write.Device) ↔ (run.sink.has_failed run.sink.after ≡ true)
   pub stands : Stands run.text
   pub second_stands : IfSome run.second Stands

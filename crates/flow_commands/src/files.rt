@@ -1,6 +1,6 @@
 //! The files that a command reads: a text, and a second file where there is one.
 
-ghost use Rattle.std.specs.Prelude.{◌≡◌, ◌↔◌, ◌≤◌, ◌++◌, false, true, [], length, IfOk, OnOk, IfErr, IfSome, IsErrOf};
+ghost use Rattle.std.specs.Prelude.{◌≡◌, ◌↔◌, false, true, [], IfOk, OnOk, IfErr, IfSome, IsErrOf};
 ghost use Rattle.std.specs.Prelude.{Err, is_some, unwrap_or};
 ghost use Rattle.std.specs.Io.KnownBytes.{Appends};
 ghost use Rattle.std.specs.Option.{ForSome};
@@ -17,6 +17,7 @@ ghost use Rattle.flow_commands.specs.internal.Reading.{SecondCame, SecondStops, 
 use crate::block::{PickedBlock, block_at};
 use crate::fault::CommandFault;
 use flow_core::{MAX_CERTIFICATE, MAX_TEXT, ReadFault, Source, read_all};
+use flow_text::read_by_begin;
 use std::alloc::Global;
 
 /// What a file is read as: it says how many bytes the file may have.
@@ -30,9 +31,6 @@ pub(crate) enum FileKind {
     StartOrCertificate,
 }
 
-/// The most bytes that one call of a source is asked for.
-const PIECE: usize = 65_536;
-
 /// What every certificate begins with.
 const BEGIN: &[u8] = b"flowshop ";
 
@@ -42,53 +40,6 @@ pub(crate) fn begins_as_certificate(text: &[u8]) -> bool
     ensures no { result ≡ false → ¬ BeginsAsCertificate text.now }
 {
     text.starts_with(BEGIN)
-}
-
-/// Whether a file that is a certificate or a start, of which these bytes came, may have so many more.
-fn may_go_on(all: &[u8], count: usize) -> bool
-    requires within { IsWithin FileKind.StartOrCertificate all.now }
-    requires piece { count ≤ 65536 }
-    ensures yes { result ≡ true → (more : _) → length more ≡ count →
-        IsWithin FileKind.StartOrCertificate (all.now ++ more) }
-    ensures no { result ≡ false → (more : _) → length more ≡ count →
-        ¬ IsWithin FileKind.StartOrCertificate (all.now ++ more) }
-{
-    let most = if all.len() < BEGIN.len() || begins_as_certificate(all) {
-        MAX_CERTIFICATE
-    } else {
-        MAX_TEXT
-    };
-    count <= most - all.len()
-}
-
-/// All bytes of a certificate or of a start, each within its limit.
-fn read_either<S: Source>(alloc: Global, file: &mut S) -> Result<Vec<u8>, ReadFault>
-    requires { S.has_failed file.old ≡ false }
-    ensures within { IfOk result (λ v. IsWithin FileKind.StartOrCertificate v.items) }
-    ensures bytes { IfOk result (λ v. Appends (S.given file.old) (S.given file.new) v.items) }
-    ensures ended { OnOk result (S.has_ended file.new ≡ true) }
-    ensures memory { IsErrOf result ReadFault.Memory →
-        GaveWithin FileKind.StartOrCertificate (source_run S.Source file.old file.new) }
-    ensures too_long { IsErrOf result ReadFault.TooLong →
-        GaveBeyond FileKind.StartOrCertificate (source_run S.Source file.old file.new) }
-    ensures device { IsErrOf result ReadFault.Device ↔ (S.has_failed file.new ≡ true) }
-    ensures stands { Grows (S.given file.old) (S.given file.new) }
-{
-    let mut all = Vec::new(alloc);
-    let mut buffer = [0u8; PIECE];
-    'calls: loop {
-        let count = match file.get(&mut buffer) {
-            Ok(count) => count,
-            Err(_) => return Err(ReadFault::Device),
-        };
-        if count == 0 {
-            return Ok(all);
-        }
-        if !may_go_on(all.as_slice(), count) {
-            return Err(ReadFault::TooLong);
-        }
-        all.extend_from_slice(&buffer[..count])?;
-    }
 }
 
 /// All bytes of a file of a kind. It keeps a frame of its own, so that no buffer stays on the stack of a run.
@@ -106,7 +57,9 @@ fn read_file<S: Source>(alloc: Global, file: &mut S, kind: FileKind) -> Result<V
     match kind {
         FileKind::Text => read_all(alloc, file, MAX_TEXT),
         FileKind::Certificate => read_all(alloc, file, MAX_CERTIFICATE),
-        FileKind::StartOrCertificate => read_either(alloc, file),
+        FileKind::StartOrCertificate => {
+            read_by_begin(alloc, file, BEGIN, MAX_TEXT, MAX_CERTIFICATE)
+        }
     }
 }
 
